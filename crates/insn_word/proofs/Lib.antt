@@ -1,0 +1,5 @@
+pub mod Candidate
+pub mod Numbers
+pub mod Read
+pub mod Same
+pub mod WordParts

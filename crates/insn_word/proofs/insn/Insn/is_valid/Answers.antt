@@ -1,0 +1,21 @@
+use Rattle.std.proofs.Common.{◌≡◌, ◌∙◌, sym, subst, Some}
+use Rattle.insn_word.specs.Words.{Spells}
+use Rattle.insn_word.proofs.Same.{Decides-insn}
+use Rattle.insn_word.proofs.WordParts.{Spells-bits}
+use Rattle.insn_word.proofs.insn.Insn.is_valid.Goals as goal
+
+pub returns-in-Some : goal.returns-in-Some
+returns-in-Some c =
+    let same = Decides-insn c.in-Some.insn c.args.self.now in (
+      λ equal. (c.bits.result, subst (Spells c.bits.result) (same.0 (sym c.eq.ensures ∙ equal)) ((c.decode.ensures.some c.in-Some.insn).0 c.in-Some.is)),
+      λ valid.
+          let found = (c.decode.ensures.some c.args.self.now).1 (Spells-bits c.bits.result c.args.self.now c.bits.ensures valid) in
+          let one : c.in-Some.insn ≡ c.args.self.now = cc in
+          c.eq.ensures ∙ same.1 one,
+    )
+
+pub returns-in-None : goal.returns-in-None
+returns-in-None c = (
+  λ equal. cc,
+  λ valid. let found = (c.decode.ensures.some c.args.self.now).1 (Spells-bits c.bits.result c.args.self.now c.bits.ensures valid) in cc,
+)

@@ -1,0 +1,55 @@
+-- Numbers as binary digits, and as fields of digits.
+use Rattle.std.specs.Prelude.{ℕ, zero, suc, ◌+◌, ◌-◌, ◌*◌, ◌/◌, ◌%◌, ◌^◌, ◌<◌, ℤ, pos, negsuc, neg_ℤ, ◌≤ℤ◌, ◌<ℤ◌}
+use Rattle.std.specs.Prelude.{Bool, if◌then◌else◌, List, [], ◌∷◌, ◌++◌}
+use Rattle.std.specs.List.{AllByRecursion}
+
+-- so many binary digits of a number, the most significant first
+unfoldable pub digits : ℕ → ℕ → List ℕ
+digits zero n = []
+digits (suc k) n = n / 2 ^ k % 2 ∷ digits k n
+
+-- a field: how many digits it has, and its value
+pub data Field : Type 0 where
+  unsigned : ℕ → ℕ → Field
+  signed : ℕ → ℤ → Field
+
+abbrev pub zeros : ℕ → Field
+zeros k = unsigned k 0
+
+abbrev pub flag : Bool → Field
+flag b = unsigned 1 (if b then 1 else 0)
+
+-- what its digits can say
+abbrev pub IsInRange : Field → Type 0
+IsInRange (unsigned k n) = n < 2 ^ k
+IsInRange (signed k z) = (neg_ℤ (pos (2 ^ (k - 1))) ≤ℤ z) × (z <ℤ pos (2 ^ (k - 1)))
+
+abbrev pub AreInRange : List Field → Type 0
+AreInRange fs = AllByRecursion IsInRange fs
+
+-- two's complement: a negative number, here -(n + 1), stands as 2 ^ k more
+abbrev pub complement : ℕ → ℤ → ℕ
+complement k (pos n) = n
+complement k (negsuc n) = 2 ^ k - suc n
+
+abbrev pub width : Field → ℕ
+width (unsigned k n) = k
+width (signed k z) = k
+
+abbrev pub value : Field → ℕ
+value (unsigned k n) = n
+value (signed k z) = complement k z
+
+-- the fields' digits, one after another
+unfoldable pub spelling : List Field → List ℕ
+spelling [] = []
+spelling (f ∷ fs) = digits (width f) (value f) ++ spelling fs
+
+-- how many digits fields have together, and the number that these are
+abbrev pub total_width : List Field → ℕ
+total_width [] = 0
+total_width (f ∷ fs) = width f + total_width fs
+
+abbrev pub number : List Field → ℕ
+number [] = 0
+number (f ∷ fs) = value f * 2 ^ total_width fs + number fs

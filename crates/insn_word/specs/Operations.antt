@@ -1,0 +1,82 @@
+-- The numbers of operations, accesses and conditions: one line for each of them.
+use Rattle.std.specs.Prelude.{ℕ}
+use Rattle.insn_word.specs.declared.operations.WideOp.{WideOp}
+use Rattle.insn_word.specs.declared.operations.WideOp.TheVariants as wide
+use Rattle.insn_word.specs.declared.operations.MemoryOp.{MemoryOp}
+use Rattle.insn_word.specs.declared.operations.MemoryOp.TheVariants as memory
+use Rattle.insn_word.specs.declared.operations.Access.{Access}
+use Rattle.insn_word.specs.declared.operations.Access.TheVariants as access
+use Rattle.insn_word.specs.declared.operations.ArithmeticOp.{ArithmeticOp}
+use Rattle.insn_word.specs.declared.operations.ArithmeticOp.TheVariants as arithmetic
+use Rattle.insn_word.specs.declared.operations.ControlOp.{ControlOp}
+use Rattle.insn_word.specs.declared.operations.ControlOp.TheVariants as control
+use Rattle.insn_word.specs.declared.operations.Condition.{Condition}
+use Rattle.insn_word.specs.declared.operations.Condition.TheVariants as condition
+
+abbrev pub wide_number : WideOp → ℕ
+wide_number wide.Literal = 0
+wide_number wide.LiteralHigh = 1
+wide_number wide.TargetLiteral = 2
+
+abbrev pub memory_number : MemoryOp → ℕ
+memory_number memory.Nop = 0
+memory_number memory.Load = 1
+memory_number memory.Store = 2
+memory_number memory.FetchAdd = 3
+memory_number memory.TagGet = 4
+memory_number memory.TagSet = 5
+
+abbrev pub access_number : Access → ℕ
+access_number access.FromPointer = 0
+access_number access.Normal = 1
+access_number access.Future = 2
+access_number access.Sync = 3
+
+abbrev pub arithmetic_number : ArithmeticOp → ℕ
+arithmetic_number arithmetic.Nop = 0
+arithmetic_number arithmetic.Add = 1
+arithmetic_number arithmetic.Sub = 2
+arithmetic_number arithmetic.Mul = 3
+arithmetic_number arithmetic.And = 4
+arithmetic_number arithmetic.Or = 5
+arithmetic_number arithmetic.Xor = 6
+arithmetic_number arithmetic.AndNot = 7
+arithmetic_number arithmetic.ShiftLeft = 8
+arithmetic_number arithmetic.ShiftRight = 9
+arithmetic_number arithmetic.ShiftRightSigned = 10
+arithmetic_number arithmetic.Tally = 11
+arithmetic_number arithmetic.LessSigned = 12
+arithmetic_number arithmetic.LessUnsigned = 13
+arithmetic_number arithmetic.Pointer = 14
+
+abbrev pub control_number : ControlOp → ℕ
+control_number control.Nop = 0
+control_number control.Jump = 1
+control_number control.Skip = 2
+control_number control.Call = 3
+control_number control.Exchange = 4
+control_number control.TargetSet = 5
+control_number control.TargetGet = 6
+control_number control.TrapGet = 7
+control_number control.Reserve = 8
+control_number control.Create = 9
+control_number control.Quit = 10
+control_number control.QuitKeep = 11
+control_number control.Mask = 12
+
+abbrev pub condition_number : Condition → ℕ
+condition_number condition.Always = 0
+condition_number condition.Equal = 1
+condition_number condition.NotEqual = 2
+condition_number condition.Less = 3
+condition_number condition.GreaterEqual = 4
+condition_number condition.LessEqual = 5
+condition_number condition.Greater = 6
+condition_number condition.LessUnsigned = 7
+condition_number condition.GreaterEqualUnsigned = 8
+condition_number condition.LessEqualUnsigned = 9
+condition_number condition.GreaterUnsigned = 10
+condition_number condition.Negative = 11
+condition_number condition.Positive = 12
+condition_number condition.Overflow = 13
+condition_number condition.NoOverflow = 14

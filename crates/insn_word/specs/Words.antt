@@ -1,0 +1,139 @@
+-- Which word spells which instruction.
+use Rattle.std.specs.Prelude.{◌≡◌, ℕ, ◌<◌, ◌^◌, pos, unsigned_abs, true, false, ⊤, List, [], ◌∷◌, ◌++◌}
+use Rattle.insn_word.specs.Operations.{wide_number, memory_number, access_number, arithmetic_number, control_number, condition_number}
+use Rattle.insn_word.specs.Fields.{Field, unsigned, signed, zeros, flag, digits, spelling, AreInRange}
+use Rattle.insn_word.specs.declared.operations.WideOp.{WideOp}
+use Rattle.insn_word.specs.declared.operations.WideOp.TheVariants as wide
+use Rattle.insn_word.specs.declared.operations.MemoryOp.{MemoryOp}
+use Rattle.insn_word.specs.declared.operations.MemoryOp.TheVariants as memory
+use Rattle.insn_word.specs.declared.operations.Access.TheVariants as access
+use Rattle.insn_word.specs.declared.operations.ArithmeticOp.{ArithmeticOp}
+use Rattle.insn_word.specs.declared.operations.ArithmeticOp.TheVariants as arithmetic
+use Rattle.insn_word.specs.declared.operations.ControlOp.{ControlOp}
+use Rattle.insn_word.specs.declared.operations.ControlOp.TheVariants as control
+use Rattle.insn_word.specs.declared.operations.Condition.TheVariants as condition
+use Rattle.insn_word.specs.declared.insn.MPart.{MPart}
+use Rattle.insn_word.specs.declared.insn.APart.{APart}
+use Rattle.insn_word.specs.declared.insn.CPart.{CPart}
+use Rattle.insn_word.specs.declared.insn.Insn.{Insn}
+use Rattle.insn_word.specs.declared.insn.Insn.TheVariants as insn
+
+-- Fields, the most significant first.
+
+abbrev pub register_fields : WideOp → ℕ → List Field
+register_fields wide.TargetLiteral reg = zeros 2 ∷ unsigned 3 reg ∷ []
+register_fields _ reg = unsigned 5 reg ∷ []
+
+abbrev pub memory_fields : MPart → List Field
+memory_fields m = unsigned 3 (memory_number m.op) ∷ unsigned 2 (access_number m.acc) ∷ unsigned 5 m.rd ∷ unsigned 5 m.base ∷ signed 6 m.disp ∷ []
+
+abbrev pub arithmetic_fields : APart → List Field
+arithmetic_fields a = unsigned 4 (arithmetic_number a.op) ∷ flag a.test ∷ flag a.imm ∷ unsigned 5 a.rd ∷ unsigned 5 a.ra ∷ unsigned 5 a.rb ∷ []
+
+abbrev pub argument_fields : ControlOp → CPart → List Field
+argument_fields control.Nop c = zeros 14 ∷ []
+argument_fields control.Jump c = unsigned 4 (condition_number c.cond) ∷ unsigned 2 c.code ∷ unsigned 3 c.t ∷ zeros 5 ∷ []
+argument_fields control.Skip c = unsigned 4 (condition_number c.cond) ∷ unsigned 2 c.code ∷ signed 8 c.n ∷ []
+argument_fields control.Call c = unsigned 3 c.t ∷ unsigned 3 c.u ∷ zeros 8 ∷ []
+argument_fields control.Exchange c = unsigned 3 c.t ∷ zeros 11 ∷ []
+argument_fields control.TargetSet c = unsigned 3 c.t ∷ unsigned 5 c.ra ∷ zeros 6 ∷ []
+argument_fields control.TargetGet c = unsigned 3 c.t ∷ unsigned 5 c.rd ∷ zeros 6 ∷ []
+argument_fields control.TrapGet c = zeros 3 ∷ unsigned 5 c.rd ∷ zeros 6 ∷ []
+argument_fields control.Reserve c = zeros 3 ∷ unsigned 5 c.rd ∷ unsigned 5 c.ra ∷ zeros 1 ∷ []
+argument_fields control.Create c = unsigned 3 c.t ∷ unsigned 5 c.ra ∷ zeros 6 ∷ []
+argument_fields control.Quit c = zeros 14 ∷ []
+argument_fields control.QuitKeep c = zeros 14 ∷ []
+argument_fields control.Mask c = unsigned 3 (unsigned_abs c.n) ∷ zeros 11 ∷ []
+
+abbrev pub control_fields : CPart → List Field
+control_fields c = unsigned 4 (control_number c.op) ∷ argument_fields c.op c
+
+abbrev pub fields : Insn → List Field
+fields (insn.Wide look op reg imm) = unsigned 1 1 ∷ unsigned 3 look ∷ unsigned 3 (wide_number op) ∷ register_fields op reg ++ zeros 20 ∷ unsigned 32 imm ∷ []
+fields (insn.Normal look m a c) = unsigned 1 0 ∷ unsigned 3 look ∷ memory_fields m ++ arithmetic_fields a ++ control_fields c
+
+-- Each part with nothing but what its operation uses.
+
+abbrev pub no_memory : MPart
+no_memory = record { op = memory.Nop; acc = access.FromPointer; rd = 0; base = 0; disp = pos 0 }
+
+abbrev pub used_memory : MemoryOp → MPart → MPart
+used_memory memory.Nop m = no_memory
+used_memory memory.TagGet m = record m { acc = access.FromPointer }
+used_memory memory.TagSet m = record m { acc = access.FromPointer }
+used_memory _ m = m
+
+abbrev pub no_arithmetic : APart
+no_arithmetic = record { op = arithmetic.Nop; test = false; imm = false; rd = 0; ra = 0; rb = 0 }
+
+abbrev pub used_arithmetic : ArithmeticOp → APart → APart
+used_arithmetic arithmetic.Nop a = no_arithmetic
+used_arithmetic arithmetic.Tally a = record a { imm = false; rb = 0 }
+used_arithmetic _ a = a
+
+abbrev pub no_control : ControlOp → CPart
+no_control op = record { op = op; cond = condition.Always; code = 0; t = 0; u = 0; rd = 0; ra = 0; n = pos 0 }
+
+abbrev pub used_control : ControlOp → CPart → CPart
+used_control control.Nop c = no_control control.Nop
+used_control control.Jump c = record (no_control control.Jump) { cond = c.cond; code = c.code; t = c.t }
+used_control control.Skip c = record (no_control control.Skip) { cond = c.cond; code = c.code; n = c.n }
+used_control control.Call c = record (no_control control.Call) { t = c.t; u = c.u }
+used_control control.Exchange c = record (no_control control.Exchange) { t = c.t }
+used_control control.TargetSet c = record (no_control control.TargetSet) { t = c.t; ra = c.ra }
+used_control control.TargetGet c = record (no_control control.TargetGet) { t = c.t; rd = c.rd }
+used_control control.TrapGet c = record (no_control control.TrapGet) { rd = c.rd }
+used_control control.Reserve c = record (no_control control.Reserve) { rd = c.rd; ra = c.ra }
+used_control control.Create c = record (no_control control.Create) { t = c.t; ra = c.ra }
+used_control control.Quit c = no_control control.Quit
+used_control control.QuitKeep c = no_control control.QuitKeep
+-- a mask isn't negative
+used_control control.Mask c = record (no_control control.Mask) { n = pos (unsigned_abs c.n) }
+
+-- A field that an operation doesn't use is zero.
+abbrev pub RestIsZero : Insn → Type 0
+RestIsZero (insn.Wide look op reg imm) = ⊤
+RestIsZero (insn.Normal look m a c) = (used_memory m.op m ≡ m) × (used_arithmetic a.op a ≡ a) × (used_control c.op c ≡ c)
+
+-- The register that an operation with this rd writes, and 0 where it writes none.
+
+abbrev pub memory_target : MemoryOp → ℕ → ℕ
+memory_target memory.Load rd = rd
+memory_target memory.FetchAdd rd = rd
+memory_target memory.TagGet rd = rd
+memory_target _ rd = 0
+
+abbrev pub arithmetic_target : ArithmeticOp → ℕ → ℕ
+arithmetic_target arithmetic.Nop rd = 0
+arithmetic_target _ rd = rd
+
+abbrev pub control_target : ControlOp → ℕ → ℕ
+control_target control.TargetGet rd = rd
+control_target control.TrapGet rd = rd
+control_target control.Reserve rd = rd
+control_target _ rd = 0
+
+-- If two registers are one, it is r0.
+abbrev pub AreApart : ℕ → ℕ → Type 0
+AreApart x y = x ≡ y → x ≡ 0
+
+pub record WriteApart (m : MPart) (a : APart) (c : CPart) : Type 0 where
+  pub memory_arithmetic : AreApart (memory_target m.op m.rd) (arithmetic_target a.op a.rd)
+  pub memory_control : AreApart (memory_target m.op m.rd) (control_target c.op c.rd)
+  pub arithmetic_control : AreApart (arithmetic_target a.op a.rd) (control_target c.op c.rd)
+
+abbrev pub HasOneWriter : Insn → Type 0
+HasOneWriter (insn.Wide look op reg imm) = ⊤
+HasOneWriter (insn.Normal look m a c) = WriteApart m a c
+
+-- The word's 64 digits are those of the instruction's fields.
+pub record Spells (word : ℕ) (i : Insn) : Type 0 where
+  pub in_word : word < 2 ^ 64
+  pub digits_are : digits 64 word ≡ spelling (fields i)
+  pub in_range : AreInRange (fields i)
+  pub rest : RestIsZero i
+  pub one_writer : HasOneWriter i
+
+-- Some word spells it.
+abbrev pub IsValid : Insn → Type 0
+IsValid i = (word : ℕ) × Spells word i

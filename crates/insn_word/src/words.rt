@@ -1,0 +1,127 @@
+// Which word spells which instruction, in both directions.
+
+ghost use Rattle.std.specs.Prelude.{◌≡◌, ◌<◌, ◌≤◌, ◌^◌, ◌↔◌, ℕ, IsTrue, IfSome, IsNone};
+ghost use Rattle.insn_word.specs.Fields.{number, AreInRange};
+ghost use Rattle.insn_word.specs.Words.{fields, AreApart, WriteApart, Spells, IsValid};
+ghost use Rattle.insn_word.specs.Reading.{instruction};
+ghost use Rattle.insn_word.specs.Parts.{Holds};
+ghost use Rattle.insn_word.specs.declared.insn.Insn.{Insn};
+
+use crate::fields::{field, small_field, with_field};
+use crate::insn::{APart, CPart, Insn, MPart};
+use crate::operations::WideOp;
+
+impl Insn {
+    /// Whether some word spells the instruction: each field is in its range, each unused field is
+    /// zero, and no two operations write the same register other than r0.
+    pub fn is_valid(&self) -> bool
+        ensures { IsTrue result ↔ IsValid self.now }
+    {
+        match decode(self.bits()) {
+            Some(insn) => insn == *self,
+            None => false,
+        }
+    }
+
+    /// The word that the fields make, where each is in its range.
+    fn bits(&self) -> u64
+        ensures { AreInRange (fields self.now) → result ≡ number (fields self.now) }
+    {
+        match self {
+            Insn::Wide { look, op, reg, imm } => {
+                let bits = with_field(1, 3, u64::from(*look));
+                let bits = with_field(bits, 3, op.number());
+                let bits = with_field(bits, 5, u64::from(*reg));
+                with_field(bits, 52, u64::from(*imm))
+            }
+            Insn::Normal { look, m, a, c } => {
+                let bits = with_field(u64::from(*look), 21, m.bits());
+                let bits = with_field(bits, 21, a.bits());
+                with_field(bits, 18, c.bits())
+            }
+        }
+    }
+}
+
+/// The word that spells the instruction.
+pub fn encode(insn: &Insn) -> u64
+    requires valid { IsValid insn.now }
+    ensures spelt { Spells result insn.now }
+    // No other word does.
+    ensures only { (word : ℕ) → Spells word insn.now → word ≡ result }
+{
+    insn.bits()
+}
+
+/// The instruction that the word spells; None where it spells none.
+pub fn decode(word: u64) -> Option<Insn>
+    ensures some { (i : Insn) → (result ≡ Some i) ↔ Spells word i }
+    ensures is { result ≡ instruction word }
+    ensures spelt { IfSome result (Spells word) }
+    ensures valid { IfSome result IsValid }
+    ensures none { IsNone result ↔ ((i : Insn) → Spells word i → ⊥) }
+{
+    read_parts(word)
+}
+
+fn read_parts(word: u64) -> Option<Insn>
+    ensures { (i : Insn) → (result ≡ Some i) ↔ Holds word i }
+{
+    if word < 1 << 63 {
+        decode_normal(word)
+    } else {
+        decode_wide(word)
+    }
+}
+
+fn decode_wide(word: u64) -> Option<Insn>
+    requires { 2 ^ 63 ≤ word }
+    ensures { (i : Insn) → (result ≡ Some i) ↔ Holds word i }
+{
+    let op = WideOp::from_number(field(word, 57, 3))?;
+    let reg = small_field(word, 52, 5);
+    let is_target = op == WideOp::TargetLiteral;
+    if field(word, 32, 20) != 0 || is_target && reg >= 8 {
+        return None;
+    }
+    Some(Insn::Wide {
+        look: small_field(word, 60, 3),
+        op,
+        reg,
+        imm: field(word, 0, 32) as u32,
+    })
+}
+
+fn decode_normal(word: u64) -> Option<Insn>
+    requires { word < 2 ^ 63 }
+    ensures { (i : Insn) → (result ≡ Some i) ↔ Holds word i }
+{
+    let m = MPart::from_bits(field(word, 39, 21))?;
+    let a = APart::from_bits(field(word, 18, 21))?;
+    let c = CPart::from_bits(field(word, 0, 18))?;
+    if write_apart(&m, &a, &c) {
+        Some(Insn::Normal {
+            look: small_field(word, 60, 3),
+            m,
+            a,
+            c,
+        })
+    } else {
+        None
+    }
+}
+
+/// Whether no two parts write the same register other than r0.
+fn write_apart(m: &MPart, a: &APart, c: &CPart) -> bool
+    ensures { IsTrue result ↔ WriteApart m.now a.now c.now }
+{
+    are_apart(m.target(), a.target())
+        && are_apart(m.target(), c.target())
+        && are_apart(a.target(), c.target())
+}
+
+fn are_apart(x: u8, y: u8) -> bool
+    ensures { IsTrue result ↔ AreApart x y }
+{
+    x != y || x == 0
+}

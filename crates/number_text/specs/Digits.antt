@@ -1,0 +1,17 @@
+-- Numbers as digits of a fixed width.
+use Rattle.std.specs.Prelude.{ℕ, zero, suc, ◌/◌, ◌%◌, true, List, [], ◌∷◌, ◌++◌}
+use Rattle.std.specs.Fmt.{digit_glyph}
+
+-- the last digits of a number, so many, in a base of at most 16: upper case, the most significant first
+unfoldable pub fixed_digits : ℕ → ℕ → ℕ → List ℕ
+fixed_digits base zero number = []
+fixed_digits base (suc count) number =
+    fixed_digits base count (number / base) ++ digit_glyph true (number % base) ∷ []
+
+-- a word of 64 bits
+abbrev pub hexadecimal_16 : ℕ → List ℕ
+hexadecimal_16 number = fixed_digits 16 16 number
+
+-- a number below 100
+abbrev pub two_digits : ℕ → List ℕ
+two_digits number = fixed_digits 10 2 number

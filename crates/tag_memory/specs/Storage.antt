@@ -1,0 +1,18 @@
+-- The memory, as contracts see it: a map from the byte addresses 0, 8, 16, .. to words, kept as the list of its words.
+use Rattle.std.specs.Prelude.{ℕ, ◌/◌, ◌%◌, ◌==◌, List, Option, None, if◌then◌else◌, slice_get, slice_set}
+use Rattle.tag_memory.specs.Cell.{Cell}
+
+pub record TaggedMemory : Type 0 where
+  pub cells : List Cell
+
+-- the memory with these words at the addresses 0, 8, 16, ..
+abbrev pub memory_of : List Cell → TaggedMemory
+memory_of cells = record { cells = cells }
+
+-- the word at a byte address; none where the address is unaligned or past the end
+abbrev pub cell_at : TaggedMemory → ℕ → Option Cell
+cell_at m a = if a % 8 == 0 then slice_get m.cells (a / 8) else None
+
+-- the memory with another word at a byte address, and each other word as it is
+abbrev pub with_cell : TaggedMemory → ℕ → Cell → TaggedMemory
+with_cell m a c = record m { cells = slice_set m.cells (a / 8) c }

@@ -1,0 +1,22 @@
+//! The tagged memory of the machine: words with four tags, and the answer to one request at a time.
+//! docs/MACHINE.md has the rules in words: words and tags, pointers, the request rules, forwarding, the full/empty table.
+#![tactic(auto)]
+
+mod chain;
+mod full_empty;
+mod pointers;
+mod requests;
+mod serving;
+mod storage;
+mod tag_set;
+mod tagged_word;
+
+pub use pointers::{Control, Pointer};
+pub use requests::{Acc, Masked, MemOp, MemTrap, Reply, Request};
+pub use serving::serving_laws;
+pub use storage::{MAX_WORDS, Memory};
+pub use tag_set::Tags;
+pub use tagged_word::Word;
+
+#[cfg(test)]
+mod tests;
