@@ -1,13 +1,21 @@
-// A library with one function.
+//! One stream of a processor: its registers, its status word, and what one step does to it
+//! (docs/MACHINE.md, "Streams", "Status words", "One step", "Traps").
 #![tactic(auto)]
 
-ghost use Rattle.std.specs.Prelude.{◌≡◌};
-ghost use Rattle.stream_core.specs.Echo.{echo_of};
+mod arithmetic;
+mod conditions;
+mod conversions;
+mod registers;
+mod status_words;
+mod steps;
+mod stream_texts;
+mod streams;
+mod traps;
 
-// The `ensures` clause is the contract: what `echo` returns is `echo_of` of its argument, a definition
-// in `specs/Echo.antt`, which a caller's clause can cite too.
-pub fn echo(x: usize) -> usize
-    ensures { result ≡ echo_of x }
-{
-    x
-}
+pub use arithmetic::{alu, less_after_subtraction};
+pub use conditions::{Code, holds};
+pub use status_words::{Codes, StatusWord, TrapMask, status_words_are_their_digits};
+pub use steps::{Child, Control, Fetched, Outcome, Plan, Status};
+pub use stream_texts::stream_text;
+pub use streams::Stream;
+pub use traps::TrapKind;

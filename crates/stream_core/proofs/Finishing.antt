@@ -1,0 +1,51 @@
+-- What the plan says of the instruction at the pc.
+use Rattle.std.proofs.Common.{◌≡◌, ℕ, List, Option, None, Some, sym, ◌∙◌, ap, refl}
+use Rattle.insn_word.specs.declared.insn.Insn.{Insn}
+use Rattle.tag_memory.specs.declared.requests.Request.{Request}
+use Rattle.tag_memory.specs.declared.requests.Reply.{Reply}
+use Rattle.stream_core.specs.Streams.{StreamValue}
+use Rattle.stream_core.specs.Effects.{request_of, executed}
+use Rattle.stream_core.specs.StreamRow.{fetched, plan_asking, plan_from, plan_of, replied, row_asking, row_from, stream_row}
+use Rattle.stream_core.specs.declared.steps.Fetched.{Fetched}
+use Rattle.stream_core.specs.declared.steps.Fetched.TheVariants.{Rest, Trap, Runs}
+use Rattle.stream_core.specs.declared.steps.Plan.TheVariants as plan
+use Rattle.stream_core.specs.declared.steps.Outcome.TheVariants as outcome
+
+plan_local : (o : Option Request) → plan_asking o ≡ plan.Local → o ≡ None
+plan_local None e = refl
+plan_local (Some q) e = cc
+
+plan_asks : (o : Option Request) (q : Request) → plan_asking o ≡ plan.Ask q → o ≡ Some q
+plan_asks None q e = cc
+plan_asks (Some p) q e = cc
+
+-- a plan is local or asks only where an instruction is fetched
+runs_local : (s : StreamValue) (f : Fetched) → plan_from s f ≡ plan.Local → (i : Insn) × (f ≡ Runs i)
+runs_local s Rest e = cc
+runs_local s (Trap k) e = cc
+runs_local s (Runs i) e = (i, refl)
+
+runs_asks : (s : StreamValue) (f : Fetched) (q : Request) → plan_from s f ≡ plan.Ask q → (i : Insn) × (f ≡ Runs i)
+runs_asks s Rest q e = cc
+runs_asks s (Trap k) q e = cc
+runs_asks s (Runs i) q e = (i, refl)
+
+pub local_runs : (program : List ℕ) (s : StreamValue) → plan_of program s ≡ plan.Local → (i : Insn) × (fetched program s ≡ Runs i)
+unfolding plan_of
+local_runs program s e = runs_local s (fetched program s) e
+
+pub asked_runs : (program : List ℕ) (s : StreamValue) (q : Request) → plan_of program s ≡ plan.Ask q → (i : Insn) × (fetched program s ≡ Runs i)
+unfolding plan_of
+asked_runs program s q e = runs_asks s (fetched program s) q e
+
+pub row_local : (program : List ℕ) (limit : ℕ) (s : StreamValue) (i : Insn) (grant : ℕ) (r : Option Reply) → fetched program s ≡ Runs i → plan_of program s ≡ plan.Local
+    → stream_row program limit s grant r ≡ (executed s i 0 grant, outcome.Done)
+unfolding plan_of stream_row
+row_local program limit s i grant r found e =
+    ap (row_from limit s grant r) found ∙ ap (row_asking limit s i grant r) (plan_local (request_of s i) (sym (ap (plan_from s) found) ∙ e))
+
+pub row_asked : (program : List ℕ) (limit : ℕ) (s : StreamValue) (i : Insn) (grant : ℕ) (r : Reply) (q : Request) → fetched program s ≡ Runs i → plan_of program s ≡ plan.Ask q
+    → stream_row program limit s grant (Some r) ≡ replied limit s i grant r
+unfolding plan_of stream_row
+row_asked program limit s i grant r q found e =
+    ap (row_from limit s grant (Some r)) found ∙ ap (row_asking limit s i grant (Some r)) (plan_asks (request_of s i) q (sym (ap (plan_from s) found) ∙ e))

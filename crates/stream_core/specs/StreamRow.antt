@@ -1,0 +1,113 @@
+-- A step of a stream: the first line that holds decides.
+use Rattle.std.specs.Prelude.{ℕ, ◌+◌, ◌==◌, nat_lt, List, Option, Some, None, if◌then◌else◌, slice_get}
+use Rattle.insn_word.specs.Reading.{instruction}
+use Rattle.insn_word.specs.declared.operations.ControlOp.{ControlOp}
+use Rattle.insn_word.specs.declared.operations.ControlOp.TheVariants as control
+use Rattle.insn_word.specs.declared.insn.CPart.{CPart}
+use Rattle.insn_word.specs.declared.insn.Insn.{Insn}
+use Rattle.insn_word.specs.declared.insn.Insn.TheVariants.{Wide, Normal}
+use Rattle.tag_memory.specs.declared.requests.Request.{Request}
+use Rattle.tag_memory.specs.declared.requests.Reply.{Reply}
+use Rattle.tag_memory.specs.declared.requests.Reply.TheVariants as reply
+use Rattle.stream_core.specs.Registers.{register_at, target_at}
+use Rattle.stream_core.specs.Traps.{memory_trap}
+use Rattle.stream_core.specs.Streams.{StreamValue, trapped}
+use Rattle.stream_core.specs.Effects.{request_of, executed}
+use Rattle.stream_core.specs.declared.traps.TrapKind.TheVariants as kind
+use Rattle.stream_core.specs.declared.steps.Status.{Status}
+use Rattle.stream_core.specs.declared.steps.Status.TheVariants.{Idle, Running, Stopped}
+use Rattle.stream_core.specs.declared.steps.Outcome.{Outcome}
+use Rattle.stream_core.specs.declared.steps.Outcome.TheVariants as outcome
+use Rattle.stream_core.specs.declared.steps.Fetched.{Fetched}
+use Rattle.stream_core.specs.declared.steps.Fetched.TheVariants as fetch
+use Rattle.stream_core.specs.declared.steps.Plan.{Plan}
+use Rattle.stream_core.specs.declared.steps.Plan.TheVariants as plan
+use Rattle.stream_core.specs.declared.steps.Control.{Control}
+use Rattle.stream_core.specs.declared.steps.Control.TheVariants as asks
+
+-- The instruction that stands at the pc.
+
+abbrev pub spelt : Option Insn → Fetched
+spelt None = fetch.Trap kind.Illegal
+spelt (Some i) = fetch.Runs i
+
+abbrev pub word_fetched : Option ℕ → Fetched
+word_fetched None = fetch.Trap kind.Program
+word_fetched (Some word) = spelt (instruction word)
+
+abbrev pub fetched_if : Status → List ℕ → ℕ → Fetched
+fetched_if Running program pc = word_fetched (slice_get program pc)
+fetched_if Idle program pc = fetch.Rest
+fetched_if (Stopped k) program pc = fetch.Rest
+
+-- what a step of the stream finds
+unfoldable pub fetched : List ℕ → StreamValue → Fetched
+fetched program s = fetched_if s.status program s.ssw.pc
+
+-- What the step needs.
+
+abbrev pub plan_asking : Option Request → Plan
+plan_asking None = plan.Local
+plan_asking (Some q) = plan.Ask q
+
+abbrev pub plan_from : StreamValue → Fetched → Plan
+plan_from s fetch.Rest = plan.Rest
+plan_from s (fetch.Trap k) = plan.Trap k
+plan_from s (fetch.Runs i) = plan_asking (request_of s i)
+
+unfoldable pub plan_of : List ℕ → StreamValue → Plan
+plan_of program s = plan_from s (fetched program s)
+
+-- What the step asks of its processor.
+
+abbrev pub control_by : StreamValue → CPart → ControlOp → Control
+control_by s c control.Reserve = asks.Reserve (register_at s.registers c.ra)
+control_by s c control.Create = asks.Create (record { pc = (target_at s.targets c.t).pc; value = register_at s.registers c.ra; t0 = target_at s.targets 0; mask = s.ssw.mask })
+control_by s c control.Quit = asks.Quit
+control_by s c control.QuitKeep = asks.QuitKeep
+control_by s c _ = asks.Plain
+
+unfoldable pub control_of : StreamValue → Insn → Control
+control_of s (Wide look op reg imm) = asks.Plain
+control_of s (Normal look m a c) = control_by s c c.op
+
+abbrev pub control_from : StreamValue → Fetched → Control
+control_from s (fetch.Runs i) = control_of s i
+control_from s fetch.Rest = asks.Plain
+control_from s (fetch.Trap k) = asks.Plain
+
+unfoldable pub control_at : List ℕ → StreamValue → Control
+control_at program s = control_from s (fetched program s)
+
+-- The step itself.
+
+-- a blocked reference, where the retry limit is so
+abbrev pub blocked : ℕ → StreamValue → ℕ → StreamValue × Outcome
+blocked limit s a =
+    if limit == 0 then (s, outcome.Blocked)
+    else if nat_lt s.retries limit then (record s { retries = s.retries + 1 }, outcome.Blocked)
+    else if s.ssw.mask.blocked then (s, outcome.Blocked)
+    else trapped kind.Blocked a s
+
+abbrev pub replied : ℕ → StreamValue → Insn → ℕ → Reply → StreamValue × Outcome
+replied limit s i grant (reply.Done value) = (executed s i value grant, outcome.Done)
+replied limit s i grant (reply.Blocked a) = blocked limit s a
+replied limit s i grant (reply.Trap k a) = trapped (memory_trap k) a s
+
+-- with no reply a reference waits
+abbrev pub replied_if : ℕ → StreamValue → Insn → ℕ → Option Reply → StreamValue × Outcome
+replied_if limit s i grant None = (s, outcome.Skipped)
+replied_if limit s i grant (Some r) = replied limit s i grant r
+
+abbrev pub row_asking : ℕ → StreamValue → Insn → ℕ → Option Reply → Option Request → StreamValue × Outcome
+row_asking limit s i grant r None = (executed s i 0 grant, outcome.Done)
+row_asking limit s i grant r (Some q) = replied_if limit s i grant r
+
+abbrev pub row_from : ℕ → StreamValue → ℕ → Option Reply → Fetched → StreamValue × Outcome
+row_from limit s grant r fetch.Rest = (s, outcome.Skipped)
+row_from limit s grant r (fetch.Trap k) = trapped k 0 s
+row_from limit s grant r (fetch.Runs i) = row_asking limit s i grant r (request_of s i)
+
+-- the stream after a step, and the outcome
+unfoldable pub stream_row : List ℕ → ℕ → StreamValue → ℕ → Option Reply → StreamValue × Outcome
+stream_row program limit s grant r = row_from limit s grant r (fetched program s)

@@ -1,0 +1,35 @@
+// From the enums of instruction words and of the memory to each other's.
+
+ghost use Rattle.std.specs.Prelude.{◌≡◌};
+ghost use Rattle.stream_core.specs.Effects.{access_of};
+ghost use Rattle.stream_core.specs.Traps.{memory_trap};
+
+use crate::traps::TrapKind;
+use insn_word::Access;
+use tag_memory::{Acc, MemTrap};
+
+/// The access field of the instruction, as the memory takes it.
+pub(crate) fn acc_of(access: Access) -> Acc
+    ensures { result ≡ access_of access }
+{
+    match access {
+        Access::FromPointer => Acc::FromPointer,
+        Access::Normal => Acc::Normal,
+        Access::Future => Acc::Future,
+        Access::Sync => Acc::Sync,
+    }
+}
+
+/// The trap that the memory's reply asks for.
+pub(crate) fn trap_of(trap: MemTrap) -> TrapKind
+    ensures { result ≡ memory_trap trap }
+{
+    match trap {
+        MemTrap::Pointer => TrapKind::Pointer,
+        MemTrap::Align => TrapKind::Align,
+        MemTrap::Range => TrapKind::Range,
+        MemTrap::Trap0 => TrapKind::Trap0,
+        MemTrap::Trap1 => TrapKind::Trap1,
+        MemTrap::Forward => TrapKind::Forward,
+    }
+}

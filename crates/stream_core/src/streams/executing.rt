@@ -1,0 +1,237 @@
+// What a step does to its stream: each operand is read as it stood before, and all is written at once.
+
+ghost use Rattle.std.specs.Prelude.{◌≡◌, ℕ};
+ghost use Rattle.stream_core.specs.Effects.{made, left, goes, skipped, retries_after};
+ghost use Rattle.stream_core.specs.Effects.{control_ssw, control_targets, control_value};
+ghost use Rattle.stream_core.specs.Effects.{executed_wide, executed_parts, executed};
+ghost use Rattle.stream_core.specs.StreamRow.{plan_of, blocked, replied, stream_row};
+ghost use Rattle.tag_memory.specs.declared.requests.Request.{Request};
+
+use super::Stream;
+use crate::arithmetic::alu;
+use crate::conditions::holds;
+use crate::conversions::trap_of;
+use crate::status_words::{StatusWord, TrapMask};
+use crate::steps::{Fetched, Outcome, Plan};
+use crate::traps::TrapKind;
+use insn_word::{APart, CPart, ControlOp, Insn, MPart, MemoryOp, WideOp};
+use tag_memory::Reply;
+
+impl Stream {
+    /// Executes the instruction, where the memory answered `value` (it counts only where the instruction has a
+    /// reference that answers) and the processor granted so many streams (only for RESERVE). QUIT, QUITP and CREATE do
+    /// here what NOP does; the processor completes them.
+    #[tactic(auto, unfolding(crate::specs::Effects::executed))]
+    pub fn execute(&mut self, insn: &Insn, value: u64, grant: u64)
+        ensures { self.new ≡ executed self.old insn.now value grant }
+    {
+        match insn {
+            Insn::Wide { op, reg, imm, .. } => self.execute_wide(*op, *reg, *imm),
+            Insn::Normal { m, a, c, .. } => self.execute_parts(m, a, c, value, grant),
+        }
+    }
+
+    fn execute_wide(&mut self, op: WideOp, reg: u8, imm: u32)
+        ensures { self.new ≡ executed_wide self.old op reg imm }
+    {
+        let imm_value = u64::from(imm);
+        match op {
+            WideOp::Literal => self.registers.set(reg, imm_value),
+            WideOp::LiteralHigh => {
+                let low = self.registers.value(reg) % (1 << 32);
+                self.registers.set(reg, imm_value * (1 << 32) + low);
+            }
+            WideOp::TargetLiteral => self.targets.set(reg, StatusWord::at(imm)),
+        }
+        self.ssw.pc = self.ssw.pc.wrapping_add(1);
+    }
+
+    fn execute_parts(&mut self, m: &MPart, a: &APart, c: &CPart, value: u64, grant: u64)
+        ensures { self.new ≡ executed_parts self.old m.now a.now c.now value grant }
+    {
+        // what is written, from the values at entry
+        let (made, left) = self.arithmetic(a);
+        let control_value = self.control_value(c, grant);
+        let ssw = self.control_ssw(c, left);
+        self.write_target(c, left);
+        self.registers.set(m.target(), value);
+        self.registers.set(a.target(), made);
+        self.registers.set(c.target(), control_value);
+        self.ssw = ssw;
+        self.retries = retries_after(m.op, self.retries);
+    }
+
+    /// The result of the arithmetic operation, and the status word that the step would leave but for the control
+    /// operation.
+    fn arithmetic(&self, a: &APart) -> (u64, StatusWord)
+        ensures { result ≡ (made self.now a.now, left self.now a.now) }
+    {
+        let second = if a.imm {
+            u64::from(a.rb)
+        } else {
+            self.register(a.rb)
+        };
+        let (made, code) = alu(a.op, self.register(a.ra), second);
+        let codes = if a.test {
+            self.ssw.codes.pushed(code)
+        } else {
+            self.ssw.codes
+        };
+        let left = StatusWord {
+            pc: self.ssw.pc.wrapping_add(1),
+            codes,
+            ..self.ssw
+        };
+        (made, left)
+    }
+
+    /// The status word after the control operation; `left` is the one that the step would leave.
+    fn control_ssw(&self, c: &CPart, left: StatusWord) -> StatusWord
+        ensures { result ≡ control_ssw self.now c.now c.now.op left }
+    {
+        match c.op {
+            ControlOp::Jump => {
+                if self.goes(c) {
+                    StatusWord {
+                        pc: self.targets.word(c.t).pc,
+                        ..left
+                    }
+                } else {
+                    left
+                }
+            }
+            ControlOp::Skip => {
+                if self.goes(c) {
+                    StatusWord {
+                        pc: skipped(self.ssw.pc, c.n),
+                        ..left
+                    }
+                } else {
+                    left
+                }
+            }
+            ControlOp::Call => StatusWord {
+                pc: self.targets.word(c.t).pc,
+                ..left
+            },
+            ControlOp::Exchange => self.targets.word(c.t),
+            ControlOp::Mask => StatusWord {
+                mask: TrapMask::from_number(u64::from(c.n.unsigned_abs())),
+                ..left
+            },
+            _ => left,
+        }
+    }
+
+    /// Whether the condition of a jump or skip holds on the code that it asks.
+    fn goes(&self, c: &CPart) -> bool
+        ensures { result ≡ goes self.now c.now }
+    {
+        holds(c.cond, self.ssw.codes.at(c.code))
+    }
+
+    /// Writes the target register that the control operation writes, if any.
+    fn write_target(&mut self, c: &CPart, left: StatusWord)
+        ensures { self.new ≡ record self.old { targets = control_targets self.old c.now c.now.op left } }
+    {
+        match c.op {
+            ControlOp::Call => self.targets.set(c.u, StatusWord::at(left.pc)),
+            ControlOp::Exchange => self.targets.set(c.t, left),
+            ControlOp::TargetSet => {
+                let word = StatusWord::from_bits(self.registers.value(c.ra));
+                self.targets.set(c.t, word);
+            }
+            _ => {}
+        }
+    }
+
+    /// What the control operation writes to its register, if it writes one.
+    fn control_value(&self, c: &CPart, grant: u64) -> u64
+        ensures { result ≡ control_value self.now c.now c.now.op grant }
+    {
+        match c.op {
+            ControlOp::TargetGet => self.targets.word(c.t).bits(),
+            ControlOp::TrapGet => self.xr,
+            ControlOp::Reserve => grant,
+            _ => 0,
+        }
+    }
+
+    /// Completes the step of an instruction with a reference, by the memory's reply: it is executed, blocked or trapped
+    /// ("Retries", docs/MACHINE.md). `limit` is the image's retry limit.
+    pub fn reply(&mut self, insn: &Insn, reply: Reply, limit: u32, grant: u64) -> Outcome
+        ensures { (self.new, result) ≡ replied limit self.old insn.now grant reply }
+    {
+        match reply {
+            Reply::Done(value) => {
+                self.execute(insn, value, grant);
+                Outcome::Done
+            }
+            Reply::Blocked(address) => self.block(limit, address),
+            Reply::Trap(kind, address) => self.trap(trap_of(kind), address),
+        }
+    }
+
+    fn block(&mut self, limit: u32, address: u64) -> Outcome
+        ensures { (self.new, result) ≡ blocked limit self.old address }
+    {
+        if limit == 0 {
+            return Outcome::Blocked;
+        }
+        if self.retries < limit {
+            self.retries += 1;
+            return Outcome::Blocked;
+        }
+        if self.ssw.mask.blocked {
+            return Outcome::Blocked;
+        }
+        self.trap(TrapKind::Blocked, address)
+    }
+
+    /// Completes a step that needs no memory, with so many streams granted to RESERVE. QUIT, QUITP and CREATE do here
+    /// what NOP does; the processor completes them.
+    pub fn finish_local(&mut self, program: &[u64], grant: u64)
+        requires local { plan_of program.now self.old ≡ Plan.Local }
+        ensures { (limit : ℕ) → (self.new, Outcome.Done) ≡ stream_row program.now limit self.old grant None }
+    {
+        let Fetched::Runs(insn) = self.fetch(program) else {
+            unreachable!();
+        };
+        self.execute(&insn, 0, grant);
+    }
+
+    /// Completes a step whose request the memory replied to, as `reply` does over the instruction at the pc.
+    pub fn finish_reply(&mut self, program: &[u64], reply: Reply, limit: u32, grant: u64) -> Outcome
+        requires asks { (q : Request) × (plan_of program.now self.old ≡ Plan.Ask q) }
+        ensures { (self.new, result) ≡ stream_row program.now limit self.old grant (Some reply) }
+    {
+        let Fetched::Runs(insn) = self.fetch(program) else {
+            unreachable!();
+        };
+        self.reply(&insn, reply, limit, grant)
+    }
+}
+
+/// A reference that is done has not been blocked.
+fn retries_after(op: MemoryOp, retries: u32) -> u32
+    ensures { result ≡ retries_after op retries }
+{
+    match op {
+        MemoryOp::Nop => retries,
+        _ => 0,
+    }
+}
+
+/// The pc that lies so many words behind the next one.
+fn skipped(pc: u32, words: i8) -> u32
+    ensures { result ≡ skipped pc words }
+{
+    let next = u64::from(pc) + 1;
+    let distance = u64::from(words.unsigned_abs());
+    let sum = if words < 0 {
+        next + ((1 << 32) - distance)
+    } else {
+        next + distance
+    };
+    (sum % (1 << 32)) as u32
+}

@@ -1,0 +1,130 @@
+// What the next step of a stream finds and needs. It reads the stream and changes nothing.
+
+ghost use Rattle.std.specs.Prelude.{◌≡◌};
+ghost use Rattle.stream_core.specs.Effects.{moved, asked, request_of};
+ghost use Rattle.stream_core.specs.StreamRow.{fetched, plan_of, control_of, control_at};
+
+use super::Stream;
+use crate::conversions::acc_of;
+use crate::steps::{Child, Control, Fetched, Plan, Status};
+use crate::traps::TrapKind;
+use insn_word::{ControlOp, Insn, MPart, MemoryOp, decode};
+use tag_memory::{Masked, MemOp, Pointer, Request};
+
+impl Stream {
+    /// What stands at the pc of this program: nothing where the stream does not run, else the instruction or the trap
+    /// `Program` or `Illegal`. One step needs one call: `request`, `control_of`, `execute` and `reply` go by its
+    /// instruction.
+    #[tactic(auto, unfolding(crate::specs::StreamRow::fetched))]
+    pub fn fetch(&self, program: &[u64]) -> Fetched
+        ensures { result ≡ fetched program.now self.now }
+    {
+        if self.status != Status::Running {
+            return Fetched::Rest;
+        }
+        match program.get(self.ssw.pc as usize) {
+            None => Fetched::Trap(TrapKind::Program),
+            Some(word) => match decode(*word) {
+                None => Fetched::Trap(TrapKind::Illegal),
+                Some(insn) => Fetched::Runs(insn),
+            },
+        }
+    }
+
+    /// What the instruction asks of the memory, if it has a reference.
+    #[tactic(auto, unfolding(crate::specs::Effects::request_of))]
+    pub fn request(&self, insn: &Insn) -> Option<Request>
+        ensures { result ≡ request_of self.now insn.now }
+    {
+        let Insn::Normal { m, .. } = insn else {
+            return None;
+        };
+        match m.op {
+            MemoryOp::Nop => None,
+            MemoryOp::Load => Some(self.asked(m, MemOp::Load, 0)),
+            MemoryOp::Store => Some(self.asked(m, MemOp::Store, self.register(m.rd))),
+            MemoryOp::FetchAdd => Some(self.asked(m, MemOp::Fadd, self.register(m.rd))),
+            MemoryOp::TagGet => Some(self.asked(m, MemOp::TagGet, 0)),
+            MemoryOp::TagSet => Some(self.asked(m, MemOp::TagSet, self.register(m.rd) % 16)),
+        }
+    }
+
+    fn asked(&self, m: &MPart, op: MemOp, value: u64) -> Request
+        ensures { result ≡ asked self.now m.now op value }
+    {
+        Request {
+            op,
+            pointer: moved(self.register(m.base), m.disp),
+            acc: acc_of(m.acc),
+            value,
+            masked: Masked {
+                trap0: self.ssw.mask.trap0,
+                trap1: self.ssw.mask.trap1,
+            },
+        }
+    }
+
+    /// What the instruction asks of the processor, with the values at entry.
+    #[tactic(auto, unfolding(crate::specs::StreamRow::control_of))]
+    pub fn control_of(&self, insn: &Insn) -> Control
+        ensures { result ≡ control_of self.now insn.now }
+    {
+        let Insn::Normal { c, .. } = insn else {
+            return Control::Plain;
+        };
+        match c.op {
+            ControlOp::Reserve => Control::Reserve(self.register(c.ra)),
+            ControlOp::Create => Control::Create(Child {
+                pc: self.targets.word(c.t).pc,
+                value: self.register(c.ra),
+                t0: self.targets.word(0),
+                mask: self.ssw.mask,
+            }),
+            ControlOp::Quit => Control::Quit,
+            ControlOp::QuitKeep => Control::QuitKeep,
+            _ => Control::Plain,
+        }
+    }
+
+    /// What the next step needs: nothing where the stream does not run, a trap `Program` or `Illegal`, a reply of the
+    /// memory, or nothing but the stream.
+    #[tactic(auto, unfolding(crate::specs::StreamRow::plan_of))]
+    pub fn plan(&self, program: &[u64]) -> Plan
+        ensures { result ≡ plan_of program.now self.now }
+    {
+        match self.fetch(program) {
+            Fetched::Rest => Plan::Rest,
+            Fetched::Trap(kind) => Plan::Trap(kind),
+            Fetched::Runs(insn) => match self.request(&insn) {
+                None => Plan::Local,
+                Some(request) => Plan::Ask(request),
+            },
+        }
+    }
+
+    /// What the instruction at the pc asks of the processor; `Plain` where the stream does not run or no instruction
+    /// stands there.
+    #[tactic(auto, unfolding(crate::specs::StreamRow::control_at))]
+    pub fn control(&self, program: &[u64]) -> Control
+        ensures { result ≡ control_at program.now self.now }
+    {
+        match self.fetch(program) {
+            Fetched::Runs(insn) => self.control_of(&insn),
+            Fetched::Rest | Fetched::Trap(_) => Control::Plain,
+        }
+    }
+}
+
+/// The effective pointer: so many words further, modulo 2^48, with the upper 16 bits as they are.
+fn moved(pointer: u64, words: i8) -> Pointer
+    ensures { result ≡ moved pointer words }
+{
+    let address = pointer % (1 << 48);
+    let bytes = u64::from(words.unsigned_abs()) * 8;
+    let sum = if words < 0 {
+        address + ((1 << 48) - bytes)
+    } else {
+        address + bytes
+    };
+    Pointer::new(pointer / (1 << 48) * (1 << 48) + sum % (1 << 48))
+}
