@@ -1,10 +1,10 @@
 -- How one probe moves the end of a chain, and what stands where a chain ends at a word.
-use Rattle.std.proofs.Common.{◌≡◌, ℕ, zero, suc, ◌+◌, ◌%◌, ◌==◌, Bool, true, false, not, if◌then◌else◌, refl, ◌∙◌, ap}
+use Rattle.std.proofs.Common.{◌≡◌, ℕ, zero, suc, Bool, true, false, if◌then◌else◌, refl, ◌∙◌, ap}
 use Rattle.std.proofs.Common.{Option, Some, None}
 use Rattle.tag_memory.specs.Cell.{Cell}
-use Rattle.tag_memory.specs.Address.{address_of, is_reserved}
+use Rattle.tag_memory.specs.Address.{address_of}
 use Rattle.tag_memory.specs.Storage.{TaggedMemory, cell_at}
-use Rattle.tag_memory.specs.Chain.{is_tag_operation, probe_cell, probe, followed, end_from}
+use Rattle.tag_memory.specs.Chain.{probe_cell, probe, followed, end_from}
 use Rattle.tag_memory.specs.declared.requests.Request.{Request}
 use Rattle.tag_memory.specs.declared.requests.MemTrap.{MemTrap}
 use Rattle.tag_memory.specs.declared.requests.MemTrap.TheVariants as trap

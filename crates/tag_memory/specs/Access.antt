@@ -1,5 +1,5 @@
 -- What a reference does to the word that it reaches: the full/empty table.
-use Rattle.std.specs.Prelude.{ℕ, ◌+◌, ◌%◌, ◌^◌, ◌==◌, Bool, true, false, Option, Some, None, if◌then◌else◌}
+use Rattle.std.specs.Prelude.{ℕ, ◌+◌, ◌%◌, ◌^◌, ◌==◌, true, false, Option, Some, None, if◌then◌else◌}
 use Rattle.tag_memory.specs.Cell.{Cell, cell_of, tag_number}
 use Rattle.tag_memory.specs.Address.{control_number}
 use Rattle.tag_memory.specs.declared.pointers.Control.{Control}

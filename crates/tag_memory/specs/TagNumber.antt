@@ -9,4 +9,10 @@ weighed n w = grind (arith, nat_tests)
 
 pub tag_number-cell_of : (value tags : ℕ) → tags < 16 → tag_number (cell_of value tags) ≡ tags
 tag_number-cell_of value tags small =
-    omega (arith, weighed (tags / 2 ^ 0) 1, weighed (tags / 2 ^ 1) 2, weighed (tags / 2 ^ 2) 4, weighed (tags / 2 ^ 3) 8)
+    omega (
+      arith,
+      weighed (tags / 2 ^ 0) 1,
+      weighed (tags / 2 ^ 1) 2,
+      weighed (tags / 2 ^ 2) 4,
+      weighed (tags / 2 ^ 3) 8,
+    )

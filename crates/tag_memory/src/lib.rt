@@ -1,5 +1,6 @@
 //! The tagged memory of the machine: words with four tags, and the answer to one request at a time.
-//! docs/MACHINE.md has the rules in words: words and tags, pointers, the request rules, forwarding, the full/empty table.
+//! docs/MACHINE.md has the rules in words: words and tags, pointers, the request rules, forwarding and the full/empty
+//! table.
 #![tactic(auto)]
 
 mod chain;

@@ -76,8 +76,8 @@ pub enum MemTrap {
     Forward,
 }
 
-/// Which of the two trap bits a request passes over, on every word of its chain. Where it is written as a number, trap0
-/// counts 1 and trap1 counts 2.
+/// Which of the two trap bits a request passes over, on every word of its chain. Where it is written as a number,
+/// trap0 counts 1 and trap1 counts 2.
 #[derive(Clone, Copy, PartialEq, Eq, Debug)]
 pub struct Masked {
     /// The trap0 bit is passed over.

@@ -7,8 +7,8 @@ use crate::full_empty::effect;
 use crate::{Memory, Reply, Request};
 
 impl Memory {
-    /// Answers a request, by the request rules, forwarding and the full/empty table of docs/MACHINE.md. At most one word
-    /// changes, and none where the reply is `Blocked` or `Trap`; their address is that of the probe that failed.
+    /// Answers a request, by the request rules, forwarding and the full/empty table of docs/MACHINE.md. At most one
+    /// word changes, and none where the reply is `Blocked` or `Trap`; their address is that of the probe that failed.
     pub fn serve(&mut self, request: &Request) -> Reply
         ensures { (self.new, result) ≡ answer self.old request.now }
     {
@@ -28,8 +28,8 @@ impl Memory {
     }
 }
 
-/// The laws of answers; it does nothing. A request has one answer, the computed one (`computed`); it changes no word but
-/// the one at the address where it ends (`others`); a memory is known by its words (`words`).
+/// Does nothing: its clauses are the laws of answers. A request has one answer, the computed one (`computed`); it
+/// changes no word but the one at the address where it ends (`others`); a memory is known by its words (`words`).
 pub fn serving_laws()
     ensures computed { AnswersAreComputed }
     ensures others { OthersStay }

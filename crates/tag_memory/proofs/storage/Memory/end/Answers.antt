@@ -1,5 +1,5 @@
 -- Each probe moves the invariant on, or says the end.
-use Rattle.std.proofs.Common.{◌≡◌, ℕ, zero, suc, ◌-◌, ◌+◌, ◌∙◌, ap, arith}
+use Rattle.std.proofs.Common.{◌≡◌, zero, suc, ◌-◌, ◌+◌, ◌∙◌, ap, arith}
 use Rattle.tag_memory.specs.Chain.{chain_limit, end_from}
 use Rattle.tag_memory.proofs.Ends.{trap_ends, reach_ends, forward_goes, forward_stops}
 use Rattle.tag_memory.proofs.storage.Memory.end.Goals as goal

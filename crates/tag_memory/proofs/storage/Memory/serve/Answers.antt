@@ -1,5 +1,5 @@
 -- There is a word where the chain ends at one.
-use Rattle.std.proofs.Common.{◌≡◌, ◌∙◌, ap, sym, is_some}
+use Rattle.std.proofs.Common.{◌∙◌, ap, sym, is_some}
 use Rattle.tag_memory.specs.Storage.{cell_at}
 use Rattle.tag_memory.specs.Chain.{chain_limit}
 use Rattle.tag_memory.proofs.Ends.{cell_at-last}
