@@ -1,5 +1,5 @@
 -- A word seen a part at a time, by numbers, as the code reads it. Only private contracts cite this.
-use Rattle.std.specs.Prelude.{◌≡◌, ℕ, ◌<◌, ◌≤◌, ◌/◌, ◌%◌, ◌^◌}
+use Rattle.std.specs.Prelude.{◌≡◌, ℕ, ◌<◌, ◌/◌, ◌%◌, ◌^◌}
 use Rattle.insn_word.specs.Fields.{number, AreInRange}
 use Rattle.insn_word.specs.Words.{memory_fields, arithmetic_fields, control_fields, fields, used_memory, used_arithmetic, used_control, WriteApart}
 use Rattle.insn_word.specs.declared.operations.WideOp.{WideOp}

@@ -1,7 +1,7 @@
 -- The instruction that a word spells, by computing: each field is read, what the operation doesn't use is cleared, and the
 -- result counts where it is spelt by the word again. Definitions that fold over runs go by it.
 use Rattle.std.specs.Prelude.{◌≡◌, ◌↔◌, ℕ, ◌-◌, ◌/◌, ◌%◌, ◌^◌, ◌==◌, ℤ, pos, negsuc, Bool, true, not, ◌&&◌, ◌||◌, nat_lt, if◌then◌else◌}
-use Rattle.std.specs.Prelude.{List, [], ◌∷◌, Option, Some, None, slice_index_or}
+use Rattle.std.specs.Prelude.{[], ◌∷◌, Option, Some, None, slice_index_or}
 use Rattle.insn_word.specs.Fields.{number}
 use Rattle.insn_word.specs.Words.{fields, used_memory, used_arithmetic, no_control, memory_target, arithmetic_target, control_target, Spells}
 use Rattle.insn_word.specs.declared.operations.WideOp.{WideOp}

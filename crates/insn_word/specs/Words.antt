@@ -1,5 +1,5 @@
 -- Which word spells which instruction.
-use Rattle.std.specs.Prelude.{◌≡◌, ℕ, ◌<◌, ◌^◌, pos, unsigned_abs, true, false, ⊤, List, [], ◌∷◌, ◌++◌}
+use Rattle.std.specs.Prelude.{◌≡◌, ℕ, ◌<◌, ◌^◌, pos, unsigned_abs, false, ⊤, List, [], ◌∷◌, ◌++◌}
 use Rattle.insn_word.specs.Operations.{wide_number, memory_number, access_number, arithmetic_number, control_number, condition_number}
 use Rattle.insn_word.specs.Fields.{Field, unsigned, signed, zeros, flag, digits, spelling, AreInRange}
 use Rattle.insn_word.specs.declared.operations.WideOp.{WideOp}

@@ -1,4 +1,4 @@
-// Instruction words: which 64-bit word spells which instruction (docs/MACHINE.md, "Instruction words").
+// Instruction words: which 64-bit word spells which instruction (docs/FORMATS.md, "Instruction words").
 #![tactic(auto)]
 
 mod fields;
@@ -6,6 +6,8 @@ mod insn;
 mod laws;
 mod operations;
 mod parts;
+#[cfg(test)]
+mod tests;
 mod words;
 
 pub use insn::{APart, CPart, Insn, MPart};

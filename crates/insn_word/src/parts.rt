@@ -53,7 +53,7 @@ impl MPart {
     }
 
     /// The register that the part writes, and 0 where it writes none.
-    pub(crate) fn target(&self) -> u8
+    pub fn target(&self) -> u8
         ensures { result ≡ memory_target self.now.op self.now.rd }
     {
         match self.op {
@@ -103,7 +103,7 @@ impl APart {
     }
 
     /// The register that the part writes, and 0 where it writes none.
-    pub(crate) fn target(&self) -> u8
+    pub fn target(&self) -> u8
         ensures { result ≡ arithmetic_target self.now.op self.now.rd }
     {
         match self.op {
@@ -130,6 +130,7 @@ impl CPart {
 
     /// The operation with the arguments that the digits give it; None where they name no condition.
     fn with_arguments(op: ControlOp, bits: u64) -> Option<CPart>
+        ensures asked { IfSome result (λ c. c.op ≡ op) }
         ensures kind { IfSome result (λ c. AreInRange (control_fields c) × (used_control c.op c ≡ c)) }
         ensures only { (c : CPart) → c.op ≡ op → IsControlPart bits c → result ≡ Some c }
     {
@@ -216,7 +217,7 @@ impl CPart {
     }
 
     /// The register that the part writes, and 0 where it writes none.
-    pub(crate) fn target(&self) -> u8
+    pub fn target(&self) -> u8
         ensures { result ≡ control_target self.now.op self.now.rd }
     {
         match self.op {

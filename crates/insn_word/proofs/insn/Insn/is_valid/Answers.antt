@@ -1,4 +1,4 @@
-use Rattle.std.proofs.Common.{◌≡◌, ◌∙◌, sym, subst, Some}
+use Rattle.std.proofs.Common.{◌≡◌, ◌∙◌, sym, subst}
 use Rattle.insn_word.specs.Words.{Spells}
 use Rattle.insn_word.proofs.Same.{Decides-insn}
 use Rattle.insn_word.proofs.WordParts.{Spells-bits}

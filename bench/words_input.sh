@@ -1,0 +1,12 @@
+#!/usr/bin/env bash
+# Prints the longest program that `words` takes, 65,536 lines: a block of sixteen words again and again, which all run.
+set -eu
+awk 'BEGIN {
+  split("8010000000000005 0000000A208C0000 0488000A10840000 0290000000000000" \
+    " 0000001600AC0000 0000000000008800 000000000001C100 8410000000000005" \
+    " 0000000000018940 0000000000032000 0000000000030000 00000000000200C4" \
+    " 8210000000000005 0698000000000000 0000001873080000 0820000000000000", block, " ")
+  for (n = 0; n < 4096; n++)
+    for (k = 1; k <= 16; k++)
+      print block[k]
+}'
