@@ -1,5 +1,5 @@
 -- The lines of registers, one after another.
-use Rattle.std.proofs.Common.{◌≡◌, ℕ, suc, ◌+◌, ◌-◌, ◌<◌, ◌≤◌, List, [], ◌++◌, refl, sym, ◌∙◌, ap, append_assoc, append-nil, arith}
+use Rattle.std.proofs.Common.{◌≡◌, ℕ, suc, ◌+◌, ◌-◌, ◌<◌, ◌≤◌, List, [], ◌++◌, sym, ◌∙◌, ap, append_assoc, append-nil, arith}
 use Rattle.stream_core.specs.StatusWords.{status_number}
 use Rattle.stream_core.specs.Registers.{register_at, target_at}
 use Rattle.stream_core.specs.Streams.{StreamValue}

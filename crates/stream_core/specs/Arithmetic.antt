@@ -1,5 +1,5 @@
 -- What the arithmetic operations compute, and the codes that they make.
-use Rattle.std.specs.Prelude.{ℕ, ◌+◌, ◌-◌, ◌*◌, ◌/◌, ◌%◌, ◌^◌, ◌==◌, nat_lt, nat_le, Bool, true, false, not, if◌then◌else◌}
+use Rattle.std.specs.Prelude.{ℕ, ◌+◌, ◌-◌, ◌*◌, ◌/◌, ◌%◌, ◌^◌, ◌==◌, nat_lt, nat_le, Bool, false, not, if◌then◌else◌}
 use Rattle.std.specs.Prelude.{int_lt, ℤ, pos, negsuc, ◌+ℤ◌, ◌-ℤ◌, ◌*ℤ◌, bit_and, bit_or, bit_xor, count_ones}
 use Rattle.std.specs.Int.{w64, cast_signed}
 use Rattle.insn_word.specs.declared.operations.ArithmeticOp.{ArithmeticOp}

@@ -1,5 +1,5 @@
 -- The digits of status words, and how condition codes age.
-use Rattle.std.specs.Prelude.{◌≡◌, ◌<◌, ℕ, ◌+◌, ◌*◌, ◌/◌, ◌%◌, ◌^◌, bit_and, Bool, false}
+use Rattle.std.specs.Prelude.{◌≡◌, ◌<◌, ℕ, ◌+◌, ◌*◌, ◌/◌, ◌%◌, ◌^◌, bit_and, false}
 use Rattle.tag_memory.specs.Cell.{has_bit}
 use Rattle.stream_core.specs.Arithmetic.{number_of}
 use Rattle.stream_core.specs.declared.conditions.Code.{Code}
