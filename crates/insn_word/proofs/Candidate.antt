@@ -7,7 +7,7 @@ use Rattle.std.proofs.lemmas.Bool.{cases_lt, lt-ltb, le-ltb}
 use Rattle.std.proofs.lemmas.Int.{ints}
 use Rattle.insn_word.specs.Operations.{memory_number, access_number, arithmetic_number, control_number, condition_number}
 use Rattle.insn_word.specs.Fields.{AreInRange, number}
-use Rattle.insn_word.specs.Words.{memory_fields, arithmetic_fields, control_fields, fields, used_memory, used_arithmetic, used_control, RestIsZero, AreApart, HasOneWriter, Spells, memory_target, arithmetic_target, control_target}
+use Rattle.insn_word.specs.Words.{memory_fields, arithmetic_fields, control_fields, fields, used_memory, used_arithmetic, used_control, RestIsZero, AreApart, HasOneWriter, Spells, memory_destination, arithmetic_destination, control_destination}
 use Rattle.insn_word.specs.Reading.{signed_read, memory_raw, arithmetic_raw, control_from, memory_at, arithmetic_at, control_read, wide_read, wide_from, wide_at, normal_at, candidate, are_apart, has_one_writer, kept_if, instruction, InstructionIsSpelt}
 use Rattle.insn_word.proofs.WordParts.{normal_in_range, Holds-from_spells, Spells-number, Spells-from_number}
 use Rattle.insn_word.proofs.Read.{candidate-holds}
@@ -157,7 +157,7 @@ Decides-apart x y = grind (arith, nat_tests)
 Decides-one_writer : (i : Insn) → Decides (has_one_writer i) (HasOneWriter i)
 Decides-one_writer (insn.Wide look op reg imm) = (λ e. tt, λ h. refl)
 Decides-one_writer (insn.Normal look m a c) =
-    let x = memory_target m.op m.rd in let y = arithmetic_target a.op a.rd in let z = control_target c.op c.rd in
+    let x = memory_destination m.op m.rd in let y = arithmetic_destination a.op a.rd in let z = control_destination c.op c.rd in
     Decides-like (has_one_writer (insn.Normal look m a c))
     (λ p. record { memory_arithmetic = p.0.0; memory_control = p.0.1; arithmetic_control = p.1 })
     (λ w. ((w.memory_arithmetic, w.memory_control), w.arithmetic_control))

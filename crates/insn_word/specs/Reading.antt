@@ -3,7 +3,7 @@
 use Rattle.std.specs.Prelude.{◌≡◌, ◌↔◌, ℕ, ◌-◌, ◌/◌, ◌%◌, ◌^◌, ◌==◌, ℤ, pos, negsuc, Bool, true, not, ◌&&◌, ◌||◌, nat_lt, if◌then◌else◌}
 use Rattle.std.specs.Prelude.{[], ◌∷◌, Option, Some, None, slice_index_or}
 use Rattle.insn_word.specs.Fields.{number}
-use Rattle.insn_word.specs.Words.{fields, used_memory, used_arithmetic, no_control, memory_target, arithmetic_target, control_target, Spells}
+use Rattle.insn_word.specs.Words.{fields, used_memory, used_arithmetic, no_control, memory_destination, arithmetic_destination, control_destination, Spells}
 use Rattle.insn_word.specs.declared.operations.WideOp.{WideOp}
 use Rattle.insn_word.specs.declared.operations.WideOp.TheVariants as wide
 use Rattle.insn_word.specs.declared.operations.MemoryOp.{MemoryOp}
@@ -117,9 +117,9 @@ are_apart x y = not (x == y) || (x == 0)
 abbrev pub has_one_writer : Insn → Bool
 has_one_writer (insn.Wide look op reg imm) = true
 has_one_writer (insn.Normal look m a c) =
-    are_apart (memory_target m.op m.rd) (arithmetic_target a.op a.rd)
-    && are_apart (memory_target m.op m.rd) (control_target c.op c.rd)
-    && are_apart (arithmetic_target a.op a.rd) (control_target c.op c.rd)
+    are_apart (memory_destination m.op m.rd) (arithmetic_destination a.op a.rd)
+    && are_apart (memory_destination m.op m.rd) (control_destination c.op c.rd)
+    && are_apart (arithmetic_destination a.op a.rd) (control_destination c.op c.rd)
 
 abbrev pub kept_if : Bool → Insn → Option Insn
 kept_if keep i = if keep then Some i else None

@@ -97,30 +97,30 @@ RestIsZero (insn.Normal look m a c) = (used_memory m.op m ≡ m) × (used_arithm
 
 -- The register that an operation with this rd writes, and 0 where it writes none.
 
-abbrev pub memory_target : MemoryOp → ℕ → ℕ
-memory_target memory.Load rd = rd
-memory_target memory.FetchAdd rd = rd
-memory_target memory.TagGet rd = rd
-memory_target _ rd = 0
+abbrev pub memory_destination : MemoryOp → ℕ → ℕ
+memory_destination memory.Load rd = rd
+memory_destination memory.FetchAdd rd = rd
+memory_destination memory.TagGet rd = rd
+memory_destination _ rd = 0
 
-abbrev pub arithmetic_target : ArithmeticOp → ℕ → ℕ
-arithmetic_target arithmetic.Nop rd = 0
-arithmetic_target _ rd = rd
+abbrev pub arithmetic_destination : ArithmeticOp → ℕ → ℕ
+arithmetic_destination arithmetic.Nop rd = 0
+arithmetic_destination _ rd = rd
 
-abbrev pub control_target : ControlOp → ℕ → ℕ
-control_target control.TargetGet rd = rd
-control_target control.TrapGet rd = rd
-control_target control.Reserve rd = rd
-control_target _ rd = 0
+abbrev pub control_destination : ControlOp → ℕ → ℕ
+control_destination control.TargetGet rd = rd
+control_destination control.TrapGet rd = rd
+control_destination control.Reserve rd = rd
+control_destination _ rd = 0
 
 -- If two registers are one, it is r0.
 abbrev pub AreApart : ℕ → ℕ → Type 0
 AreApart x y = x ≡ y → x ≡ 0
 
 pub record WriteApart (m : MPart) (a : APart) (c : CPart) : Type 0 where
-  pub memory_arithmetic : AreApart (memory_target m.op m.rd) (arithmetic_target a.op a.rd)
-  pub memory_control : AreApart (memory_target m.op m.rd) (control_target c.op c.rd)
-  pub arithmetic_control : AreApart (arithmetic_target a.op a.rd) (control_target c.op c.rd)
+  pub memory_arithmetic : AreApart (memory_destination m.op m.rd) (arithmetic_destination a.op a.rd)
+  pub memory_control : AreApart (memory_destination m.op m.rd) (control_destination c.op c.rd)
+  pub arithmetic_control : AreApart (arithmetic_destination a.op a.rd) (control_destination c.op c.rd)
 
 abbrev pub HasOneWriter : Insn → Type 0
 HasOneWriter (insn.Wide look op reg imm) = ⊤

@@ -5,7 +5,7 @@ ghost use Rattle.insn_word.specs.Operations.{condition_number};
 ghost use Rattle.insn_word.specs.Fields.{number, AreInRange};
 ghost use Rattle.insn_word.specs.Words.{memory_fields, arithmetic_fields, argument_fields, control_fields};
 ghost use Rattle.insn_word.specs.Words.{used_memory, used_arithmetic, used_control};
-ghost use Rattle.insn_word.specs.Words.{memory_target, arithmetic_target, control_target};
+ghost use Rattle.insn_word.specs.Words.{memory_destination, arithmetic_destination, control_destination};
 ghost use Rattle.insn_word.specs.Parts.{IsMemoryPart, IsArithmeticPart, IsControlPart};
 ghost use Rattle.insn_word.specs.declared.insn.MPart.{MPart};
 ghost use Rattle.insn_word.specs.declared.insn.APart.{APart};
@@ -52,9 +52,9 @@ impl MPart {
         }
     }
 
-    /// The register that the part writes, and 0 where it writes none.
-    pub fn target(&self) -> u8
-        ensures { result ≡ memory_target self.now.op self.now.rd }
+    /// The register that the part writes, 0 to 31 in a valid part; r0, whose writes are discarded, where it writes none.
+    pub fn destination(&self) -> u8
+        ensures { result ≡ memory_destination self.now.op self.now.rd }
     {
         match self.op {
             MemoryOp::Load | MemoryOp::FetchAdd | MemoryOp::TagGet => self.rd,
@@ -102,9 +102,9 @@ impl APart {
         }
     }
 
-    /// The register that the part writes, and 0 where it writes none.
-    pub fn target(&self) -> u8
-        ensures { result ≡ arithmetic_target self.now.op self.now.rd }
+    /// The register that the part writes, 0 to 31 in a valid part; r0, whose writes are discarded, where it writes none.
+    pub fn destination(&self) -> u8
+        ensures { result ≡ arithmetic_destination self.now.op self.now.rd }
     {
         match self.op {
             ArithmeticOp::Nop => 0,
@@ -216,9 +216,9 @@ impl CPart {
         with_field(self.cond.number(), 2, u64::from(self.code))
     }
 
-    /// The register that the part writes, and 0 where it writes none.
-    pub fn target(&self) -> u8
-        ensures { result ≡ control_target self.now.op self.now.rd }
+    /// The register that the part writes, 0 to 31 in a valid part; r0, whose writes are discarded, where it writes none.
+    pub fn destination(&self) -> u8
+        ensures { result ≡ control_destination self.now.op self.now.rd }
     {
         match self.op {
             ControlOp::TargetGet | ControlOp::TrapGet | ControlOp::Reserve => self.rd,

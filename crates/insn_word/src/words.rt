@@ -115,9 +115,9 @@ fn decode_normal(word: u64) -> Option<Insn>
 fn write_apart(m: &MPart, a: &APart, c: &CPart) -> bool
     ensures { IsTrue result ↔ WriteApart m.now a.now c.now }
 {
-    are_apart(m.target(), a.target())
-        && are_apart(m.target(), c.target())
-        && are_apart(a.target(), c.target())
+    are_apart(m.destination(), a.destination())
+        && are_apart(m.destination(), c.destination())
+        && are_apart(a.destination(), c.destination())
 }
 
 fn are_apart(x: u8, y: u8) -> bool

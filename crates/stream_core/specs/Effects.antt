@@ -1,6 +1,6 @@
 -- What an instruction does to its stream: each operand is read as it stood before, and all is written at once.
 use Rattle.std.specs.Prelude.{ℕ, suc, ◌+◌, ◌-◌, ◌*◌, ◌/◌, ◌%◌, ◌^◌, ◌==◌, ℤ, pos, negsuc, unsigned_abs, Bool, List, Option, Some, None, if◌then◌else◌}
-use Rattle.insn_word.specs.Words.{memory_target, arithmetic_target, control_target}
+use Rattle.insn_word.specs.Words.{memory_destination, arithmetic_destination, control_destination}
 use Rattle.insn_word.specs.declared.operations.WideOp.{WideOp}
 use Rattle.insn_word.specs.declared.operations.WideOp.TheVariants as wide
 use Rattle.insn_word.specs.declared.operations.MemoryOp.{MemoryOp}
@@ -127,9 +127,9 @@ control_value s c _ grant = 0
 abbrev pub registers_after : StreamValue → MPart → APart → CPart → ℕ → ℕ → List ℕ
 registers_after s m a c value grant =
     with_register (with_register (with_register s.registers
-    (memory_target m.op m.rd) value)
-    (arithmetic_target a.op a.rd) (made s a))
-    (control_target c.op c.rd) (control_value s c c.op grant)
+    (memory_destination m.op m.rd) value)
+    (arithmetic_destination a.op a.rd) (made s a))
+    (control_destination c.op c.rd) (control_value s c c.op grant)
 
 abbrev pub executed_parts : StreamValue → MPart → APart → CPart → ℕ → ℕ → StreamValue
 executed_parts s m a c value grant = record s {

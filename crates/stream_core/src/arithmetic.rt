@@ -10,7 +10,7 @@ use crate::conditions::Code;
 use insn_word::{ArithmeticOp, Condition};
 
 /// The result of the operation on `a` and `b`, modulo 2^64, and the condition code of it
-/// ("Arithmetic", docs/MACHINE.md). NOP answers 0.
+/// ("Arithmetic operations", docs/MACHINE.md). NOP answers 0.
 pub fn alu(op: ArithmeticOp, a: u64, b: u64) -> (u64, Code)
     ensures { result ≡ (result_of op a b, code_of op a b) }
 {

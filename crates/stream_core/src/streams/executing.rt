@@ -54,9 +54,9 @@ impl Stream {
         let control_value = self.control_value(c, grant);
         let ssw = self.control_ssw(c, left);
         self.write_target(c, left);
-        self.registers.set(m.target(), value);
-        self.registers.set(a.target(), made);
-        self.registers.set(c.target(), control_value);
+        self.registers.set(m.destination(), value);
+        self.registers.set(a.destination(), made);
+        self.registers.set(c.destination(), control_value);
         self.ssw = ssw;
         self.retries = retries_after(m.op, self.retries);
     }
