@@ -4,7 +4,7 @@ use number_text::read_hexadecimal;
 use stream_core::{Code, alu};
 
 /// Whether the line's operation makes the result and the code's number at its end.
-pub fn is_computed(line: &str) -> bool {
+pub(crate) fn is_computed(line: &str) -> bool {
     agrees(line).unwrap_or(false)
 }
 

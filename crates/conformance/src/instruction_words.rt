@@ -5,7 +5,7 @@ use number_text::read_hexadecimal;
 use std::alloc::{AllocError, Global};
 
 /// Whether the line's word spells the instruction whose source text follows it, in both directions.
-pub fn is_spelt(alloc: Global, line: &str) -> Result<bool, AllocError> {
+pub(crate) fn is_spelt(alloc: Global, line: &str) -> Result<bool, AllocError> {
     let Some((word, text)) = split(line) else {
         return Ok(false);
     };
@@ -17,7 +17,7 @@ pub fn is_spelt(alloc: Global, line: &str) -> Result<bool, AllocError> {
 }
 
 /// Whether the line's word spells no instruction.
-pub fn is_no_instruction(line: &str) -> bool {
+pub(crate) fn is_no_instruction(line: &str) -> bool {
     split(line).is_some_and(|(word, _)| decode(word).is_none())
 }
 

@@ -2,7 +2,7 @@
 use insn_word::{Access, ArithmeticOp, Condition, ControlOp, MemoryOp, WideOp};
 
 /// The name of a wide operation.
-pub fn wide_name(op: WideOp) -> &'static str {
+pub(crate) fn wide_name(op: WideOp) -> &'static str {
     match op {
         WideOp::Literal => "LIT",
         WideOp::LiteralHigh => "LITH",
@@ -11,7 +11,7 @@ pub fn wide_name(op: WideOp) -> &'static str {
 }
 
 /// The name of a memory operation.
-pub fn memory_name(op: MemoryOp) -> &'static str {
+pub(crate) fn memory_name(op: MemoryOp) -> &'static str {
     match op {
         MemoryOp::Nop => "NOP",
         MemoryOp::Load => "LOAD",
@@ -23,7 +23,7 @@ pub fn memory_name(op: MemoryOp) -> &'static str {
 }
 
 /// What an access puts behind the name of a memory operation.
-pub fn access_suffix(access: Access) -> &'static str {
+pub(crate) fn access_suffix(access: Access) -> &'static str {
     match access {
         Access::FromPointer => "",
         Access::Normal => ".N",
@@ -33,7 +33,7 @@ pub fn access_suffix(access: Access) -> &'static str {
 }
 
 /// The name of an arithmetic operation.
-pub fn arithmetic_name(op: ArithmeticOp) -> &'static str {
+pub(crate) fn arithmetic_name(op: ArithmeticOp) -> &'static str {
     match op {
         ArithmeticOp::Nop => "NOP",
         ArithmeticOp::Add => "ADD",
@@ -72,14 +72,14 @@ const ARITHMETIC: [ArithmeticOp; 14] = [
 ];
 
 /// The operation with this name that makes a result; None where there is none.
-pub fn arithmetic_op(name: &str) -> Option<ArithmeticOp> {
+pub(crate) fn arithmetic_op(name: &str) -> Option<ArithmeticOp> {
     ARITHMETIC
         .into_iter()
         .find(|op| arithmetic_name(*op) == name)
 }
 
 /// The name of a control operation.
-pub fn control_name(op: ControlOp) -> &'static str {
+pub(crate) fn control_name(op: ControlOp) -> &'static str {
     match op {
         ControlOp::Nop => "NOP",
         ControlOp::Jump => "JUMP",
@@ -98,7 +98,7 @@ pub fn control_name(op: ControlOp) -> &'static str {
 }
 
 /// The name of a condition.
-pub fn condition_name(condition: Condition) -> &'static str {
+pub(crate) fn condition_name(condition: Condition) -> &'static str {
     match condition {
         Condition::Always => "ALWAYS",
         Condition::Equal => "EQ",

@@ -6,7 +6,7 @@ use insn_word::{APart, ArithmeticOp, CPart, ControlOp, Insn, MPart, WideOp};
 use std::alloc::{AllocError, Global};
 
 /// The line that the instruction is written as.
-pub fn source_text(alloc: Global, insn: &Insn) -> Result<String, AllocError> {
+pub(crate) fn source_text(alloc: Global, insn: &Insn) -> Result<String, AllocError> {
     let mut text = String::new(alloc);
     match insn {
         Insn::Wide { look, op, reg, imm } => {

@@ -4,7 +4,7 @@ use std::alloc::{AllocError, Global};
 
 /// A file of test vectors: a line each, its fields separated by tabs. A line that begins with `#` is a comment.
 #[derive(Clone, Copy)]
-pub enum Vectors {
+pub(crate) enum Vectors {
     /// A word, and the instruction that it spells.
     InstructionWords,
     /// A word that spells no instruction, and why.
@@ -15,14 +15,14 @@ pub enum Vectors {
 
 impl Vectors {
     /// All files, in the order in which they are compared.
-    pub const ALL: [Vectors; 3] = [
+    pub(crate) const ALL: [Vectors; 3] = [
         Vectors::InstructionWords,
         Vectors::NotInstructions,
         Vectors::Arithmetic,
     ];
 
     /// The file's name.
-    pub fn file(self) -> &'static str {
+    pub(crate) fn file(self) -> &'static str {
         match self {
             Vectors::InstructionWords => "instruction_words.tsv",
             Vectors::NotInstructions => "not_instructions.tsv",
@@ -31,7 +31,7 @@ impl Vectors {
     }
 
     /// What is printed of the file.
-    pub fn title(self) -> &'static str {
+    pub(crate) fn title(self) -> &'static str {
         match self {
             Vectors::InstructionWords => "instruction words",
             Vectors::NotInstructions => "not instructions",
@@ -40,7 +40,7 @@ impl Vectors {
     }
 
     /// Whether what the line says is so. A line that can't be read is not.
-    pub fn hold_at(self, alloc: Global, line: &str) -> Result<bool, AllocError> {
+    pub(crate) fn hold_at(self, alloc: Global, line: &str) -> Result<bool, AllocError> {
         match self {
             Vectors::InstructionWords => instruction_words::is_spelt(alloc, line),
             Vectors::NotInstructions => Ok(instruction_words::is_no_instruction(line)),

@@ -20,7 +20,7 @@ mod whole_words;
 const NO_HANDLER: u64 = 0xFFFF_FFFF;
 
 /// A target register with each field set: in-trap, mask bits 0 and 2, four codes, and pc 100.
-const T1: u64 = 0x0105_A843_0000_0064;
+const TARGET_1: u64 = 0x0105_A843_0000_0064;
 
 /// Three operations that do nothing.
 const NOP: Insn = Insn::Normal {

@@ -7,11 +7,11 @@ const BEFORE: u64 = 0x0002_8421_0000_000A;
 /// The same, at the next pc.
 const NEXT: u64 = BEFORE + 1;
 
-const T0: u64 = 0x0004_0000_0000_0005;
+const TARGET_0: u64 = 0x0004_0000_0000_0005;
 
 const REGISTERS: [(u8, u64); 2] = [(1, u64::MAX), (2, 7)];
 
-const TARGETS: [(u8, u64); 2] = [(0, T0), (1, T1)];
+const TARGETS: [(u8, u64); 2] = [(0, TARGET_0), (1, TARGET_1)];
 
 fn jump(cond: Condition, code: u8, t: u8) -> CPart {
     CPart {
@@ -120,8 +120,8 @@ fn target_registers(rt: HostRuntime) {
         ("CALL t1, t2", call(1, 2), 0x0002_8421_0000_0064, (2, 11)),
         ("CALL t1, t1", call(1, 1), 0x0002_8421_0000_0064, (1, 11)),
         ("CALL t2, t1", call(2, 1), 0x0002_8421_0000_0000, (1, 11)),
-        ("XCHG t1", exchange(1), T1, (1, NEXT)),
-        ("XCHG t0", exchange(0), T0, (0, NEXT)),
+        ("XCHG t1", exchange(1), TARGET_1, (1, NEXT)),
+        ("XCHG t0", exchange(0), TARGET_0, (0, NEXT)),
         ("XCHG t2", exchange(2), 0, (2, NEXT)),
         ("TSET t3, r1", set(3, 1), NEXT, (3, 0x0107_FFFF_FFFF_FFFF)),
         ("TSET t1, r2", set(1, 2), NEXT, (1, 7)),
@@ -130,7 +130,7 @@ fn target_registers(rt: HostRuntime) {
     for (row, c, ssw, changed) in table {
         let mut stream = before();
         stream.execute(&control(c), 0, 0);
-        let targets = [(0, T0), (1, T1), changed];
+        let targets = [(0, TARGET_0), (1, TARGET_1), changed];
         assert_holds(&rt, row, &stream, ssw, &REGISTERS, &targets);
         assert_eq!(rt; before().control_of(&control(c)), Control::Plain, "{row}");
     }
@@ -144,13 +144,13 @@ fn general_registers(rt: HostRuntime) {
             "TGET r5, t1",
             operation(ControlOp::TargetGet, 1, 5, 0),
             0,
-            (5, T1),
+            (5, TARGET_1),
         ),
         (
             "TGET r2, t0",
             operation(ControlOp::TargetGet, 0, 2, 0),
             0,
-            (2, T0),
+            (2, TARGET_0),
         ),
         (
             "TGET r0, t1",
@@ -206,7 +206,7 @@ fn what_the_processor_completes(rt: HostRuntime) {
     let child = Child {
         pc: 100,
         value: 7,
-        t0: StatusWord::from_bits(T0),
+        t0: StatusWord::from_bits(TARGET_0),
         mask: StatusWord::from_bits(BEFORE).mask,
     };
     let table = [
@@ -243,7 +243,7 @@ fn what_the_processor_completes(rt: HostRuntime) {
 
     let born = Stream::born(&child);
     let ssw = 0x0002_0000_0000_0064;
-    assert_holds(&rt, "the child", &born, ssw, &[(1, 7)], &[(0, T0)]);
+    assert_holds(&rt, "the child", &born, ssw, &[(1, 7)], &[(0, TARGET_0)]);
 }
 
 #[test]
@@ -257,14 +257,21 @@ fn a_control_operation_reads_the_old_codes(rt: HostRuntime) {
     let not_equal = skip(Condition::NotEqual, 0, 5);
     // operations, status word after, r5, and the target register that changes
     let table = [
-        ("JUMP EQ, 1", zero, equal, 0x0002_4211_0000_000B, 0, (0, T0)),
+        (
+            "JUMP EQ, 1",
+            zero,
+            equal,
+            0x0002_4211_0000_000B,
+            0,
+            (0, TARGET_0),
+        ),
         (
             "SKIP NE, 0",
             six,
             not_equal,
             0x0002_4210_0000_000B,
             6,
-            (0, T0),
+            (0, TARGET_0),
         ),
         (
             "CALL t1, t2",
@@ -274,15 +281,29 @@ fn a_control_operation_reads_the_old_codes(rt: HostRuntime) {
             0,
             (2, 11),
         ),
-        ("MASK 7", none, mask(7), 0x0007_4215_0000_000B, 0, (0, T0)),
+        (
+            "MASK 7",
+            none,
+            mask(7),
+            0x0007_4215_0000_000B,
+            0,
+            (0, TARGET_0),
+        ),
         // an exchange saves the new code
-        ("XCHG t1", none, exchange, T1, 0, (1, 0x0002_4215_0000_000B)),
+        (
+            "XCHG t1",
+            none,
+            exchange,
+            TARGET_1,
+            0,
+            (1, 0x0002_4215_0000_000B),
+        ),
     ];
     for (row, a, c, ssw, value, changed) in table {
         let mut stream = before();
         stream.execute(&parts(MPart::NOP, a, c), 0, 0);
         let registers = [(1, u64::MAX), (2, 7), (5, value)];
-        let targets = [(0, T0), (1, T1), changed];
+        let targets = [(0, TARGET_0), (1, TARGET_1), changed];
         assert_holds(&rt, row, &stream, ssw, &registers, &targets);
     }
 }

@@ -21,8 +21,8 @@ fn operations_read_the_values_at_entry(rt: HostRuntime) {
         // LOAD r1, r2, 0 | ADD r2, r1, 1 | TGET r3, t1
         (
             parts(memory(MemoryOp::Load, 1, 2), add, get),
-            [(1, 99), (2, 6), (3, T1), (4, 0)],
-            T1,
+            [(1, 99), (2, 6), (3, TARGET_1), (4, 0)],
+            TARGET_1,
         ),
         // FADD r1, r1, 0 | ADD r4, r1, r1 | TSET t1, r1
         (
@@ -33,8 +33,8 @@ fn operations_read_the_values_at_entry(rt: HostRuntime) {
         // TAGGET r2, r1, 0 | ADD r4, r1, r1 | TGET r3, t1
         (
             parts(memory(MemoryOp::TagGet, 2, 1), twice, get),
-            [(1, 5), (2, 99), (3, T1), (4, 10)],
-            T1,
+            [(1, 5), (2, 99), (3, TARGET_1), (4, 10)],
+            TARGET_1,
         ),
         // STORE r1, r2, 0 | ADD r2, r1, 1 | TSET t1, r1
         (
@@ -46,11 +46,11 @@ fn operations_read_the_values_at_entry(rt: HostRuntime) {
         (
             parts(memory(MemoryOp::TagSet, 1, 2), APart::NOP, CPart::NOP),
             [(1, 5), (2, 64), (3, 0), (4, 0)],
-            T1,
+            TARGET_1,
         ),
     ];
     for (insn, registers, t1) in table {
-        let mut stream = stream_of(0x0002_0000_0000_0007, &[(1, 5), (2, 64)], &[(1, T1)]);
+        let mut stream = stream_of(0x0002_0000_0000_0007, &[(1, 5), (2, 64)], &[(1, TARGET_1)]);
         stream.execute(&insn, 99, 0);
         let ssw = 0x0002_0000_0000_0008;
         assert_holds(&rt, "a word", &stream, ssw, &registers, &[(1, t1)]);
@@ -70,12 +70,19 @@ fn r0_stays_zero(rt: HostRuntime) {
         parts(memory(MemoryOp::Load, 0, 1), add, get),
         wide(WideOp::LiteralHigh, 0, 5),
     ];
-    let mut stream = stream_of(7, &[(1, 5)], &[(1, T1)]);
+    let mut stream = stream_of(7, &[(1, 5)], &[(1, TARGET_1)]);
     for insn in table {
         assert!(rt; insn.is_valid(), "{insn:?}");
         stream.execute(&insn, 99, 0);
     }
-    assert_holds(&rt, "writers of r0", &stream, 10, &[(1, 5)], &[(1, T1)]);
+    assert_holds(
+        &rt,
+        "writers of r0",
+        &stream,
+        10,
+        &[(1, 5)],
+        &[(1, TARGET_1)],
+    );
 }
 
 #[test]
@@ -102,12 +109,12 @@ fn wide_words(rt: HostRuntime) {
     let ssw = 0x0107_8421_0000_0000;
     let low = 0x1122_3344_5566_7788;
     let table = [
-        (WideOp::Literal, 0xFFFF_FFFF, T1),
-        (WideOp::LiteralHigh, 0xFFFF_FFFF_5566_7788, T1),
+        (WideOp::Literal, 0xFFFF_FFFF, TARGET_1),
+        (WideOp::LiteralHigh, 0xFFFF_FFFF_5566_7788, TARGET_1),
         (WideOp::TargetLiteral, low, 0xFFFF_FFFF),
     ];
     for (op, value, target) in table {
-        let mut stream = stream_of(ssw, &[(1, low)], &[(1, T1)]);
+        let mut stream = stream_of(ssw, &[(1, low)], &[(1, TARGET_1)]);
         stream.execute(&wide(op, 1, u32::MAX), 99, 99);
         assert_holds(
             &rt,

@@ -1,0 +1,4 @@
+mod command_lines;
+mod devices;
+mod faults;
+mod programs;

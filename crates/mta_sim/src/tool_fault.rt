@@ -1,0 +1,42 @@
+//! Why the tool gives up.
+ghost use Rattle.std.specs.Prelude.{◌≡◌};
+ghost use Rattle.mta_sim.specs.declared.tool_fault.ToolFault.TheVariants.{NoMemory};
+
+use std::alloc::{AllocError, AllocFailed};
+use thiserror::Error;
+
+/// Why a command ended with status 1. Its text goes to standard error after `mta_sim: `.
+#[derive(Clone, Copy, Debug, PartialEq, Eq, Error)]
+pub enum ToolFault {
+    /// A reader failed, or was interrupted.
+    #[error("read failed")]
+    Read,
+    /// A writer failed.
+    #[error("write failed")]
+    Write,
+    /// A reader had more than [`INPUT_LIMIT`](crate::input::INPUT_LIMIT) bytes.
+    #[error("input too large")]
+    TooLarge,
+    /// Memory was refused.
+    #[error("no memory")]
+    NoMemory,
+    /// The line of this number, counted from 1, is the first fault of a text of words.
+    #[error("words line {0}")]
+    Words(u32),
+}
+
+impl From<AllocError> for ToolFault {
+    ghost from_gives = { λ _ fault. fault ≡ NoMemory };
+
+    fn from(_error: AllocError) -> ToolFault {
+        ToolFault::NoMemory
+    }
+}
+
+impl<T: Drop> From<AllocFailed<T>> for ToolFault {
+    ghost from_gives = { λ _ fault. fault ≡ NoMemory };
+
+    fn from(_error: AllocFailed<T>) -> ToolFault {
+        ToolFault::NoMemory
+    }
+}
