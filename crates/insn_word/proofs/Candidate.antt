@@ -55,15 +55,18 @@ signed_8_small n h =
       | inr high ↦ rw (le-ltb n 128 high) (let near : 256 - 1 - n < 128 = omega arith in (omega (arith, ints), omega (arith, ints)))
     ]
 
-memory_in_range : (op : MemoryOp) (m : MPart) → AreInRange (memory_fields m) → AreInRange (memory_fields (used_memory op m))
-memory_in_range memory.Nop m h = (omega arith, (omega arith, (omega arith, (omega arith, ((omega (arith, ints), omega (arith, ints)), tt)))))
+memory_in_range : (op : MemoryOp) (m : MPart) → AreInRange (memory_fields m)
+    → AreInRange (memory_fields (used_memory op m))
+memory_in_range memory.Nop m h =
+    (omega arith, (omega arith, (omega arith, (omega arith, ((omega (arith, ints), omega (arith, ints)), tt)))))
 memory_in_range memory.Load m h = h
 memory_in_range memory.Store m h = h
 memory_in_range memory.FetchAdd m h = h
 memory_in_range memory.TagGet m h = (h.0, (omega arith, h.1.1))
 memory_in_range memory.TagSet m h = (h.0, (omega arith, h.1.1))
 
-memory_rest : (op : MemoryOp) (m : MPart) → m.op ≡ op → used_memory (used_memory op m).op (used_memory op m) ≡ used_memory op m
+memory_rest : (op : MemoryOp) (m : MPart) → m.op ≡ op
+    → used_memory (used_memory op m).op (used_memory op m) ≡ used_memory op m
 memory_rest memory.Nop m e = refl
 memory_rest memory.Load m e = ap (λ x. used_memory x m) e
 memory_rest memory.Store m e = ap (λ x. used_memory x m) e
@@ -71,18 +74,23 @@ memory_rest memory.FetchAdd m e = ap (λ x. used_memory x m) e
 memory_rest memory.TagGet m e = ap (λ x. used_memory x (used_memory memory.TagGet m)) e
 memory_rest memory.TagSet m e = ap (λ x. used_memory x (used_memory memory.TagSet m)) e
 
-memory_whole : (bits : ℕ) → AreInRange (memory_fields (memory_at bits)) × (used_memory (memory_at bits).op (memory_at bits) ≡ memory_at bits)
+memory_whole : (bits : ℕ)
+    → AreInRange (memory_fields (memory_at bits)) × (used_memory (memory_at bits).op (memory_at bits) ≡ memory_at bits)
 memory_whole bits = (
   memory_in_range (memory_raw bits).op (memory_raw bits) (memory_small _, (access_small _, (omega arith, (omega arith, (signed_6_small (bits % 2 ^ 6) (omega arith), tt))))),
   memory_rest (memory_raw bits).op (memory_raw bits) refl,
 )
 
-arithmetic_in_range : (op : ArithmeticOp) (a : APart) → AreInRange (arithmetic_fields a) → AreInRange (arithmetic_fields (used_arithmetic op a))
-arithmetic_in_range arithmetic.Nop a h = (omega arith, (omega arith, (omega arith, (omega arith, (omega arith, (omega arith, tt))))))
-arithmetic_in_range arithmetic.Tally a h = (h.0, (h.1.0, (omega arith, (h.1.1.1.0, (h.1.1.1.1.0, (omega arith, tt))))))
+arithmetic_in_range : (op : ArithmeticOp) (a : APart) → AreInRange (arithmetic_fields a)
+    → AreInRange (arithmetic_fields (used_arithmetic op a))
+arithmetic_in_range arithmetic.Nop a h =
+    (omega arith, (omega arith, (omega arith, (omega arith, (omega arith, (omega arith, tt))))))
+arithmetic_in_range arithmetic.Tally a h =
+    (h.0, (h.1.0, (omega arith, (h.1.1.1.0, (h.1.1.1.1.0, (omega arith, tt))))))
 arithmetic_in_range _ a h = h
 
-arithmetic_rest : (op : ArithmeticOp) (a : APart) → a.op ≡ op → used_arithmetic (used_arithmetic op a).op (used_arithmetic op a) ≡ used_arithmetic op a
+arithmetic_rest : (op : ArithmeticOp) (a : APart) → a.op ≡ op
+    → used_arithmetic (used_arithmetic op a).op (used_arithmetic op a) ≡ used_arithmetic op a
 arithmetic_rest arithmetic.Nop a e = refl
 arithmetic_rest arithmetic.Tally a e = ap (λ x. used_arithmetic x (used_arithmetic arithmetic.Tally a)) e
 arithmetic_rest _ a e = ap (λ x. used_arithmetic x a) e
@@ -91,7 +99,8 @@ flag_small : (b : Bool) → (if b then 1 else 0) < 2
 flag_small true = omega arith
 flag_small false = omega arith
 
-arithmetic_whole : (bits : ℕ) → AreInRange (arithmetic_fields (arithmetic_at bits)) × (used_arithmetic (arithmetic_at bits).op (arithmetic_at bits) ≡ arithmetic_at bits)
+arithmetic_whole : (bits : ℕ)
+    → AreInRange (arithmetic_fields (arithmetic_at bits)) × (used_arithmetic (arithmetic_at bits).op (arithmetic_at bits) ≡ arithmetic_at bits)
 arithmetic_whole bits = (
   arithmetic_in_range (arithmetic_raw bits).op (arithmetic_raw bits) (arithmetic_small _, (flag_small _, (flag_small _, (omega arith, (omega arith, (omega arith, tt)))))),
   arithmetic_rest (arithmetic_raw bits).op (arithmetic_raw bits) refl,
@@ -99,20 +108,27 @@ arithmetic_whole bits = (
 
 control_in_range : (op : ControlOp) (bits : ℕ) → AreInRange (control_fields (control_from op bits))
 control_in_range control.Nop bits = (control_small control.Nop, (omega arith, tt))
-control_in_range control.Jump bits = (control_small control.Jump, (condition_small _, (omega arith, (omega arith, (omega arith, tt)))))
-control_in_range control.Skip bits = (control_small control.Skip, (condition_small _, (omega arith, (signed_8_small (bits % 2 ^ 8) (omega arith), tt))))
+control_in_range control.Jump bits =
+    (control_small control.Jump, (condition_small _, (omega arith, (omega arith, (omega arith, tt)))))
+control_in_range control.Skip bits =
+    (control_small control.Skip, (condition_small _, (omega arith, (signed_8_small (bits % 2 ^ 8) (omega arith), tt))))
 control_in_range control.Call bits = (control_small control.Call, (omega arith, (omega arith, (omega arith, tt))))
 control_in_range control.Exchange bits = (control_small control.Exchange, (omega arith, (omega arith, tt)))
-control_in_range control.TargetSet bits = (control_small control.TargetSet, (omega arith, (omega arith, (omega arith, tt))))
-control_in_range control.TargetGet bits = (control_small control.TargetGet, (omega arith, (omega arith, (omega arith, tt))))
-control_in_range control.TrapGet bits = (control_small control.TrapGet, (omega arith, (omega arith, (omega arith, tt))))
-control_in_range control.Reserve bits = (control_small control.Reserve, (omega arith, (omega arith, (omega arith, (omega arith, tt)))))
+control_in_range control.TargetSet bits =
+    (control_small control.TargetSet, (omega arith, (omega arith, (omega arith, tt))))
+control_in_range control.TargetGet bits =
+    (control_small control.TargetGet, (omega arith, (omega arith, (omega arith, tt))))
+control_in_range control.TrapGet bits =
+    (control_small control.TrapGet, (omega arith, (omega arith, (omega arith, tt))))
+control_in_range control.Reserve bits =
+    (control_small control.Reserve, (omega arith, (omega arith, (omega arith, (omega arith, tt)))))
 control_in_range control.Create bits = (control_small control.Create, (omega arith, (omega arith, (omega arith, tt))))
 control_in_range control.Quit bits = (control_small control.Quit, (omega arith, tt))
 control_in_range control.QuitKeep bits = (control_small control.QuitKeep, (omega arith, tt))
 control_in_range control.Mask bits = (control_small control.Mask, (omega arith, (omega arith, tt)))
 
-control_rest : (op : ControlOp) (bits : ℕ) → used_control (control_from op bits).op (control_from op bits) ≡ control_from op bits
+control_rest : (op : ControlOp) (bits : ℕ)
+    → used_control (control_from op bits).op (control_from op bits) ≡ control_from op bits
 control_rest control.Nop bits = refl
 control_rest control.Jump bits = refl
 control_rest control.Skip bits = refl
@@ -128,9 +144,12 @@ control_rest control.QuitKeep bits = refl
 control_rest control.Mask bits = refl
 
 wide_in_range : (op : WideOp) (word : ℕ) → AreInRange (fields (wide_from op word))
-wide_in_range wide.Literal word = (omega arith, (omega arith, (omega arith, (omega arith, (omega arith, (omega arith, tt))))))
-wide_in_range wide.LiteralHigh word = (omega arith, (omega arith, (omega arith, (omega arith, (omega arith, (omega arith, tt))))))
-wide_in_range wide.TargetLiteral word = (omega arith, (omega arith, (omega arith, (omega arith, (omega arith, (omega arith, (omega arith, tt)))))))
+wide_in_range wide.Literal word =
+    (omega arith, (omega arith, (omega arith, (omega arith, (omega arith, (omega arith, tt))))))
+wide_in_range wide.LiteralHigh word =
+    (omega arith, (omega arith, (omega arith, (omega arith, (omega arith, (omega arith, tt))))))
+wide_in_range wide.TargetLiteral word =
+    (omega arith, (omega arith, (omega arith, (omega arith, (omega arith, (omega arith, (omega arith, tt)))))))
 
 pub record IsWhole (i : Insn) : Type 0 where
   pub in_range : AreInRange (fields i)
@@ -157,7 +176,9 @@ Decides-apart x y = grind (arith, nat_tests)
 Decides-one_writer : (i : Insn) → Decides (has_one_writer i) (HasOneWriter i)
 Decides-one_writer (insn.Wide look op reg imm) = (λ e. tt, λ h. refl)
 Decides-one_writer (insn.Normal look m a c) =
-    let x = memory_destination m.op m.rd in let y = arithmetic_destination a.op a.rd in let z = control_destination c.op c.rd in
+    let x = memory_destination m.op m.rd in
+    let y = arithmetic_destination a.op a.rd in
+    let z = control_destination c.op c.rd in
     Decides-like (has_one_writer (insn.Normal look m a c))
     (λ p. record { memory_arithmetic = p.0.0; memory_control = p.0.1; arithmetic_control = p.1 })
     (λ w. ((w.memory_arithmetic, w.memory_control), w.arithmetic_control))
@@ -179,7 +200,8 @@ instruction-spelt word i =
           subst (λ j. Spells word j) found.1 (Spells-from_number word (candidate word) whole.in_range holds.0 whole.rest holds.1),
       λ spelt.
           let same = candidate-holds word i (Holds-from_spells word i spelt) in
-          let holds : test ≡ true = tested.1 (ap (λ j. number (fields j)) same ∙ Spells-number word i spelt, subst HasOneWriter (sym same) spelt.one_writer) in
+          let holds : test ≡ true =
+          tested.1 (ap (λ j. number (fields j)) same ∙ Spells-number word i spelt, subst HasOneWriter (sym same) spelt.one_writer) in
           ap (λ keep. kept_if keep (candidate word)) holds ∙ ap Some same,
     )
 

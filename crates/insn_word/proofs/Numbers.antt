@@ -27,7 +27,8 @@ number-lt (f ∷ fs) h =
 pub digits-add : (j k n : ℕ) → digits (j + k) n ≡ digits j (n / 2 ^ k) ++ digits k n
 unfolding digits
 digits-add zero k n = rw (zero-add k) refl
-digits-add (suc j) k n = rw (suc-add j k, shr-shr n k j, add_comm k j) (ap (λ ds. n / 2 ^ (j + k) % 2 ∷ ds) (digits-add j k n))
+digits-add (suc j) k n =
+    rw (suc-add j k, shr-shr n k j, add_comm k j) (ap (λ ds. n / 2 ^ (j + k) % 2 ∷ ds) (digits-add j k n))
 
 -- digits further up don't matter
 pub digits-low : (m k a b : ℕ) → m ≤ k → digits m (a * 2 ^ k + b) ≡ digits m b
@@ -56,7 +57,8 @@ same_below (suc k) m n e =
     let rest : m % 2 ^ k ≡ n % 2 ^ k = same_below k m n others in
     rw (← one-add k, mod-pow-add m 1 k, mod-pow-add n 1 k) (cc)
 
-pub number-from_digits : (fs : List Field) (n : ℕ) → AreInRange fs → n < 2 ^ total_width fs → digits (total_width fs) n ≡ spelling fs → number fs ≡ n
+pub number-from_digits : (fs : List Field) (n : ℕ) → AreInRange fs → n < 2 ^ total_width fs
+    → digits (total_width fs) n ≡ spelling fs → number fs ≡ n
 number-from_digits fs n h fits e =
     let same = same_below (total_width fs) (number fs) n (digits-number fs h ∙ sym e) in
     sym (mod-eq_of_lt (number-lt fs h)) ∙ same ∙ mod-eq_of_lt fits

@@ -151,19 +151,26 @@ arithmetic_reads bits a p =
     ap (λ part. used_arithmetic part.op part) raw ∙ p.rest
 
 -- A row for each control operation: what its argument fields say is what is read.
-arguments_read : (op : ControlOp) (bits : ℕ) (c : CPart) → AreInRange (argument_fields op c) → Reads bits (argument_fields op c) → used_control op c ≡ c → control_from op bits ≡ c
+arguments_read : (op : ControlOp) (bits : ℕ) (c : CPart) → AreInRange (argument_fields op c)
+    → Reads bits (argument_fields op c) → used_control op c ≡ c → control_from op bits ≡ c
 arguments_read control.Nop bits c h r rest = rest
-arguments_read control.Jump bits c h r rest = (λ i. record (no_control control.Jump) { cond = (ap condition_read r.0 ∙ condition_back c.cond) i; code = r.1.0 i; t = r.1.1.0 i }) ∙ rest
+arguments_read control.Jump bits c h r rest =
+    (λ i. record (no_control control.Jump) { cond = (ap condition_read r.0 ∙ condition_back c.cond) i; code = r.1.0 i; t = r.1.1.0 i }) ∙ rest
 arguments_read control.Skip bits c h r rest =
     let last : bits % 2 ^ 8 ≡ complement 8 c.n = omega (arith, r.1.1.0) in
     (λ i. record (no_control control.Skip) { cond = (ap condition_read r.0 ∙ condition_back c.cond) i; code = r.1.0 i; n = (ap (signed_read 8) last ∙ signed_8_back c.n h.1.1.0.0 h.1.1.0.1) i }) ∙ rest
-arguments_read control.Call bits c h r rest = (λ i. record (no_control control.Call) { t = r.0 i; u = r.1.0 i }) ∙ rest
+arguments_read control.Call bits c h r rest =
+    (λ i. record (no_control control.Call) { t = r.0 i; u = r.1.0 i }) ∙ rest
 arguments_read control.Exchange bits c h r rest = (λ i. record (no_control control.Exchange) { t = r.0 i }) ∙ rest
-arguments_read control.TargetSet bits c h r rest = (λ i. record (no_control control.TargetSet) { t = r.0 i; ra = r.1.0 i }) ∙ rest
-arguments_read control.TargetGet bits c h r rest = (λ i. record (no_control control.TargetGet) { t = r.0 i; rd = r.1.0 i }) ∙ rest
+arguments_read control.TargetSet bits c h r rest =
+    (λ i. record (no_control control.TargetSet) { t = r.0 i; ra = r.1.0 i }) ∙ rest
+arguments_read control.TargetGet bits c h r rest =
+    (λ i. record (no_control control.TargetGet) { t = r.0 i; rd = r.1.0 i }) ∙ rest
 arguments_read control.TrapGet bits c h r rest = (λ i. record (no_control control.TrapGet) { rd = r.1.0 i }) ∙ rest
-arguments_read control.Reserve bits c h r rest = (λ i. record (no_control control.Reserve) { rd = r.1.0 i; ra = r.1.1.0 i }) ∙ rest
-arguments_read control.Create bits c h r rest = (λ i. record (no_control control.Create) { t = r.0 i; ra = r.1.0 i }) ∙ rest
+arguments_read control.Reserve bits c h r rest =
+    (λ i. record (no_control control.Reserve) { rd = r.1.0 i; ra = r.1.1.0 i }) ∙ rest
+arguments_read control.Create bits c h r rest =
+    (λ i. record (no_control control.Create) { t = r.0 i; ra = r.1.0 i }) ∙ rest
 arguments_read control.Quit bits c h r rest = rest
 arguments_read control.QuitKeep bits c h r rest = rest
 arguments_read control.Mask bits c h r rest = (λ i. record (no_control control.Mask) { n = pos (r.0 i) }) ∙ rest
@@ -171,7 +178,8 @@ arguments_read control.Mask bits c h r rest = (λ i. record (no_control control.
 control_reads : (bits : ℕ) (c : CPart) → IsControlPart bits c → control_at bits ≡ c
 control_reads bits c p =
     let r = reads bits (control_fields c) p.in_range (fits bits (control_fields c) p.in_range p.number_is) in
-    let op : control_read (bits / 2 ^ 14 % 2 ^ 4) ≡ c.op = ap control_read (subst (λ (k : ℕ). bits / 2 ^ k % 2 ^ 4 ≡ control_number c.op) (argument_width c.op c) r.0) ∙ control_back c.op in
+    let op : control_read (bits / 2 ^ 14 % 2 ^ 4) ≡ c.op =
+    ap control_read (subst (λ (k : ℕ). bits / 2 ^ k % 2 ^ 4 ≡ control_number c.op) (argument_width c.op c) r.0) ∙ control_back c.op in
     ap (λ x. control_from x bits) op ∙ arguments_read c.op bits c p.in_range.1 r.1 p.rest
 
 pub candidate-holds : (word : ℕ) (i : Insn) → Holds word i → candidate word ≡ i

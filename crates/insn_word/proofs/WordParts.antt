@@ -35,7 +35,8 @@ pub control_width : (c : CPart) → total_width (control_fields c) ≡ 18
 control_width c = omega (arith, argument_width c.op c)
 
 pub control_number-lt : (c : CPart) → AreInRange (control_fields c) → number (control_fields c) < 2 ^ 18
-control_number-lt c h = subst (λ k. number (control_fields c) < 2 ^ k) (control_width c) (number-lt (control_fields c) h)
+control_number-lt c h =
+    subst (λ k. number (control_fields c) < 2 ^ k) (control_width c) (number-lt (control_fields c) h)
 
 -- the fields of a normal word but those of the control part
 abbrev front : ℕ → MPart → APart → List Field
@@ -54,7 +55,8 @@ number-normal look m a c =
     number-append (front look m a) (control_fields c) ∙ rw (control_width c) (grind arith)
 
 -- a normal word's fields are in their ranges part by part
-pub normal_in_range : (look : ℕ) (m : MPart) (a : APart) (c : CPart) → look < 8 → AreInRange (memory_fields m) → AreInRange (arithmetic_fields a) → AreInRange (control_fields c)
+pub normal_in_range : (look : ℕ) (m : MPart) (a : APart) (c : CPart) → look < 8 → AreInRange (memory_fields m)
+    → AreInRange (arithmetic_fields a) → AreInRange (control_fields c)
     → AreInRange (fields (insn.Normal look m a c))
 normal_in_range look m a c l x y z =
     let some : 0 < 2 = omega arith in
@@ -68,11 +70,13 @@ normal_parts look m a c h =
     (first.0.1.0, first.0.1.1, first.1, last.1)
 
 -- the numbers that are cut from a word, from the numbers that it is joined of
-cut_word : (word look m a c : ℕ) → look < 8 → m < 2 ^ 21 → a < 2 ^ 21 → c < 2 ^ 18 → look * 2 ^ 60 + m * 2 ^ 39 + a * 2 ^ 18 + c ≡ word
+cut_word : (word look m a c : ℕ) → look < 8 → m < 2 ^ 21 → a < 2 ^ 21 → c < 2 ^ 18
+    → look * 2 ^ 60 + m * 2 ^ 39 + a * 2 ^ 18 + c ≡ word
     → (word < 2 ^ 63) × (word / 2 ^ 60 ≡ look) × (word / 2 ^ 39 % 2 ^ 21 ≡ m) × (word / 2 ^ 18 % 2 ^ 21 ≡ a) × (word % 2 ^ 18 ≡ c)
 cut_word word look m a c hl hm ha hc e = (omega arith, omega arith, omega arith, omega arith, omega arith)
 
-joined_word : (word look m a c : ℕ) → word < 2 ^ 63 → word / 2 ^ 60 ≡ look → word / 2 ^ 39 % 2 ^ 21 ≡ m → word / 2 ^ 18 % 2 ^ 21 ≡ a → word % 2 ^ 18 ≡ c
+joined_word : (word look m a c : ℕ) → word < 2 ^ 63 → word / 2 ^ 60 ≡ look → word / 2 ^ 39 % 2 ^ 21 ≡ m
+    → word / 2 ^ 18 % 2 ^ 21 ≡ a → word % 2 ^ 18 ≡ c
     → look * 2 ^ 60 + m * 2 ^ 39 + a * 2 ^ 18 + c ≡ word
 joined_word word look m a c h hl hm ha hc = omega arith
 
@@ -82,7 +86,8 @@ Spells-number word i s =
     number-from_digits (fields i) word s.in_range (rw (fields_width i) s.in_word) (rw (fields_width i) s.digits_are)
 
 -- and an instruction in its ranges is spelt by its number
-pub Spells-from_number : (word : ℕ) (i : Insn) → AreInRange (fields i) → number (fields i) ≡ word → RestIsZero i → HasOneWriter i → Spells word i
+pub Spells-from_number : (word : ℕ) (i : Insn) → AreInRange (fields i) → number (fields i) ≡ word → RestIsZero i
+    → HasOneWriter i → Spells word i
 Spells-from_number word i h e rest one = record {
   in_word = let below = number-lt (fields i) h in let same = fields_width i in subst (λ n. n < 2 ^ 64) e (subst (λ k. number (fields i) < 2 ^ k) same below);
   digits_are = subst (λ n. digits 64 n ≡ spelling (fields i)) e (subst (λ k. digits k (number (fields i)) ≡ spelling (fields i)) (fields_width i) (digits-number (fields i) h));
@@ -92,7 +97,8 @@ Spells-from_number word i h e rest one = record {
 }
 
 pub Holds-from_spells : (word : ℕ) (i : Insn) → Spells word i → Holds word i
-Holds-from_spells word (insn.Wide look op reg imm) s = record { in_range = s.in_range; number_is = Spells-number word (insn.Wide look op reg imm) s }
+Holds-from_spells word (insn.Wide look op reg imm) s =
+    record { in_range = s.in_range; number_is = Spells-number word (insn.Wide look op reg imm) s }
 Holds-from_spells word (insn.Normal look m a c) s =
     let parts = normal_parts look m a c s.in_range in
     let joined = sym (number-normal look m a c) ∙ Spells-number word (insn.Normal look m a c) s in
@@ -108,7 +114,8 @@ Holds-from_spells word (insn.Normal look m a c) s =
     }
 
 pub Spells-from_holds : (word : ℕ) (i : Insn) → Holds word i → Spells word i
-Spells-from_holds word (insn.Wide look op reg imm) h = Spells-from_number word (insn.Wide look op reg imm) h.in_range h.number_is tt tt
+Spells-from_holds word (insn.Wide look op reg imm) h =
+    Spells-from_number word (insn.Wide look op reg imm) h.in_range h.number_is tt tt
 Spells-from_holds word (insn.Normal look m a c) h =
     let below : word / 2 ^ 60 < 8 = omega (arith, h.in_word) in
     Spells-from_number word (insn.Normal look m a c)
@@ -121,16 +128,20 @@ Spells-from_holds word (insn.Normal look m a c) h =
 same_control : (x y : ControlOp) → control_number x ≡ control_number y → x ≡ y
 same_control x y e = grind arith
 
-pub control_is : (bits : ℕ) (op : ControlOp) (c : CPart) → IsControlPart bits c → control_number op ≡ bits / 2 ^ 14 % 2 ^ 4 → c.op ≡ op
+pub control_is : (bits : ℕ) (op : ControlOp) (c : CPart) → IsControlPart bits c
+    → control_number op ≡ bits / 2 ^ 14 % 2 ^ 4 → c.op ≡ op
 control_is bits op c p e =
-    let below : number (argument_fields c.op c) < 2 ^ 14 = subst (λ k. number (argument_fields c.op c) < 2 ^ k) (argument_width c.op c) (number-lt (argument_fields c.op c) p.in_range.1) in
-    let joined : control_number c.op * 2 ^ 14 + number (argument_fields c.op c) ≡ bits = subst (λ k. control_number c.op * 2 ^ k + number (argument_fields c.op c) ≡ bits) (argument_width c.op c) p.number_is in
+    let below : number (argument_fields c.op c) < 2 ^ 14 =
+    subst (λ k. number (argument_fields c.op c) < 2 ^ k) (argument_width c.op c) (number-lt (argument_fields c.op c) p.in_range.1) in
+    let joined : control_number c.op * 2 ^ 14 + number (argument_fields c.op c) ≡ bits =
+    subst (λ k. control_number c.op * 2 ^ k + number (argument_fields c.op c) ≡ bits) (argument_width c.op c) p.number_is in
     let small : control_number c.op < 2 ^ 4 = p.in_range.0 in
     same_control c.op op (omega arith)
 
 -- What decode says, from what the reading of parts says.
 
-pub some_iff : (word : ℕ) (r : Option Insn) → ((i : Insn) → (r ≡ Some i) ↔ Holds word i) → (i : Insn) → (r ≡ Some i) ↔ Spells word i
+pub some_iff : (word : ℕ) (r : Option Insn) → ((i : Insn) → (r ≡ Some i) ↔ Holds word i) → (i : Insn)
+    → (r ≡ Some i) ↔ Spells word i
 some_iff word r h i = (λ e. Spells-from_holds word i ((h i).0 e), λ s. (h i).1 (Holds-from_spells word i s))
 
 pub some_spelt : (word : ℕ) (r : Option Insn) → ((i : Insn) → (r ≡ Some i) ↔ Spells word i) → IfSome r (Spells word)
@@ -141,12 +152,14 @@ pub some_valid : (word : ℕ) (r : Option Insn) → ((i : Insn) → (r ≡ Some 
 some_valid word None h = tt
 some_valid word (Some i) h = (word, (h i).0 refl)
 
-pub none_iff : (word : ℕ) (r : Option Insn) → ((i : Insn) → (r ≡ Some i) ↔ Spells word i) → IsNone r ↔ ((i : Insn) → Spells word i → ⊥)
+pub none_iff : (word : ℕ) (r : Option Insn) → ((i : Insn) → (r ≡ Some i) ↔ Spells word i)
+    → IsNone r ↔ ((i : Insn) → Spells word i → ⊥)
 none_iff word None h = (λ none i s. let e = (h i).1 s in cc, λ none. refl)
 none_iff word (Some i) h = (λ none. cc, λ none. absurd (none i ((h i).0 refl)))
 
 -- a valid instruction is spelt by the number that its fields make
-pub Spells-bits : (bits : ℕ) (i : Insn) → (AreInRange (fields i) → bits ≡ number (fields i)) → IsValid i → Spells bits i
+pub Spells-bits : (bits : ℕ) (i : Insn) → (AreInRange (fields i) → bits ≡ number (fields i)) → IsValid i
+    → Spells bits i
 Spells-bits bits i made valid =
     let spelt = valid.1 in
     let same = sym (Spells-number valid.0 i spelt) ∙ sym (made spelt.in_range) in

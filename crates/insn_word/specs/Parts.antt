@@ -1,7 +1,8 @@
 -- A word seen a part at a time, by numbers, as the code reads it. Only private contracts cite this.
 use Rattle.std.specs.Prelude.{◌≡◌, ℕ, ◌<◌, ◌/◌, ◌%◌, ◌^◌}
 use Rattle.insn_word.specs.Fields.{number, AreInRange}
-use Rattle.insn_word.specs.Words.{memory_fields, arithmetic_fields, control_fields, fields, used_memory, used_arithmetic, used_control, WriteApart}
+use Rattle.insn_word.specs.Words.{memory_fields, arithmetic_fields, control_fields, fields}
+use Rattle.insn_word.specs.Words.{used_memory, used_arithmetic, used_control, WriteApart}
 use Rattle.insn_word.specs.declared.operations.WideOp.{WideOp}
 use Rattle.insn_word.specs.declared.insn.MPart.{MPart}
 use Rattle.insn_word.specs.declared.insn.APart.{APart}

@@ -1,9 +1,11 @@
--- The instruction that a word spells, by computing: each field is read, what the operation doesn't use is cleared, and the
--- result counts where it is spelt by the word again. Definitions that fold over runs go by it.
-use Rattle.std.specs.Prelude.{◌≡◌, ◌↔◌, ℕ, ◌-◌, ◌/◌, ◌%◌, ◌^◌, ◌==◌, ℤ, pos, negsuc, Bool, true, not, ◌&&◌, ◌||◌, nat_lt, if◌then◌else◌}
-use Rattle.std.specs.Prelude.{[], ◌∷◌, Option, Some, None, slice_index_or}
+-- The instruction that a word spells, by computing: each field is read, what the operation doesn't use is cleared, and
+-- the result counts where it is spelt by the word again. Definitions that fold over runs go by it.
+use Rattle.std.specs.Prelude.{◌≡◌, ◌↔◌, ℕ, ◌-◌, ◌/◌, ◌%◌, ◌^◌, ◌==◌, ℤ, pos, negsuc}
+use Rattle.std.specs.Prelude.{Bool, true, not, ◌&&◌, ◌||◌, nat_lt, if◌then◌else◌}
+use Rattle.std.specs.Prelude.{List, [], ◌∷◌, Option, Some, None, slice_index_or}
 use Rattle.insn_word.specs.Fields.{number}
-use Rattle.insn_word.specs.Words.{fields, used_memory, used_arithmetic, no_control, memory_destination, arithmetic_destination, control_destination, Spells}
+use Rattle.insn_word.specs.Words.{fields, used_memory, used_arithmetic, no_control, Spells}
+use Rattle.insn_word.specs.Words.{memory_destination, arithmetic_destination, control_destination}
 use Rattle.insn_word.specs.declared.operations.WideOp.{WideOp}
 use Rattle.insn_word.specs.declared.operations.WideOp.TheVariants as wide
 use Rattle.insn_word.specs.declared.operations.MemoryOp.{MemoryOp}
@@ -22,25 +24,54 @@ use Rattle.insn_word.specs.declared.insn.CPart.{CPart}
 use Rattle.insn_word.specs.declared.insn.Insn.{Insn}
 use Rattle.insn_word.specs.declared.insn.Insn.TheVariants as insn
 
--- The operations in the order of their numbers. A number past the end reads as the first one, which the test at the end refuses.
+-- The operations in the order of their numbers. A number past the end reads as the first one, which the test at the end
+-- refuses.
 
 abbrev pub wide_read : ℕ → WideOp
 wide_read n = slice_index_or (wide.Literal ∷ wide.LiteralHigh ∷ wide.TargetLiteral ∷ []) n wide.Literal
 
+abbrev pub memory_operations : List MemoryOp
+memory_operations =
+    memory.Nop ∷ memory.Load ∷ memory.Store ∷ memory.FetchAdd ∷ memory.TagGet ∷ memory.TagSet ∷ []
+
 abbrev pub memory_read : ℕ → MemoryOp
-memory_read n = slice_index_or (memory.Nop ∷ memory.Load ∷ memory.Store ∷ memory.FetchAdd ∷ memory.TagGet ∷ memory.TagSet ∷ []) n memory.Nop
+memory_read n = slice_index_or memory_operations n memory.Nop
+
+abbrev pub accesses : List Access
+accesses =
+    access.FromPointer ∷ access.Normal ∷ access.Future ∷ access.Sync ∷ []
 
 abbrev pub access_read : ℕ → Access
-access_read n = slice_index_or (access.FromPointer ∷ access.Normal ∷ access.Future ∷ access.Sync ∷ []) n access.FromPointer
+access_read n = slice_index_or accesses n access.FromPointer
+
+abbrev pub arithmetic_operations : List ArithmeticOp
+arithmetic_operations =
+    arithmetic.Nop ∷ arithmetic.Add ∷ arithmetic.Sub ∷ arithmetic.Mul ∷ arithmetic.And ∷ arithmetic.Or
+    ∷ arithmetic.Xor ∷ arithmetic.AndNot ∷ arithmetic.ShiftLeft ∷ arithmetic.ShiftRight
+    ∷ arithmetic.ShiftRightSigned ∷ arithmetic.Tally ∷ arithmetic.LessSigned ∷ arithmetic.LessUnsigned
+    ∷ arithmetic.Pointer ∷ []
 
 abbrev pub arithmetic_read : ℕ → ArithmeticOp
-arithmetic_read n = slice_index_or (arithmetic.Nop ∷ arithmetic.Add ∷ arithmetic.Sub ∷ arithmetic.Mul ∷ arithmetic.And ∷ arithmetic.Or ∷ arithmetic.Xor ∷ arithmetic.AndNot ∷ arithmetic.ShiftLeft ∷ arithmetic.ShiftRight ∷ arithmetic.ShiftRightSigned ∷ arithmetic.Tally ∷ arithmetic.LessSigned ∷ arithmetic.LessUnsigned ∷ arithmetic.Pointer ∷ []) n arithmetic.Nop
+arithmetic_read n = slice_index_or arithmetic_operations n arithmetic.Nop
+
+abbrev pub control_operations : List ControlOp
+control_operations =
+    control.Nop ∷ control.Jump ∷ control.Skip ∷ control.Call ∷ control.Exchange ∷ control.TargetSet
+    ∷ control.TargetGet ∷ control.TrapGet ∷ control.Reserve ∷ control.Create ∷ control.Quit ∷ control.QuitKeep
+    ∷ control.Mask ∷ []
 
 abbrev pub control_read : ℕ → ControlOp
-control_read n = slice_index_or (control.Nop ∷ control.Jump ∷ control.Skip ∷ control.Call ∷ control.Exchange ∷ control.TargetSet ∷ control.TargetGet ∷ control.TrapGet ∷ control.Reserve ∷ control.Create ∷ control.Quit ∷ control.QuitKeep ∷ control.Mask ∷ []) n control.Nop
+control_read n = slice_index_or control_operations n control.Nop
+
+abbrev pub conditions : List Condition
+conditions =
+    condition.Always ∷ condition.Equal ∷ condition.NotEqual ∷ condition.Less ∷ condition.GreaterEqual
+    ∷ condition.LessEqual ∷ condition.Greater ∷ condition.LessUnsigned ∷ condition.GreaterEqualUnsigned
+    ∷ condition.LessEqualUnsigned ∷ condition.GreaterUnsigned ∷ condition.Negative ∷ condition.Positive
+    ∷ condition.Overflow ∷ condition.NoOverflow ∷ []
 
 abbrev pub condition_read : ℕ → Condition
-condition_read n = slice_index_or (condition.Always ∷ condition.Equal ∷ condition.NotEqual ∷ condition.Less ∷ condition.GreaterEqual ∷ condition.LessEqual ∷ condition.Greater ∷ condition.LessUnsigned ∷ condition.GreaterEqualUnsigned ∷ condition.LessEqualUnsigned ∷ condition.GreaterUnsigned ∷ condition.Negative ∷ condition.Positive ∷ condition.Overflow ∷ condition.NoOverflow ∷ []) n condition.Always
+condition_read n = slice_index_or conditions n condition.Always
 
 -- the number that k digits say in two's complement
 abbrev pub signed_read : ℕ → ℕ → ℤ
@@ -70,15 +101,38 @@ arithmetic_raw bits = record {
 -- the control operation with its arguments
 abbrev pub control_from : ControlOp → ℕ → CPart
 control_from control.Nop bits = no_control control.Nop
-control_from control.Jump bits = record (no_control control.Jump) { cond = condition_read (bits / 2 ^ 10 % 2 ^ 4); code = bits / 2 ^ 8 % 2 ^ 2; t = bits / 2 ^ 5 % 2 ^ 3 }
-control_from control.Skip bits = record (no_control control.Skip) { cond = condition_read (bits / 2 ^ 10 % 2 ^ 4); code = bits / 2 ^ 8 % 2 ^ 2; n = signed_read 8 (bits % 2 ^ 8) }
-control_from control.Call bits = record (no_control control.Call) { t = bits / 2 ^ 11 % 2 ^ 3; u = bits / 2 ^ 8 % 2 ^ 3 }
+control_from control.Jump bits = record (no_control control.Jump) {
+  cond = condition_read (bits / 2 ^ 10 % 2 ^ 4);
+  code = bits / 2 ^ 8 % 2 ^ 2;
+  t = bits / 2 ^ 5 % 2 ^ 3;
+}
+control_from control.Skip bits = record (no_control control.Skip) {
+  cond = condition_read (bits / 2 ^ 10 % 2 ^ 4);
+  code = bits / 2 ^ 8 % 2 ^ 2;
+  n = signed_read 8 (bits % 2 ^ 8);
+}
+control_from control.Call bits = record (no_control control.Call) {
+  t = bits / 2 ^ 11 % 2 ^ 3;
+  u = bits / 2 ^ 8 % 2 ^ 3;
+}
 control_from control.Exchange bits = record (no_control control.Exchange) { t = bits / 2 ^ 11 % 2 ^ 3 }
-control_from control.TargetSet bits = record (no_control control.TargetSet) { t = bits / 2 ^ 11 % 2 ^ 3; ra = bits / 2 ^ 6 % 2 ^ 5 }
-control_from control.TargetGet bits = record (no_control control.TargetGet) { t = bits / 2 ^ 11 % 2 ^ 3; rd = bits / 2 ^ 6 % 2 ^ 5 }
+control_from control.TargetSet bits = record (no_control control.TargetSet) {
+  t = bits / 2 ^ 11 % 2 ^ 3;
+  ra = bits / 2 ^ 6 % 2 ^ 5;
+}
+control_from control.TargetGet bits = record (no_control control.TargetGet) {
+  t = bits / 2 ^ 11 % 2 ^ 3;
+  rd = bits / 2 ^ 6 % 2 ^ 5;
+}
 control_from control.TrapGet bits = record (no_control control.TrapGet) { rd = bits / 2 ^ 6 % 2 ^ 5 }
-control_from control.Reserve bits = record (no_control control.Reserve) { rd = bits / 2 ^ 6 % 2 ^ 5; ra = bits / 2 ^ 1 % 2 ^ 5 }
-control_from control.Create bits = record (no_control control.Create) { t = bits / 2 ^ 11 % 2 ^ 3; ra = bits / 2 ^ 6 % 2 ^ 5 }
+control_from control.Reserve bits = record (no_control control.Reserve) {
+  rd = bits / 2 ^ 6 % 2 ^ 5;
+  ra = bits / 2 ^ 1 % 2 ^ 5;
+}
+control_from control.Create bits = record (no_control control.Create) {
+  t = bits / 2 ^ 11 % 2 ^ 3;
+  ra = bits / 2 ^ 6 % 2 ^ 5;
+}
 control_from control.Quit bits = no_control control.Quit
 control_from control.QuitKeep bits = no_control control.QuitKeep
 control_from control.Mask bits = record (no_control control.Mask) { n = pos (bits / 2 ^ 11 % 2 ^ 3) }
@@ -105,7 +159,11 @@ abbrev pub wide_at : ℕ → Insn
 wide_at word = wide_from (wide_read (word / 2 ^ 57 % 2 ^ 3)) word
 
 abbrev pub normal_at : ℕ → Insn
-normal_at word = insn.Normal (word / 2 ^ 60 % 2 ^ 3) (memory_at (word / 2 ^ 39 % 2 ^ 21)) (arithmetic_at (word / 2 ^ 18 % 2 ^ 21)) (control_at (word % 2 ^ 18))
+normal_at word =
+    insn.Normal (word / 2 ^ 60 % 2 ^ 3)
+    (memory_at (word / 2 ^ 39 % 2 ^ 21))
+    (arithmetic_at (word / 2 ^ 18 % 2 ^ 21))
+    (control_at (word % 2 ^ 18))
 
 -- all fields read, whether or not the word spells an instruction
 unfoldable pub candidate : ℕ → Insn
@@ -126,7 +184,8 @@ kept_if keep i = if keep then Some i else None
 
 -- the instruction that the word spells, if any
 unfoldable pub instruction : ℕ → Option Insn
-instruction word = kept_if (number (fields (candidate word)) == word && has_one_writer (candidate word)) (candidate word)
+instruction word =
+    kept_if (number (fields (candidate word)) == word && has_one_writer (candidate word)) (candidate word)
 
 -- It is the instruction that the word's digits spell.
 abbrev pub InstructionIsSpelt : Type 0

@@ -1,6 +1,7 @@
 -- Which word spells which instruction.
 use Rattle.std.specs.Prelude.{◌≡◌, ℕ, ◌<◌, ◌^◌, pos, unsigned_abs, false, ⊤, List, [], ◌∷◌, ◌++◌}
-use Rattle.insn_word.specs.Operations.{wide_number, memory_number, access_number, arithmetic_number, control_number, condition_number}
+use Rattle.insn_word.specs.Operations.{wide_number, memory_number, access_number}
+use Rattle.insn_word.specs.Operations.{arithmetic_number, control_number, condition_number}
 use Rattle.insn_word.specs.Fields.{Field, unsigned, signed, zeros, flag, digits, spelling, AreInRange}
 use Rattle.insn_word.specs.declared.operations.WideOp.{WideOp}
 use Rattle.insn_word.specs.declared.operations.WideOp.TheVariants as wide
@@ -25,14 +26,19 @@ register_fields wide.TargetLiteral reg = zeros 2 ∷ unsigned 3 reg ∷ []
 register_fields _ reg = unsigned 5 reg ∷ []
 
 abbrev pub memory_fields : MPart → List Field
-memory_fields m = unsigned 3 (memory_number m.op) ∷ unsigned 2 (access_number m.acc) ∷ unsigned 5 m.rd ∷ unsigned 5 m.base ∷ signed 6 m.disp ∷ []
+memory_fields m =
+    unsigned 3 (memory_number m.op) ∷ unsigned 2 (access_number m.acc) ∷ unsigned 5 m.rd ∷ unsigned 5 m.base
+    ∷ signed 6 m.disp ∷ []
 
 abbrev pub arithmetic_fields : APart → List Field
-arithmetic_fields a = unsigned 4 (arithmetic_number a.op) ∷ flag a.test ∷ flag a.imm ∷ unsigned 5 a.rd ∷ unsigned 5 a.ra ∷ unsigned 5 a.rb ∷ []
+arithmetic_fields a =
+    unsigned 4 (arithmetic_number a.op) ∷ flag a.test ∷ flag a.imm ∷ unsigned 5 a.rd ∷ unsigned 5 a.ra ∷ unsigned 5 a.rb
+    ∷ []
 
 abbrev pub argument_fields : ControlOp → CPart → List Field
 argument_fields control.Nop c = zeros 14 ∷ []
-argument_fields control.Jump c = unsigned 4 (condition_number c.cond) ∷ unsigned 2 c.code ∷ unsigned 3 c.t ∷ zeros 5 ∷ []
+argument_fields control.Jump c =
+    unsigned 4 (condition_number c.cond) ∷ unsigned 2 c.code ∷ unsigned 3 c.t ∷ zeros 5 ∷ []
 argument_fields control.Skip c = unsigned 4 (condition_number c.cond) ∷ unsigned 2 c.code ∷ signed 8 c.n ∷ []
 argument_fields control.Call c = unsigned 3 c.t ∷ unsigned 3 c.u ∷ zeros 8 ∷ []
 argument_fields control.Exchange c = unsigned 3 c.t ∷ zeros 11 ∷ []
@@ -49,8 +55,11 @@ abbrev pub control_fields : CPart → List Field
 control_fields c = unsigned 4 (control_number c.op) ∷ argument_fields c.op c
 
 abbrev pub fields : Insn → List Field
-fields (insn.Wide look op reg imm) = unsigned 1 1 ∷ unsigned 3 look ∷ unsigned 3 (wide_number op) ∷ register_fields op reg ++ zeros 20 ∷ unsigned 32 imm ∷ []
-fields (insn.Normal look m a c) = unsigned 1 0 ∷ unsigned 3 look ∷ memory_fields m ++ arithmetic_fields a ++ control_fields c
+fields (insn.Wide look op reg imm) =
+    unsigned 1 1 ∷ unsigned 3 look ∷ unsigned 3 (wide_number op) ∷ register_fields op reg ++ zeros 20 ∷ unsigned 32 imm
+    ∷ []
+fields (insn.Normal look m a c) =
+    unsigned 1 0 ∷ unsigned 3 look ∷ memory_fields m ++ arithmetic_fields a ++ control_fields c
 
 -- Each part with nothing but what its operation uses.
 

@@ -1,4 +1,4 @@
-// The digits of a word, read and written a field at a time. All masks and shifts of the crate are here.
+//! The digits of a word, read and written a field at a time. All masks and shifts of the crate are here.
 
 ghost use Rattle.std.specs.Prelude.{◌≡◌, ◌+◌, ◌*◌, ◌/◌, ◌%◌, ◌^◌, ◌<◌, ◌≤◌, pos, neg_ℤ, ◌≤ℤ◌, ◌<ℤ◌};
 ghost use Rattle.insn_word.specs.Fields.{complement};

@@ -1,4 +1,4 @@
-// Instructions and their parts.
+//! Instructions and their parts.
 
 use crate::operations::{Access, ArithmeticOp, Condition, ControlOp, MemoryOp, WideOp};
 

@@ -1,4 +1,4 @@
-// The laws of spelling: the contract of a function that does nothing.
+//! The laws of spelling: the contract of a function that does nothing.
 
 ghost use Rattle.insn_word.specs.Laws.{OneInstruction, OneWord, IsValidByFields};
 ghost use Rattle.insn_word.specs.Reading.{InstructionIsSpelt};

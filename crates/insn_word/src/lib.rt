@@ -1,4 +1,4 @@
-// Instruction words: which 64-bit word spells which instruction (docs/FORMATS.md, "Instruction words").
+//! Instruction words: which 64-bit word spells which instruction (docs/FORMATS.md, "Instruction words").
 #![tactic(auto)]
 
 mod fields;

@@ -1,7 +1,8 @@
-// The operations, accesses and conditions, with their numbers in an instruction word.
+//! The operations, accesses and conditions, with their numbers in an instruction word.
 
 ghost use Rattle.std.specs.Prelude.{◌≡◌, ◌≤◌, IfSome, IfNone};
-ghost use Rattle.insn_word.specs.Operations.{wide_number, memory_number, access_number, arithmetic_number, control_number, condition_number};
+ghost use Rattle.insn_word.specs.Operations.{wide_number, memory_number, access_number};
+ghost use Rattle.insn_word.specs.Operations.{arithmetic_number, control_number, condition_number};
 
 /// The operations of wide words.
 #[derive(Clone, Copy, Debug, PartialEq, Eq)]

@@ -1,6 +1,6 @@
-// The three parts of a normal word, to and from their digits.
+//! The three parts of a normal word, to and from their digits.
 
-ghost use Rattle.std.specs.Prelude.{◌≡◌, ◌+◌, ◌*◌, ◌<◌, ◌^◌, ◌↔◌, IsTrue, IfSome};
+ghost use Rattle.std.specs.Prelude.{◌≡◌, ◌+◌, ◌*◌, ◌/◌, ◌%◌, ◌<◌, ◌≤◌, ◌^◌, ◌↔◌, IsTrue, IfSome, IfNone};
 ghost use Rattle.insn_word.specs.Operations.{condition_number};
 ghost use Rattle.insn_word.specs.Fields.{number, AreInRange};
 ghost use Rattle.insn_word.specs.Words.{memory_fields, arithmetic_fields, argument_fields, control_fields};
@@ -140,16 +140,12 @@ impl CPart {
         let part = match op {
             ControlOp::Nop | ControlOp::Quit | ControlOp::QuitKeep => none,
             ControlOp::Jump => CPart {
-                cond: Condition::from_number(field(bits, 10, 4))?,
-                code: small_field(bits, 8, 2),
                 t: small_field(bits, 5, 3),
-                ..none
+                ..none.with_condition(bits)?
             },
             ControlOp::Skip => CPart {
-                cond: Condition::from_number(field(bits, 10, 4))?,
-                code: small_field(bits, 8, 2),
                 n: signed_8(small_field(bits, 0, 8)),
-                ..none
+                ..none.with_condition(bits)?
             },
             ControlOp::Call => CPart {
                 t: upper,
@@ -181,6 +177,19 @@ impl CPart {
         Some(part)
     }
 
+    /// The part with the condition and the place of the code that the digits name; None where there is no such condition.
+    fn with_condition(self, bits: u64) -> Option<CPart>
+        ensures named { IfSome result (λ c. condition_number c.cond ≡ bits / 2 ^ 10 % 2 ^ 4) }
+        ensures others { IfSome result (λ c. c ≡ record self { cond = c.cond; code = bits / 2 ^ 8 % 2 ^ 2 }) }
+        ensures none { IfNone result (15 ≤ bits / 2 ^ 10 % 2 ^ 4) }
+    {
+        Some(CPart {
+            cond: Condition::from_number(field(bits, 10, 4))?,
+            code: small_field(bits, 8, 2),
+            ..self
+        })
+    }
+
     /// The 18 digits of the part.
     pub(crate) fn bits(&self) -> u64
         ensures { AreInRange (control_fields self.now) → result ≡ number (control_fields self.now) }
@@ -190,7 +199,8 @@ impl CPart {
 
     /// The 14 digits of the arguments.
     fn argument_bits(&self) -> u64
-        ensures is { AreInRange (argument_fields self.now.op self.now) → result ≡ number (argument_fields self.now.op self.now) }
+        ensures { AreInRange (argument_fields self.now.op self.now)
+            → result ≡ number (argument_fields self.now.op self.now) }
     {
         let t = u64::from(self.t);
         let rd = u64::from(self.rd);

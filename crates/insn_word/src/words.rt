@@ -1,4 +1,4 @@
-// Which word spells which instruction, in both directions.
+//! Which word spells which instruction, in both directions.
 
 ghost use Rattle.std.specs.Prelude.{◌≡◌, ◌<◌, ◌≤◌, ◌^◌, ◌↔◌, ℕ, IsTrue, IfSome, IsNone};
 ghost use Rattle.insn_word.specs.Fields.{number, AreInRange};

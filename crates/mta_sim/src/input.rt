@@ -17,7 +17,8 @@ const CHUNK: usize = 8192;
 ///
 /// `TooLarge` where there are more, `Read` where a read failed or was interrupted, `NoMemory` where memory was refused.
 pub fn read_input<R: Read>(alloc: Global, reader: &mut R) -> Result<Vec<u8>, ToolFault>
-    ensures whole { IfOk result (λ bytes. IfSome (R.remaining reader.old) (λ input. bytes.items ≡ input)) }
+    ensures whole { IfOk result (λ bytes. IfSome (R.remaining reader.old) (λ input.
+        bytes.items ≡ input)) }
     ensures within { IfOk result (λ bytes. vec_len bytes ≤ input_limit) }
     ensures too_large { result ≡ Err ToolFault.TooLarge
         → IfSome (R.remaining reader.old) (λ input. input_limit < length input) }

@@ -11,13 +11,14 @@ use std::alloc::Global;
 /// The most words of a program.
 pub const MAX_WORDS: usize = 65_536;
 
-/// The words that a text spells, one a line as 16 hexadecimal digits of either case ("words", docs/FORMATS.md).
+/// The words that a text spells, one a line as 16 hexadecimal digits of either case ("Lines of `words`", docs/FORMATS.md).
 ///
 /// `Words` names the least line with a fault: one that is anything else, line 1 where there is no line, and the line after
 /// the first [`MAX_WORDS`].
 pub fn read_program(alloc: Global, text: &[u8]) -> Result<Vec<u64>, ToolFault>
     ensures words { IfOk result (λ words. program_of text.now ≡ Ok words.items) }
-    ensures fault { IfErr result (λ fault. fault ≢ ToolFault.NoMemory → program_of text.now ≡ Err fault) }
+    ensures fault { IfErr result (λ fault. fault ≢ ToolFault.NoMemory
+        → program_of text.now ≡ Err fault) }
 {
     let mut words = Vec::new(alloc);
     let mut rest = text;

@@ -1,6 +1,7 @@
 //! The tool, from its command line to its status.
-ghost use Rattle.std.specs.Prelude.{◌≡◌};
-ghost use Rattle.std.specs.Io.KnownBytes.{Keeps};
+ghost use Rattle.std.specs.Prelude.{◌≡◌, IfSome, OnOk, IsOkAnd, MatchResult};
+ghost use Rattle.std.specs.Io.KnownBytes.{Appends, Keeps};
+ghost use Rattle.mta_sim.specs.WordsOutput.{words_output};
 
 use crate::command_line::{Request, read_command_line};
 use crate::tool_fault::ToolFault;
@@ -20,10 +21,11 @@ pub enum Status {
     NoCommand = 2,
 }
 
-/// Runs the command of a command line on the standard streams.
+/// Runs the command of a command line, whose first word is the program's name, on the standard streams ("The command
+/// line", docs/FORMATS.md).
 ///
-/// Standard error gets the fault in one line, or where there is no command the text of the command line's parser. What it
-/// says is not claimed, and where it can't be written nothing more is done.
+/// Standard error gets a fault's line, or where there is no command the text of the command line's parser. The clauses
+/// say nothing of that text, and not which command lines have a command.
 pub fn run_tool<S: AsStr, R: Read, W: Write, E: Write>(
     alloc: Global,
     words: &[S],
@@ -31,11 +33,14 @@ pub fn run_tool<S: AsStr, R: Read, W: Write, E: Write>(
     output: &mut W,
     errors: &mut E,
 ) -> Status
+    ensures done { result ≡ Status.Done → IfSome (R.remaining input.old) (λ bytes.
+        IsOkAnd (words_output bytes) (Appends (W.contents output.old) (W.contents output.new))) }
     ensures silent { result ≡ Status.Done → Keeps (E.contents errors.old) (E.contents errors.new) }
-    ensures no_command { result ≡ Status.NoCommand → Keeps (W.contents output.old) (W.contents output.new) }
+    ensures no_command { result ≡ Status.NoCommand
+        → Keeps (W.contents output.old) (W.contents output.new) }
 {
     match read_command_line(alloc, words) {
-        Ok(Request::Words) => end(words_engine(alloc, input, output), errors),
+        Ok(Request::Words) => report(words_engine(alloc, input, output), errors),
         Err(error) => {
             let _ = write!(errors, "{error}");
             Status::NoCommand
@@ -44,9 +49,9 @@ pub fn run_tool<S: AsStr, R: Read, W: Write, E: Write>(
 }
 
 /// The status of a command, whose fault is printed.
-fn end<E: Write>(done: Result<(), ToolFault>, errors: &mut E) -> Status
-    ensures silent { result ≡ Status.Done → Keeps (E.contents errors.old) (E.contents errors.new) }
-    ensures command { result ≡ Status.NoCommand → ⊥ }
+fn report<E: Write>(done: Result<(), ToolFault>, errors: &mut E) -> Status
+    ensures status { MatchResult done (λ _. result ≡ Status.Done) (λ _. result ≡ Status.Fault) }
+    ensures silent { OnOk done (Keeps (E.contents errors.old) (E.contents errors.new)) }
 {
     match done {
         Ok(()) => Status::Done,

@@ -16,7 +16,7 @@ use std::io::{Read, Write};
 use stream_core::{Stream, stream_text};
 
 /// Reads a program of one word a line, runs it on one stream for as many steps as it has words, and writes the stream's
-/// text ("words", docs/MACHINE.md and docs/FORMATS.md).
+/// text ("What `words` runs", docs/MACHINE.md; "Lines of `words`", docs/FORMATS.md).
 ///
 /// The output is composed before the writer is first touched.
 pub fn words_engine<R: Read, W: Write>(
@@ -26,7 +26,8 @@ pub fn words_engine<R: Read, W: Write>(
 ) -> Result<(), ToolFault>
     ensures written { OnOk result (IfSome (R.remaining reader.old) (λ input.
         IsOkAnd (words_output input) (Appends (W.contents writer.old) (W.contents writer.new)))) }
-    ensures fault { IfErr result (λ fault. IfSome (R.remaining reader.old) (λ input. IsFaultOf (words_output input) fault)) }
+    ensures fault { IfErr result (λ fault. IfSome (R.remaining reader.old) (λ input.
+        IsFaultOf (words_output input) fault)) }
     ensures kept { IfErr result (λ fault. fault ≢ ToolFault.Write
         → Keeps (W.contents writer.old) (W.contents writer.new)) }
 {
@@ -39,7 +40,8 @@ pub fn words_engine<R: Read, W: Write>(
 #[tactic(auto, unfolding(crate::specs::WordsOutput::program_text))]
 fn compose_text(alloc: Global, input: &[u8]) -> Result<String, ToolFault>
     ensures text { IfOk result (λ text. text_of (program_of input.now) ≡ Ok (string_bytes text)) }
-    ensures fault { IfErr result (λ fault. fault ≢ ToolFault.NoMemory → text_of (program_of input.now) ≡ Err fault) }
+    ensures fault { IfErr result (λ fault. fault ≢ ToolFault.NoMemory
+        → text_of (program_of input.now) ≡ Err fault) }
 {
     let program = read_program(alloc, input)?;
     let stream = run_program(alloc, &program)?;

@@ -1,4 +1,4 @@
-//! The machine that the command `words` runs a program on ("words", docs/MACHINE.md).
+//! The machine that the command `words` runs a program on ("What `words` runs", docs/MACHINE.md).
 ghost use Rattle.std.specs.Prelude.{◌≡◌, ℕ, List, IfOk};
 ghost use Rattle.stream_core.specs.StreamRow.{fetched};
 
@@ -61,7 +61,8 @@ impl WordsMachine {
 
     /// The step of the instruction at the pc.
     fn execute(&mut self, insn: &Insn)
-        ensures { (program : List ℕ) → fetched program self.old.stream ≡ Fetched.Runs insn.now → self.new ≡ stepped program self.old }
+        ensures { (program : List ℕ) → fetched program self.old.stream ≡ Fetched.Runs insn.now
+            → self.new ≡ stepped program self.old }
     {
         match self.stream.control_of(insn) {
             Control::Create(_) => {
@@ -80,7 +81,8 @@ impl WordsMachine {
 
     /// The stream's row of the operation table, with the memory's reply where the instruction has a reference.
     fn take_row(&mut self, insn: &Insn) -> Outcome
-        ensures { (program : List ℕ) → fetched program self.old.stream ≡ Fetched.Runs insn.now → (self.new, result) ≡ row program self.old }
+        ensures { (program : List ℕ) → fetched program self.old.stream ≡ Fetched.Runs insn.now
+            → (self.new, result) ≡ row program self.old }
     {
         match self.stream.request(insn) {
             None => {

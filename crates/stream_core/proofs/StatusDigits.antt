@@ -44,8 +44,13 @@ code_kept m c x e =
 codes_kept : (m : ℕ) (c : Codes) (x : ℕ) → m ≡ codes_number c + 65536 * x → codes_from m ≡ c
 unfolding codes_number codes_from
 codes_kept m c x e =
-    let newest = code_number c.newest in let second = code_number c.second in let third = code_number c.third in let oldest = code_number c.oldest in
-    let a : newest < 16 = code_small c.newest in let b : second < 16 = code_small c.second in let d : third < 16 = code_small c.third in
+    let newest = code_number c.newest in
+    let second = code_number c.second in
+    let third = code_number c.third in
+    let oldest = code_number c.oldest in
+    let a : newest < 16 = code_small c.newest in
+    let b : second < 16 = code_small c.second in
+    let d : third < 16 = code_small c.third in
     let first : m ≡ newest + 16 * (second + 16 * third + 256 * oldest + 4096 * x) = omega arith in
     let next : m / 2 ^ 4 ≡ second + 16 * (third + 16 * oldest + 256 * x) = omega arith in
     let after : m / 2 ^ 8 ≡ third + 16 * (oldest + 16 * x) = omega arith in
@@ -59,7 +64,9 @@ codes_kept m c x e =
 
 mask_kept : (m : ℕ) (k : TrapMask) (x : ℕ) → m ≡ mask_number k + 8 * x → mask_from m ≡ k
 mask_kept m k x e =
-    let a : number_of k.trap0 ≤ 1 = flag_small k.trap0 in let b : number_of k.trap1 ≤ 1 = flag_small k.trap1 in let d : number_of k.blocked ≤ 1 = flag_small k.blocked in
+    let a : number_of k.trap0 ≤ 1 = flag_small k.trap0 in
+    let b : number_of k.trap1 ≤ 1 = flag_small k.trap1 in
+    let d : number_of k.blocked ≤ 1 = flag_small k.blocked in
     let first : m / 2 ^ 0 % 2 ≡ number_of k.trap0 = omega arith in
     let second : m / 2 ^ 1 % 2 ≡ number_of k.trap1 = omega arith in
     let third : m / 2 ^ 2 % 2 ≡ number_of k.blocked = omega arith in
@@ -69,9 +76,12 @@ pub status_kept : IsKeptInDigits
 unfolding status_number status_from
 status_kept s small =
     let n = s.pc + codes_number s.codes * 2 ^ 32 + mask_number s.mask * 2 ^ 48 + number_of s.in_trap * 2 ^ 56 in
-    let a : codes_number s.codes < 65536 = codes_small s.codes in let b : mask_number s.mask < 8 = mask_small s.mask in let d : number_of s.in_trap ≤ 1 = flag_small s.in_trap in
+    let a : codes_number s.codes < 65536 = codes_small s.codes in
+    let b : mask_number s.mask < 8 = mask_small s.mask in
+    let d : number_of s.in_trap ≤ 1 = flag_small s.in_trap in
     let pc : n % 2 ^ 32 ≡ s.pc = omega arith in
-    let codes : n / 2 ^ 32 ≡ codes_number s.codes + 65536 * (mask_number s.mask + 256 * number_of s.in_trap) = omega arith in
+    let codes : n / 2 ^ 32 ≡ codes_number s.codes + 65536 * (mask_number s.mask + 256 * number_of s.in_trap) =
+    omega arith in
     let mask : n / 2 ^ 48 ≡ mask_number s.mask + 8 * (32 * number_of s.in_trap) = omega arith in
     let in_trap : n / 2 ^ 56 % 2 ≡ number_of s.in_trap = omega arith in
     λ i. record {
@@ -94,7 +104,8 @@ code_digits m = rw (has_digit m 0, has_digit m 1, has_digit m 2, has_digit m 3) 
 
 codes_digits : (m : ℕ) → codes_number (codes_from m) ≡ m % 65536
 unfolding codes_number codes_from
-codes_digits m = rw (code_digits m, code_digits (m / 2 ^ 4), code_digits (m / 2 ^ 8), code_digits (m / 2 ^ 12)) (omega arith)
+codes_digits m =
+    rw (code_digits m, code_digits (m / 2 ^ 4), code_digits (m / 2 ^ 8), code_digits (m / 2 ^ 12)) (omega arith)
 
 mask_digits : (m : ℕ) → mask_number (mask_from m) ≡ m % 8
 mask_digits m = rw (has_digit m 0, has_digit m 1, has_digit m 2) (omega arith)
@@ -105,12 +116,15 @@ and_digits n =
     let split : n ≡ high * 2 ^ 51 + low = omega arith in
     let cut = and_block 51 high 32 low (2 ^ 51 - 1) (omega arith) (omega arith) in
     let whole : bit_and low (2 ^ 51 - 1) ≡ low = and_mask low 51 ∙ (let e : low % 2 ^ 51 ≡ low = omega arith in e) in
-    let cut_high : bit_and (high / 32 * 2 ^ 5 + high % 32) (1 * 2 ^ 5 + 0) ≡ bit_and (high / 32) 1 * 2 ^ 5 + bit_and (high % 32) 0 = and_block 5 (high / 32) 1 (high % 32) 0 (omega arith) (omega arith) in
+    let cut_high : bit_and (high / 32 * 2 ^ 5 + high % 32) (1 * 2 ^ 5 + 0) ≡ bit_and (high / 32) 1 * 2 ^ 5 + bit_and (high % 32) 0 =
+    and_block 5 (high / 32) 1 (high % 32) 0 (omega arith) (omega arith) in
     let split_high : high ≡ high / 32 * 2 ^ 5 + high % 32 = omega arith in
     let one : bit_and (high / 32) 1 ≡ high / 32 % 2 = and_mask (high / 32) 1 in
     let none : bit_and (high % 32) 0 ≡ high % 32 % 1 = and_mask (high % 32) 0 in
-    let middle : bit_and high 32 ≡ high / 32 % 2 * 32 = ap (λ m. bit_and m 32) split_high ∙ cut_high ∙ (let e : bit_and (high / 32) 1 * 2 ^ 5 + bit_and (high % 32) 0 ≡ high / 32 % 2 * 32 = omega arith in e) in
-    ap (λ m. bit_and m status_digits) split ∙ cut ∙ (let e : bit_and high 32 * 2 ^ 51 + bit_and low (2 ^ 51 - 1) ≡ low + n / 2 ^ 56 % 2 * 2 ^ 56 = omega arith in e)
+    let middle : bit_and high 32 ≡ high / 32 % 2 * 32 = ap (λ m. bit_and m 32) split_high ∙ cut_high
+    ∙ (let e : bit_and (high / 32) 1 * 2 ^ 5 + bit_and (high % 32) 0 ≡ high / 32 % 2 * 32 = omega arith in e) in
+    ap (λ m. bit_and m status_digits) split ∙ cut
+    ∙ (let e : bit_and high 32 * 2 ^ 51 + bit_and low (2 ^ 51 - 1) ≡ low + n / 2 ^ 56 % 2 * 2 ^ 56 = omega arith in e)
 
 pub status_own : AreOwnDigits
 unfolding status_number status_from

@@ -1,8 +1,11 @@
 -- Conditions on a condition code.
 use Rattle.std.specs.Prelude.{Bool, true, false, not, ◌||◌}
 use Rattle.insn_word.specs.declared.operations.Condition.{Condition}
-use Rattle.insn_word.specs.declared.operations.Condition.TheVariants.{Always, Equal, NotEqual, Less, GreaterEqual, LessEqual, Greater, LessUnsigned, GreaterEqualUnsigned}
-use Rattle.insn_word.specs.declared.operations.Condition.TheVariants.{LessEqualUnsigned, GreaterUnsigned, Negative, Positive, Overflow, NoOverflow}
+use Rattle.insn_word.specs.declared.operations.Condition.TheVariants.{Always, Equal, NotEqual, Less, GreaterEqual}
+use Rattle.insn_word.specs.declared.operations.Condition.TheVariants.{LessEqual, Greater, LessUnsigned}
+use Rattle.insn_word.specs.declared.operations.Condition.TheVariants.{GreaterEqualUnsigned, LessEqualUnsigned}
+use Rattle.insn_word.specs.declared.operations.Condition.TheVariants.{GreaterUnsigned, Negative, Positive}
+use Rattle.insn_word.specs.declared.operations.Condition.TheVariants.{Overflow, NoOverflow}
 use Rattle.stream_core.specs.declared.conditions.Code.{Code}
 
 abbrev pub differ : Bool → Bool → Bool

@@ -1,5 +1,6 @@
 -- What an instruction does to its stream: each operand is read as it stood before, and all is written at once.
-use Rattle.std.specs.Prelude.{ℕ, suc, ◌+◌, ◌-◌, ◌*◌, ◌/◌, ◌%◌, ◌^◌, ◌==◌, ℤ, pos, negsuc, unsigned_abs, Bool, List, Option, Some, None, if◌then◌else◌}
+use Rattle.std.specs.Prelude.{ℕ, suc, ◌+◌, ◌-◌, ◌*◌, ◌/◌, ◌%◌, ◌^◌, ◌==◌, ℤ, pos, negsuc, unsigned_abs}
+use Rattle.std.specs.Prelude.{Bool, List, Option, Some, None, if◌then◌else◌}
 use Rattle.insn_word.specs.Words.{memory_destination, arithmetic_destination, control_destination}
 use Rattle.insn_word.specs.declared.operations.WideOp.{WideOp}
 use Rattle.insn_word.specs.declared.operations.WideOp.TheVariants as wide
@@ -140,9 +141,18 @@ executed_parts s m a c value grant = record s {
 }
 
 abbrev pub executed_wide : StreamValue → WideOp → ℕ → ℕ → StreamValue
-executed_wide s wide.Literal reg imm = record s { registers = with_register s.registers reg imm; ssw = record s.ssw { pc = next s.ssw.pc } }
-executed_wide s wide.LiteralHigh reg imm = record s { registers = with_register s.registers reg (imm * 2 ^ 32 + register_at s.registers reg % 2 ^ 32); ssw = record s.ssw { pc = next s.ssw.pc } }
-executed_wide s wide.TargetLiteral reg imm = record s { targets = with_target s.targets reg (status_at imm); ssw = record s.ssw { pc = next s.ssw.pc } }
+executed_wide s wide.Literal reg imm = record s {
+  registers = with_register s.registers reg imm;
+  ssw = record s.ssw { pc = next s.ssw.pc };
+}
+executed_wide s wide.LiteralHigh reg imm = record s {
+  registers = with_register s.registers reg (imm * 2 ^ 32 + register_at s.registers reg % 2 ^ 32);
+  ssw = record s.ssw { pc = next s.ssw.pc };
+}
+executed_wide s wide.TargetLiteral reg imm = record s {
+  targets = with_target s.targets reg (status_at imm);
+  ssw = record s.ssw { pc = next s.ssw.pc };
+}
 
 -- the stream after the instruction
 unfoldable pub executed : StreamValue → Insn → ℕ → ℕ → StreamValue

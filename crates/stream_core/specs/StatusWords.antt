@@ -16,10 +16,16 @@ code_from n = record { zero = has_bit n 0; negative = has_bit n 1; carry = has_b
 
 -- four codes, the newest in the lowest digits
 unfoldable pub codes_number : Codes → ℕ
-codes_number c = code_number c.newest + code_number c.second * 2 ^ 4 + code_number c.third * 2 ^ 8 + code_number c.oldest * 2 ^ 12
+codes_number c =
+    code_number c.newest + code_number c.second * 2 ^ 4 + code_number c.third * 2 ^ 8 + code_number c.oldest * 2 ^ 12
 
 unfoldable pub codes_from : ℕ → Codes
-codes_from n = record { newest = code_from n; second = code_from (n / 2 ^ 4); third = code_from (n / 2 ^ 8); oldest = code_from (n / 2 ^ 12) }
+codes_from n = record {
+  newest = code_from n;
+  second = code_from (n / 2 ^ 4);
+  third = code_from (n / 2 ^ 8);
+  oldest = code_from (n / 2 ^ 12);
+}
 
 abbrev pub mask_number : TrapMask → ℕ
 mask_number m = number_of m.trap0 + 2 * number_of m.trap1 + 4 * number_of m.blocked
@@ -33,7 +39,12 @@ status_number s = s.pc + codes_number s.codes * 2 ^ 32 + mask_number s.mask * 2 
 
 -- the status word that digits say
 unfoldable pub status_from : ℕ → StatusWord
-status_from n = record { pc = n % 2 ^ 32; codes = codes_from (n / 2 ^ 32); mask = mask_from (n / 2 ^ 48); in_trap = has_bit n 56 }
+status_from n = record {
+  pc = n % 2 ^ 32;
+  codes = codes_from (n / 2 ^ 32);
+  mask = mask_from (n / 2 ^ 48);
+  in_trap = has_bit n 56;
+}
 
 -- the digits that a status word may have
 abbrev pub status_digits : ℕ

@@ -62,7 +62,12 @@ plan_of program s = plan_from s (fetched program s)
 
 abbrev pub control_by : StreamValue → CPart → ControlOp → Control
 control_by s c control.Reserve = asks.Reserve (register_at s.registers c.ra)
-control_by s c control.Create = asks.Create (record { pc = (target_at s.targets c.t).pc; value = register_at s.registers c.ra; t0 = target_at s.targets 0; mask = s.ssw.mask })
+control_by s c control.Create = asks.Create (record {
+  pc = (target_at s.targets c.t).pc;
+  value = register_at s.registers c.ra;
+  t0 = target_at s.targets 0;
+  mask = s.ssw.mask;
+})
 control_by s c control.Quit = asks.Quit
 control_by s c control.QuitKeep = asks.QuitKeep
 control_by s c _ = asks.Plain

@@ -20,7 +20,14 @@ pub record StreamValue : Type 0 where
 
 -- the stream that holds zeros only
 abbrev pub idle : StreamValue
-idle = record { registers = replicate 32 0; targets = replicate 8 (status_at 0); ssw = status_at 0; xr = 0; retries = 0; status = Idle }
+idle = record {
+  registers = replicate 32 0;
+  targets = replicate 8 (status_at 0);
+  ssw = status_at 0;
+  xr = 0;
+  retries = 0;
+  status = Idle;
+}
 
 -- no handler stands at the last pc
 abbrev pub no_handler : ℕ
@@ -33,7 +40,13 @@ cannot_trap s = s.ssw.in_trap || ((target_at s.targets 0).pc == no_handler)
 -- the status word and t0 change places, and the stream is in a trap
 abbrev pub trapped_if : Bool → TrapKind → StreamValue → StreamValue × Outcome
 trapped_if true k s = (record s { status = Stopped k }, outcome.Stopped k)
-trapped_if false k s = (record s { ssw = record (target_at s.targets 0) { in_trap = true }; targets = with_target s.targets 0 s.ssw }, outcome.Trapped k)
+trapped_if false k s = (
+  record s {
+    ssw = record (target_at s.targets 0) { in_trap = true };
+    targets = with_target s.targets 0 s.ssw;
+  },
+  outcome.Trapped k,
+)
 
 -- the stream after a trap, and the step's outcome
 abbrev pub trapped : TrapKind → ℕ → StreamValue → StreamValue × Outcome

@@ -1,4 +1,4 @@
-// The arithmetic operations and the codes that they make.
+//! The arithmetic operations and the codes that they make.
 
 ghost use Rattle.std.specs.Prelude.{◌≡◌, ◌<◌, ◌<ℤ◌, ◌↔◌, IsTrue};
 ghost use Rattle.stream_core.specs.Arithmetic.{signed, result_of, carries, overflows, code_of};

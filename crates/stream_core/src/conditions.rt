@@ -1,4 +1,4 @@
-// Condition codes, and the conditions that jumps and skips ask of them.
+//! Condition codes, and the conditions that jumps and skips ask of them.
 
 ghost use Rattle.std.specs.Prelude.{◌≡◌, ◌<◌, ◌^◌};
 ghost use Rattle.stream_core.specs.Conditions.{condition_holds};

@@ -1,4 +1,4 @@
-// From the enums of instruction words and of the memory to each other's.
+//! From the enums of instruction words and of the memory to each other's.
 
 ghost use Rattle.std.specs.Prelude.{◌≡◌};
 ghost use Rattle.stream_core.specs.Effects.{access_of};

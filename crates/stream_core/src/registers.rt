@@ -1,4 +1,4 @@
-// The general registers, of which r0 is zero, and the target registers.
+//! The general registers, of which r0 is zero, and the target registers.
 
 ghost use Rattle.std.specs.Prelude.{◌≡◌, ◌<◌, ◌↔◌, replicate, slice_get, IsSome};
 ghost use Rattle.stream_core.specs.Registers.{register_at, with_register, target_at, with_target};

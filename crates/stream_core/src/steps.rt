@@ -1,4 +1,4 @@
-// What a step of a stream finds, needs and comes to.
+//! What a step of a stream finds, needs and comes to.
 
 use crate::status_words::{StatusWord, TrapMask};
 use crate::traps::TrapKind;

@@ -1,4 +1,4 @@
-// How a stream is printed.
+//! How a stream is printed.
 
 ghost use Rattle.std.specs.Prelude.{◌≡◌, ◌++◌, ◌<◌, IfOk, OnOk, string_bytes};
 ghost use Rattle.stream_core.specs.StatusWords.{status_number};

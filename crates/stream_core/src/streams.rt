@@ -1,4 +1,4 @@
-// A stream: what it holds, how it begins, and how it traps.
+//! A stream: what it holds, how it begins, and how it traps.
 
 mod executing;
 mod planning;

@@ -1,4 +1,4 @@
-// The traps and their numbers.
+//! The traps and their numbers.
 
 ghost use Rattle.std.specs.Prelude.{◌≡◌, ◌<◌};
 ghost use Rattle.stream_core.specs.Traps.{trap_number};

@@ -1,4 +1,4 @@
-// What a step does to its stream: each operand is read as it stood before, and all is written at once.
+//! What a step does to its stream: each operand is read as it stood before, and all is written at once.
 
 ghost use Rattle.std.specs.Prelude.{◌≡◌, ℕ};
 ghost use Rattle.stream_core.specs.Effects.{made, left, goes, skipped, retries_after};

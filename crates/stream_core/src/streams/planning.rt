@@ -1,4 +1,4 @@
-// What the next step of a stream finds and needs. It reads the stream and changes nothing.
+//! What the next step of a stream finds and needs. It reads the stream and changes nothing.
 
 ghost use Rattle.std.specs.Prelude.{◌≡◌};
 ghost use Rattle.stream_core.specs.Effects.{moved, asked, request_of};
