@@ -5,6 +5,10 @@ use Rattle.tag_memory.specs.Cell.{Cell}
 pub record TaggedMemory : Type 0 where
   pub cells : List Cell
 
+-- the most words that a memory has
+abbrev pub most_words : ℕ
+most_words = 262144
+
 -- the memory with these words at the addresses 0, 8, 16, ..
 abbrev pub memory_of : List Cell → TaggedMemory
 memory_of cells = record { cells = cells }
