@@ -1,24 +1,25 @@
 #!/usr/bin/env bash
-# Wall time and peak memory of `mta_sim words` on the longest program that it takes: the best of ten runs.
+# Wall time (the best of ten runs) and peak memory of `mta_sim words` on the longest program that it takes.
 set -eu
 cd "$(dirname "$0")/.."
+program=crates/mta_sim/out/mta_sim
 input=$(mktemp)
 trap 'rm -f "$input"' EXIT
 bench/words_input.sh >"$input"
 echo "mta_sim words on $(wc -l <"$input") lines"
-python3 - "$input" <<'PY'
-import resource
-import subprocess
-import sys
-import time
 
-best = None
-for _ in range(10):
-    with open(sys.argv[1], "rb") as lines:
-        begin = time.perf_counter()
-        subprocess.run(["crates/mta_sim/out/mta_sim", "words"], stdin=lines, stdout=subprocess.DEVNULL, check=True)
-        spent = time.perf_counter() - begin
-    best = spent if best is None else min(best, spent)
-peak = resource.getrusage(resource.RUSAGE_CHILDREN).ru_maxrss
-print(f"wall time {best * 1000:.1f} ms, peak memory {peak / 1024:.1f} MB")
-PY
+best=
+for _ in 1 2 3 4 5 6 7 8 9 10; do
+  begin=${EPOCHREALTIME/./}
+  "$program" words <"$input" >/dev/null
+  spent=$((${EPOCHREALTIME/./} - begin))
+  if [ -z "$best" ] || [ "$spent" -lt "$best" ]; then best=$spent; fi
+done
+echo "wall time $((best / 1000)).$((best / 100 % 10)) ms"
+
+if [ -x /usr/bin/time ]; then
+  kilobytes=$(/usr/bin/time -f %M "$program" words <"$input" 2>&1 >/dev/null)
+  echo "peak memory $((kilobytes / 1024)).$((kilobytes * 10 / 1024 % 10)) MB"
+else
+  echo "peak memory: not measured, since /usr/bin/time is not here"
+fi
