@@ -1,6 +1,6 @@
 //! The digits of a word, read and written a field at a time. All masks and shifts of the crate are here.
 
-ghost use Rattle.std.specs.Prelude.{◌≡◌, ◌+◌, ◌*◌, ◌/◌, ◌%◌, ◌^◌, ◌<◌, ◌≤◌, pos, neg_ℤ, ◌≤ℤ◌, ◌<ℤ◌};
+ghost use Rattle.std.specs.Prelude.{◌≡◌, ◌+◌, ◌*◌, ◌/◌, ◌%◌, ◌^◌, ◌<◌, ◌≤◌, ℤ, pos, neg_ℤ, ◌≤ℤ◌, ◌<ℤ◌};
 ghost use Rattle.insn_word.specs.Fields.{complement};
 
 /// The field of `width` digits above the `low` lowest ones.
@@ -27,6 +27,7 @@ pub(crate) fn signed_6(digits: u8) -> i8
     ensures digits { complement 6 result ≡ digits }
     ensures low { neg_ℤ (pos 32) ≤ℤ result }
     ensures high { result <ℤ pos 32 }
+    ensures only { (z : ℤ) → neg_ℤ (pos 32) ≤ℤ z → z <ℤ pos 32 → complement 6 z ≡ digits → result ≡ z }
 {
     let number = digits.cast_signed();
     if digits < 32 { number } else { number - 64 }
@@ -34,7 +35,8 @@ pub(crate) fn signed_6(digits: u8) -> i8
 
 /// The number that 8 digits say in two's complement.
 pub(crate) fn signed_8(digits: u8) -> i8
-    ensures { complement 8 result ≡ digits }
+    ensures digits { complement 8 result ≡ digits }
+    ensures only { (z : ℤ) → neg_ℤ (pos 128) ≤ℤ z → z <ℤ pos 128 → complement 8 z ≡ digits → result ≡ z }
 {
     digits.cast_signed()
 }

@@ -1,12 +1,13 @@
 //! The three parts of a normal word, to and from their digits.
 
-ghost use Rattle.std.specs.Prelude.{◌≡◌, ◌+◌, ◌*◌, ◌/◌, ◌%◌, ◌<◌, ◌≤◌, ◌^◌, ◌↔◌, IsTrue, IfSome, IfNone};
+ghost use Rattle.std.specs.Prelude.{◌≡◌, ◌+◌, ◌*◌, ◌/◌, ◌%◌, ◌<◌, ◌^◌, ◌↔◌, IsTrue, IfSome};
 ghost use Rattle.insn_word.specs.Operations.{condition_number};
 ghost use Rattle.insn_word.specs.Fields.{number, AreInRange};
 ghost use Rattle.insn_word.specs.Words.{memory_fields, arithmetic_fields, argument_fields, control_fields};
 ghost use Rattle.insn_word.specs.Words.{used_memory, used_arithmetic, used_control};
 ghost use Rattle.insn_word.specs.Words.{memory_destination, arithmetic_destination, control_destination};
 ghost use Rattle.insn_word.specs.Parts.{IsMemoryPart, IsArithmeticPart, IsControlPart};
+ghost use Rattle.insn_word.specs.declared.operations.Condition.{Condition};
 ghost use Rattle.insn_word.specs.declared.insn.MPart.{MPart};
 ghost use Rattle.insn_word.specs.declared.insn.APart.{APart};
 ghost use Rattle.insn_word.specs.declared.insn.CPart.{CPart};
@@ -21,14 +22,24 @@ impl MPart {
         requires { bits < 2 ^ 21 }
         ensures { (m : MPart) → (result ≡ Some m) ↔ IsMemoryPart bits m }
     {
-        let part = MPart {
+        let part = MPart::read(bits)?;
+        if part.is_bare() { Some(part) } else { None }
+    }
+
+    /// The part whose fields the digits are, also where a field that its operation does not use is not zero.
+    fn read(bits: u64) -> Option<MPart>
+        requires { bits < 2 ^ 21 }
+        ensures in_range { IfSome result (λ m. AreInRange (memory_fields m)) }
+        ensures number { IfSome result (λ m. number (memory_fields m) ≡ bits) }
+        ensures only { (m : MPart) → AreInRange (memory_fields m) → number (memory_fields m) ≡ bits → result ≡ Some m }
+    {
+        Some(MPart {
             op: MemoryOp::from_number(field(bits, 18, 3))?,
             acc: Access::from_number(field(bits, 16, 2))?,
             rd: small_field(bits, 11, 5),
             base: small_field(bits, 6, 5),
             disp: signed_6(small_field(bits, 0, 6)),
-        };
-        if part.is_bare() { Some(part) } else { None }
+        })
     }
 
     /// The 21 digits of the part.
@@ -181,7 +192,8 @@ impl CPart {
     fn with_condition(self, bits: u64) -> Option<CPart>
         ensures named { IfSome result (λ c. condition_number c.cond ≡ bits / 2 ^ 10 % 2 ^ 4) }
         ensures others { IfSome result (λ c. c ≡ record self { cond = c.cond; code = bits / 2 ^ 8 % 2 ^ 2 }) }
-        ensures none { IfNone result (15 ≤ bits / 2 ^ 10 % 2 ^ 4) }
+        ensures only { (condition : Condition) → condition_number condition ≡ bits / 2 ^ 10 % 2 ^ 4
+            → result ≡ Some (record self { cond = condition; code = bits / 2 ^ 8 % 2 ^ 2 }) }
     {
         Some(CPart {
             cond: Condition::from_number(field(bits, 10, 4))?,
