@@ -43,7 +43,7 @@ impl Insn {
     }
 }
 
-/// The word that spells the instruction.
+/// The word that spells the instruction ("Instruction words", docs/FORMATS.md).
 pub fn encode(insn: &Insn) -> u64
     requires valid { IsValid insn.now }
     ensures spelt { Spells result insn.now }
@@ -53,7 +53,7 @@ pub fn encode(insn: &Insn) -> u64
     insn.bits()
 }
 
-/// The instruction that the word spells; None where it spells none.
+/// The instruction that the word spells ("Instruction words", docs/FORMATS.md); None where it spells none.
 pub fn decode(word: u64) -> Option<Insn>
     ensures some { (i : Insn) → (result ≡ Some i) ↔ Spells word i }
     ensures is { result ≡ instruction word }

@@ -5,7 +5,7 @@ use std::alloc::{AllocError, Global};
 use std::convert::AsStr;
 
 /// What a command line asks for.
-pub enum Request {
+pub(crate) enum Request {
     /// A program of words from standard input.
     Words,
 }
@@ -13,7 +13,7 @@ pub enum Request {
 /// The request that the words of a command line say, the first of which is the program's name.
 ///
 /// The error has the text for the user, also where help or the version was asked for. The contract is silent on both.
-pub fn read_command_line<S: AsStr>(alloc: Global, words: &[S]) -> Result<Request, Error> {
+pub(crate) fn read_command_line<S: AsStr>(alloc: Global, words: &[S]) -> Result<Request, Error> {
     let command = tool_command(alloc)?;
     // a parse that succeeds has met a subcommand, of which there is one
     command.try_get_matches_from(words)?;
