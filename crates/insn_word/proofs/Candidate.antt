@@ -1,14 +1,20 @@
 -- What is read of a word is in its ranges, and zero where it is unused. So the instruction is the one that is spelt.
-use Rattle.std.proofs.Common.{◌≡◌, ◌↔◌, ℕ, ◌-◌, ◌/◌, ◌%◌, ◌^◌, ◌<◌, pos, neg_ℤ, ◌≤ℤ◌, ◌<ℤ◌, Bool, true, false, if◌then◌else◌, inl, inr, ◌==◌, ◌&&◌, nat_lt, Option, Some, None}
+use Rattle.std.proofs.Common.{◌≡◌, ◌↔◌, ℕ, ◌-◌, ◌/◌, ◌%◌, ◌^◌, ◌<◌, pos, neg_ℤ, ◌≤ℤ◌, ◌<ℤ◌, Bool, true, false}
+use Rattle.std.proofs.Common.{if◌then◌else◌, inl, inr, ◌==◌, ◌&&◌, nat_lt, Option, Some, None}
 use Rattle.std.proofs.Common.{refl, sym, ◌∙◌, ap, subst, arith}
 use Rattle.std.specs.Bool.{Decides}
 use Rattle.std.proofs.lemmas.Bool.Decides.{Decides-and, Decides-like, Decides-eqb, nat_tests}
 use Rattle.std.proofs.lemmas.Bool.{cases_lt, lt-ltb, le-ltb}
 use Rattle.std.proofs.lemmas.Int.{ints}
-use Rattle.insn_word.specs.Operations.{memory_number, access_number, arithmetic_number, control_number, condition_number}
+use Rattle.insn_word.specs.Operations.{memory_number, access_number, arithmetic_number, control_number}
+use Rattle.insn_word.specs.Operations.{condition_number}
 use Rattle.insn_word.specs.Fields.{AreInRange, number}
-use Rattle.insn_word.specs.Words.{memory_fields, arithmetic_fields, control_fields, fields, used_memory, used_arithmetic, used_control, RestIsZero, AreApart, HasOneWriter, Spells, memory_destination, arithmetic_destination, control_destination}
-use Rattle.insn_word.specs.Reading.{signed_read, memory_raw, arithmetic_raw, control_from, memory_at, arithmetic_at, control_read, wide_read, wide_from, wide_at, normal_at, candidate, are_apart, has_one_writer, kept_if, instruction, InstructionIsSpelt}
+use Rattle.insn_word.specs.Words.{memory_fields, arithmetic_fields, control_fields, fields, used_memory}
+use Rattle.insn_word.specs.Words.{used_arithmetic, used_control, RestIsZero, AreApart, HasOneWriter, Spells}
+use Rattle.insn_word.specs.Words.{memory_destination, arithmetic_destination, control_destination}
+use Rattle.insn_word.specs.Reading.{signed_read, memory_raw, arithmetic_raw, control_from, memory_at, arithmetic_at}
+use Rattle.insn_word.specs.Reading.{control_read, wide_read, wide_from, wide_at, normal_at, candidate, are_apart}
+use Rattle.insn_word.specs.Reading.{has_one_writer, kept_if, instruction, InstructionIsSpelt}
 use Rattle.insn_word.proofs.WordParts.{normal_in_range, Holds-from_spells, Spells-number, Spells-from_number}
 use Rattle.insn_word.proofs.Read.{candidate-holds}
 use Rattle.insn_word.specs.declared.operations.WideOp.{WideOp}

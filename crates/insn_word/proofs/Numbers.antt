@@ -1,5 +1,6 @@
 -- Fields as digits and as one number.
-use Rattle.std.proofs.Common.{◌≡◌, ℕ, zero, suc, ◌+◌, ◌-◌, ◌*◌, ◌/◌, ◌%◌, ◌^◌, ◌<◌, ◌≤◌, pos, negsuc, List, [], ◌∷◌, ◌++◌}
+use Rattle.std.proofs.Common.{◌≡◌, ℕ, zero, suc, ◌+◌, ◌-◌, ◌*◌, ◌/◌, ◌%◌, ◌^◌, ◌<◌, ◌≤◌, pos, negsuc, List, [], ◌∷◌}
+use Rattle.std.proofs.Common.{◌++◌}
 use Rattle.std.proofs.Common.{refl, sym, ◌∙◌, ap, arith, add_comm, zero-add}
 use Rattle.std.proofs.Math.Nat.{suc-add, mod-eq_of_lt, mod-lt}
 use Rattle.std.proofs.Math.Numerals.{one-add}
@@ -7,7 +8,8 @@ use Rattle.std.proofs.Math.Pow.{pow_mono}
 use Rattle.std.proofs.lemmas.Int.{ints}
 use Rattle.std.proofs.lemmas.Nat.{pow-add, pow_pos, mul-add-lt, div-mul-add, shr-shr, mod-pow-add}
 use Rattle.std.proofs.lemmas.Nat.Bits.{bit_at_cat_low}
-use Rattle.insn_word.specs.Fields.{Field, unsigned, signed, digits, IsInRange, AreInRange, width, value, spelling, total_width, number}
+use Rattle.insn_word.specs.Fields.{Field, unsigned, signed, digits, IsInRange, AreInRange, width, value, spelling}
+use Rattle.insn_word.specs.Fields.{total_width, number}
 
 -- the number of a field in its range has its digits
 pub value-lt : (f : Field) → IsInRange f → value f < 2 ^ width f

@@ -1,13 +1,18 @@
 -- A spelt instruction is the one that is read.
-use Rattle.std.proofs.Common.{◌≡◌, ℕ, suc, ◌-◌, ◌/◌, ◌%◌, ◌^◌, ◌<◌, ◌≤◌, List, ℤ, pos, negsuc, neg_ℤ, ◌≤ℤ◌, ◌<ℤ◌, Bool, true, false, if◌then◌else◌, ◌==◌, refl, sym, ◌∙◌, ap, subst, arith}
+use Rattle.std.proofs.Common.{◌≡◌, ℕ, suc, ◌-◌, ◌/◌, ◌%◌, ◌^◌, ◌<◌, ◌≤◌, List, ℤ, pos, negsuc, neg_ℤ, ◌≤ℤ◌, ◌<ℤ◌}
+use Rattle.std.proofs.Common.{Bool, true, false, if◌then◌else◌, ◌==◌, refl, sym, ◌∙◌, ap, subst, arith}
 use Rattle.std.proofs.lemmas.Bool.{lt-ltb, le-ltb}
 use Rattle.std.proofs.lemmas.Int.{ints}
 use Rattle.std.proofs.Math.Nat.{mod-eq_of_lt}
-use Rattle.insn_word.specs.Operations.{wide_number, memory_number, access_number, arithmetic_number, control_number, condition_number}
+use Rattle.insn_word.specs.Operations.{wide_number, memory_number, access_number, arithmetic_number, control_number}
+use Rattle.insn_word.specs.Operations.{condition_number}
 use Rattle.insn_word.specs.Fields.{Field, AreInRange, complement, number, total_width}
-use Rattle.insn_word.specs.Words.{memory_fields, arithmetic_fields, argument_fields, control_fields, fields, used_memory, used_arithmetic, used_control, no_control}
+use Rattle.insn_word.specs.Words.{memory_fields, arithmetic_fields, argument_fields, control_fields, fields}
+use Rattle.insn_word.specs.Words.{used_memory, used_arithmetic, used_control, no_control}
 use Rattle.insn_word.specs.Parts.{IsMemoryPart, IsArithmeticPart, IsControlPart, Holds}
-use Rattle.insn_word.specs.Reading.{wide_read, memory_read, access_read, arithmetic_read, control_read, condition_read, signed_read, memory_raw, arithmetic_raw, control_from, memory_at, arithmetic_at, control_at, register_from, wide_from, candidate}
+use Rattle.insn_word.specs.Reading.{wide_read, memory_read, access_read, arithmetic_read, control_read}
+use Rattle.insn_word.specs.Reading.{condition_read, signed_read, memory_raw, arithmetic_raw, control_from, memory_at}
+use Rattle.insn_word.specs.Reading.{arithmetic_at, control_at, register_from, wide_from, candidate}
 use Rattle.insn_word.proofs.Numbers.{Reads, reads, number-lt}
 use Rattle.insn_word.proofs.WordParts.{argument_width}
 use Rattle.insn_word.specs.declared.operations.WideOp.{WideOp}

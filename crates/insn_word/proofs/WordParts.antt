@@ -1,10 +1,13 @@
 -- A word's instruction a part at a time: the 64 digits against the numbers that the code reads.
-use Rattle.std.proofs.Common.{◌≡◌, ℕ, ◌+◌, ◌*◌, ◌/◌, ◌%◌, ◌^◌, ◌<◌, ◌↔◌, List, ◌∷◌, ◌++◌, Option, Some, None, IfSome, IsNone, refl, sym, ◌∙◌, subst, arith}
+use Rattle.std.proofs.Common.{◌≡◌, ℕ, ◌+◌, ◌*◌, ◌/◌, ◌%◌, ◌^◌, ◌<◌, ◌↔◌, List, ◌∷◌, ◌++◌, Option, Some, None, IfSome}
+use Rattle.std.proofs.Common.{IsNone, refl, sym, ◌∙◌, subst, arith}
 use Rattle.insn_word.specs.Operations.{control_number}
 use Rattle.insn_word.specs.Fields.{Field, unsigned, digits, spelling, AreInRange, number, total_width}
-use Rattle.insn_word.specs.Words.{memory_fields, arithmetic_fields, argument_fields, control_fields, fields, Spells, IsValid, RestIsZero, HasOneWriter}
+use Rattle.insn_word.specs.Words.{memory_fields, arithmetic_fields, argument_fields, control_fields, fields, Spells}
+use Rattle.insn_word.specs.Words.{IsValid, RestIsZero, HasOneWriter}
 use Rattle.insn_word.specs.Parts.{IsControlPart, Holds}
-use Rattle.insn_word.proofs.Numbers.{digits-number, number-from_digits, number-lt, number-append, total_width-append, AreInRange-append, AreInRange-parts}
+use Rattle.insn_word.proofs.Numbers.{digits-number, number-from_digits, number-lt, number-append, total_width-append}
+use Rattle.insn_word.proofs.Numbers.{AreInRange-append, AreInRange-parts}
 use Rattle.insn_word.specs.declared.operations.WideOp.TheVariants as wide
 use Rattle.insn_word.specs.declared.operations.ControlOp.{ControlOp}
 use Rattle.insn_word.specs.declared.operations.ControlOp.TheVariants as control

@@ -1,5 +1,6 @@
 -- The lines of a text that is not empty: its first line, and those of the text after it.
-use Rattle.std.proofs.Common.{◌≡◌, ℕ, suc, ◌+◌, ◌<◌, Bool, true, false, not, cond, List, [], ◌∷◌, length, take, drop, refl, ap, arith}
+use Rattle.std.proofs.Common.{◌≡◌, ℕ, suc, ◌+◌, ◌<◌, Bool, true, false, not, cond, List, [], ◌∷◌, length, take, drop}
+use Rattle.std.proofs.Common.{refl, ap, arith}
 use Rattle.std.specs.List.{before_first, after_first, onto_first, position_or_len}
 use Rattle.mta_sim.specs.Lines.{is_line_end, lines_of}
 

@@ -1,10 +1,14 @@
 -- Reading a text of words line by line gives its program.
-use Rattle.std.proofs.Common.{◌≡◌, ℕ, suc, ◌+◌, ◌<◌, ◌≤◌, inl, inr, true, false, List, [], ◌∷◌, ◌++◌, length, refl, sym, ap, ◌∙◌, arith, append_assoc, append-nil, zero-add, length-append, nat_le, min, Option, Some, None, is_some, Result, Ok, Err, if◌then◌else◌, ◌==◌}
-use Rattle.std.proofs.lemmas.Bool.{eq-eqb, ne_eqb, cases_Bool, lt-leb, le-leb, cond-true, cond-false, cond_both, cases_eq, eqb-true, eqb-false, true≢false}
+use Rattle.std.proofs.Common.{◌≡◌, ℕ, suc, ◌+◌, ◌<◌, ◌≤◌, inl, inr, true, false, List, [], ◌∷◌, ◌++◌, length, refl}
+use Rattle.std.proofs.Common.{sym, ap, ◌∙◌, arith, append_assoc, append-nil, zero-add, length-append, nat_le, min}
+use Rattle.std.proofs.Common.{Option, Some, None, is_some, Result, Ok, Err, if◌then◌else◌, ◌==◌}
+use Rattle.std.proofs.lemmas.Bool.{eq-eqb, ne_eqb, cases_Bool, lt-leb, le-leb, cond-true, cond-false, cond_both}
+use Rattle.std.proofs.lemmas.Bool.{cases_eq, eqb-true, eqb-false, true≢false}
 use Rattle.std.specs.List.{filter_map, cons_option, before_first, after_first}
 use Rattle.number_text.specs.Reading.{hexadecimal_word}
 use Rattle.mta_sim.specs.Lines.{is_line_end, lines_of}
-use Rattle.mta_sim.specs.ProgramLines.{most_words, program_of, least, empty_fault, too_many_fault, malformed_from, words_unless}
+use Rattle.mta_sim.specs.ProgramLines.{most_words, program_of, least, empty_fault, too_many_fault, malformed_from}
+use Rattle.mta_sim.specs.ProgramLines.{words_unless}
 use Rattle.mta_sim.specs.declared.tool_fault.ToolFault.{ToolFault}
 use Rattle.mta_sim.specs.declared.tool_fault.ToolFault.TheVariants.{Words}
 use Rattle.mta_sim.proofs.LinesLemmas.{lines-first}

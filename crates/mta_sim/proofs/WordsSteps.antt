@@ -7,7 +7,8 @@ use Rattle.tag_memory.specs.declared.requests.Request.{Request}
 use Rattle.tag_memory.specs.declared.requests.Reply.{Reply}
 use Rattle.stream_core.specs.Streams.{StreamValue, trapped}
 use Rattle.stream_core.specs.Effects.{request_of, executed}
-use Rattle.stream_core.specs.StreamRow.{fetched, plan_from, plan_asking, plan_of, control_from, control_of, control_at, row_from, row_asking, stream_row, replied}
+use Rattle.stream_core.specs.StreamRow.{fetched, plan_from, plan_asking, plan_of, control_from, control_of}
+use Rattle.stream_core.specs.StreamRow.{control_at, row_from, row_asking, stream_row, replied}
 use Rattle.stream_core.specs.declared.traps.TrapKind.{TrapKind}
 use Rattle.stream_core.specs.declared.traps.TrapKind.TheVariants as kind
 use Rattle.stream_core.specs.declared.steps.Child.{Child}

@@ -1,5 +1,6 @@
 -- The program words that the lines of a text spell, and the least line with a fault.
-use Rattle.std.specs.Prelude.{ℕ, ◌+◌, min, List, [], ◌∷◌, length, Option, Some, None, Result, Ok, Err, is_some, nat_le, ◌==◌, if◌then◌else◌}
+use Rattle.std.specs.Prelude.{ℕ, ◌+◌, min, List, [], ◌∷◌, length, Option, Some, None, Result, Ok, Err, is_some}
+use Rattle.std.specs.Prelude.{nat_le, ◌==◌, if◌then◌else◌}
 use Rattle.std.specs.List.{filter_map}
 use Rattle.number_text.specs.Reading.{hexadecimal_word}
 use Rattle.mta_sim.specs.Lines.{lines_of}

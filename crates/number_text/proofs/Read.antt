@@ -1,5 +1,7 @@
 -- Digits of a fixed width are read as their number.
-use Rattle.std.proofs.Common.{◌≡◌, IfSome, take, get_or, ℕ, zero, suc, Some, None, eqb, lt-ltb, le-ltb, eq-eqb, ne_eqb, ⊎_elim, true≢false, ◌+◌, ◌/◌, ◌%◌, ◌^◌, ◌<◌, ◌≤◌, true, false, Bool, List, [], ◌∷◌, length, refl, sym, ap, ◌∙◌, arith, pow-suc}
+use Rattle.std.proofs.Common.{◌≡◌, IfSome, take, get_or, ℕ, zero, suc, Some, None, eqb, lt-ltb, le-ltb, eq-eqb}
+use Rattle.std.proofs.Common.{ne_eqb, ⊎_elim, true≢false, ◌+◌, ◌/◌, ◌%◌, ◌^◌, ◌<◌, ◌≤◌, true, false, Bool, List, []}
+use Rattle.std.proofs.Common.{◌∷◌, length, refl, sym, ap, ◌∙◌, arith, pow-suc}
 use Rattle.std.proofs.Math.Nat.{pow-zero, pow-le-pow_right}
 use Rattle.std.proofs.lemmas.Bool.Decides.{nat_tests, eqb_tells, leb_tells}
 use Rattle.std.proofs.lemmas.Int.Digits.{digits_value_push, digits_value-lt}

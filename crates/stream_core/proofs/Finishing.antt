@@ -5,7 +5,8 @@ use Rattle.tag_memory.specs.declared.requests.Request.{Request}
 use Rattle.tag_memory.specs.declared.requests.Reply.{Reply}
 use Rattle.stream_core.specs.Streams.{StreamValue}
 use Rattle.stream_core.specs.Effects.{request_of, executed}
-use Rattle.stream_core.specs.StreamRow.{fetched, plan_asking, plan_from, plan_of, replied, row_asking, row_from, stream_row}
+use Rattle.stream_core.specs.StreamRow.{fetched, plan_asking, plan_from, plan_of, replied, row_asking, row_from}
+use Rattle.stream_core.specs.StreamRow.{stream_row}
 use Rattle.stream_core.specs.declared.steps.Fetched.{Fetched}
 use Rattle.stream_core.specs.declared.steps.Fetched.TheVariants.{Rest, Trap, Runs}
 use Rattle.stream_core.specs.declared.steps.Plan.TheVariants as plan

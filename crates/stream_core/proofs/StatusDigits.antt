@@ -1,8 +1,10 @@
 -- Status words and their digits say each other.
-use Rattle.std.proofs.Common.{◌≡◌, ℕ, ◌+◌, ◌-◌, ◌*◌, ◌/◌, ◌%◌, ◌^◌, ◌<◌, ◌≤◌, ◌==◌, Bool, true, false, bit_and, sym, ◌∙◌, ap, arith}
+use Rattle.std.proofs.Common.{◌≡◌, ℕ, ◌+◌, ◌-◌, ◌*◌, ◌/◌, ◌%◌, ◌^◌, ◌<◌, ◌≤◌, ◌==◌, Bool, true, false, bit_and, sym}
+use Rattle.std.proofs.Common.{◌∙◌, ap, arith}
 use Rattle.std.proofs.lemmas.Nat.{and_block, and_mask}
 use Rattle.stream_core.specs.Arithmetic.{number_of}
-use Rattle.stream_core.specs.StatusWords.{code_number, code_from, codes_number, codes_from, mask_number, mask_from, status_number, status_from, status_digits, IsKeptInDigits, AreOwnDigits}
+use Rattle.stream_core.specs.StatusWords.{code_number, code_from, codes_number, codes_from, mask_number, mask_from}
+use Rattle.stream_core.specs.StatusWords.{status_number, status_from, status_digits, IsKeptInDigits, AreOwnDigits}
 use Rattle.stream_core.specs.declared.conditions.Code.{Code}
 use Rattle.stream_core.specs.declared.status_words.Codes.{Codes}
 use Rattle.stream_core.specs.declared.status_words.TrapMask.{TrapMask}

@@ -1,9 +1,11 @@
 -- The lines of registers, one after another.
-use Rattle.std.proofs.Common.{◌≡◌, ℕ, suc, ◌+◌, ◌-◌, ◌<◌, ◌≤◌, List, [], ◌++◌, sym, ◌∙◌, ap, append_assoc, append-nil, arith}
+use Rattle.std.proofs.Common.{◌≡◌, ℕ, suc, ◌+◌, ◌-◌, ◌<◌, ◌≤◌, List, [], ◌++◌, sym, ◌∙◌, ap, append_assoc, append-nil}
+use Rattle.std.proofs.Common.{arith}
 use Rattle.stream_core.specs.StatusWords.{status_number}
 use Rattle.stream_core.specs.Registers.{register_at, target_at}
 use Rattle.stream_core.specs.Streams.{StreamValue}
-use Rattle.stream_core.specs.StreamText.{status_line, register_line, register_lines, target_line, target_lines, stream_text_of}
+use Rattle.stream_core.specs.StreamText.{status_line, register_line, register_lines, target_line, target_lines}
+use Rattle.stream_core.specs.StreamText.{stream_text_of}
 use Rattle.stream_core.specs.declared.status_words.StatusWord.{StatusWord}
 
 pub register_lines-step : (rs : List ℕ) (r : ℕ) → r < 32

@@ -2,7 +2,8 @@ use Rattle.std.proofs.Common.{rules, ◌≡◌, length, ◌==◌, false, None, S
 use Rattle.std.specs.List.{before_first}
 use Rattle.number_text.specs.Reading.{hexadecimal_word}
 use Rattle.mta_sim.specs.Lines.{is_line_end}
-use Rattle.mta_sim.proofs.ProgramText.{program-read, at_malformed, at_too_many, at_next, at_end_without_words, at_end_with_words}
+use Rattle.mta_sim.proofs.ProgramText.{program-read, at_malformed, at_too_many, at_next, at_end_without_words}
+use Rattle.mta_sim.proofs.ProgramText.{at_end_with_words}
 use Rattle.mta_sim.proofs.program_lines.read_program.Goals as goal
 
 pub loop-rest-init : goal.loop-rest-init
