@@ -12,6 +12,18 @@ fixed_digits base (suc count) number =
 abbrev pub hexadecimal_16 : ℕ → List ℕ
 hexadecimal_16 number = fixed_digits 16 16 number
 
+-- the low 48 bits
+abbrev pub hexadecimal_12 : ℕ → List ℕ
+hexadecimal_12 number = fixed_digits 16 12 number
+
+-- a number of 32 bits
+abbrev pub hexadecimal_8 : ℕ → List ℕ
+hexadecimal_8 number = fixed_digits 16 8 number
+
+-- a number below 16
+abbrev pub hexadecimal_digit : ℕ → List ℕ
+hexadecimal_digit number = fixed_digits 16 1 number
+
 -- a number below 100
 abbrev pub two_digits : ℕ → List ℕ
 two_digits number = fixed_digits 10 2 number

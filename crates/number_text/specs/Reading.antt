@@ -1,27 +1,22 @@
--- The number that hexadecimal digits say.
-use Rattle.std.specs.Prelude.{◌≡◌, ℕ, ◌^◌, ◌<◌, List, length, ◌==◌, Bool, if◌then◌else◌, Option, Some, None, IfSome}
+-- The number that digits say.
+use Rattle.std.specs.Prelude.{ℕ, List, length, nat_lt, ◌==◌, ◌&&◌, Bool, if◌then◌else◌, Option, Some, None}
 use Rattle.std.specs.Char.{is_digit}
 use Rattle.std.specs.List.{list_all}
 use Rattle.std.specs.Str.Parse.{digits_value}
-use Rattle.number_text.specs.Digits.{hexadecimal_16}
 
--- 0 to 9, A to F and a to f
-abbrev pub is_hexadecimal : ℕ → Bool
-is_hexadecimal byte = is_digit byte 16
+-- 0 to 9, and in base 16 A to F and a to f
+abbrev pub all_in_base : ℕ → List ℕ → Bool
+all_in_base base digits = list_all (λ byte. is_digit byte base) digits
 
--- digits of either case, the most significant first; None where a byte is no hexadecimal digit
-unfoldable pub number_of_digits : List ℕ → Option ℕ
-number_of_digits digits =
-    if list_all is_hexadecimal digits then Some (digits_value 16 digits) else None
+-- one digit or more, and nothing else
+abbrev pub are_digits : ℕ → List ℕ → Bool
+are_digits base digits = nat_lt 0 (length digits) && all_in_base base digits
+
+-- digits of either case, the most significant first; None for every other text
+unfoldable pub number_of_digits : ℕ → List ℕ → Option ℕ
+number_of_digits base digits =
+    if are_digits base digits then Some (digits_value base digits) else None
 
 -- a word of 64 bits, which has exactly 16 digits
 unfoldable pub hexadecimal_word : List ℕ → Option ℕ
-hexadecimal_word digits = if length digits == 16 then number_of_digits digits else None
-
--- what is printed of a word is read as that word
-abbrev pub ReadsBack : Type 0
-ReadsBack = (number : ℕ) → number < 2 ^ 64 → hexadecimal_word (hexadecimal_16 number) ≡ Some number
-
--- no text is read as more than 64 bits
-abbrev pub FitsWord : Type 0
-FitsWord = (digits : List ℕ) → IfSome (hexadecimal_word digits) (λ number. number < 2 ^ 64)
+hexadecimal_word digits = if length digits == 16 then number_of_digits 16 digits else None

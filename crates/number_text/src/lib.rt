@@ -1,10 +1,17 @@
-//! Numbers of a fixed width as printed and read text: 16 hexadecimal digits and two decimal ones.
+//! Numbers as printed and read text: hexadecimal digits of a fixed width, decimal digits in columns,
+//! and digits of any length.
 #![tactic(auto)]
 
-mod printing;
+mod laws;
+mod numbers;
+mod printed_decimal;
+mod printed_hexadecimal;
 mod reading;
 #[cfg(test)]
 mod tests;
 
-pub use printing::{Hexadecimal, TwoDigits};
-pub use reading::{printed_digits_read_back, read_hexadecimal};
+pub use laws::{decimal_numbers_read_back, fixed_widths_read_back, printed_digits_read_back};
+pub use numbers::{Base, Number, read_digits};
+pub use printed_decimal::{FiveDigits, RightAligned, TwoDigits};
+pub use printed_hexadecimal::{Hexadecimal, Hexadecimal8, Hexadecimal12, HexadecimalDigit};
+pub use reading::read_hexadecimal;

@@ -1,6 +1,6 @@
 ghost use Rattle.std.specs.Prelude.{◌≡◌, ◌<◌, SomeIff};
 ghost use Rattle.std.specs.Char.{digit_value};
-ghost use Rattle.number_text.specs.Reading.{hexadecimal_word, ReadsBack, FitsWord};
+ghost use Rattle.number_text.specs.Reading.{hexadecimal_word};
 
 /// The number of digits of a word of 64 bits.
 const DIGITS: usize = 16;
@@ -26,10 +26,3 @@ pub fn read_hexadecimal(digits: &[u8]) -> Option<u64>
     }
     Some(number)
 }
-
-/// The law of printing and reading: every word is read back from its printed digits,
-/// and no text is read as more than 64 bits. There is nothing to run.
-pub fn printed_digits_read_back()
-    ensures reads_back { ReadsBack }
-    ensures fits { FitsWord }
-{}

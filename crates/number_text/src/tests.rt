@@ -62,3 +62,132 @@ fn other_texts_are_no_word(rt: HostRuntime) {
         assert_eq!(rt; read_hexadecimal(text.as_bytes()), None, "{text}");
     }
 }
+
+#[test]
+fn fixed_widths_print_all_their_digits(rt: HostRuntime) -> Result<(), Fail> {
+    let mut printed = String::new(rt.alloc());
+    write!(printed, "{} {} ", Hexadecimal8(0), Hexadecimal8(0xFFFFFFFF))?;
+    write!(
+        printed,
+        "{} {} ",
+        Hexadecimal12(8),
+        Hexadecimal12(0x0107FFFFFFFFFFFE)
+    )?;
+    for number in [0, 9, 10, 15] {
+        write!(printed, "{}", HexadecimalDigit::new(number))?;
+    }
+    assert_eq!(rt;
+        printed.as_str(),
+        "00000000 FFFFFFFF 000000000008 FFFFFFFFFFFE 09AF"
+    );
+    fixed_widths_read_back();
+    Ok(())
+}
+
+#[test]
+fn five_digits_have_zeros_in_front(rt: HostRuntime) -> Result<(), Fail> {
+    for (number, text) in [
+        (0, "00000"),
+        (2, "00002"),
+        (10, "00010"),
+        (65535, "65535"),
+        (99999, "99999"),
+        (100000, "100000"),
+        (u32::MAX, "4294967295"),
+    ] {
+        let mut printed = String::new(rt.alloc());
+        write!(printed, "{}", FiveDigits(number))?;
+        assert_eq!(rt; printed.as_str(), text);
+    }
+    Ok(())
+}
+
+#[test]
+fn columns_have_blanks_in_front(rt: HostRuntime) -> Result<(), Fail> {
+    for (number, in_seven, in_three) in [
+        (0, "      0", "  0"),
+        (1, "      1", "  1"),
+        (42, "     42", " 42"),
+        (255, "    255", "255"),
+        (1000000, "1000000", "1000000"),
+        (u64::MAX, "18446744073709551615", "18446744073709551615"),
+    ] {
+        let mut printed = String::new(rt.alloc());
+        write!(printed, "{}", RightAligned::<7>(number))?;
+        assert_eq!(rt; printed.as_str(), in_seven);
+        printed.clear();
+        write!(printed, "{}", RightAligned::<3>(number))?;
+        assert_eq!(rt; printed.as_str(), in_three);
+    }
+    decimal_numbers_read_back();
+    Ok(())
+}
+
+#[test]
+fn digits_of_any_length_are_read(rt: HostRuntime) {
+    for (base, digits, number) in [
+        (Base::Decimal, "0", Number::Word(0)),
+        (Base::Decimal, "007", Number::Word(7)),
+        (Base::Decimal, "1000000", Number::Word(1_000_000)),
+        (
+            Base::Decimal,
+            "18446744073709551615",
+            Number::Word(u64::MAX),
+        ),
+        (Base::Decimal, "18446744073709551616", Number::TooLarge),
+        (Base::Decimal, "184467440737095516160", Number::TooLarge),
+        (
+            Base::Decimal,
+            "0000000000000000000000000000000000000000001",
+            Number::Word(1),
+        ),
+        (
+            Base::Decimal,
+            "1000000000000000000000000000000000000000000",
+            Number::TooLarge,
+        ),
+        (Base::Hexadecimal, "10", Number::Word(16)),
+        (Base::Hexadecimal, "aF", Number::Word(0xAF)),
+        (
+            Base::Hexadecimal,
+            "00FFFFFFFFFFFFFFFF",
+            Number::Word(u64::MAX),
+        ),
+        (Base::Hexadecimal, "10000000000000000", Number::TooLarge),
+    ] {
+        assert_eq!(rt;
+            read_digits(base, digits.as_bytes()),
+            Some(number),
+            "{digits}"
+        );
+    }
+}
+
+#[test]
+fn other_texts_are_no_number(rt: HostRuntime) {
+    for (base, text) in [
+        (Base::Decimal, ""),
+        (Base::Decimal, "-1"),
+        (Base::Decimal, "+1"),
+        (Base::Decimal, " 1"),
+        (Base::Decimal, "1 "),
+        (Base::Decimal, "1_0"),
+        (Base::Decimal, "1a"),
+        (Base::Decimal, "0x1"),
+        (Base::Decimal, "18446744073709551616x"),
+        (Base::Hexadecimal, ""),
+        (Base::Hexadecimal, "0x1"),
+        (Base::Hexadecimal, "g"),
+        (Base::Hexadecimal, "1G"),
+    ] {
+        assert_eq!(rt; read_digits(base, text.as_bytes()), None, "{text}");
+    }
+}
+
+#[test]
+fn a_limit_takes_part(rt: HostRuntime) {
+    assert_eq!(rt; Number::Word(255).up_to(255), Some(255));
+    assert_eq!(rt; Number::Word(256).up_to(255), None);
+    assert_eq!(rt; Number::Word(u64::MAX).up_to(u64::MAX), Some(u64::MAX));
+    assert_eq!(rt; Number::TooLarge.up_to(u64::MAX), None);
+}

@@ -29,7 +29,7 @@ loop-digit-preserved c =
     let k = c.loop-digit.invariant in
     let d = c.in_ok-number.ensures {u = tt} in (
       k.0,
-      one_more_digit c.args.digits.now c.loop-digit.digit-index c.loop-digit-test.true k.1 d.0,
+      one_more_digit 16 c.args.digits.now c.loop-digit.digit-index c.loop-digit-test.true k.1 d.0,
       omega (arith, k.2, d.1, digits_value_more 16 c.args.digits.now c.loop-digit.digit-index c.loop-digit-test.true),
     )
 

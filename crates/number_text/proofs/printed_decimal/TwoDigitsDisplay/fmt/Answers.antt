@@ -1,6 +1,6 @@
 -- The width and the zeros that are asked for write two digits of a number below 100.
 use Rattle.number_text.proofs.Printed.{padded_2}
-use Rattle.number_text.proofs.printing.TwoDigitsDisplay.fmt.Goals as goal
+use Rattle.number_text.proofs.printed_decimal.TwoDigitsDisplay.fmt.Goals as goal
 
 pub returns-clause-writes : goal.returns-clause-writes
 returns-clause-writes g c =

@@ -1,7 +1,7 @@
 -- The width and the zeros that are asked for write the digits of a word.
 use Rattle.std.proofs.Common.{◌<◌, ◌^◌, arith}
 use Rattle.number_text.proofs.Printed.{padded_16}
-use Rattle.number_text.proofs.printing.HexadecimalDisplay.fmt.Goals as goal
+use Rattle.number_text.proofs.printed_hexadecimal.HexadecimalDisplay.fmt.Goals as goal
 
 pub returns-clause-writes : goal.returns-clause-writes
 returns-clause-writes g c =

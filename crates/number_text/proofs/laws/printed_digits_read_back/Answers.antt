@@ -1,6 +1,7 @@
 -- Printed digits are read back, and 16 digits say no more than 64 bits.
-use Rattle.number_text.proofs.Read.{reads_back, fits_word}
-use Rattle.number_text.proofs.reading.printed_digits_read_back.Goals as goal
+use Rattle.number_text.proofs.Read.{fits_word}
+use Rattle.number_text.proofs.ReadBack.{reads_back}
+use Rattle.number_text.proofs.laws.printed_digits_read_back.Goals as goal
 
 pub returns-clause-reads_back : goal.returns-clause-reads_back
 returns-clause-reads_back c = reads_back
