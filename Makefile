@@ -1,6 +1,7 @@
 # The simulator of Tera MTA streams. Each target needs the command rt of the Rattle kit.
 PREFIX ?= /usr/local
 PROGRAM = crates/mta_sim/out/mta_sim
+BENCH = crates/bench/out/bench
 
 .PHONY: run try test bench install build
 
@@ -26,8 +27,9 @@ test:
 build:
 	@test -x $(PROGRAM) || (cd crates/mta_sim && rt run -- words < stdin > /dev/null)
 
-# wall time and peak memory of words on the longest program that it takes
+# wall time and peak memory of the commands on their longest inputs, and machine steps a second
 bench: build
+	@test -x $(BENCH) || (cd crates/bench && rt run -- arithmetic 1 > /dev/null)
 	@bench/run.sh
 
 # puts the built program in place

@@ -1,5 +1,5 @@
 //! Lines that say what an arithmetic operation makes of two words.
-use crate::names::arithmetic_op;
+use insn_word::ArithmeticOp;
 use number_text::read_hexadecimal;
 use stream_core::{Code, alu};
 
@@ -26,4 +26,25 @@ fn number(code: Code) -> u8 {
         + u8::from(code.negative) * 2
         + u8::from(code.carry) * 4
         + u8::from(code.overflow) * 8
+}
+
+/// The operation with this name that makes a result; None where there is none.
+fn arithmetic_op(name: &str) -> Option<ArithmeticOp> {
+    match name {
+        "ADD" => Some(ArithmeticOp::Add),
+        "SUB" => Some(ArithmeticOp::Sub),
+        "MUL" => Some(ArithmeticOp::Mul),
+        "AND" => Some(ArithmeticOp::And),
+        "OR" => Some(ArithmeticOp::Or),
+        "XOR" => Some(ArithmeticOp::Xor),
+        "ANDN" => Some(ArithmeticOp::AndNot),
+        "SHL" => Some(ArithmeticOp::ShiftLeft),
+        "SHR" => Some(ArithmeticOp::ShiftRight),
+        "SAR" => Some(ArithmeticOp::ShiftRightSigned),
+        "TALLY" => Some(ArithmeticOp::Tally),
+        "LTS" => Some(ArithmeticOp::LessSigned),
+        "LTU" => Some(ArithmeticOp::LessUnsigned),
+        "PTR" => Some(ArithmeticOp::Pointer),
+        _ => None,
+    }
 }

@@ -1,19 +1,30 @@
 //! Lines that say which instruction a word spells, or that it spells none.
-use crate::source_text::source_text;
+use anyhow::Result;
+use asm_text::{assemble, listing};
 use insn_word::{decode, encode};
 use number_text::read_hexadecimal;
-use std::alloc::{AllocError, Global};
+use std::alloc::Global;
 
-/// Whether the line's word spells the instruction whose source text follows it, in both directions.
-pub(crate) fn is_spelt(alloc: Global, line: &str) -> Result<bool, AllocError> {
+/// Whether the line's word spells the instruction whose source text follows it: the text is assembled to the word, the
+/// word is listed as the text, and its instruction is encoded to it.
+pub(crate) fn is_spelt(alloc: Global, line: &str) -> Result<bool> {
     let Some((word, text)) = split(line) else {
         return Ok(false);
     };
     let Some(insn) = decode(word) else {
         return Ok(false);
     };
-    let printed = source_text(alloc, &insn)?;
-    Ok(printed.as_str() == text && insn.is_valid() && encode(&insn) == word)
+    let source = format!(in alloc; ".entry 0\n{text}\n.data 0\n")?;
+    let Ok(image) = assemble(alloc, source.as_bytes()) else {
+        return Ok(false);
+    };
+    let listed = format!(in alloc; "\n{text} ; 00000 {word:016X}\n")?;
+    Ok(
+        image.program() == [word].as_slice()
+            && listing(alloc, &image)?.as_str().contains(listed.as_str())
+            && insn.is_valid()
+            && encode(&insn) == word,
+    )
 }
 
 /// Whether the line's word spells no instruction.

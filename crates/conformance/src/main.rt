@@ -1,13 +1,15 @@
-//! Compares the crates below with the test vectors in data/, and counts the lines that hold.
+//! Compares the crates below with the test vectors in data/, and counts the lines that hold; then runs the examples.
 #![tactic(auto)]
 
 mod arithmetic;
+mod examples;
 mod instruction_words;
-mod names;
-mod source_text;
+#[cfg(test)]
+mod tests;
 mod vectors;
 
 use anyhow::{Context, Result};
+use examples::compare_examples;
 use std::fs;
 use std::rt::Files;
 use vectors::Vectors;
@@ -16,7 +18,7 @@ fn main(rt: HostRuntime) -> Result<()> {
     for vectors in Vectors::ALL {
         compare(&rt, vectors)?;
     }
-    Ok(())
+    compare_examples(&rt)
 }
 
 /// Prints each line of the file that does not hold, and how many of its lines hold.

@@ -1,6 +1,7 @@
 //! The files of test vectors, and what a line of each says.
 use crate::{arithmetic, instruction_words};
-use std::alloc::{AllocError, Global};
+use anyhow::Result;
+use std::alloc::Global;
 
 /// A file of test vectors: a line each, its fields separated by tabs. A line that begins with `#` is a comment.
 #[derive(Clone, Copy)]
@@ -40,7 +41,7 @@ impl Vectors {
     }
 
     /// Whether what the line says is so. A line that can't be read is not.
-    pub(crate) fn hold_at(self, alloc: Global, line: &str) -> Result<bool, AllocError> {
+    pub(crate) fn hold_at(self, alloc: Global, line: &str) -> Result<bool> {
         match self {
             Vectors::InstructionWords => instruction_words::is_spelt(alloc, line),
             Vectors::NotInstructions => Ok(instruction_words::is_no_instruction(line)),

@@ -1,4 +1,1 @@
 mod command_lines;
-mod devices;
-mod faults;
-mod programs;

@@ -1,14 +1,15 @@
 //! The tool, from its command line to its status.
-ghost use Rattle.std.specs.Prelude.{◌≡◌, IfSome, OnOk, IsOkAnd, MatchResult};
+ghost use Rattle.std.specs.Prelude.{◌≡◌, ◌≢◌, IfSome, IfErr, OnOk, IsOkAnd, MatchResult};
 ghost use Rattle.std.specs.Io.KnownBytes.{Appends, Keeps};
-ghost use Rattle.mta_sim.specs.WordsOutput.{words_output};
+ghost use Rattle.mta_engines.specs.WordsOutput.{words_output};
 
 use crate::command_line::{Request, read_command_line};
-use crate::tool_fault::ToolFault;
-use crate::words::words_engine;
+use crate::files::{create_output, open_input};
+use mta_engines::{ToolFault, asm_engine, list_engine, run_engine, words_engine};
 use std::alloc::Global;
 use std::convert::AsStr;
 use std::io::{Read, Write};
+use std::rt::Files;
 
 /// How the tool ended, as the number that the program exits with.
 #[derive(Clone, Copy, Debug, PartialEq, Eq)]
@@ -21,29 +22,61 @@ pub enum Status {
     NoCommand = 2,
 }
 
-/// Runs the command of a command line, whose first word is the program's name, on the standard streams ("The command
-/// line", docs/FORMATS.md).
+/// Runs the command of a command line, whose first word is the program's name, on these files and standard streams
+/// ("The command line", docs/FORMATS.md).
 ///
 /// Standard error gets a fault's line, or where there is no command the text of the command line's parser. The clauses
 /// say nothing of that text, and not which command lines have a command.
-pub fn run_tool<S: AsStr, R: Read, W: Write, E: Write>(
+pub fn run_tool<S: AsStr, F: Files, R: Read, W: Write, E: Write>(
     alloc: Global,
     words: &[S],
+    files: &F,
     input: &mut R,
     output: &mut W,
     errors: &mut E,
 ) -> Status
-    ensures done { result ≡ Status.Done → IfSome (R.remaining input.old) (λ bytes.
-        IsOkAnd (words_output bytes) (Appends (W.contents output.old) (W.contents output.new))) }
     ensures silent { result ≡ Status.Done → Keeps (E.contents errors.old) (E.contents errors.new) }
     ensures no_command { result ≡ Status.NoCommand
         → Keeps (W.contents output.old) (W.contents output.new) }
 {
     match read_command_line(alloc, words) {
-        Ok(Request::Words) => report(words_engine(alloc, input, output), errors),
+        Ok(request) => report(run_command(alloc, request, files, input, output), errors),
         Err(error) => {
             let _ = write!(errors, "{error}");
             Status::NoCommand
+        }
+    }
+}
+
+/// Runs one command. Its files are opened in the order of its arguments, up to the first that can't be; what they hold
+/// stands in no clause.
+fn run_command<F: Files, R: Read, W: Write>(
+    alloc: Global,
+    request: Request,
+    files: &F,
+    input: &mut R,
+    output: &mut W,
+) -> Result<(), ToolFault>
+    ensures words { request.entry ≡ Request.Words → OnOk result (IfSome (R.remaining input.old) (λ bytes.
+        IsOkAnd (words_output bytes) (Appends (W.contents output.old) (W.contents output.new)))) }
+    ensures kept { IfErr result (λ fault. fault ≢ ToolFault.Write
+        → Keeps (W.contents output.old) (W.contents output.new)) }
+{
+    match request {
+        Request::Words => words_engine(alloc, input, output),
+        Request::Assemble { source, image } => {
+            let mut source = open_input(files, source)?;
+            let mut image = create_output(files, image)?;
+            asm_engine(alloc, &mut source, &mut image)
+        }
+        Request::List { image } => {
+            let mut image = open_input(files, image)?;
+            list_engine(alloc, &mut image, output)
+        }
+        Request::Run { image, schedule } => {
+            let mut image = open_input(files, image)?;
+            let mut schedule = open_input(files, schedule)?;
+            run_engine(alloc, &mut image, &mut schedule, output)
         }
     }
 }

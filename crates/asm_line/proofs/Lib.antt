@@ -1,0 +1,11 @@
+pub mod Pieces
+pub mod Limits
+pub mod Combined
+pub mod Noted
+pub mod OkRules
+pub mod NumberRanges
+pub mod NamedRanges
+pub mod PartRanges
+pub mod ControlRanges
+pub mod WordRanges
+pub mod ItemRanges

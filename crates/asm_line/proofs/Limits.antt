@@ -1,0 +1,32 @@
+-- Numbers and their limits.
+use Rattle.std.proofs.Common.{◌≡◌, ℕ, ◌≤◌, Option, Some, None, Result, Ok, Err, sym, ◌∙◌, ap, arith, ⊎_elim}
+use Rattle.std.proofs.lemmas.Bool.Decides.{leb_tells}
+use Rattle.number_text.specs.Numbers.{number_from, up_to}
+use Rattle.number_text.specs.declared.numbers.Number.{Number}
+use Rattle.asm_line.specs.Faults.{map_ok, ◌>>=◌}
+use Rattle.asm_line.specs.Numbers.{within}
+use Rattle.asm_line.specs.declared.fault.Fault.{Fault}
+use Rattle.asm_line.specs.declared.fault.Fault.TheVariants as fault
+
+abbrev pub or_range : Option ℕ → Result ℕ Fault
+or_range None = Err fault.Range
+or_range (Some n) = Ok n
+
+limit_is : (most v : ℕ) → or_range (up_to most v) ≡ within most v
+limit_is most v = ⊎_elim (λ h. rw h.0) (λ h. rw h.0) (leb_tells v most)
+
+-- a number up to a limit
+pub within_limit : (most : ℕ) (r : Result ℕ Fault) (x : Number) (o : Option ℕ) → map_ok number_from r ≡ Ok x
+    → ((v : ℕ) → x ≡ number_from v → o ≡ up_to most v) → (r >>= within most) ≡ or_range o
+within_limit most (Ok v) x o e f =
+    let is : x ≡ number_from v = cc in sym (limit_is most v) ∙ ap or_range (sym (f v is))
+within_limit most (Err k) x o e f = cc
+
+pub within_bound : (most : ℕ) (r : Result ℕ Fault) (n : ℕ) → (r >>= within most) ≡ Ok n → n ≤ most
+within_bound most (Err k) n e = cc
+within_bound most (Ok v) n e = ⊎_elim
+    (λ h. let e' = rw h.0 at e in let same : n ≡ v = cc in omega (arith, h.1))
+    (λ h. let e' = rw h.0 at e in cc)
+    (leb_tells v most)
+
+pub ruleset limits = (within_limit, within_bound)

@@ -1,0 +1,76 @@
+-- What a directive says.
+use Rattle.std.specs.Prelude.{ℕ, ◌-◌, ◌^◌, nat_lt, if◌then◌else◌, List, [], ◌∷◌, Result, Ok, Err}
+use Rattle.asm_line.specs.Faults.{map_ok, ◌>>=◌, both}
+use Rattle.asm_line.specs.Numbers.{number_within, count_within}
+use Rattle.asm_line.specs.Operands.{Places}
+use Rattle.asm_line.specs.Parts.{immediate}
+use Rattle.asm_line.specs.declared.fault.Fault.{Fault}
+use Rattle.asm_line.specs.declared.fault.Fault.TheVariants as fault
+use Rattle.asm_line.specs.declared.item.Item.{Item}
+use Rattle.asm_line.specs.declared.item.Item.TheVariants as item
+use Rattle.asm_line.specs.declared.operation.Directive.{Directive}
+use Rattle.asm_line.specs.declared.operation.Directive.TheVariants as directive
+
+unfoldable pub word_number : List ℕ → Result ℕ Fault
+word_number text = number_within (2 ^ 64 - 1) text
+
+unfoldable pub tags_number : List ℕ → Result ℕ Fault
+tags_number text = number_within 15 text
+
+abbrev pub cells : Result ℕ Fault → Result ℕ Fault → Result ℕ Fault → Result Item Fault
+cells count value tags = map_ok (λ v. item.Cells v.0.0 v.0.1 v.1) (both (both count value) tags)
+
+-- .data value[, tags]: one cell, which is full where no tags are given
+abbrev pub data_cell : List (List ℕ) → Result Item Fault
+data_cell (x ∷ []) = cells (Ok 1) (word_number x) (Ok 1)
+data_cell (x ∷ y ∷ []) = cells (Ok 1) (word_number x) (tags_number y)
+data_cell _ = Err fault.Operand
+
+-- .fill count, value, tags
+abbrev pub fill : List (List ℕ) → Result Item Fault
+fill (x ∷ y ∷ z ∷ []) = cells (count_within 262144 x) (word_number y) (tags_number z)
+fill _ = Err fault.Operand
+
+-- below the number of words
+abbrev pub below : ℕ → ℕ → Result ℕ Fault
+below words n = if nat_lt n words then Ok n else Err fault.Range
+
+unfoldable pub entry_number : Places → ℕ → List ℕ → Result ℕ Fault
+entry_number places words text = immediate places text >>= below words
+
+-- Directives of one operand.
+
+abbrev pub profile : List (List ℕ) → Result Item Fault
+profile (x ∷ []) = map_ok (λ n. item.Profile) (count_within 1 x)
+profile _ = Err fault.Operand
+
+abbrev pub slim : List (List ℕ) → Result Item Fault
+slim (x ∷ []) = map_ok item.Slim (count_within 128 x)
+slim _ = Err fault.Operand
+
+abbrev pub retry : List (List ℕ) → Result Item Fault
+retry (x ∷ []) = map_ok item.Retry (number_within (2 ^ 32 - 1) x)
+retry _ = Err fault.Operand
+
+abbrev pub trap : Places → List (List ℕ) → Result Item Fault
+trap places (x ∷ []) = map_ok item.Trap (immediate places x)
+trap places _ = Err fault.Operand
+
+-- words: how many instruction lines the text has
+abbrev pub entry : Places → ℕ → List (List ℕ) → Result Item Fault
+entry places words (x ∷ []) = map_ok item.Entry (entry_number places words x)
+entry places words _ = Err fault.Operand
+
+abbrev pub word : List (List ℕ) → Result Item Fault
+word (x ∷ []) = map_ok item.Word (word_number x)
+word _ = Err fault.Operand
+
+unfoldable pub directed : Places → ℕ → Directive → List (List ℕ) → Result Item Fault
+directed places words directive.Profile ops = profile ops
+directed places words directive.Slim ops = slim ops
+directed places words directive.Retry ops = retry ops
+directed places words directive.Trap ops = trap places ops
+directed places words directive.Entry ops = entry places words ops
+directed places words directive.Word ops = word ops
+directed places words directive.Data ops = data_cell ops
+directed places words directive.Fill ops = fill ops

@@ -1,0 +1,105 @@
+-- The operation or directive that a head names. An operation's head is its name and perhaps, after a dot, a suffix.
+use Rattle.std.specs.Prelude.{ℕ, Bool, true, false, if◌then◌else◌, List, codes, Option, Some, None, Result}
+use Rattle.std.specs.Option.{option_map, option_or}
+use Rattle.std.specs.List.{find}
+use Rattle.std.specs.Str.{bytes_eq}
+use Rattle.insn_word.specs.declared.operations.WideOp.{WideOp}
+use Rattle.insn_word.specs.declared.operations.MemoryOp.{MemoryOp}
+use Rattle.insn_word.specs.declared.operations.MemoryOp.TheVariants as memory
+use Rattle.insn_word.specs.declared.operations.Access.{Access}
+use Rattle.insn_word.specs.declared.operations.Access.TheVariants as access
+use Rattle.insn_word.specs.declared.operations.ArithmeticOp.{ArithmeticOp}
+use Rattle.insn_word.specs.declared.operations.ControlOp.{ControlOp}
+use Rattle.insn_word.specs.declared.operations.Condition.{Condition}
+use Rattle.asm_line.specs.Text.{before, after}
+use Rattle.asm_line.specs.Faults.{known}
+use Rattle.asm_line.specs.Names.{wide_name, memory_name, arithmetic_name, control_name, condition_name, directive_name}
+use Rattle.asm_line.specs.Names.{wide_operations, memory_operations, arithmetic_operations, control_operations}
+use Rattle.asm_line.specs.Names.{conditions, directives}
+use Rattle.asm_line.specs.declared.fault.Fault.{Fault}
+use Rattle.asm_line.specs.declared.operation.Operation.{Operation}
+use Rattle.asm_line.specs.declared.operation.Operation.TheVariants as operation
+use Rattle.asm_line.specs.declared.operation.Directive.{Directive}
+
+-- Names.
+
+unfoldable pub wide_named : List ℕ → Option WideOp
+wide_named name = find (λ o. bytes_eq name (wide_name o)) wide_operations
+
+unfoldable pub memory_named : List ℕ → Option MemoryOp
+memory_named name = find (λ o. bytes_eq name (memory_name o)) memory_operations
+
+unfoldable pub arithmetic_named : List ℕ → Option ArithmeticOp
+arithmetic_named name = find (λ o. bytes_eq name (arithmetic_name o)) arithmetic_operations
+
+unfoldable pub control_named : List ℕ → Option ControlOp
+control_named name = find (λ o. bytes_eq name (control_name o)) control_operations
+
+unfoldable pub condition_named : List ℕ → Option Condition
+condition_named name = find (λ o. bytes_eq name (condition_name o)) conditions
+
+unfoldable pub directive_named : List ℕ → Option Directive
+directive_named name = find (λ o. bytes_eq name (directive_name o)) directives
+
+abbrev pub nop_named : List ℕ → Option Operation
+nop_named name = if bytes_eq name (codes "NOP") then Some operation.Nop else None
+
+-- Suffixes.
+
+-- an operation that has none
+abbrev pub unsuffixed : Option (List ℕ) → Option Operation → Option Operation
+unsuffixed None o = o
+unsuffixed (Some _) o = None
+
+abbrev pub letter_access : List ℕ → Option Access
+letter_access letter =
+    if bytes_eq letter (codes "N") then Some access.Normal
+    else (if bytes_eq letter (codes "F") then Some access.Future
+    else (if bytes_eq letter (codes "S") then Some access.Sync else None))
+
+-- LOAD, STORE and FADD may name an access; with no suffix it is the pointer's
+abbrev pub has_access : MemoryOp → Bool
+has_access memory.Load = true
+has_access memory.Store = true
+has_access memory.FetchAdd = true
+has_access _ = false
+
+unfoldable pub access_named : MemoryOp → Option (List ℕ) → Option Access
+access_named op None = Some access.FromPointer
+access_named op (Some letter) = if has_access op then letter_access letter else None
+
+-- T asks for a condition code
+unfoldable pub test_named : Option (List ℕ) → Option Bool
+test_named None = Some false
+test_named (Some letter) = if bytes_eq letter (codes "T") then Some true else None
+
+abbrev pub memory_suffixed : Option (List ℕ) → MemoryOp → Option Operation
+memory_suffixed suffix op = option_map (operation.Memory op) (access_named op suffix)
+
+abbrev pub arithmetic_suffixed : Option (List ℕ) → ArithmeticOp → Option Operation
+arithmetic_suffixed suffix op = option_map (operation.Arithmetic op) (test_named suffix)
+
+-- Heads.
+
+-- NOP, wide operations and control operations have no suffix
+unfoldable pub plain_named : List ℕ → Option Operation
+plain_named name =
+    option_or (nop_named name)
+    (option_or (option_map operation.Wide (wide_named name)) (option_map operation.Control (control_named name)))
+
+abbrev pub memory_or_plain : List ℕ → Option (List ℕ) → Option MemoryOp → Option Operation
+memory_or_plain name suffix (Some op) = memory_suffixed suffix op
+memory_or_plain name suffix None = unsuffixed suffix (plain_named name)
+
+abbrev pub arithmetic_or_other : List ℕ → Option (List ℕ) → Option ArithmeticOp → Option Operation
+arithmetic_or_other name suffix (Some op) = arithmetic_suffixed suffix op
+arithmetic_or_other name suffix None = memory_or_plain name suffix (memory_named name)
+
+unfoldable pub operation_named : List ℕ → Option (List ℕ) → Option Operation
+operation_named name suffix = arithmetic_or_other name suffix (arithmetic_named name)
+
+unfoldable pub operation_of : List ℕ → Result Operation Fault
+operation_of head = known (operation_named (before 46 head) (after 46 head))
+
+unfoldable pub directive_of : List ℕ → Result Directive Fault
+directive_of head = known (directive_named head)

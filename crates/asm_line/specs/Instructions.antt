@@ -1,0 +1,146 @@
+-- What an instruction says: operations of different parts in their order, and before them perhaps the lookahead.
+use Rattle.std.specs.Prelude.{ℕ, ◌==◌, Bool, true, false, ◌&&◌, if◌then◌else◌}
+use Rattle.std.specs.Prelude.{List, [], ◌∷◌, map, drop, slice_index, Result, Ok, Err}
+use Rattle.std.specs.List.{list_all}
+use Rattle.insn_word.specs.Words.{no_memory, no_arithmetic, no_control}
+use Rattle.insn_word.specs.Words.{memory_destination, arithmetic_destination, control_destination}
+use Rattle.insn_word.specs.Reading.{are_apart}
+use Rattle.insn_word.specs.declared.operations.ControlOp.TheVariants as control
+use Rattle.insn_word.specs.declared.insn.MPart.{MPart}
+use Rattle.insn_word.specs.declared.insn.APart.{APart}
+use Rattle.insn_word.specs.declared.insn.CPart.{CPart}
+use Rattle.insn_word.specs.declared.insn.Insn.{Insn}
+use Rattle.insn_word.specs.declared.insn.Insn.TheVariants as insn
+use Rattle.asm_line.specs.Text.{trim, parts, head, behind_head, operands}
+use Rattle.asm_line.specs.Faults.{map_ok, ◌>>=◌, both}
+use Rattle.asm_line.specs.Numbers.{number_within}
+use Rattle.asm_line.specs.Heads.{operation_of}
+use Rattle.asm_line.specs.Operands.{Places}
+use Rattle.asm_line.specs.Parts.{wide_word, memory_part, arithmetic_part, control_part}
+use Rattle.asm_line.specs.declared.fault.Fault.{Fault}
+use Rattle.asm_line.specs.declared.fault.Fault.TheVariants as fault
+use Rattle.asm_line.specs.declared.operation.Operation.{Operation}
+use Rattle.asm_line.specs.declared.operation.Operation.TheVariants as operation
+
+abbrev pub no_operation : CPart
+no_operation = no_control control.Nop
+
+abbrev pub memory_word : MPart → Insn
+memory_word m = insn.Normal 0 m no_arithmetic no_operation
+
+abbrev pub arithmetic_word : APart → Insn
+arithmetic_word a = insn.Normal 0 no_memory a no_operation
+
+abbrev pub control_word : CPart → Insn
+control_word c = insn.Normal 0 no_memory no_arithmetic c
+
+-- NOP stands without operands
+abbrev pub nop_word : List (List ℕ) → Result Insn Fault
+nop_word [] = Ok (insn.Normal 0 no_memory no_arithmetic no_operation)
+nop_word _ = Err fault.Operand
+
+-- one operation
+unfoldable pub single : Places → ℕ → Operation → List (List ℕ) → Result Insn Fault
+single places here operation.Nop ops = nop_word ops
+single places here (operation.Wide op) ops = wide_word places op ops
+single places here (operation.Memory op acc) ops = map_ok memory_word (memory_part op acc ops)
+single places here (operation.Arithmetic op test) ops = map_ok arithmetic_word (arithmetic_part op test ops)
+single places here (operation.Control op) ops = map_ok control_word (control_part places here op ops)
+
+-- No two parts write the same register other than r0.
+
+abbrev pub memory_arithmetic_apart : MPart → APart → Bool
+memory_arithmetic_apart m a = are_apart (memory_destination m.op m.rd) (arithmetic_destination a.op a.rd)
+
+abbrev pub memory_control_apart : MPart → CPart → Bool
+memory_control_apart m c = are_apart (memory_destination m.op m.rd) (control_destination c.op c.rd)
+
+abbrev pub arithmetic_control_apart : APart → CPart → Bool
+arithmetic_control_apart a c = are_apart (arithmetic_destination a.op a.rd) (control_destination c.op c.rd)
+
+abbrev pub unless_two : {A : Type 0} → Bool → A → Result A Fault
+unless_two apart x = if apart then Ok x else Err fault.TwoWriters
+
+-- Two writers are seen before a label that stands on no line: only SKIP asks for one, and it writes nothing.
+
+abbrev pub memory_arithmetic : Result MPart Fault → Result APart Fault → Result (MPart × APart) Fault
+memory_arithmetic m a = both m a >>= λ v. unless_two (memory_arithmetic_apart v.0 v.1) v
+
+unfoldable pub memory_arithmetic_word : Result MPart Fault → Result APart Fault → Result Insn Fault
+memory_arithmetic_word m a = map_ok (λ v. insn.Normal 0 v.0 v.1 no_operation) (memory_arithmetic m a)
+
+unfoldable pub memory_control_word : Result MPart Fault → Result CPart Fault → Result Insn Fault
+memory_control_word m c =
+    both m c >>= λ v. unless_two (memory_control_apart v.0 v.1) (insn.Normal 0 v.0 no_arithmetic v.1)
+
+unfoldable pub arithmetic_control_word : Result APart Fault → Result CPart Fault → Result Insn Fault
+arithmetic_control_word a c =
+    both a c >>= λ v. unless_two (arithmetic_control_apart v.0 v.1) (insn.Normal 0 no_memory v.0 v.1)
+
+unfoldable pub full_word : Result MPart Fault → Result APart Fault → Result CPart Fault → Result Insn Fault
+full_word m a c =
+    both (memory_arithmetic m a) c
+    >>= λ v. unless_two (memory_control_apart v.0.0 v.1 && arithmetic_control_apart v.0.1 v.1)
+    (insn.Normal 0 v.0.0 v.0.1 v.1)
+
+-- two operations
+unfoldable pub double : Places → ℕ → Operation → Operation → List (List ℕ) → List (List ℕ) → Result Insn Fault
+double places here (operation.Memory o acc) (operation.Arithmetic p test) xs ys =
+    memory_arithmetic_word (memory_part o acc xs) (arithmetic_part p test ys)
+double places here (operation.Memory o acc) (operation.Control q) xs ys =
+    memory_control_word (memory_part o acc xs) (control_part places here q ys)
+double places here (operation.Arithmetic p test) (operation.Control q) xs ys =
+    arithmetic_control_word (arithmetic_part p test xs) (control_part places here q ys)
+double places here _ _ xs ys = Err fault.Operand
+
+-- three operations
+unfoldable pub triple : Places → ℕ → Operation → Operation → Operation
+    → List (List ℕ) → List (List ℕ) → List (List ℕ) → Result Insn Fault
+triple places here (operation.Memory o acc) (operation.Arithmetic p test) (operation.Control q) xs ys zs =
+    full_word (memory_part o acc xs) (arithmetic_part p test ys) (control_part places here q zs)
+triple places here _ _ _ xs ys zs = Err fault.Operand
+
+abbrev pub is_ok : {A : Type 0} → Result A Fault → Bool
+is_ok (Ok _) = true
+is_ok (Err _) = false
+
+-- more parts than there can be: an unknown head among them is answered first
+unfoldable pub too_many : List (List ℕ) → Result Insn Fault
+too_many texts = if list_all (λ text. is_ok (operation_of (head text))) texts then Err fault.Operand else Err fault.Unknown
+
+-- All heads are looked at first.
+
+abbrev pub one_part : Places → ℕ → List ℕ → Result Insn Fault
+one_part places here x = operation_of (head x) >>= λ o. single places here o (operands x)
+
+abbrev pub two_parts : Places → ℕ → List ℕ → List ℕ → Result Insn Fault
+two_parts places here x y =
+    both (operation_of (head x)) (operation_of (head y))
+    >>= λ o. double places here o.0 o.1 (operands x) (operands y)
+
+abbrev pub three_parts : Places → ℕ → List ℕ → List ℕ → List ℕ → Result Insn Fault
+three_parts places here x y z =
+    both (both (operation_of (head x)) (operation_of (head y))) (operation_of (head z))
+    >>= λ o. triple places here o.0.0 o.0.1 o.1 (operands x) (operands y) (operands z)
+
+abbrev pub instruction_of : Places → ℕ → List (List ℕ) → Result Insn Fault
+instruction_of places here (x ∷ []) = one_part places here x
+instruction_of places here (x ∷ y ∷ []) = two_parts places here x y
+instruction_of places here (x ∷ y ∷ z ∷ []) = three_parts places here x y z
+instruction_of places here texts = too_many texts
+
+-- the operations, separated by |
+unfoldable pub operations : Places → ℕ → List ℕ → Result Insn Fault
+operations places here text = instruction_of places here (map trim (parts 124 text))
+
+abbrev pub looking : ℕ → Insn → Insn
+looking n (insn.Wide look op reg imm) = insn.Wide n op reg imm
+looking n (insn.Normal look m a c) = insn.Normal n m a c
+
+-- @n, a blank and then the operations; with no @n the lookahead is 0
+unfoldable pub instruction : Places → ℕ → List ℕ → Result Insn Fault
+instruction places here text =
+    if slice_index text 0 == 64
+    then map_ok (λ v. looking v.0 v.1)
+    (both (number_within 7 (drop 1 (head text))) (operations places here (behind_head text)))
+    else operations places here text

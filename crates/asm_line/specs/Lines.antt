@@ -1,0 +1,93 @@
+-- Lines, where labels stand, and what a line adds.
+use Rattle.std.specs.Prelude.{ℕ, ◌+◌, ◌==◌, Bool, true, false, not, nat_lt, ◌&&◌, ◌||◌, if◌then◌else◌}
+use Rattle.std.specs.Prelude.{List, [], ◌∷◌, length, slice_index, map, codes, Option, Some, None, Result, Ok, Err}
+use Rattle.std.specs.Option.{option_map}
+use Rattle.std.specs.List.{list_any}
+use Rattle.std.specs.Str.{bytes_eq}
+use Rattle.asm_line.specs.Text.{trim, parts, before, after, is_name, head, operands}
+use Rattle.asm_line.specs.Faults.{map_ok, ◌>>=◌, both}
+use Rattle.asm_line.specs.Heads.{directive_of}
+use Rattle.asm_line.specs.Operands.{Places}
+use Rattle.asm_line.specs.Instructions.{instruction}
+use Rattle.asm_line.specs.Directives.{directed}
+use Rattle.asm_line.specs.declared.fault.Fault.{Fault}
+use Rattle.asm_line.specs.declared.fault.Fault.TheVariants as fault
+use Rattle.asm_line.specs.declared.item.Item.{Item}
+use Rattle.asm_line.specs.declared.item.Item.TheVariants as item
+use Rattle.asm_line.specs.declared.place.Place.{Place}
+
+-- a line's label, which is what stands before its first colon, and its statement
+pub record Line : Type 0 where
+  pub label : Option (List ℕ)
+  pub statement : List ℕ
+
+abbrev pub labelled : List ℕ → Option (List ℕ) → Line
+labelled text None = record { label = None; statement = text }
+labelled text (Some rest) = record { label = Some (before 58 text); statement = trim rest }
+
+-- from the first semicolon on it is a comment
+unfoldable pub line : List ℕ → Line
+line bytes = let text = trim (before 59 bytes) in labelled text (after 58 text)
+
+-- the lines of a text. A line end at the text's end leaves one more, which is empty and adds nothing.
+abbrev pub lines : List ℕ → List Line
+lines text = map line (parts 10 text)
+
+-- a statement that is a word of the program: an instruction, or .word
+unfoldable pub is_word : List ℕ → Bool
+is_word statement =
+    nat_lt 0 (length statement)
+    && (not (slice_index statement 0 == 46) || bytes_eq (head statement) (codes ".word"))
+
+abbrev pub word_count : Line → ℕ
+word_count l = if is_word l.statement then 1 else 0
+
+-- how many of the lines are words
+abbrev pub count_words : List Line → ℕ
+count_words [] = 0
+count_words (l ∷ ls) = word_count l + count_words ls
+
+abbrev pub stands : List ℕ → Option (List ℕ) → Bool
+stands name None = false
+stands name (Some label) = bytes_eq label name
+
+-- the same place, seen from the line before
+abbrev pub further : Line → Place → Place
+further l p = record { line = p.line + 1; value = p.value + word_count l }
+
+-- where a label stands first: its line, and the number of words before it
+unfoldable pub place : List Line → List ℕ → Option Place
+place [] name = None
+place (l ∷ ls) name =
+    if stands name l.label then Some (record { line = 0; value = 0 }) else option_map (further l) (place ls name)
+
+abbrev pub stands_earlier : ℕ → Option Place → Bool
+stands_earlier k None = false
+stands_earlier k (Some p) = nat_lt p.line k
+
+-- a label is a name, and no second colon follows it
+abbrev pub is_label : List ℕ → List ℕ → Bool
+is_label name statement = is_name name && not (list_any (λ b. b == 58) statement)
+
+-- the label of line k
+unfoldable pub labelling : Places → ℕ → Option (List ℕ) → List ℕ → Result Bool Fault
+labelling places k None statement = Ok true
+labelling places k (Some name) statement =
+    if is_label name statement then (if stands_earlier k (places name) then Err fault.LabelTwice else Ok true)
+    else Err fault.Unknown
+
+abbrev pub directive_item : Places → ℕ → List ℕ → Result Item Fault
+directive_item places words text = directive_of (head text) >>= λ d. directed places words d (operands text)
+
+-- a statement at the place here of the program, where there are so many words
+unfoldable pub statement_item : Places → ℕ → ℕ → List ℕ → Result Item Fault
+statement_item places words here text =
+    if length text == 0 then Ok item.Nothing
+    else (if slice_index text 0 == 46 then directive_item places words text
+    else map_ok item.Instruction (instruction places here text))
+
+-- What line k (from 0) adds, behind so many words, or its least fault. The lines' labels stand at these places, and the
+-- lines have so many words in all.
+unfoldable pub line_item : Places → ℕ → ℕ → ℕ → Line → Result Item Fault
+line_item places words k here l =
+    map_ok (λ v. v.1) (both (labelling places k l.label l.statement) (statement_item places words here l.statement))

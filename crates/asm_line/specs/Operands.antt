@@ -1,0 +1,92 @@
+-- What the text of an operand says.
+use Rattle.std.specs.Prelude.{ℕ, ◌+◌, ◌-◌, ◌==◌, ℤ, pos, neg_ℤ, Bool, true, false, nat_lt, nat_le, ◌&&◌, ◌||◌}
+use Rattle.std.specs.Prelude.{if◌then◌else◌, List, length, slice_index, drop, Option, Some, None, Result, Ok, Err}
+use Rattle.std.specs.Str.Parse.{digits_value}
+use Rattle.insn_word.specs.declared.operations.Condition.{Condition}
+use Rattle.asm_line.specs.Text.{is_name}
+use Rattle.asm_line.specs.Faults.{map_ok, ◌>>=◌}
+use Rattle.asm_line.specs.Numbers.{are_digits, within, number_within, signed_within}
+use Rattle.asm_line.specs.Heads.{condition_named}
+use Rattle.asm_line.specs.declared.fault.Fault.{Fault}
+use Rattle.asm_line.specs.declared.fault.Fault.TheVariants as fault
+use Rattle.asm_line.specs.declared.operand.Source.{Source}
+use Rattle.asm_line.specs.declared.operand.Source.TheVariants as source
+use Rattle.asm_line.specs.declared.place.Place.{Place}
+
+-- Registers.
+
+-- the number behind the letter
+abbrev pub numbered : List ℕ → ℕ
+numbered text = digits_value 10 (drop 1 text)
+
+-- r0 to r31, without leading zeros
+abbrev pub is_register : List ℕ → Bool
+is_register text =
+    slice_index text 0 == 114 && (are_digits 10 (drop 1 text) && (nat_lt (numbered text) 32
+    && (length text == 2 || (length text == 3 && nat_lt 48 (slice_index text 1)))))
+
+unfoldable pub register : List ℕ → Result ℕ Fault
+register text = if is_register text then Ok (numbered text) else Err fault.Operand
+
+-- t0 to t7
+abbrev pub is_target : List ℕ → Bool
+is_target text =
+    slice_index text 0 == 116 && (length text == 2 && (nat_le 48 (slice_index text 1) && nat_lt (slice_index text 1) 56))
+
+unfoldable pub target : List ℕ → Result ℕ Fault
+target text = if is_target text then Ok (slice_index text 1 - 48) else Err fault.Operand
+
+-- Labels.
+
+-- where labels stand
+abbrev pub Places : Type 0
+Places = List ℕ → Option Place
+
+-- a label's value, which is the number of instruction lines before it
+abbrev pub found : Option Place → Result ℕ Fault
+found None = Err fault.LabelMissing
+found (Some p) = Ok p.value
+
+-- a number or the value of a label, of at most so much
+unfoldable pub value_within : Places → ℕ → List ℕ → Result ℕ Fault
+value_within places most text =
+    if is_name text then found (places text) >>= within most else number_within most text
+
+-- how many words v is behind the place after here, -128 to 127
+unfoldable pub distance : ℕ → ℕ → Result ℤ Fault
+distance here v =
+    if nat_lt here v
+    then (if nat_lt (v - here) 129 then Ok (pos (v - here - 1)) else Err fault.Range)
+    else (if nat_lt (here - v) 128 then Ok (neg_ℤ (pos (here + 1 - v))) else Err fault.Range)
+
+-- how far SKIP goes: a number from -128 to 127, or to a label
+unfoldable pub offset : Places → ℕ → List ℕ → Result ℤ Fault
+offset places here text =
+    if is_name text then found (places text) >>= distance here else signed_within 128 127 text
+
+-- Others.
+
+-- how many words behind the pointer
+abbrev pub displacement : List ℕ → Result ℤ Fault
+displacement text = signed_within 32 31 text
+
+-- a register, or a number to 31
+unfoldable pub source_of : List ℕ → Result Source Fault
+source_of text =
+    if slice_index text 0 == 114 then map_ok source.Register (register text)
+    else map_ok source.Number (number_within 31 text)
+
+abbrev pub is_number : Source → Bool
+is_number (source.Register n) = false
+is_number (source.Number n) = true
+
+abbrev pub source_number : Source → ℕ
+source_number (source.Register n) = n
+source_number (source.Number n) = n
+
+abbrev pub condition_found : Option Condition → Result Condition Fault
+condition_found None = Err fault.Operand
+condition_found (Some c) = Ok c
+
+unfoldable pub condition : List ℕ → Result Condition Fault
+condition text = condition_found (condition_named text)

@@ -1,0 +1,134 @@
+-- What an operation with its operands says: one definition for each form of operands.
+use Rattle.std.specs.Prelude.{ℕ, ◌-◌, ◌^◌, pos, Bool, List, [], ◌∷◌, Result, Ok, Err}
+use Rattle.insn_word.specs.Words.{no_arithmetic, no_control}
+use Rattle.insn_word.specs.declared.operations.WideOp.{WideOp}
+use Rattle.insn_word.specs.declared.operations.WideOp.TheVariants as wide
+use Rattle.insn_word.specs.declared.operations.MemoryOp.{MemoryOp}
+use Rattle.insn_word.specs.declared.operations.Access.{Access}
+use Rattle.insn_word.specs.declared.operations.ArithmeticOp.{ArithmeticOp}
+use Rattle.insn_word.specs.declared.operations.ArithmeticOp.TheVariants as arithmetic
+use Rattle.insn_word.specs.declared.operations.ControlOp.{ControlOp}
+use Rattle.insn_word.specs.declared.operations.ControlOp.TheVariants as control
+use Rattle.insn_word.specs.declared.operations.Condition.{Condition}
+use Rattle.insn_word.specs.declared.insn.MPart.{MPart}
+use Rattle.insn_word.specs.declared.insn.APart.{APart}
+use Rattle.insn_word.specs.declared.insn.CPart.{CPart}
+use Rattle.insn_word.specs.declared.insn.Insn.{Insn}
+use Rattle.insn_word.specs.declared.insn.Insn.TheVariants as insn
+use Rattle.asm_line.specs.Faults.{map_ok, both}
+use Rattle.asm_line.specs.Numbers.{number_within}
+use Rattle.asm_line.specs.Operands.{Places, register, target, value_within, offset, displacement}
+use Rattle.asm_line.specs.Operands.{source_of, is_number, source_number, condition}
+use Rattle.asm_line.specs.declared.fault.Fault.{Fault}
+use Rattle.asm_line.specs.declared.fault.Fault.TheVariants as fault
+
+-- Wide words: a register or for TLIT a target register, and a number or label.
+
+abbrev pub wide_register : WideOp → List ℕ → Result ℕ Fault
+wide_register wide.Literal text = register text
+wide_register wide.LiteralHigh text = register text
+wide_register wide.TargetLiteral text = target text
+
+unfoldable pub immediate : Places → List ℕ → Result ℕ Fault
+immediate places text = value_within places (2 ^ 32 - 1) text
+
+abbrev pub wide_word : Places → WideOp → List (List ℕ) → Result Insn Fault
+wide_word places op (x ∷ y ∷ []) =
+    map_ok (λ v. insn.Wide 0 op v.0 v.1) (both (wide_register op x) (immediate places y))
+wide_word places op _ = Err fault.Operand
+
+-- The memory part: rd, base, displacement.
+
+abbrev pub memory_part : MemoryOp → Access → List (List ℕ) → Result MPart Fault
+memory_part op acc (x ∷ y ∷ z ∷ []) =
+    map_ok (λ v. record { op = op; acc = acc; rd = v.0.0; base = v.0.1; disp = v.1 })
+    (both (both (register x) (register y)) (displacement z))
+memory_part op acc _ = Err fault.Operand
+
+-- The arithmetic part: rd, ra and for all but TALLY a register or number.
+
+abbrev pub tally : Bool → List (List ℕ) → Result APart Fault
+tally test (x ∷ y ∷ []) =
+    map_ok (λ v. record no_arithmetic { op = arithmetic.Tally; test = test; rd = v.0; ra = v.1 })
+    (both (register x) (register y))
+tally test _ = Err fault.Operand
+
+abbrev pub of_two : ArithmeticOp → Bool → List (List ℕ) → Result APart Fault
+of_two op test (x ∷ y ∷ z ∷ []) =
+    map_ok (λ v. record { op = op; test = test; imm = is_number v.1; rd = v.0.0; ra = v.0.1; rb = source_number v.1 })
+    (both (both (register x) (register y)) (source_of z))
+of_two op test _ = Err fault.Operand
+
+abbrev pub arithmetic_part : ArithmeticOp → Bool → List (List ℕ) → Result APart Fault
+arithmetic_part arithmetic.Tally test ops = tally test ops
+arithmetic_part op test ops = of_two op test ops
+
+-- The control part.
+
+abbrev pub jump_part : Result (Condition × ℕ) Fault → Result ℕ Fault → Result CPart Fault
+jump_part test t =
+    map_ok (λ v. record (no_control control.Jump) { cond = v.0.0; code = v.0.1; t = v.1 }) (both test t)
+
+abbrev pub jump : List (List ℕ) → Result CPart Fault
+jump (x ∷ y ∷ z ∷ []) = jump_part (both (condition x) (number_within 3 y)) (target z)
+jump _ = Err fault.Operand
+
+-- here is the place of the word
+abbrev pub skip : Places → ℕ → List (List ℕ) → Result CPart Fault
+skip places here (x ∷ y ∷ z ∷ []) =
+    map_ok (λ v. record (no_control control.Skip) { cond = v.0.0; code = v.0.1; n = v.1 })
+    (both (both (condition x) (number_within 3 y)) (offset places here z))
+skip places here _ = Err fault.Operand
+
+abbrev pub call : List (List ℕ) → Result CPart Fault
+call (x ∷ y ∷ []) =
+    map_ok (λ v. record (no_control control.Call) { t = v.0; u = v.1 }) (both (target x) (target y))
+call _ = Err fault.Operand
+
+abbrev pub exchange : List (List ℕ) → Result CPart Fault
+exchange (x ∷ []) = map_ok (λ t. record (no_control control.Exchange) { t = t }) (target x)
+exchange _ = Err fault.Operand
+
+-- TSET and CREATE
+abbrev pub to_target : ControlOp → List (List ℕ) → Result CPart Fault
+to_target op (x ∷ y ∷ []) =
+    map_ok (λ v. record (no_control op) { t = v.0; ra = v.1 }) (both (target x) (register y))
+to_target op _ = Err fault.Operand
+
+abbrev pub from_target : List (List ℕ) → Result CPart Fault
+from_target (x ∷ y ∷ []) =
+    map_ok (λ v. record (no_control control.TargetGet) { rd = v.0; t = v.1 }) (both (register x) (target y))
+from_target _ = Err fault.Operand
+
+abbrev pub trap_get : List (List ℕ) → Result CPart Fault
+trap_get (x ∷ []) = map_ok (λ rd. record (no_control control.TrapGet) { rd = rd }) (register x)
+trap_get _ = Err fault.Operand
+
+abbrev pub reserve : List (List ℕ) → Result CPart Fault
+reserve (x ∷ y ∷ []) =
+    map_ok (λ v. record (no_control control.Reserve) { rd = v.0; ra = v.1 }) (both (register x) (register y))
+reserve _ = Err fault.Operand
+
+-- QUIT and QUITP
+abbrev pub bare : ControlOp → List (List ℕ) → Result CPart Fault
+bare op [] = Ok (no_control op)
+bare op _ = Err fault.Operand
+
+abbrev pub mask : List (List ℕ) → Result CPart Fault
+mask (x ∷ []) = map_ok (λ m. record (no_control control.Mask) { n = pos m }) (number_within 7 x)
+mask _ = Err fault.Operand
+
+abbrev pub control_part : Places → ℕ → ControlOp → List (List ℕ) → Result CPart Fault
+control_part places here control.Nop ops = Err fault.Operand
+control_part places here control.Jump ops = jump ops
+control_part places here control.Skip ops = skip places here ops
+control_part places here control.Call ops = call ops
+control_part places here control.Exchange ops = exchange ops
+control_part places here control.TargetSet ops = to_target control.TargetSet ops
+control_part places here control.TargetGet ops = from_target ops
+control_part places here control.TrapGet ops = trap_get ops
+control_part places here control.Reserve ops = reserve ops
+control_part places here control.Create ops = to_target control.Create ops
+control_part places here control.Quit ops = bare control.Quit ops
+control_part places here control.QuitKeep ops = bare control.QuitKeep ops
+control_part places here control.Mask ops = mask ops

@@ -1,0 +1,187 @@
+//! The word that operations make: one alone, or two or three of different parts in their order.
+
+ghost use Rattle.std.specs.Prelude.{◌≡◌, ℕ, List};
+ghost use Rattle.asm_line.specs.Labels.{places_of};
+ghost use Rattle.asm_line.specs.Seen.{AreOperands};
+ghost use Rattle.asm_line.specs.Instructions.{nop_word, single, double, triple, memory_arithmetic, full_word};
+ghost use Rattle.asm_line.specs.Instructions.{memory_arithmetic_word, memory_control_word, arithmetic_control_word};
+ghost use Rattle.insn_word.specs.Reading.{are_apart};
+
+use crate::arguments::Arguments;
+use crate::control::control_part;
+use crate::fault::{Fault, both};
+use crate::labels::Labels;
+use crate::operation::Operation;
+use crate::parts::{arithmetic_part, memory_part, wide_word};
+use insn_word::{APart, CPart, Insn, MPart};
+
+/// One operation, at the place `here`.
+#[tactic(auto, unfolding(crate::specs::Instructions::single))]
+pub(crate) fn single(
+    labels: &Labels,
+    here: usize,
+    operation: Operation,
+    operands: &Arguments,
+) -> Result<Insn, Fault>
+    ensures { (os : List (List ℕ)) → AreOperands operands.now os
+        → result ≡ single (places_of labels.now) here operation os }
+{
+    match operation {
+        Operation::Nop => nop(operands),
+        Operation::Wide(op) => wide_word(labels, op, operands),
+        Operation::Memory(op, acc) => {
+            let m = memory_part(op, acc, operands)?;
+            Ok(normal(m, APart::NOP, CPart::NOP))
+        }
+        Operation::Arithmetic(op, test) => {
+            let a = arithmetic_part(op, test, operands)?;
+            Ok(normal(MPart::NOP, a, CPart::NOP))
+        }
+        Operation::Control(op) => {
+            let c = control_part(labels, here, op, operands)?;
+            Ok(normal(MPart::NOP, APart::NOP, c))
+        }
+    }
+}
+
+/// NOP, which has no operands.
+fn nop(operands: &Arguments) -> Result<Insn, Fault>
+    ensures { (os : List (List ℕ)) → AreOperands operands.now os → result ≡ nop_word os }
+{
+    let Arguments::Zero = *operands else {
+        return Err(Fault::Operand);
+    };
+    Ok(normal(MPart::NOP, APart::NOP, CPart::NOP))
+}
+
+/// The normal word of three parts, with no lookahead.
+fn normal(m: MPart, a: APart, c: CPart) -> Insn
+    ensures { result ≡ Insn.Normal 0 m a c }
+{
+    Insn::Normal { look: 0, m, a, c }
+}
+
+/// Two operations.
+#[tactic(auto, unfolding(crate::specs::Instructions::double))]
+pub(crate) fn double(
+    labels: &Labels,
+    here: usize,
+    first: Operation,
+    second: Operation,
+    xs: &Arguments,
+    ys: &Arguments,
+) -> Result<Insn, Fault>
+    ensures { (os ps : List (List ℕ)) → AreOperands xs.now os → AreOperands ys.now ps
+        → result ≡ double (places_of labels.now) here first second os ps }
+{
+    match (first, second) {
+        (Operation::Memory(o, acc), Operation::Arithmetic(p, test)) => {
+            memory_arithmetic_word(memory_part(o, acc, xs), arithmetic_part(p, test, ys))
+        }
+        (Operation::Memory(o, acc), Operation::Control(q)) => {
+            memory_control_word(memory_part(o, acc, xs), control_part(labels, here, q, ys))
+        }
+        (Operation::Arithmetic(p, test), Operation::Control(q)) => {
+            arithmetic_control_word(
+                arithmetic_part(p, test, xs),
+                control_part(labels, here, q, ys),
+            )
+        }
+        _ => Err(Fault::Operand),
+    }
+}
+
+/// Three operations.
+#[tactic(auto, unfolding(crate::specs::Instructions::triple))]
+pub(crate) fn triple(
+    labels: &Labels,
+    here: usize,
+    operations: (Operation, Operation, Operation),
+    xs: &Arguments,
+    ys: &Arguments,
+    zs: &Arguments,
+) -> Result<Insn, Fault>
+    ensures { (os ps qs : List (List ℕ)) → AreOperands xs.now os → AreOperands ys.now ps → AreOperands zs.now qs
+        → result ≡ triple (places_of labels.now) here operations.0 operations.1 operations.2 os ps qs }
+{
+    match operations {
+        (Operation::Memory(o, acc), Operation::Arithmetic(p, test), Operation::Control(q)) =>
+            full_word(
+                memory_part(o, acc, xs),
+                arithmetic_part(p, test, ys),
+                control_part(labels, here, q, zs),
+            ),
+        _ => Err(Fault::Operand),
+    }
+}
+
+/// Both parts, if they write different registers or r0.
+fn memory_arithmetic(
+    m: Result<MPart, Fault>,
+    a: Result<APart, Fault>,
+) -> Result<(MPart, APart), Fault>
+    ensures { result ≡ memory_arithmetic m a }
+{
+    let (m, a) = both(m, a)?;
+    if are_apart(m.destination(), a.destination()) {
+        Ok((m, a))
+    } else {
+        Err(Fault::TwoWriters)
+    }
+}
+
+#[tactic(auto, unfolding(crate::specs::Instructions::memory_arithmetic_word))]
+fn memory_arithmetic_word(m: Result<MPart, Fault>, a: Result<APart, Fault>) -> Result<Insn, Fault>
+    ensures { result ≡ memory_arithmetic_word m a }
+{
+    let (m, a) = memory_arithmetic(m, a)?;
+    Ok(normal(m, a, CPart::NOP))
+}
+
+#[tactic(auto, unfolding(crate::specs::Instructions::memory_control_word))]
+fn memory_control_word(m: Result<MPart, Fault>, c: Result<CPart, Fault>) -> Result<Insn, Fault>
+    ensures { result ≡ memory_control_word m c }
+{
+    let (m, c) = both(m, c)?;
+    if are_apart(m.destination(), c.destination()) {
+        Ok(normal(m, APart::NOP, c))
+    } else {
+        Err(Fault::TwoWriters)
+    }
+}
+
+#[tactic(auto, unfolding(crate::specs::Instructions::arithmetic_control_word))]
+fn arithmetic_control_word(a: Result<APart, Fault>, c: Result<CPart, Fault>) -> Result<Insn, Fault>
+    ensures { result ≡ arithmetic_control_word a c }
+{
+    let (a, c) = both(a, c)?;
+    if are_apart(a.destination(), c.destination()) {
+        Ok(normal(MPart::NOP, a, c))
+    } else {
+        Err(Fault::TwoWriters)
+    }
+}
+
+/// The word of all three parts. Two writers go before a label that is missing, which only the control part can ask for.
+#[tactic(auto, unfolding(crate::specs::Instructions::full_word))]
+fn full_word(
+    m: Result<MPart, Fault>,
+    a: Result<APart, Fault>,
+    c: Result<CPart, Fault>,
+) -> Result<Insn, Fault>
+    ensures { result ≡ full_word m a c }
+{
+    let ((m, a), c) = both(memory_arithmetic(m, a), c)?;
+    if are_apart(m.destination(), c.destination()) && are_apart(a.destination(), c.destination()) {
+        Ok(normal(m, a, c))
+    } else {
+        Err(Fault::TwoWriters)
+    }
+}
+
+/// Whether two registers differ or are r0.
+fn are_apart(x: u8, y: u8) -> bool
+    ensures { result ≡ are_apart x y }
+{
+    x != y || x == 0
+}

@@ -1,0 +1,164 @@
+//! What a directive says.
+
+ghost use Rattle.std.specs.Prelude.{◌≡◌, ◌^◌, ◌-◌, ℕ, List};
+ghost use Rattle.asm_line.specs.Labels.{places_of};
+ghost use Rattle.asm_line.specs.Seen.{AreOperands};
+ghost use Rattle.asm_line.specs.Directives.{profile, slim, retry, trap, entry, word, data_cell, fill, cells, directed};
+ghost use Rattle.asm_line.specs.Directives.{entry_number, word_number, tags_number};
+
+use crate::arguments::Arguments;
+use crate::fault::{Fault, both};
+use crate::item::Item;
+use crate::labels::Labels;
+use crate::numbers::{count_within, number_32, number_64, small_count, small_within};
+use crate::operand::immediate;
+use crate::operation::Directive;
+
+/// What a directive adds, where the text has so many words.
+#[tactic(auto, unfolding(crate::specs::Directives::directed))]
+pub(crate) fn directed(
+    labels: &Labels,
+    words: usize,
+    directive: Directive,
+    operands: &Arguments,
+) -> Result<Item, Fault>
+    ensures { (os : List (List ℕ)) → AreOperands operands.now os
+        → result ≡ directed (places_of labels.now) words directive os }
+{
+    match directive {
+        Directive::Profile => profile(operands),
+        Directive::Slim => slim(operands),
+        Directive::Retry => retry(operands),
+        Directive::Trap => trap(labels, operands),
+        Directive::Entry => entry(labels, words, operands),
+        Directive::Word => word(operands),
+        Directive::Data => data_cell(operands),
+        Directive::Fill => fill(operands),
+    }
+}
+
+/// `.profile 1`
+fn profile(operands: &Arguments) -> Result<Item, Fault>
+    ensures { (os : List (List ℕ)) → AreOperands operands.now os → result ≡ profile os }
+{
+    let Arguments::One(x) = *operands else {
+        return Err(Fault::Operand);
+    };
+    count_within(1, x)?;
+    Ok(Item::Profile)
+}
+
+/// `.slim`: 1 to 128
+fn slim(operands: &Arguments) -> Result<Item, Fault>
+    ensures { (os : List (List ℕ)) → AreOperands operands.now os → result ≡ slim os }
+{
+    let Arguments::One(x) = *operands else {
+        return Err(Fault::Operand);
+    };
+    let streams = small_count(x)?;
+    Ok(Item::Slim(streams))
+}
+
+/// `.retry`: a number of 32 bits
+fn retry(operands: &Arguments) -> Result<Item, Fault>
+    ensures { (os : List (List ℕ)) → AreOperands operands.now os → result ≡ retry os }
+{
+    let Arguments::One(x) = *operands else {
+        return Err(Fault::Operand);
+    };
+    let limit = number_32(x)?;
+    Ok(Item::Retry(limit))
+}
+
+/// `.trap`: a number of 32 bits or a label
+fn trap(labels: &Labels, operands: &Arguments) -> Result<Item, Fault>
+    ensures { (os : List (List ℕ)) → AreOperands operands.now os → result ≡ trap (places_of labels.now) os }
+{
+    let Arguments::One(x) = *operands else {
+        return Err(Fault::Operand);
+    };
+    let entry = immediate(labels, x)?;
+    Ok(Item::Trap(entry))
+}
+
+/// `.entry`: a number or label, below the number of words
+fn entry(labels: &Labels, words: usize, operands: &Arguments) -> Result<Item, Fault>
+    ensures { (os : List (List ℕ)) → AreOperands operands.now os → result ≡ entry (places_of labels.now) words os }
+{
+    let Arguments::One(x) = *operands else {
+        return Err(Fault::Operand);
+    };
+    let entry = entry_number(labels, words, x)?;
+    Ok(Item::Entry(entry))
+}
+
+#[tactic(auto, unfolding(crate::specs::Directives::entry_number))]
+fn entry_number(labels: &Labels, words: usize, text: &[u8]) -> Result<u32, Fault>
+    ensures { result ≡ entry_number (places_of labels.now) words text.now }
+{
+    let entry = immediate(labels, text)?;
+    if (entry as usize) < words {
+        Ok(entry)
+    } else {
+        Err(Fault::Range)
+    }
+}
+
+/// `.word`: a number of 64 bits
+fn word(operands: &Arguments) -> Result<Item, Fault>
+    ensures { (os : List (List ℕ)) → AreOperands operands.now os → result ≡ word os }
+{
+    let Arguments::One(x) = *operands else {
+        return Err(Fault::Operand);
+    };
+    let word = word_number(x)?;
+    Ok(Item::Word(word))
+}
+
+/// `.data`: a value, and perhaps tags; the cell is full where no tags are given
+fn data_cell(operands: &Arguments) -> Result<Item, Fault>
+    ensures { (os : List (List ℕ)) → AreOperands operands.now os → result ≡ data_cell os }
+{
+    match *operands {
+        Arguments::One(x) => cells(Ok(1), word_number(x), Ok(1)),
+        Arguments::Two(x, y) => cells(Ok(1), word_number(x), tags_number(y)),
+        _ => Err(Fault::Operand),
+    }
+}
+
+/// `.fill`: how many cells, their value and their tags
+fn fill(operands: &Arguments) -> Result<Item, Fault>
+    ensures { (os : List (List ℕ)) → AreOperands operands.now os → result ≡ fill os }
+{
+    let Arguments::Three(x, y, z) = *operands else {
+        return Err(Fault::Operand);
+    };
+    cells(count_within(262_144, x), word_number(y), tags_number(z))
+}
+
+fn cells(
+    count: Result<u32, Fault>,
+    value: Result<u64, Fault>,
+    tags: Result<u8, Fault>,
+) -> Result<Item, Fault>
+    ensures { result ≡ cells count value tags }
+{
+    let ((count, value), tags) = both(both(count, value), tags)?;
+    Ok(Item::Cells { count, value, tags })
+}
+
+/// A number of 64 bits.
+#[tactic(auto, unfolding(crate::specs::Directives::word_number))]
+fn word_number(text: &[u8]) -> Result<u64, Fault>
+    ensures { result ≡ word_number text.now }
+{
+    number_64(text)
+}
+
+/// Tags, 0 to 15.
+#[tactic(auto, unfolding(crate::specs::Directives::tags_number))]
+fn tags_number(text: &[u8]) -> Result<u8, Fault>
+    ensures { result ≡ tags_number text.now }
+{
+    small_within(15, text)
+}

@@ -1,0 +1,33 @@
+//! What a line adds to the program.
+
+use insn_word::Insn;
+
+/// What one line of source text adds ("Source text", docs/FORMATS.md).
+#[derive(Clone, Copy, Debug, PartialEq, Eq)]
+pub enum Item {
+    /// The line is empty, but for a label or a comment.
+    Nothing,
+    /// `.profile 1`.
+    Profile,
+    /// `.slim`: the number of streams of a processor, 1 to 128.
+    Slim(u8),
+    /// `.retry`: the retry limit.
+    Retry(u32),
+    /// `.trap`: the trap entry.
+    Trap(u32),
+    /// `.entry`: the entry of the next processor, below the number of program words.
+    Entry(u32),
+    /// A program word that spells this instruction.
+    Instruction(Insn),
+    /// `.word`: this program word.
+    Word(u64),
+    /// `.data` and `.fill`: so many equal cells.
+    Cells {
+        /// How many, 1 to 262,144.
+        count: u32,
+        /// The value of each.
+        value: u64,
+        /// The tags of each, 0 to 15.
+        tags: u8,
+    },
+}

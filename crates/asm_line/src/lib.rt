@@ -1,0 +1,30 @@
+//! What one line of source text means (docs/FORMATS.md, "Source text").
+#![tactic(auto)]
+
+mod arguments;
+mod combination;
+mod control;
+mod directive;
+mod fault;
+mod heads;
+mod instruction;
+mod item;
+mod labels;
+mod lines;
+mod numbers;
+mod operand;
+mod operation;
+mod parts;
+mod place;
+#[cfg(test)]
+mod tests;
+mod text;
+
+pub use fault::Fault;
+pub use item::Item;
+pub use labels::Labels;
+pub use lines::{SourceLine, cut_line, is_word, next_line, read_line};
+pub use operand::Source;
+pub use operation::{Directive, Operation};
+pub use place::Place;
+pub use text::cut;

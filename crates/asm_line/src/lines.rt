@@ -1,0 +1,161 @@
+//! Lines: what stands on one, and what it adds.
+
+ghost use Rattle.std.specs.Prelude.{◌≡◌, ◌≤◌, ◌==◌, ◌∷◌, length, IfOk};
+ghost use Rattle.std.specs.Option.{option_copied};
+ghost use Rattle.std.specs.List.{list_any};
+ghost use Rattle.asm_line.specs.Text.{is_name};
+ghost use Rattle.asm_line.specs.Lines.{line, lines, is_word, is_label, labelling, statement_item, directive_item, line_item};
+ghost use Rattle.asm_line.specs.Labels.{places_of};
+ghost use Rattle.asm_line.specs.Cutting.{rest_lines, rest_length};
+ghost use Rattle.asm_line.specs.Ranges.{IsInRange};
+ghost use Rattle.asm_line.specs.Seen.{line_seen};
+
+use crate::arguments::read_arguments;
+use crate::directive::directed;
+use crate::fault::{Fault, both};
+use crate::heads::directive_of;
+use crate::instruction::instruction;
+use crate::item::Item;
+use crate::labels::Labels;
+use crate::text::{begins, cut, is_name, split_head, trim};
+use insn_word::spelling_is_one_to_one;
+
+/// A line without its comment: the label that stands before its first colon, and its statement.
+#[derive(Clone, Copy)]
+pub struct SourceLine<'t> {
+    /// What stands before the first colon, whether or not it is a name.
+    pub label: Option<&'t [u8]>,
+    /// What follows it, without blanks at its ends.
+    pub statement: &'t [u8],
+}
+
+/// The bytes of the first line, without its end, and what follows that, if there is a line end.
+#[tactic(auto)]
+pub fn next_line(text: &[u8]) -> (&[u8], Option<&[u8]>)
+    ensures lines { lines text.now ≡ line result.0.now ∷ rest_lines (option_copied result.1) }
+    ensures shorter { rest_length (option_copied result.1) ≤ length text.now }
+{
+    cut(text, b'\n')
+}
+
+/// What stands on a line.
+#[tactic(auto, unfolding(crate::specs::Lines::line))]
+pub fn cut_line(bytes: &[u8]) -> SourceLine<'_>
+    ensures { line_seen result ≡ line bytes.now }
+{
+    let (code, _) = cut(bytes, b';');
+    let code = trim(code);
+    match cut(code, b':') {
+        (label, Some(statement)) => SourceLine {
+            label: Some(label),
+            statement: trim(statement),
+        },
+        (_, None) => SourceLine {
+            label: None,
+            statement: code,
+        },
+    }
+}
+
+/// Whether a statement is a word of the program: an instruction, or `.word`.
+#[tactic(auto, unfolding(crate::specs::Lines::is_word))]
+pub fn is_word(statement: &[u8]) -> bool
+    ensures { result ≡ is_word statement.now }
+{
+    if statement.is_empty() {
+        return false;
+    }
+    if !begins(statement, b'.') {
+        return true;
+    }
+    let (head, _) = split_head(statement);
+    head == b".word".as_slice()
+}
+
+/// What line `number` (from 0) adds, behind so many program words (`here`), or its least fault. The labels are those
+/// of the whole text, in which so many lines are `words`.
+pub fn read_line(
+    labels: &Labels,
+    words: usize,
+    number: usize,
+    here: usize,
+    line: &SourceLine,
+) -> Result<Item, Fault>
+    ensures item { result ≡ line_item (places_of labels.now) words number here (line_seen line.now) }
+    ensures range { IfOk result (IsInRange words) }
+{
+    spelling_is_one_to_one();
+    line_item(labels, words, number, here, line)
+}
+
+#[tactic(auto, unfolding(crate::specs::Lines::line_item))]
+fn line_item(
+    labels: &Labels,
+    words: usize,
+    number: usize,
+    here: usize,
+    line: &SourceLine,
+) -> Result<Item, Fault>
+    ensures { result ≡ line_item (places_of labels.now) words number here (line_seen line.now) }
+{
+    let label = labelling(labels, number, line.label, line.statement);
+    let (_, item) = both(label, statement_item(labels, words, here, line.statement))?;
+    Ok(item)
+}
+
+/// Whether the label of line `number` may stand there: it is a name, no second colon follows, and it stands on no
+/// earlier line.
+#[tactic(auto, unfolding(crate::specs::Lines::labelling))]
+fn labelling(
+    labels: &Labels,
+    number: usize,
+    label: Option<&[u8]>,
+    statement: &[u8],
+) -> Result<bool, Fault>
+    ensures { result ≡ labelling (places_of labels.now) number (option_copied label.entry) statement.now }
+{
+    let Some(name) = label else {
+        return Ok(true);
+    };
+    if !is_label(name, statement) {
+        return Err(Fault::Unknown);
+    }
+    match labels.find(name) {
+        Some(place) if place.line < number => Err(Fault::LabelTwice),
+        _ => Ok(true),
+    }
+}
+
+fn is_label(name: &[u8], statement: &[u8]) -> bool
+    ensures { result ≡ is_label name.now statement.now }
+{
+    is_name(name) && !has_colon(statement)
+}
+
+fn has_colon(text: &[u8]) -> bool
+    ensures { result ≡ list_any (λ b. b == 58) text.now }
+{
+    text.iter().any(|b| *b == b':')
+}
+
+#[tactic(auto, unfolding(crate::specs::Lines::statement_item))]
+fn statement_item(labels: &Labels, words: usize, here: usize, text: &[u8]) -> Result<Item, Fault>
+    ensures { result ≡ statement_item (places_of labels.now) words here text.now }
+{
+    if text.is_empty() {
+        return Ok(Item::Nothing);
+    }
+    if begins(text, b'.') {
+        return directive_item(labels, words, text);
+    }
+    let insn = instruction(labels, here, text)?;
+    Ok(Item::Instruction(insn))
+}
+
+fn directive_item(labels: &Labels, words: usize, text: &[u8]) -> Result<Item, Fault>
+    ensures { result ≡ directive_item (places_of labels.now) words text.now }
+{
+    let (head, behind) = split_head(text);
+    let directive = directive_of(head)?;
+    directed(labels, words, directive, &read_arguments(behind))
+}

@@ -1,0 +1,139 @@
+//! Bytes of a line: blanks, parts, names.
+
+ghost use Rattle.std.specs.Prelude.{◌≡◌, ◌≤◌, ◌∷◌, ◌==◌, length, reverse, drop, slice_index, ◌<◌};
+ghost use Rattle.std.specs.List.{position, before_first, list_all};
+ghost use Rattle.std.specs.Option.{option_copied};
+ghost use Rattle.asm_line.specs.Text.{is_blank, skip_blanks, trim, parts, before, after, head, behind_head};
+ghost use Rattle.asm_line.specs.Text.{is_first, is_further, is_name};
+ghost use Rattle.asm_line.specs.Cutting.{rest_parts, rest_length};
+
+/// What stands before the first byte `c`, or all, and what stands after it, if there is one.
+#[tactic(auto, unfolding(crate::specs::Text::after), using(crate::proofs::Pieces::parts_cut))]
+pub fn cut(bytes: &[u8], c: u8) -> (&[u8], Option<&[u8]>)
+    ensures front { result.0.now ≡ before c bytes.now }
+    ensures back { option_copied result.1 ≡ after c bytes.now }
+    ensures parts { parts c bytes.now ≡ result.0.now ∷ rest_parts c (option_copied result.1) }
+    ensures shorter { rest_length (option_copied result.1) ≤ length bytes.now }
+{
+    match find(bytes, c) {
+        Some(i) => (&bytes[..i], Some(&bytes[i + 1..])),
+        None => (bytes, None),
+    }
+}
+
+/// Where the first byte `c` stands.
+fn find(bytes: &[u8], c: u8) -> Option<usize>
+    ensures { result ≡ position (λ b. b == c) bytes.now }
+{
+    bytes.iter().position(|b| *b == c)
+}
+
+/// A space, a tab or a carriage return.
+fn is_blank(byte: u8) -> bool
+    ensures { result ≡ is_blank byte }
+{
+    byte == b' ' || byte == b'\t' || byte == b'\r'
+}
+
+/// The bytes without the blanks at both ends.
+#[tactic(auto, unfolding(crate::specs::Text::trim))]
+pub(crate) fn trim(bytes: &[u8]) -> &[u8]
+    ensures { result.now ≡ trim bytes.now }
+{
+    without_last_blanks(without_first_blanks(bytes))
+}
+
+fn without_first_blanks(bytes: &[u8]) -> &[u8]
+    ensures { result.now ≡ skip_blanks bytes.now }
+{
+    let mut rest = bytes;
+    while let [first, tail @ ..] = rest {
+        if !is_blank(*first) {
+            return rest;
+        }
+        rest = tail;
+    }
+    rest
+}
+
+fn without_last_blanks(bytes: &[u8]) -> &[u8]
+    ensures { result.now ≡ reverse (skip_blanks (reverse bytes.now)) }
+{
+    let mut rest = bytes;
+    while let [front @ .., last] = rest {
+        if !is_blank(*last) {
+            return rest;
+        }
+        rest = front;
+    }
+    rest
+}
+
+/// The head of a statement, which ends at the first blank, and what follows it, without blanks at its ends.
+#[tactic(auto, unfolding(crate::specs::Text::head, crate::specs::Text::behind_head))]
+pub(crate) fn split_head(text: &[u8]) -> (&[u8], &[u8])
+    ensures head { result.0.now ≡ head text.now }
+    ensures behind { result.1.now ≡ behind_head text.now }
+{
+    match find_blank(text) {
+        Some(i) => (&text[..i], trim(&text[i + 1..])),
+        None => (text, &[]),
+    }
+}
+
+/// Where the first blank stands.
+fn find_blank(text: &[u8]) -> Option<usize>
+    ensures { result ≡ position is_blank text.now }
+{
+    text.iter().position(|b| is_blank(*b))
+}
+
+/// Whether the text begins with the byte `c`, which is not 0.
+pub(crate) fn begins(text: &[u8], c: u8) -> bool
+    requires { 0 < c }
+    ensures { result ≡ (slice_index text.now 0 == c) }
+{
+    match text {
+        [first, ..] => *first == c,
+        [] => false,
+    }
+}
+
+/// The text without its first byte.
+pub(crate) fn tail(text: &[u8]) -> &[u8]
+    ensures { result.now ≡ drop 1 text.now }
+{
+    match text {
+        [_, tail @ ..] => tail,
+        [] => text,
+    }
+}
+
+/// Whether the text is a name: a letter or `_`, then letters, digits or `_`, 1 to 32 characters.
+#[tactic(auto, unfolding(crate::specs::Text::is_name))]
+pub(crate) fn is_name(text: &[u8]) -> bool
+    ensures { result ≡ is_name text.now }
+{
+    match text {
+        [first, further @ ..] => further.len() < 32 && is_first(*first) && are_further(further),
+        [] => false,
+    }
+}
+
+fn is_first(byte: u8) -> bool
+    ensures { result ≡ is_first byte }
+{
+    byte.is_ascii_alphabetic() || byte == b'_'
+}
+
+fn is_further(byte: u8) -> bool
+    ensures { result ≡ is_further byte }
+{
+    byte.is_ascii_alphanumeric() || byte == b'_'
+}
+
+fn are_further(bytes: &[u8]) -> bool
+    ensures { result ≡ list_all is_further bytes.now }
+{
+    bytes.iter().all(|b| is_further(*b))
+}

@@ -1,0 +1,173 @@
+-- A draft keeps its limits, and a whole one is an image.
+use Rattle.std.proofs.Common.{◌≡◌, ℕ, ◌+◌, ◌<◌, ◌≤◌, Bool, true, false, cond, ltb, leb, [], ◌∷◌, ◌++◌, length}
+use Rattle.std.proofs.Common.{replicate}
+use Rattle.std.proofs.Common.{Option, Some, None, Result, Ok, Err, refl, sym, subst, arith, length-append}
+use Rattle.std.specs.Prelude.{IfSome, MatchResult, OnOk, ◌&&◌}
+use Rattle.std.specs.List.{All}
+use Rattle.std.specs.Option.{unwrap_or}
+use Rattle.std.proofs.lemmas.Bool.{ltb-true, leb-true, and_parts}
+use Rattle.std.proofs.lemmas.List.{length-replicate}
+use Rattle.std.proofs.lemmas.List.Elements.{All-push, All-nil}
+use Rattle.tag_memory.specs.Cell.{Cell, cell_of}
+use Rattle.insn_word.specs.Fields.{number}
+use Rattle.insn_word.specs.Words.{fields}
+use Rattle.image_file.specs.ImageValue.{IsWithin}
+use Rattle.asm_line.specs.Faults.{map_ok}
+use Rattle.asm_line.specs.declared.fault.Fault.{Fault}
+use Rattle.asm_line.specs.declared.fault.Fault.TheVariants as fault
+use Rattle.asm_line.specs.declared.item.Item.{Item}
+use Rattle.asm_line.specs.declared.item.Item.TheVariants as item
+use Rattle.asm_text.specs.declared.settings.Settings.{Settings}
+use Rattle.asm_text.specs.Settings.{set_once, profile_set, slim_set, retry_set, trap_set}
+use Rattle.asm_line.specs.Ranges.{IsInRange}
+use Rattle.asm_text.specs.Drafts.{DraftValue, empty, add, with_settings, with_entry, with_word, with_cells, has_all}
+use Rattle.asm_text.specs.Drafts.{image_of_draft}
+use Rattle.asm_text.specs.Limits.{IsKept, IsReady}
+
+pub ready : (words : ℕ) (i : Item) → IsInRange words i → IsReady i
+ready words item.Nothing h = tt
+ready words item.Profile h = tt
+ready words (item.Slim n) h = tt
+ready words (item.Retry n) h = tt
+ready words (item.Trap n) h = tt
+ready words (item.Entry n) h = tt
+ready words (item.Instruction i) h = h
+ready words (item.Word w) h = tt
+ready words (item.Cells count value tags) h = h.3
+
+abbrev HasSlim : Settings → Type 0
+HasSlim s = IfSome s.slim (λ n. (1 ≤ n) × (n ≤ 128))
+
+settings_kept : (words : ℕ) (d e : DraftValue) (r : Result Settings Fault) → IsKept words d
+    → ((s : Settings) → r ≡ Ok s → HasSlim s) → with_settings d r ≡ Ok e → IsKept words e
+settings_kept words d e (Ok s) k h is =
+    let at : record d { settings = s } ≡ e = cc in
+    subst (IsKept words) at (record {
+      slim = h s refl;
+      few_entries = k.few_entries;
+      entries_stand = k.entries_stand;
+      few_words = k.few_words;
+      few_cells = k.few_cells;
+    })
+settings_kept words d e (Err f) k h is = absurd cc
+
+-- what a test lets through
+pub passed : {A : Type 0} (b : Bool) (x y : A) (f : Fault) → cond b (Ok x) (Err f) ≡ Ok y → (b ≡ true) × (x ≡ y)
+passed true x y f e = (refl, cc)
+passed false x y f e = absurd cc
+
+pub mapped : {A B : Type 0} (f : A → B) (r : Result A Fault) (y : B) → map_ok f r ≡ Ok y → (x : A) × (r ≡ Ok x) × (f x ≡ y)
+mapped f (Ok x) y e = (x, refl, cc)
+mapped f (Err k) y e = absurd cc
+
+profile_set-is : (b : Bool) (s t : Settings) → cond b (Err fault.Directive) (Ok s) ≡ Ok t → s ≡ t
+profile_set-is true s t e = absurd cc
+profile_set-is false s t e = cc
+
+profile_kept : (s t : Settings) → HasSlim s → profile_set s ≡ Ok t → HasSlim t
+profile_kept s t h is = subst HasSlim (profile_set-is s.profile (record s { profile = true }) t is) h
+
+set_once-is : (o p : Option ℕ) (n : ℕ) → set_once o n ≡ Ok p → Some n ≡ p
+set_once-is None p n e = cc
+set_once-is (Some m) p n e = absurd cc
+
+slim_kept : (s t : Settings) (n : ℕ) → (1 ≤ n) × (n ≤ 128) → slim_set s n ≡ Ok t → HasSlim t
+slim_kept s t n h is =
+    let m = mapped (λ o. record s { slim = o }) (set_once s.slim n) t is in
+    subst HasSlim m.2 (subst (λ o. IfSome o (λ k. (1 ≤ k) × (k ≤ 128))) (set_once-is s.slim m.0 n m.1) h)
+
+retry_kept : (s t : Settings) (n : ℕ) → HasSlim s → retry_set s n ≡ Ok t → HasSlim t
+retry_kept s t n h is = subst HasSlim (mapped (λ o. record s { retry = o }) (set_once s.retry n) t is).2 h
+
+trap_kept : (s t : Settings) (n : ℕ) → HasSlim s → trap_set s n ≡ Ok t → HasSlim t
+trap_kept s t n h is = subst HasSlim (mapped (λ o. record s { trap = o }) (set_once s.trap n) t is).2 h
+
+entry_kept : (words : ℕ) (d e : DraftValue) (n : ℕ) → IsKept words d → n < words → with_entry d n ≡ Ok e → IsKept words e
+entry_kept words d e n k h is =
+    let p = passed (ltb (length d.entries) 16) (record d { entries = d.entries ++ n ∷ [] }) e fault.Limit is in
+    let room = ltb-true (length d.entries) 16 p.0 in
+    subst (IsKept words) p.1 (record {
+      slim = k.slim;
+      few_entries = omega (arith, length-append d.entries (n ∷ []));
+      entries_stand = All-push (λ m. m < words) d.entries n k.entries_stand h;
+      few_words = k.few_words;
+      few_cells = k.few_cells;
+    })
+
+word_kept : (words : ℕ) (d e : DraftValue) (w : ℕ) → IsKept words d → with_word d w ≡ Ok e → IsKept words e
+word_kept words d e w k is =
+    let p = passed (ltb (length d.words) 65536) (record d { words = d.words ++ w ∷ [] }) e fault.Limit is in
+    let room = ltb-true (length d.words) 65536 p.0 in
+    subst (IsKept words) p.1 (record {
+      slim = k.slim;
+      few_entries = k.few_entries;
+      entries_stand = k.entries_stand;
+      few_words = omega (arith, length-append d.words (w ∷ []));
+      few_cells = k.few_cells;
+    })
+
+cells_kept : (words : ℕ) (d e : DraftValue) (n : ℕ) (c : Cell) → IsKept words d → with_cells d n c ≡ Ok e → IsKept words e
+cells_kept words d e n c k is =
+    let p = passed (leb (length d.cells + n) 262144) (record d { cells = d.cells ++ replicate n c }) e fault.Limit is in
+    let room = leb-true (length d.cells + n) 262144 p.0 in
+    subst (IsKept words) p.1 (record {
+      slim = k.slim;
+      few_entries = k.few_entries;
+      entries_stand = k.entries_stand;
+      few_words = k.few_words;
+      few_cells = omega (arith, length-append d.cells (replicate n c), length-replicate n c);
+    })
+
+-- what a line adds keeps the limits
+pub add_kept : (words : ℕ) (d e : DraftValue) (i : Item) → IsKept words d → IsInRange words i → add d i ≡ Ok e → IsKept words e
+unfolding add
+add_kept words d e item.Nothing k h is = let at : d ≡ e = cc in subst (IsKept words) at k
+add_kept words d e item.Profile k h is =
+    settings_kept words d e (profile_set d.settings) k (λ s. profile_kept d.settings s k.slim) is
+add_kept words d e (item.Slim n) k h is =
+    settings_kept words d e (slim_set d.settings n) k (λ s. slim_kept d.settings s n h) is
+add_kept words d e (item.Retry n) k h is =
+    settings_kept words d e (retry_set d.settings n) k (λ s. retry_kept d.settings s n k.slim) is
+add_kept words d e (item.Trap n) k h is =
+    settings_kept words d e (trap_set d.settings n) k (λ s. trap_kept d.settings s n k.slim) is
+add_kept words d e (item.Entry n) k h is = entry_kept words d e n k h is
+add_kept words d e (item.Instruction i) k h is = word_kept words d e (number (fields i)) k is
+add_kept words d e (item.Word w) k h is = word_kept words d e w k is
+add_kept words d e (item.Cells count value tags) k h is = cells_kept words d e count (cell_of value tags) k is
+
+pub empty_kept : (words : ℕ) → IsKept words empty
+empty_kept words = record {
+  slim = tt;
+  few_entries = omega arith;
+  entries_stand = All-nil (λ e. e < words);
+  few_words = omega arith;
+  few_cells = omega arith;
+}
+
+some_slim : (o : Option ℕ) → IfSome o (λ n. (1 ≤ n) × (n ≤ 128)) → (1 ≤ unwrap_or o 8) × (unwrap_or o 8 ≤ 128)
+some_slim None h = (omega arith, omega arith)
+some_slim (Some n) h = h
+
+-- a whole draft is an image
+pub within : (words : ℕ) (d : DraftValue) → IsKept words d → length d.words ≡ words → has_all d ≡ true
+    → IsWithin (image_of_draft d)
+unfolding image_of_draft
+within words d k count all =
+    let p = and_parts (ltb 0 (length d.entries)) (ltb 0 (length d.words) && ltb 0 (length d.cells)) all in
+    let q = and_parts (ltb 0 (length d.words)) (ltb 0 (length d.cells)) p.1 in
+    record {
+      some_processors = ltb-true 0 (length d.entries) p.0;
+      few_processors = k.few_entries;
+      some_slim = (some_slim d.settings.slim k.slim).0;
+      few_slim = (some_slim d.settings.slim k.slim).1;
+      some_words = ltb-true 0 (length d.words) q.0;
+      few_words = k.few_words;
+      some_cells = ltb-true 0 (length d.cells) q.1;
+      few_cells = k.few_cells;
+      entries_stand = subst (λ n. All (λ e. e < n) d.entries) (sym count) k.entries_stand;
+    }
+
+pub add_keeps : (words : ℕ) (d e : DraftValue) (i : Item) (r : Result (Unit {0}) Fault) (Refused : Fault → Type 0)
+    → IsInRange words i → MatchResult r (λ _. add d i ≡ Ok e) Refused → IsKept words d → OnOk r (IsKept words e)
+add_keeps words d e i (Ok x) refused h is k = add_kept words d e i k h is
+add_keeps words d e i (Err f) refused h is k = tt

@@ -1,0 +1,11 @@
+pub mod WordOfFields
+pub mod Standing
+pub mod Kept
+pub mod Counted
+pub mod Assembly
+pub mod Listed
+pub mod RunFronts
+pub mod RunCells
+pub mod ReadLines
+pub mod Sections
+pub mod ReadBack

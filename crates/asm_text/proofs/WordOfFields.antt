@@ -1,0 +1,21 @@
+-- The word that spells an instruction is the number of its fields.
+use Rattle.std.proofs.Common.{◌≡◌, ℕ, Bool, true, false, Some, sym, ◌∙◌, ap, refl, arith}
+use Rattle.std.specs.Prelude.{◌==◌, ◌&&◌}
+use Rattle.std.proofs.lemmas.Bool.Decides.{nat_tests}
+use Rattle.insn_word.specs.Fields.{number}
+use Rattle.insn_word.specs.Words.{fields}
+use Rattle.insn_word.specs.Reading.{instruction, candidate, kept_if, has_one_writer}
+use Rattle.insn_word.specs.declared.insn.Insn.{Insn}
+
+kept : (b : Bool) (c i : Insn) → kept_if b c ≡ Some i → (b ≡ true) × (c ≡ i)
+kept true c i e = (refl, cc)
+kept false c i e = absurd cc
+
+same_number : (n w : ℕ) (one : Bool) → (n == w && one) ≡ true → n ≡ w
+same_number n w one e = grind (arith, nat_tests)
+
+pub number_of_spelt : (w : ℕ) (i : Insn) → instruction w ≡ Some i → number (fields i) ≡ w
+unfolding instruction
+number_of_spelt w i e =
+    let k = kept (number (fields (candidate w)) == w && has_one_writer (candidate w)) (candidate w) i e in
+    ap (λ (j : Insn). number (fields j)) (sym k.1) ∙ same_number (number (fields (candidate w))) w (has_one_writer (candidate w)) k.0

@@ -1,0 +1,44 @@
+-- Laws of listings and of runs.
+use Rattle.std.specs.Prelude.{◌≡◌, ◌≢◌, ℕ, ◌≤◌, ◌<◌, ◌^◌, ⊤, List, [], ◌∷◌, replicate, All}
+use Rattle.std.specs.List.{flat_map, AllByRecursion}
+use Rattle.tag_memory.specs.Cell.{Cell}
+use Rattle.image_file.specs.ImageValue.{ImageValue, IsWithin}
+use Rattle.asm_text.specs.Sources.{Means}
+use Rattle.asm_text.specs.Runs.{Run, runs}
+use Rattle.asm_text.specs.Listing.{listing}
+
+-- the numbers of an image have at most 32 or 64 bits
+pub record FitsMachine (i : ImageValue) : Type 0 where
+  pub retry_limit : i.retry_limit < 2 ^ 32
+  pub trap_entry : i.trap_entry < 2 ^ 32
+  pub words : All (λ w. w < 2 ^ 64) i.program
+  pub values : All (λ (c : Cell). c.value < 2 ^ 64) i.cells
+
+-- a listing means the image that it was made of
+abbrev pub ListingsReadBack : Type 0
+ListingsReadBack = (i : ImageValue) → IsWithin i → FitsMachine i → Means (listing i) i
+
+-- a text means one image at most
+abbrev pub OneMeaning : Type 0
+OneMeaning = (text : List ℕ) (i j : ImageValue) → Means text i → Means text j → i ≡ j
+
+-- the cells of a run
+abbrev pub cells_of : Run → List Cell
+cells_of r = replicate r.count r.cell
+
+-- Runs, one after another, are the cells.
+abbrev pub RunsAreCells : Type 0
+RunsAreCells = (cells : List Cell) → flat_map cells_of (runs cells) ≡ cells
+
+-- No run is empty.
+abbrev pub RunsHaveCells : Type 0
+RunsHaveCells = (cells : List Cell) → AllByRecursion (λ (r : Run). 1 ≤ r.count) (runs cells)
+
+-- A run is as long as it can be: the next one has another cell.
+abbrev pub NeighboursDiffer : List Run → Type 0
+NeighboursDiffer [] = ⊤
+NeighboursDiffer (r ∷ []) = ⊤
+NeighboursDiffer (r ∷ s ∷ rs) = (r.cell ≢ s.cell) × NeighboursDiffer (s ∷ rs)
+
+abbrev pub RunsAreMaximal : Type 0
+RunsAreMaximal = (cells : List Cell) → NeighboursDiffer (runs cells)

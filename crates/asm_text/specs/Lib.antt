@@ -1,0 +1,9 @@
+-- The definitions, in the order of reading.
+pub mod Faults
+pub mod Settings
+pub mod Drafts
+pub mod Limits
+pub mod Sources
+pub mod Runs
+pub mod Listing
+pub mod Laws

@@ -1,0 +1,20 @@
+-- What every draft keeps, and what is added to one.
+use Rattle.std.specs.Prelude.{ℕ, ◌≤◌, ◌<◌, ⊤, All, length, IfSome}
+use Rattle.insn_word.specs.Words.{IsValid}
+use Rattle.asm_line.specs.declared.item.Item.{Item}
+use Rattle.asm_line.specs.declared.item.Item.TheVariants as item
+use Rattle.asm_text.specs.Drafts.{DraftValue}
+
+-- the limits of an image, for a text of so many instruction lines
+pub record IsKept (words : ℕ) (d : DraftValue) : Type 0 where
+  pub slim : IfSome d.settings.slim (λ n. (1 ≤ n) × (n ≤ 128))
+  pub few_entries : length d.entries ≤ 16
+  pub entries_stand : All (λ e. e < words) d.entries
+  pub few_words : length d.words ≤ 65536
+  pub few_cells : length d.cells ≤ 262144
+
+-- an instruction that some word spells, and tags of four bits
+abbrev pub IsReady : Item → Type 0
+IsReady (item.Instruction i) = IsValid i
+IsReady (item.Cells count value tags) = tags < 16
+IsReady _ = ⊤

@@ -1,0 +1,37 @@
+-- The listing of an image.
+use Rattle.std.specs.Prelude.{ℕ, ◌+◌, ◌==◌, if◌then◌else◌, List, [], ◌∷◌, ◌++◌, map, codes}
+use Rattle.std.specs.List.{flat_map}
+use Rattle.tag_memory.specs.Cell.{tag_number}
+use Rattle.image_file.specs.ImageValue.{ImageValue}
+use Rattle.listing_line.specs.WordText.{word_line}
+use Rattle.listing_line.specs.DirectiveLines.{profile_line, slim_line, retry_line, trap_line, entry_line, fill_line}
+use Rattle.asm_text.specs.Runs.{Run, runs}
+
+-- no line where there is no trap entry
+abbrev pub trap_lines : ℕ → List (List ℕ)
+trap_lines trap = if trap == 4294967295 then [] else trap_line trap ∷ []
+
+abbrev pub setting_lines : ImageValue → List (List ℕ)
+setting_lines i = profile_line ∷ slim_line i.slim ∷ retry_line i.retry_limit ∷ trap_lines i.trap_entry
+
+-- the words of which the first is at this place of the program
+abbrev pub word_lines : ℕ → List ℕ → List (List ℕ)
+word_lines place [] = []
+word_lines place (w ∷ ws) = word_line place w ∷ word_lines (place + 1) ws
+
+abbrev pub run_line : Run → List ℕ
+run_line r = fill_line r.count r.cell.value (tag_number r.cell)
+
+-- the lines, without their ends
+unfoldable pub listing_lines : ImageValue → List (List ℕ)
+listing_lines i =
+    setting_lines i ++ (map entry_line i.entries ++ (word_lines 0 i.program ++ map run_line (runs i.cells)))
+
+abbrev pub ended : List ℕ → List ℕ
+ended line = line ++ codes "\n"
+
+abbrev pub text_of : List (List ℕ) → List ℕ
+text_of lines = flat_map ended lines
+
+unfoldable pub listing : ImageValue → List ℕ
+listing i = text_of (listing_lines i)

@@ -1,0 +1,24 @@
+-- Maximal runs of equal cells.
+use Rattle.std.specs.Prelude.{ℕ, ◌+◌, not, if◌then◌else◌, List, [], ◌∷◌}
+use Rattle.std.specs.List.{position_or_len}
+use Rattle.tag_memory.specs.Cell.{Cell}
+use Rattle.image_file.specs.Same.{same_cell}
+
+-- so many equal cells, one after another
+pub record Run : Type 0 where
+  pub count : ℕ
+  pub cell : Cell
+
+-- a cell before the runs of the others
+abbrev pub joined : Cell → List Run → List Run
+joined c [] = record { count = 1; cell = c } ∷ []
+joined c (r ∷ rs) =
+    if same_cell c r.cell then record r { count = r.count + 1 } ∷ rs else record { count = 1; cell = c } ∷ r ∷ rs
+
+unfoldable pub runs : List Cell → List Run
+runs [] = []
+runs (c ∷ cs) = joined c (runs cs)
+
+-- how many cells from the first on are this one
+abbrev pub front : Cell → List Cell → ℕ
+front cell cells = position_or_len (λ c. not (same_cell c cell)) cells

@@ -1,0 +1,61 @@
+-- What a source text means, and where it has a fault.
+use Rattle.std.specs.Prelude.{◌≡◌, ℕ, ◌+◌, ◌==◌, nat_le, if◌then◌else◌, List, [], ◌∷◌, length, take}
+use Rattle.std.specs.Prelude.{Option, Some, None, Result, Ok, Err}
+use Rattle.std.specs.List.{position, count_by}
+use Rattle.image_file.specs.ImageValue.{ImageValue}
+use Rattle.asm_line.specs.Faults.{◌>>=◌}
+use Rattle.asm_line.specs.Operands.{Places}
+use Rattle.asm_line.specs.Lines.{Line, line_item, lines, place, count_words}
+use Rattle.asm_line.specs.declared.fault.Fault.{Fault}
+use Rattle.asm_line.specs.declared.fault.Fault.TheVariants as fault
+use Rattle.asm_text.specs.declared.fault.AsmFault.{AsmFault}
+use Rattle.asm_text.specs.Drafts.{DraftValue, empty, add, has_all, image_of_draft}
+
+-- the draft with line k (from 0)
+unfoldable pub with_line : Places → ℕ → ℕ → DraftValue → Line → Result DraftValue Fault
+with_line places words k d l = line_item places words k (length d.words) l >>= add d
+
+abbrev pub going : Result DraftValue Fault → ℕ → (DraftValue → Result DraftValue AsmFault) → Result DraftValue AsmFault
+going (Ok d) k f = f d
+going (Err e) k f = Err (record { line = k + 1; kind = e })
+
+-- the draft with these lines, of which the first is line k, or the least line with a fault and its least fault
+abbrev pub with_lines : Places → ℕ → ℕ → DraftValue → List Line → Result DraftValue AsmFault
+with_lines places words k d [] = Ok d
+with_lines places words k d (l ∷ ls) =
+    going (with_line places words k d l) k (λ e. with_lines places words (k + 1) e ls)
+
+-- the line of the byte at a place
+abbrev pub line_of : List ℕ → Option ℕ → Option ℕ
+line_of text None = None
+line_of text (Some i) = Some (count_by (λ b. b == 10) (take i text) + 1)
+
+-- the least line with a byte of 80 (hexadecimal) or more
+unfoldable pub not_ascii : List ℕ → Option ℕ
+not_ascii text = line_of text (position (λ b. nat_le 128 b) text)
+
+-- a text without an entry, a program word or a cell has a fault of no line
+abbrev pub completed : DraftValue → Result ImageValue AsmFault
+completed d = if has_all d then Ok (image_of_draft d) else Err (record { line = 0; kind = fault.Directive })
+
+abbrev pub complete : Result DraftValue AsmFault → Result ImageValue AsmFault
+complete (Ok d) = completed d
+complete (Err e) = Err e
+
+-- A label's value is known on every line, whether it stands before or behind that line.
+unfoldable pub assembled_lines : List Line → Result ImageValue AsmFault
+assembled_lines ls = complete (with_lines (place ls) (count_words ls) 0 empty ls)
+
+abbrev pub assembled_unless : Option ℕ → List Line → Result ImageValue AsmFault
+assembled_unless (Some k) ls = Err (record { line = k; kind = fault.NotAscii })
+assembled_unless None ls = assembled_lines ls
+
+-- the image that a text means, or its fault
+unfoldable pub assembled : List ℕ → Result ImageValue AsmFault
+assembled text = assembled_unless (not_ascii text) (lines text)
+
+abbrev pub Means : List ℕ → ImageValue → Type 0
+Means text i = assembled text ≡ Ok i
+
+abbrev pub HasFault : List ℕ → AsmFault → Type 0
+HasFault text e = assembled text ≡ Err e

@@ -1,0 +1,127 @@
+//! The listing of an image.
+
+ghost use Rattle.std.specs.Prelude.{◌≡◌, ◌++◌, map, IfOk, OnOk, string_bytes};
+ghost use Rattle.tag_memory.specs.Cell.{tag_number};
+ghost use Rattle.listing_line.specs.DirectiveLines.{profile_line, slim_line, retry_line, trap_line};
+ghost use Rattle.listing_line.specs.DirectiveLines.{entry_line, fill_line};
+ghost use Rattle.asm_text.specs.Runs.{runs};
+ghost use Rattle.asm_text.specs.Listing.{setting_lines, trap_lines, word_lines, run_line, text_of, ended, listing};
+
+use crate::runs::first_run;
+use image_file::Image;
+use listing_line::push_word_line;
+use number_text::Hexadecimal;
+use std::alloc::{AllocError, Global};
+use std::fmt::Write;
+use tag_memory::Word;
+
+/// The profile of every image.
+const PROFILE: u8 = 1;
+
+/// The listing of an image ("Listing", docs/FORMATS.md): its directives, its entries, its program words and its data
+/// cells, each run of equal cells in one line.
+pub fn listing(alloc: Global, image: &Image) -> Result<String, AllocError>
+    ensures { IfOk result (λ t. string_bytes t ≡ listing image.now) }
+{
+    let mut text = String::new(alloc);
+    push_settings(&mut text, image)?;
+    push_entries(&mut text, image)?;
+    push_program(&mut text, image)?;
+    push_cells(&mut text, image.cells())?;
+    Ok(text)
+}
+
+/// Appends the directives that stand once.
+fn push_settings(text: &mut String, image: &Image) -> Result<(), AllocError>
+    ensures { OnOk result (string_bytes text.new ≡ string_bytes text.old ++ text_of (setting_lines image.now)) }
+{
+    push_profile(text, PROFILE)?;
+    push_slim(text, image.slim())?;
+    push_retry(text, image.retry_limit())?;
+    push_trap(text, image.trap_entry())
+}
+
+#[tactic(auto, unfolding(listing_line::specs::DirectiveLines::profile_line))]
+fn push_profile(text: &mut String, profile: u8) -> Result<(), AllocError>
+    requires { profile ≡ 1 }
+    ensures { OnOk result (string_bytes text.new ≡ string_bytes text.old ++ ended profile_line) }
+{
+    writeln!(text, ".profile {profile}")
+}
+
+#[tactic(auto, unfolding(listing_line::specs::DirectiveLines::slim_line))]
+fn push_slim(text: &mut String, slim: u16) -> Result<(), AllocError>
+    ensures { OnOk result (string_bytes text.new ≡ string_bytes text.old ++ ended (slim_line slim)) }
+{
+    writeln!(text, ".slim {slim}")
+}
+
+#[tactic(auto, unfolding(listing_line::specs::DirectiveLines::retry_line))]
+fn push_retry(text: &mut String, retry: u32) -> Result<(), AllocError>
+    ensures { OnOk result (string_bytes text.new ≡ string_bytes text.old ++ ended (retry_line retry)) }
+{
+    writeln!(text, ".retry {retry}")
+}
+
+#[tactic(auto, unfolding(listing_line::specs::DirectiveLines::trap_line))]
+fn push_trap(text: &mut String, trap: u32) -> Result<(), AllocError>
+    ensures { OnOk result (string_bytes text.new ≡ string_bytes text.old ++ text_of (trap_lines trap)) }
+{
+    if trap == u32::MAX {
+        return Ok(());
+    }
+    writeln!(text, ".trap {trap}")
+}
+
+/// Appends the entries.
+fn push_entries(text: &mut String, image: &Image) -> Result<(), AllocError>
+    ensures { OnOk result (string_bytes text.new ≡ string_bytes text.old
+        ++ text_of (map entry_line image.now.entries)) }
+{
+    for processor in 0..image.processors() {
+        let Some(entry) = image.entry(processor) else {
+            unreachable!();
+        };
+        push_entry(text, entry)?;
+    }
+    Ok(())
+}
+
+#[tactic(auto, unfolding(listing_line::specs::DirectiveLines::entry_line))]
+fn push_entry(text: &mut String, entry: u32) -> Result<(), AllocError>
+    ensures { OnOk result (string_bytes text.new ≡ string_bytes text.old ++ ended (entry_line entry)) }
+{
+    writeln!(text, ".entry {entry}")
+}
+
+/// Appends the program words.
+fn push_program(text: &mut String, image: &Image) -> Result<(), AllocError>
+    ensures { OnOk result (string_bytes text.new ≡ string_bytes text.old ++ text_of (word_lines 0 image.now.program)) }
+{
+    for (place, word) in image.program().iter().enumerate() {
+        push_word_line(text, place as u16, *word)?;
+    }
+    Ok(())
+}
+
+/// Appends the runs of equal cells.
+fn push_cells(text: &mut String, cells: &[Word]) -> Result<(), AllocError>
+    ensures { OnOk result (string_bytes text.new ≡ string_bytes text.old ++ text_of (map run_line (runs cells.now))) }
+{
+    let mut rest = cells;
+    while let Some((count, cell, following)) = first_run(rest) {
+        push_run(text, count, cell)?;
+        rest = following;
+    }
+    Ok(())
+}
+
+#[tactic(auto, unfolding(listing_line::specs::DirectiveLines::fill_line))]
+fn push_run(text: &mut String, count: usize, cell: &Word) -> Result<(), AllocError>
+    ensures { OnOk result (string_bytes text.new ≡ string_bytes text.old
+        ++ ended (fill_line count cell.now.value (tag_number cell.now))) }
+{
+    let value = Hexadecimal(cell.value());
+    let tags = cell.tag_number();
+    writeln!(text, ".fill {count}, 0x{value}, {tags}")
+}

@@ -1,0 +1,126 @@
+//! The image that a source text means.
+
+ghost use Rattle.std.specs.Prelude.{◌≡◌, ◌≢◌, ◌+◌, ◌≤◌, nat_le, ◌==◌, length, Ok, IfOk, IfErr, OnOk, MatchResult};
+ghost use Rattle.std.specs.List.{position, count_by};
+ghost use Rattle.asm_line.specs.Lines.{line, lines, place, count_words};
+ghost use Rattle.asm_line.specs.Labels.{places_of};
+ghost use Rattle.asm_line.specs.declared.fault.Fault.TheVariants.{NoMemory};
+ghost use Rattle.asm_text.specs.Drafts.{empty};
+ghost use Rattle.asm_text.specs.Limits.{IsKept};
+ghost use Rattle.asm_text.specs.Faults.{no_memory, Told, ToldAt};
+ghost use Rattle.asm_text.specs.Sources.{with_line, with_lines, not_ascii, Means, HasFault};
+
+use crate::draft::Draft;
+use crate::fault::AsmFault;
+use asm_line::{Fault, Labels, Place, cut_line, is_word, next_line, read_line};
+use image_file::Image;
+use std::alloc::{AllocError, Global};
+
+/// The line, from 1, of the first byte that is not ASCII.
+#[tactic(auto, unfolding(crate::specs::Sources::not_ascii))]
+fn not_ascii(text: &[u8]) -> Option<usize>
+    ensures { result ≡ not_ascii text.now }
+{
+    let at = first_not_ascii(text)?;
+    Some(line_ends(&text[..at]) + 1)
+}
+
+fn first_not_ascii(text: &[u8]) -> Option<usize>
+    ensures { result ≡ position (λ b. nat_le 128 b) text.now }
+{
+    text.iter().position(|b| *b >= 128)
+}
+
+fn line_ends(text: &[u8]) -> usize
+    ensures is { result ≡ count_by (λ b. b == 10) text.now }
+    ensures few { result ≤ length text.now }
+{
+    text.iter().filter(|b| **b == b'\n').count()
+}
+
+/// Where the labels of a text stand, and how many of its lines are program words.
+fn places(alloc: Global, text: &[u8]) -> Result<(Labels<'_>, usize), AllocError>
+    ensures labels { IfOk result (λ r. places_of r.0 ≡ place (lines text.now)) }
+    ensures words { IfOk result (λ r. r.1 ≡ count_words (lines text.now)) }
+{
+    let mut labels = Labels::new(alloc);
+    let mut number = 0;
+    let mut words = 0;
+    let mut rest = Some(text);
+    while let Some(bytes) = rest {
+        let (first, following) = next_line(bytes);
+        let line = cut_line(first);
+        labels.note(
+            line.label,
+            Place {
+                line: number,
+                value: words,
+            },
+        )?;
+        if is_word(line.statement) {
+            words += 1;
+        }
+        number += 1;
+        rest = following;
+    }
+    Ok((labels, words))
+}
+
+/// Takes what line `number` adds.
+#[tactic(auto, unfolding(crate::specs::Sources::with_line))]
+fn take_line(
+    labels: &Labels,
+    words: usize,
+    number: usize,
+    draft: &mut Draft,
+    bytes: &[u8],
+) -> Result<(), Fault>
+    ensures takes { MatchResult result
+        (λ _. with_line (places_of labels.now) words number draft.old (line bytes.now) ≡ Ok draft.new)
+        (λ e. Told e (with_line (places_of labels.now) words number draft.old (line bytes.now))) }
+    ensures kept { IsKept words draft.old → OnOk result (IsKept words draft.new) }
+{
+    let item = read_line(labels, words, number, draft.words(), &cut_line(bytes))?;
+    draft.add(item)
+}
+
+/// What all lines of a text give, where its labels stand at these places and so many lines are words.
+fn all_lines(alloc: Global, labels: &Labels, words: usize, text: &[u8]) -> Result<Draft, AsmFault>
+    ensures takes { MatchResult result
+        (λ d. with_lines (places_of labels.now) words 0 empty (lines text.now) ≡ Ok d)
+        (λ e. ToldAt e (with_lines (places_of labels.now) words 0 empty (lines text.now))) }
+    ensures kept { IfOk result (IsKept words) }
+    ensures no_memory { IfErr result (λ e. e.kind ≡ NoMemory → e ≡ no_memory) }
+{
+    let mut draft = Draft::new(alloc);
+    let mut number = 0;
+    let mut rest = Some(text);
+    while let Some(bytes) = rest {
+        let (first, following) = next_line(bytes);
+        match take_line(labels, words, number, &mut draft, first) {
+            Ok(()) => {}
+            Err(kind) => return Err(AsmFault::on_line(number + 1, kind)),
+        }
+        number += 1;
+        rest = following;
+    }
+    Ok(draft)
+}
+
+/// The image that a source text means ("Source text", docs/FORMATS.md).
+///
+/// Else its fault: the least line with a byte that is not ASCII, else the least line that has a fault, with the least
+/// kind of its faults, else `Directive` on line 0 where the text has no entry, no program word or no cell.
+/// `NoMemory`, on line 0, may come in place of any other answer.
+pub fn assemble(alloc: Global, text: &[u8]) -> Result<Image, AsmFault>
+    ensures means { IfOk result (Means text.now) }
+    ensures fault { IfErr result (λ e. e.kind ≢ NoMemory → HasFault text.now e) }
+    ensures no_memory { IfErr result (λ e. e.kind ≡ NoMemory → e ≡ no_memory) }
+{
+    if let Some(line) = not_ascii(text) {
+        return Err(AsmFault::on_line(line, Fault::NotAscii));
+    }
+    let (labels, words) = places(alloc, text)?;
+    let draft = all_lines(alloc, &labels, words, text)?;
+    draft.finish()
+}

@@ -1,0 +1,10 @@
+pub mod Searches
+pub mod Limits
+pub mod Numbers
+pub mod Sequences
+pub mod Loops
+pub mod Headers
+pub mod Sound
+pub mod WrittenBack
+pub mod ReadBack
+pub mod Made

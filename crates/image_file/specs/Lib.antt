@@ -1,0 +1,11 @@
+pub mod ImageValue
+pub mod Fault
+pub mod Parts
+pub mod Tags
+pub mod Same
+pub mod Fields
+pub mod Spelling
+pub mod Reading
+pub mod Header
+pub mod Answers
+pub mod Laws

@@ -1,0 +1,112 @@
+-- What bytes say at each place, and the first fault that they have.
+use Rattle.std.specs.Prelude.{ℕ, ◌+◌, ◌*◌, ◌==◌, not, nat_le, nat_lt, List, length, drop}
+use Rattle.std.specs.Prelude.{Option, Some, None, if◌then◌else◌}
+use Rattle.std.specs.Option.{option_map}
+use Rattle.std.specs.List.{position}
+use Rattle.tag_memory.specs.Cell.{Cell, cell_of}
+use Rattle.image_file.specs.declared.fault.ImageFault.{ImageFault}
+use Rattle.image_file.specs.declared.fault.ImageFault.TheVariants.{Short, Magic, Version, Count, Entry, TagByte}
+use Rattle.image_file.specs.declared.fault.ImageFault.TheVariants.{Trailing}
+use Rattle.image_file.specs.ImageValue.{ImageValue, image_of}
+use Rattle.image_file.specs.Fault.{first_of}
+use Rattle.image_file.specs.Fields.{number_of, parts_of}
+use Rattle.image_file.specs.Parts.{count_fault, entry_fault}
+use Rattle.image_file.specs.Spelling.{magic, version}
+
+abbrev pub header_length : ℕ
+header_length = 26
+
+-- ---- the numbers of the header
+
+abbrev pub processors_at : List ℕ → ℕ
+processors_at bytes = number_of 2 (drop 6 bytes)
+
+abbrev pub slim_at : List ℕ → ℕ
+slim_at bytes = number_of 2 (drop 8 bytes)
+
+abbrev pub retry_limit_at : List ℕ → ℕ
+retry_limit_at bytes = number_of 4 (drop 10 bytes)
+
+abbrev pub trap_entry_at : List ℕ → ℕ
+trap_entry_at bytes = number_of 4 (drop 14 bytes)
+
+abbrev pub words_at : List ℕ → ℕ
+words_at bytes = number_of 4 (drop 18 bytes)
+
+abbrev pub cells_at : List ℕ → ℕ
+cells_at bytes = number_of 4 (drop 22 bytes)
+
+-- ---- the lists behind it
+
+abbrev pub program_place : List ℕ → ℕ
+program_place bytes = header_length + 4 * processors_at bytes
+
+abbrev pub cells_place : List ℕ → ℕ
+cells_place bytes = program_place bytes + 8 * words_at bytes
+
+-- the length that the header asks for
+abbrev pub asked_length : List ℕ → ℕ
+asked_length bytes = cells_place bytes + 9 * cells_at bytes
+
+abbrev pub entries_from : (count : ℕ) → List ℕ → List ℕ
+entries_from count bytes = parts_of 4 (number_of 4) count bytes
+
+abbrev pub program_from : (count : ℕ) → List ℕ → List ℕ
+program_from count bytes = parts_of 8 (number_of 8) count bytes
+
+-- the tag byte of the cell in front
+abbrev pub tag_byte : List ℕ → ℕ
+tag_byte bytes = number_of 1 (drop 8 bytes)
+
+abbrev pub tags_from : (count : ℕ) → List ℕ → List ℕ
+tags_from count bytes = parts_of 9 tag_byte count bytes
+
+abbrev pub cell_from : List ℕ → Cell
+cell_from bytes = cell_of (number_of 8 bytes) (tag_byte bytes)
+
+abbrev pub cells_from : (count : ℕ) → List ℕ → List Cell
+cells_from count bytes = parts_of 9 cell_from count bytes
+
+-- the image that the bytes say, if they say one
+unfoldable pub image_at : List ℕ → ImageValue
+image_at bytes =
+    image_of
+    (entries_from (processors_at bytes) (drop header_length bytes))
+    (slim_at bytes)
+    (retry_limit_at bytes)
+    (trap_entry_at bytes)
+    (program_from (words_at bytes) (drop (program_place bytes) bytes))
+    (cells_from (cells_at bytes) (drop (cells_place bytes) bytes))
+
+-- ---- the first fault
+
+unfoldable pub front_fault : List ℕ → Option ImageFault
+front_fault bytes =
+    if nat_lt (length bytes) header_length then Some Short
+    else if not (number_of 4 bytes == magic) then Some Magic
+    else if not (number_of 2 (drop 4 bytes) == version) then Some Version
+    else None
+
+abbrev pub header_fault : List ℕ → Option ImageFault
+header_fault bytes =
+    first_of (front_fault bytes)
+    (option_map Count (count_fault (processors_at bytes) (slim_at bytes) (words_at bytes) (cells_at bytes)))
+
+-- the least cell whose tag byte is above 15
+abbrev pub tag_fault : (tags : List ℕ) → Option ℕ
+tag_fault tags = position (λ t. nat_le 16 t) tags
+
+unfoldable pub body_fault : List ℕ → Option ImageFault
+body_fault bytes =
+    if nat_lt (length bytes) (asked_length bytes) then Some Short
+    else
+    first_of
+    (option_map Entry
+    (entry_fault (words_at bytes) (entries_from (processors_at bytes) (drop header_length bytes))))
+    (first_of
+    (option_map TagByte (tag_fault (tags_from (cells_at bytes) (drop (cells_place bytes) bytes))))
+    (if nat_lt (asked_length bytes) (length bytes) then Some Trailing else None))
+
+-- none where the bytes stand for an image
+abbrev pub image_fault : List ℕ → Option ImageFault
+image_fault bytes = first_of (header_fault bytes) (body_fault bytes)

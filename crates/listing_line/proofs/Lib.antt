@@ -1,0 +1,11 @@
+pub mod Bytes
+pub mod Statements
+pub mod Numbers
+pub mod Operands
+pub mod Heads
+pub mod Parts
+pub mod Controls
+pub mod Joined
+pub mod Instructions
+pub mod Lines
+pub mod Directives

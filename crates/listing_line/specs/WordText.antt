@@ -1,0 +1,160 @@
+-- A program word as a line: the instruction that it spells, or the word itself, and behind it the place and the word.
+use Rattle.std.specs.Prelude.{ℕ, ◌==◌, Bool, true, false, if◌then◌else◌, List, [], ◌∷◌, ◌++◌, codes, Option, Some, None}
+use Rattle.std.specs.Fmt.{decimal, signed_decimal}
+use Rattle.insn_word.specs.Reading.{instruction}
+use Rattle.insn_word.specs.declared.operations.WideOp.{WideOp}
+use Rattle.insn_word.specs.declared.operations.WideOp.TheVariants as wide
+use Rattle.insn_word.specs.declared.operations.MemoryOp.{MemoryOp}
+use Rattle.insn_word.specs.declared.operations.MemoryOp.TheVariants as memory
+use Rattle.insn_word.specs.declared.operations.ArithmeticOp.{ArithmeticOp}
+use Rattle.insn_word.specs.declared.operations.ArithmeticOp.TheVariants as arithmetic
+use Rattle.insn_word.specs.declared.operations.ControlOp.{ControlOp}
+use Rattle.insn_word.specs.declared.operations.ControlOp.TheVariants as control
+use Rattle.insn_word.specs.declared.insn.MPart.{MPart}
+use Rattle.insn_word.specs.declared.insn.APart.{APart}
+use Rattle.insn_word.specs.declared.insn.CPart.{CPart}
+use Rattle.insn_word.specs.declared.insn.Insn.{Insn}
+use Rattle.insn_word.specs.declared.insn.Insn.TheVariants as insn
+use Rattle.number_text.specs.Columns.{five_digits}
+use Rattle.number_text.specs.Digits.{hexadecimal_16}
+use Rattle.asm_line.specs.Names.{wide_name, condition_name, operation_name, directive_name}
+use Rattle.asm_line.specs.declared.operation.Operation.TheVariants as operation
+use Rattle.asm_line.specs.declared.operation.Directive.TheVariants as directive
+
+-- Statements.
+
+-- operands, with a comma and a blank between two
+abbrev pub listed : List (List ℕ) → List ℕ
+listed [] = []
+listed (x ∷ []) = x
+listed (x ∷ y ∷ ys) = x ++ (codes ", " ++ listed (y ∷ ys))
+
+-- a head, and behind a blank its operands, if it has any
+abbrev pub statement_text : List ℕ → List (List ℕ) → List ℕ
+statement_text head [] = head
+statement_text head (x ∷ xs) = head ++ (codes " " ++ listed (x ∷ xs))
+
+-- Operands.
+
+abbrev pub register_text : ℕ → List ℕ
+register_text number = codes "r" ++ decimal number
+
+abbrev pub target_text : ℕ → List ℕ
+target_text number = codes "t" ++ decimal number
+
+-- a number, or the register of that number
+abbrev pub source_text : Bool → ℕ → List ℕ
+source_text true number = decimal number
+source_text false number = register_text number
+
+-- all digits of a word
+abbrev pub digits_text : ℕ → List ℕ
+digits_text word = codes "0x" ++ hexadecimal_16 word
+
+abbrev pub wide_operands : WideOp → ℕ → ℕ → List (List ℕ)
+wide_operands wide.TargetLiteral reg imm = target_text reg ∷ decimal imm ∷ []
+wide_operands _ reg imm = register_text reg ∷ decimal imm ∷ []
+
+abbrev pub memory_operands : MPart → List (List ℕ)
+memory_operands m = register_text m.rd ∷ register_text m.base ∷ signed_decimal m.disp ∷ []
+
+abbrev pub arithmetic_operands : ArithmeticOp → APart → List (List ℕ)
+arithmetic_operands arithmetic.Tally a = register_text a.rd ∷ register_text a.ra ∷ []
+arithmetic_operands _ a = register_text a.rd ∷ register_text a.ra ∷ source_text a.imm a.rb ∷ []
+
+abbrev pub control_operands : ControlOp → CPart → List (List ℕ)
+control_operands control.Nop c = []
+control_operands control.Jump c = condition_name c.cond ∷ decimal c.code ∷ target_text c.t ∷ []
+control_operands control.Skip c = condition_name c.cond ∷ decimal c.code ∷ signed_decimal c.n ∷ []
+control_operands control.Call c = target_text c.t ∷ target_text c.u ∷ []
+control_operands control.Exchange c = target_text c.t ∷ []
+control_operands control.TargetSet c = target_text c.t ∷ register_text c.ra ∷ []
+control_operands control.TargetGet c = register_text c.rd ∷ target_text c.t ∷ []
+control_operands control.TrapGet c = register_text c.rd ∷ []
+control_operands control.Reserve c = register_text c.rd ∷ register_text c.ra ∷ []
+control_operands control.Create c = target_text c.t ∷ register_text c.ra ∷ []
+control_operands control.Quit c = []
+control_operands control.QuitKeep c = []
+control_operands control.Mask c = signed_decimal c.n ∷ []
+
+-- Operations.
+
+unfoldable pub wide_text : WideOp → ℕ → ℕ → List ℕ
+wide_text op reg imm = statement_text (wide_name op) (wide_operands op reg imm)
+
+unfoldable pub memory_text : MPart → List ℕ
+memory_text m = statement_text (operation_name (operation.Memory m.op m.acc)) (memory_operands m)
+
+unfoldable pub arithmetic_text : APart → List ℕ
+arithmetic_text a = statement_text (operation_name (operation.Arithmetic a.op a.test)) (arithmetic_operands a.op a)
+
+unfoldable pub control_text : CPart → List ℕ
+control_text c = statement_text (operation_name (operation.Control c.op)) (control_operands c.op c)
+
+-- Instructions.
+
+abbrev pub is_no_memory : MemoryOp → Bool
+is_no_memory memory.Nop = true
+is_no_memory _ = false
+
+abbrev pub is_no_arithmetic : ArithmeticOp → Bool
+is_no_arithmetic arithmetic.Nop = true
+is_no_arithmetic _ = false
+
+abbrev pub is_no_control : ControlOp → Bool
+is_no_control control.Nop = true
+is_no_control _ = false
+
+abbrev pub unless : Bool → List ℕ → List (List ℕ)
+unless true text = []
+unless false text = text ∷ []
+
+-- the operation of a part; NOP is none
+
+abbrev pub memory_texts : MPart → List (List ℕ)
+memory_texts m = unless (is_no_memory m.op) (memory_text m)
+
+abbrev pub arithmetic_texts : APart → List (List ℕ)
+arithmetic_texts a = unless (is_no_arithmetic a.op) (arithmetic_text a)
+
+abbrev pub control_texts : CPart → List (List ℕ)
+control_texts c = unless (is_no_control c.op) (control_text c)
+
+-- the operations of a word
+abbrev pub operation_texts : MPart → APart → CPart → List (List ℕ)
+operation_texts m a c = memory_texts m ++ (arithmetic_texts a ++ control_texts c)
+
+-- with a bar between two; no operation at all is NOP
+abbrev pub joined : List (List ℕ) → List ℕ
+joined [] = codes "NOP"
+joined (x ∷ []) = x
+joined (x ∷ y ∷ ys) = x ++ (codes " | " ++ joined (y ∷ ys))
+
+-- the lookahead, with a blank behind it; one of 0 is not printed
+abbrev pub lookahead_text : ℕ → List ℕ
+lookahead_text look = if look == 0 then [] else codes "@" ++ (decimal look ++ codes " ")
+
+unfoldable pub insn_text : Insn → List ℕ
+insn_text (insn.Wide look op reg imm) = lookahead_text look ++ wide_text op reg imm
+insn_text (insn.Normal look m a c) = lookahead_text look ++ joined (operation_texts m a c)
+
+-- Words.
+
+-- a word that spells no instruction
+unfoldable pub raw_text : ℕ → List ℕ
+raw_text word = statement_text (directive_name directive.Word) (digits_text word ∷ [])
+
+abbrev pub text_of : ℕ → Option Insn → List ℕ
+text_of word None = raw_text word
+text_of word (Some i) = insn_text i
+
+unfoldable pub word_text : ℕ → List ℕ
+word_text word = text_of word (instruction word)
+
+-- the comment behind a word: its place in five digits, and the word
+unfoldable pub place_comment : ℕ → ℕ → List ℕ
+place_comment place word = codes " ; " ++ (five_digits place ++ (codes " " ++ hexadecimal_16 word))
+
+-- a program word on its line, without the line end
+unfoldable pub word_line : ℕ → ℕ → List ℕ
+word_line place word = word_text word ++ place_comment place word

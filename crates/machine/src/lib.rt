@@ -1,0 +1,11 @@
+//! A machine: the processors of an image over one memory, one step at a time
+//! (docs/MACHINE.md, "Machines", "Schedules").
+#![tactic(auto)]
+
+mod load_fault;
+mod machines;
+#[cfg(test)]
+mod tests;
+
+pub use load_fault::LoadFault;
+pub use machines::Machine;

@@ -1,0 +1,4 @@
+pub mod ReadBytes
+pub mod LinesLemmas
+pub mod ProgramText
+pub mod Traces

@@ -1,0 +1,54 @@
+//! The engine of the command `asm`.
+ghost use Rattle.std.specs.Prelude.{◌≡◌, ◌≢◌, ◌≤◌, ℕ, List, length, OnOk, IfOk, IfErr, IfSome};
+ghost use Rattle.std.specs.Io.KnownBytes.{Appends, Keeps};
+ghost use Rattle.mta_engines.specs.Faults.{IsFaultBy};
+ghost use Rattle.mta_engines.specs.AsmOutput.{IsAsmOutput, HasAsmFault};
+ghost use Rattle.mta_engines.specs.Input.{input_limit};
+ghost use Rattle.asm_text.specs.Sources.{Means};
+
+use crate::input::read_input;
+use crate::output::write_output;
+use crate::tool_fault::ToolFault;
+use asm_text::{AsmFault, Fault, assemble};
+use image_file::{Image, write_image};
+use std::alloc::Global;
+use std::io::{Read, Write};
+
+/// Reads a source text, assembles it, and writes the image's bytes ("Source text" and "Image files", docs/FORMATS.md).
+///
+/// The bytes are composed before the writer is first touched.
+pub fn asm_engine<R: Read, W: Write>(
+    alloc: Global,
+    source: &mut R,
+    writer: &mut W,
+) -> Result<(), ToolFault>
+    ensures written { OnOk result (IfSome (R.remaining source.old) (λ text. (output : _) × IsAsmOutput text output
+        × Appends (W.contents writer.old) (W.contents writer.new) output)) }
+    ensures fault { IfErr result (λ fault. IfSome (R.remaining source.old) (λ text.
+        IsFaultBy (HasAsmFault text) fault)) }
+    ensures kept { IfErr result (λ fault. fault ≢ ToolFault.Write
+        → Keeps (W.contents writer.old) (W.contents writer.new)) }
+{
+    let text = read_input(alloc, source)?;
+    let image = image_of(alloc, &text)?;
+    let bytes = write_image(alloc, &image)?;
+    write_output(writer, &bytes)
+}
+
+/// The image that a text means, or its fault.
+fn image_of(alloc: Global, text: &[u8]) -> Result<Image, ToolFault>
+    requires { length text.now ≤ input_limit }
+    ensures means { IfOk result (Means text.now) }
+    ensures fault { (input : List ℕ) → text.now ≡ input → IfErr result (IsFaultBy (HasAsmFault input)) }
+{
+    match assemble(alloc, text) {
+        Ok(image) => Ok(image),
+        Err(
+            AsmFault {
+                kind: Fault::NoMemory,
+                ..
+            },
+        ) => Err(ToolFault::NoMemory),
+        Err(fault) => Err(ToolFault::Asm(fault)),
+    }
+}

@@ -1,0 +1,5 @@
+mod command_faults;
+mod commands;
+mod devices;
+mod faults;
+mod programs;

@@ -1,0 +1,54 @@
+//! Why the tool gives up.
+ghost use Rattle.std.specs.Prelude.{◌≡◌};
+ghost use Rattle.mta_engines.specs.declared.tool_fault.ToolFault.TheVariants.{NoMemory};
+
+use asm_text::AsmFault;
+use image_file::ImageFault;
+use std::alloc::{AllocError, AllocFailed};
+use thiserror::Error;
+use trace_text::ScheduleFault;
+
+/// Why a command ended with status 1. Its text goes to standard error after `mta_sim: `.
+#[derive(Clone, Copy, Debug, PartialEq, Eq, Error)]
+pub enum ToolFault {
+    /// A reader failed, or was interrupted.
+    #[error("read failed")]
+    Read,
+    /// A writer failed.
+    #[error("write failed")]
+    Write,
+    /// A reader had more than [`INPUT_LIMIT`](crate::INPUT_LIMIT) bytes.
+    #[error("input too large")]
+    TooLarge,
+    /// Memory was refused.
+    #[error("no memory")]
+    NoMemory,
+    /// The line of this number, counted from 1, is the first fault of a text of words.
+    #[error("words line {0}")]
+    Words(u32),
+    /// A source text has this fault.
+    #[error("source line {} fault {}", .0.line, .0.kind.number())]
+    Asm(AsmFault),
+    /// The bytes of an image file have this fault.
+    #[error("image fault {}", .0.number())]
+    Image(ImageFault),
+    /// A schedule has this fault.
+    #[error("schedule line {} fault {}", .0.line, .0.kind.number())]
+    Schedule(ScheduleFault),
+}
+
+impl From<AllocError> for ToolFault {
+    ghost from_gives = { λ _ fault. fault ≡ NoMemory };
+
+    fn from(_error: AllocError) -> ToolFault {
+        ToolFault::NoMemory
+    }
+}
+
+impl<T: Drop> From<AllocFailed<T>> for ToolFault {
+    ghost from_gives = { λ _ fault. fault ≡ NoMemory };
+
+    fn from(_error: AllocFailed<T>) -> ToolFault {
+        ToolFault::NoMemory
+    }
+}

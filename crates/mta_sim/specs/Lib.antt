@@ -1,6 +1,0 @@
-pub mod Faults
-pub mod Input
-pub mod Lines
-pub mod ProgramLines
-pub mod WordsMachine
-pub mod WordsOutput

@@ -1,0 +1,5 @@
+pub mod TableViews
+pub mod Begun
+pub mod Awake
+pub mod Counting
+pub mod Kept

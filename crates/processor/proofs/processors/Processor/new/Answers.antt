@@ -1,0 +1,14 @@
+use Rattle.std.proofs.Common.{rules}
+use Rattle.processor.proofs.Counting.{opened, counted_opened}
+use Rattle.processor.proofs.processors.Processor.new.Goals as goal
+
+pub invariant_of-result : goal.invariant_of-result
+invariant_of-result g c =
+    counted_opened c.args.image.now c.args.number _ c.slim.result c.slim.ensures.some c.slim.ensures.is
+    (opened c.args.image.now c.args.number c.in-Some.entry c.slim.result c.born-first.result c.in_ok-table.table
+    c.in-Some.ensures.is c.slim.ensures.is (search rules) c.in_ok-table.ensures)
+
+pub returns : goal.returns
+returns g c =
+    opened c.args.image.now c.args.number c.in-Some.entry c.slim.result c.born-first.result c.in_ok-table.table
+    c.in-Some.ensures.is c.slim.ensures.is (search rules) c.in_ok-table.ensures

@@ -1,0 +1,159 @@
+-- The operation table: a step of one stream of a processor, given the reply to its request.
+use Rattle.std.specs.Prelude.{ℕ, ◌+◌, ◌-◌, ◌==◌, min, Bool, false, Option, Some, None}
+use Rattle.std.specs.Prelude.{if◌then◌else◌, slice_get, slice_set}
+use Rattle.std.specs.List.{position_or_len}
+use Rattle.insn_word.specs.declared.insn.Insn.{Insn}
+use Rattle.tag_memory.specs.declared.requests.Request.{Request}
+use Rattle.tag_memory.specs.declared.requests.Reply.{Reply}
+use Rattle.tag_memory.specs.Storage.{TaggedMemory}
+use Rattle.tag_memory.specs.Answer.{answer}
+use Rattle.image_file.specs.ImageValue.{ImageValue}
+use Rattle.stream_core.specs.Streams.{StreamValue, idle, trapped}
+use Rattle.stream_core.specs.Children.{born}
+use Rattle.stream_core.specs.Effects.{request_of}
+use Rattle.stream_core.specs.StreamRow.{fetched, control_of, row_asking}
+use Rattle.stream_core.specs.declared.traps.TrapKind.TheVariants as kind
+use Rattle.stream_core.specs.declared.steps.Outcome.{Outcome}
+use Rattle.stream_core.specs.declared.steps.Outcome.TheVariants as outcome
+use Rattle.stream_core.specs.declared.steps.Fetched.{Fetched}
+use Rattle.stream_core.specs.declared.steps.Fetched.TheVariants as fetch
+use Rattle.stream_core.specs.declared.steps.Control.{Control}
+use Rattle.stream_core.specs.declared.steps.Control.TheVariants as asks
+use Rattle.processor.specs.Processors.{ProcessorValue, is_idle}
+use Rattle.processor.specs.declared.steps.Next.{Next}
+use Rattle.processor.specs.declared.steps.Next.TheVariants as next
+
+-- What a step begins with.
+
+-- whether a CREATE finds no reserved stream that is free
+abbrev pub lacks_stream : ProcessorValue → Control → Bool
+lacks_stream proc asks.Plain = false
+lacks_stream proc (asks.Reserve n) = false
+lacks_stream proc (asks.Create child) = proc.current == proc.reserved
+lacks_stream proc asks.Quit = false
+lacks_stream proc asks.QuitKeep = false
+
+abbrev pub begun_from : ProcessorValue → StreamValue → Fetched → Fetched
+begun_from proc s fetch.Rest = fetch.Rest
+begun_from proc s (fetch.Trap k) = fetch.Trap k
+begun_from proc s (fetch.Runs i) = if lacks_stream proc (control_of s i) then fetch.Trap kind.Create else fetch.Runs i
+
+-- rest where the stream does not run; a trap where there is no word, no instruction or no stream for a CREATE, in this
+-- order; else the instruction at the pc
+unfoldable pub begun : ImageValue → ProcessorValue → StreamValue → Fetched
+begun image proc s = begun_from proc s (fetched image.program s)
+
+abbrev pub begun_at : ImageValue → ProcessorValue → Option StreamValue → Fetched
+begun_at image proc None = fetch.Rest
+begun_at image proc (Some s) = begun image proc s
+
+-- the same of the stream of this number; rest where there is none
+unfoldable pub begun_of : ImageValue → ProcessorValue → ℕ → Fetched
+begun_of image proc n = begun_at image proc (slice_get proc.streams n)
+
+-- What it asks.
+
+abbrev pub asked_by : StreamValue → Fetched → Option Request
+asked_by s fetch.Rest = None
+asked_by s (fetch.Trap k) = None
+asked_by s (fetch.Runs i) = request_of s i
+
+abbrev pub request_at : ImageValue → ProcessorValue → Option StreamValue → Option Request
+request_at image proc None = None
+request_at image proc (Some s) = asked_by s (begun image proc s)
+
+-- the request that a step of stream n makes of the memory, if any
+unfoldable pub request : ImageValue → ProcessorValue → ℕ → Option Request
+request image proc n = request_at image proc (slice_get proc.streams n)
+
+abbrev pub next_asking : Option Request → Next
+next_asking None = next.Local
+next_asking (Some q) = next.Ask q
+
+abbrev pub next_by : StreamValue → Fetched → Next
+next_by s fetch.Rest = next.Skip
+next_by s (fetch.Trap k) = next.Local
+next_by s (fetch.Runs i) = next_asking (request_of s i)
+
+abbrev pub next_at : ImageValue → ProcessorValue → Option StreamValue → Next
+next_at image proc None = next.Skip
+next_at image proc (Some s) = next_by s (begun image proc s)
+
+-- what a step of stream n needs
+unfoldable pub next_of : ImageValue → ProcessorValue → ℕ → Next
+next_of image proc n = next_at image proc (slice_get proc.streams n)
+
+-- What it leaves.
+
+-- the number of streams that RESERVE is granted
+abbrev pub granted : ImageValue → ProcessorValue → Control → ℕ
+granted image proc asks.Plain = 0
+granted image proc (asks.Reserve n) = min n (image.slim - proc.reserved)
+granted image proc (asks.Create child) = 0
+granted image proc asks.Quit = 0
+granted image proc asks.QuitKeep = 0
+
+abbrev pub with_stream : ProcessorValue → ℕ → StreamValue → ProcessorValue
+with_stream proc n s = record proc { streams = slice_set proc.streams n s }
+
+-- the place of the lowest idle stream
+abbrev pub lowest_idle : ProcessorValue → ℕ
+lowest_idle proc = position_or_len is_idle proc.streams
+
+-- what the instruction of stream n, granted so many streams, then does to its processor
+abbrev pub controlled : ProcessorValue → ℕ → ℕ → Control → ProcessorValue
+controlled proc n grant asks.Plain = proc
+controlled proc n grant (asks.Reserve asked) = record proc { reserved = proc.reserved + grant }
+controlled proc n grant (asks.Create child) =
+    record (with_stream proc (lowest_idle proc) (born child)) { current = proc.current + 1 }
+controlled proc n grant asks.Quit =
+    record (with_stream proc n idle) { current = proc.current - 1; reserved = proc.reserved - 1 }
+controlled proc n grant asks.QuitKeep = record (with_stream proc n idle) { current = proc.current - 1 }
+
+-- it happens where the instruction is done
+abbrev pub settled : ProcessorValue → ℕ → ℕ → Control → Outcome → ProcessorValue
+settled proc n grant asking outcome.Skipped = proc
+settled proc n grant asking outcome.Done = controlled proc n grant asking
+settled proc n grant asking outcome.Blocked = proc
+settled proc n grant asking (outcome.Trapped k) = proc
+settled proc n grant asking (outcome.Stopped k) = proc
+
+abbrev pub put_back : ProcessorValue → ℕ → StreamValue × Outcome → ProcessorValue × Outcome
+put_back proc n e = (with_stream proc n e.0, e.1)
+
+-- the instruction left its stream so, with this outcome
+abbrev pub put_settled : ProcessorValue → ℕ → ℕ → Control → StreamValue × Outcome → ProcessorValue × Outcome
+put_settled proc n grant asking e = (settled (with_stream proc n e.0) n grant asking e.1, e.1)
+
+abbrev pub row_granting : ImageValue → ProcessorValue → ℕ → Option Reply → StreamValue → Insn → Control → ℕ
+    → ProcessorValue × Outcome
+row_granting image proc n reply s i asking grant =
+    put_settled proc n grant asking (row_asking image.retry_limit s i grant reply (request_of s i))
+
+abbrev pub row_controlling : ImageValue → ProcessorValue → ℕ → Option Reply → StreamValue → Insn → Control
+    → ProcessorValue × Outcome
+row_controlling image proc n reply s i asking = row_granting image proc n reply s i asking (granted image proc asking)
+
+abbrev pub row_by : ImageValue → ProcessorValue → ℕ → Option Reply → StreamValue → Fetched → ProcessorValue × Outcome
+row_by image proc n reply s fetch.Rest = (proc, outcome.Skipped)
+row_by image proc n reply s (fetch.Trap k) = put_back proc n (trapped k 0 s)
+row_by image proc n reply s (fetch.Runs i) = row_controlling image proc n reply s i (control_of s i)
+
+abbrev pub row_at : ImageValue → ProcessorValue → ℕ → Option Reply → Option StreamValue → ProcessorValue × Outcome
+row_at image proc n reply None = (proc, outcome.Skipped)
+row_at image proc n reply (Some s) = row_by image proc n reply s (begun image proc s)
+
+-- the processor after a step of stream n with this reply, none where it asks nothing; and the outcome
+unfoldable pub row : ImageValue → ProcessorValue → ℕ → Option Reply → ProcessorValue × Outcome
+row image proc n reply = row_at image proc n reply (slice_get proc.streams n)
+
+-- Over a memory.
+
+abbrev pub served_asking : ImageValue → ProcessorValue → ℕ → TaggedMemory → Option Request
+    → (ProcessorValue × Outcome) × TaggedMemory
+served_asking image proc n m None = (row image proc n None, m)
+served_asking image proc n m (Some q) = (row image proc n (Some (answer m q).1), (answer m q).0)
+
+-- the processor after a step of stream n whose request this memory answers, the outcome, and the memory
+unfoldable pub served : ImageValue → ProcessorValue → ℕ → TaggedMemory → (ProcessorValue × Outcome) × TaggedMemory
+served image proc n m = served_asking image proc n m (request image proc n)

@@ -1,0 +1,74 @@
+-- All processors over one memory, and the operation table folded over a schedule.
+use Rattle.std.specs.Prelude.{ℕ, List, [], ◌∷◌, ◌++◌, map, Option, Some, None, slice_get, slice_set}
+use Rattle.tag_memory.specs.declared.requests.Request.{Request}
+use Rattle.tag_memory.specs.Storage.{TaggedMemory, memory_of}
+use Rattle.tag_memory.specs.Answer.{answer}
+use Rattle.image_file.specs.ImageValue.{ImageValue}
+use Rattle.stream_core.specs.declared.steps.Outcome.{Outcome}
+use Rattle.stream_core.specs.declared.steps.Outcome.TheVariants as outcome
+use Rattle.processor.specs.Processors.{ProcessorValue, opening}
+use Rattle.processor.specs.Row.{request, served}
+use Rattle.processor.specs.declared.steps.Step.{Step}
+use Rattle.processor.specs.declared.steps.Entry.{Entry}
+
+-- the processors by number, and the memory
+pub record World : Type 0 where
+  pub processors : List ProcessorValue
+  pub memory : TaggedMemory
+
+-- the world of an image before any step
+unfoldable pub start : ImageValue → World
+start image = record { processors = map (opening image) image.entries; memory = memory_of image.cells }
+
+-- One step.
+
+abbrev pub taken : World → ℕ → (ProcessorValue × Outcome) × TaggedMemory → World × Outcome
+taken w p e = (record { processors = slice_set w.processors p e.0.0; memory = e.1 }, e.0.1)
+
+abbrev pub stepped_at : ImageValue → World → Step → Option ProcessorValue → World × Outcome
+stepped_at image w t None = (w, outcome.Skipped)
+stepped_at image w t (Some proc) = taken w t.p (served image proc t.s w.memory)
+
+-- the world after a step, and the outcome
+unfoldable pub stepped : ImageValue → World → Step → World × Outcome
+stepped image w t = stepped_at image w t (slice_get w.processors t.p)
+
+abbrev pub after : ImageValue → World → Step → World
+after image w t = (stepped image w t).0
+
+abbrev pub outcome_of : ImageValue → World → Step → Outcome
+outcome_of image w t = (stepped image w t).1
+
+-- A schedule.
+
+-- the world after steps
+abbrev pub steps : ImageValue → World → List Step → World
+steps image w [] = w
+steps image w (t ∷ ts) = steps image (after image w t) ts
+
+-- the world after a schedule, from the image's start
+abbrev pub run : ImageValue → List Step → World
+run image ts = steps image (start image) ts
+
+-- What it asks of the memory.
+
+abbrev pub entry_asking : World → Step → Option Request → List Entry
+entry_asking w t None = []
+entry_asking w t (Some q) = record { p = t.p; s = t.s; request = q; reply = (answer w.memory q).1 } ∷ []
+
+abbrev pub entry_at : ImageValue → World → Step → Option ProcessorValue → List Entry
+entry_at image w t None = []
+entry_at image w t (Some proc) = entry_asking w t (request image proc t.s)
+
+-- the entry that a step makes, if it asks; blocked and trapped requests are entries too
+unfoldable pub entry : ImageValue → World → Step → List Entry
+entry image w t = entry_at image w t (slice_get w.processors t.p)
+
+-- the entries that steps make, in order
+abbrev pub made : ImageValue → World → List Step → List Entry
+made image w [] = []
+made image w (t ∷ ts) = entry image w t ++ made image (after image w t) ts
+
+-- the entries that a schedule makes, from the image's start
+abbrev pub asked : ImageValue → List Step → List Entry
+asked image ts = made image (start image) ts

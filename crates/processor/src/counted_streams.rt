@@ -1,0 +1,231 @@
+//! Streams with the counts of those that are current and of those that are reserved. That the counts are right is the
+//! processor's to keep.
+
+ghost use Rattle.std.specs.Prelude.{◌≡◌, ◌<◌, ◌≤◌, ◌+◌, length, true, false, is_some, IfOk};
+ghost use Rattle.stream_core.specs.StreamRow.{control_of};
+ghost use Rattle.stream_core.specs.Effects.{request_of};
+ghost use Rattle.stream_core.specs.Streams.{StreamValue, idle, trapped};
+ghost use Rattle.processor.specs.Processors.{stream_at, IsCounted};
+ghost use Rattle.processor.specs.Row.{lacks_stream, granted, begun_of, controlled, put_back, row_controlling};
+ghost use Rattle.processor.specs.Row.{request, next_of, row, served};
+
+use crate::steps::Next;
+use crate::stream_table::StreamTable;
+use image_file::Image;
+use insn_word::{ControlOp, Insn};
+use std::alloc::{AllocError, Global};
+use std::marker::Model;
+use stream_core::{Control, Fetched, Outcome, Stream, TrapKind};
+use tag_memory::{Memory, Reply};
+
+/// The streams and the counts, which clauses see as a processor.
+#[derive(Drop)]
+pub(crate) struct CountedStreams<const S: usize> {
+    pub(crate) scur: u16,
+    pub(crate) sres: u16,
+    pub(crate) table: StreamTable<S>,
+}
+
+impl<const S: usize> Model for CountedStreams<S> {
+    ghost use Rattle.processor.specs.Processors.{ProcessorValue};
+
+    ghost Value = { ProcessorValue };
+
+    ghost view = { λ c. record { streams = c.table; current = c.scur; reserved = c.sres } };
+}
+
+impl<const S: usize> CountedStreams<S> {
+    /// Whether the instruction is a CREATE that finds no reserved stream that is free.
+    #[tactic(auto, unfolding(stream_core::specs::StreamRow::control_of))]
+    fn lacks_stream(&self, insn: &Insn) -> bool
+        ensures { (s : StreamValue) → result ≡ lacks_stream self.now (control_of s insn.now) }
+    {
+        let Insn::Normal { c, .. } = insn else {
+            return false;
+        };
+        match c.op {
+            ControlOp::Create => self.scur == self.sres,
+            _ => false,
+        }
+    }
+
+    /// The number of streams that a RESERVE is granted.
+    fn granted(&self, image: &Image, control: &Control) -> u64
+        ensures is { result ≡ granted image.now self.now control.now }
+        ensures fits { self.now.reserved + result < 65536 }
+    {
+        let room = image.slim().saturating_sub(self.sres);
+        match control {
+            Control::Reserve(asked) => (*asked).min(u64::from(room)),
+            _ => 0,
+        }
+    }
+
+    /// What a step of the stream at this place begins with.
+    #[tactic(auto, unfolding(crate::specs::Row::begun_of, crate::specs::Row::begun))]
+    fn begun(&self, image: &Image, place: usize) -> Fetched
+        ensures { result ≡ begun_of image.now self.now place }
+    {
+        let Some(stream) = self.table.used(place) else {
+            return Fetched::Rest;
+        };
+        match stream.fetch(image.program()) {
+            Fetched::Rest => Fetched::Rest,
+            Fetched::Trap(kind) => Fetched::Trap(kind),
+            Fetched::Runs(insn) => {
+                if self.lacks_stream(&insn) {
+                    Fetched::Trap(TrapKind::Create)
+                } else {
+                    Fetched::Runs(insn)
+                }
+            }
+        }
+    }
+
+    /// Does what the instruction of the stream at this place, which is done, asks of its processor.
+    fn settle(&mut self, place: usize, control: Control, grant: u64)
+        requires some { 1 ≤ self.old.current }
+        requires within { self.old.current ≤ self.old.reserved }
+        requires free { lacks_stream self.old control ≡ false }
+        requires fits { self.old.reserved + grant < 65536 }
+        ensures { self.new ≡ controlled self.old place grant control }
+    {
+        match control {
+            Control::Plain => {}
+            Control::Reserve(_) => self.sres += grant as u16,
+            Control::Create(child) => {
+                let lowest = self.table.lowest_idle();
+                self.table.put(lowest, Stream::born(&child));
+                self.scur += 1;
+            }
+            Control::Quit => {
+                self.table.put(place, Stream::idle());
+                self.scur -= 1;
+                self.sres -= 1;
+            }
+            Control::QuitKeep => {
+                self.table.put(place, Stream::idle());
+                self.scur -= 1;
+            }
+        }
+    }
+
+    /// The stream of this number.
+    fn at(&self, place: usize) -> &Stream
+        requires used { place < length self.now.streams }
+        ensures { result.now ≡ stream_at self.now.streams place }
+    {
+        self.table.at(place)
+    }
+
+    /// A stream takes a trap that has no address.
+    fn trap(&mut self, place: usize, kind: TrapKind) -> Outcome
+        requires used { place < length self.old.streams }
+        ensures { (self.new, result) ≡ put_back self.old place (trapped kind 0 (stream_at self.old.streams place)) }
+    {
+        self.table.trap(place, kind)
+    }
+
+    /// Completes the step of the instruction that stands at the pc of a stream, with the memory's reply to its request
+    /// where it has one.
+    fn complete(
+        &mut self,
+        image: &Image,
+        place: usize,
+        insn: &Insn,
+        reply: Option<Reply>,
+    ) -> Outcome
+        requires used { place < length self.old.streams }
+        requires replied { is_some reply ≡ is_some (request_of (stream_at self.old.streams place) insn.now) }
+        requires some { 1 ≤ self.old.current }
+        requires within { self.old.current ≤ self.old.reserved }
+        requires free { lacks_stream self.old (control_of (stream_at self.old.streams place) insn.now) ≡ false }
+        ensures { (self.new, result) ≡ row_controlling image.now self.old place reply
+            (stream_at self.old.streams place) insn.now (control_of (stream_at self.old.streams place) insn.now) }
+    {
+        let limit = image.retry_limit();
+        if asks_nothing(insn) {
+            return self.table.complete(place, insn, reply, limit, 0);
+        }
+        let control = self.at(place).control_of(insn);
+        let grant = self.granted(image, &control);
+        match self.table.complete(place, insn, reply, limit, grant) {
+            Outcome::Done => {
+                self.settle(place, control, grant);
+                Outcome::Done
+            }
+            outcome => outcome,
+        }
+    }
+
+    /// What a step of the stream of this number needs.
+    pub(crate) fn next(&self, image: &Image, place: usize) -> Next
+        ensures { result ≡ next_of image.now self.now place }
+    {
+        match self.begun(image, place) {
+            Fetched::Rest => Next::Skip,
+            Fetched::Trap(_) => Next::Local,
+            Fetched::Runs(insn) => match self.at(place).request(&insn) {
+                None => Next::Local,
+                Some(request) => Next::Ask(request),
+            },
+        }
+    }
+
+    /// One step of the stream of this number, with the memory's reply to its request where it has one.
+    pub(crate) fn row(&mut self, image: &Image, place: usize, reply: Option<Reply>) -> Outcome
+        requires counted { IsCounted self.old }
+        requires replied { is_some reply ≡ is_some (request image.now self.old place) }
+        ensures { (self.new, result) ≡ row image.now self.old place reply }
+    {
+        match self.begun(image, place) {
+            Fetched::Rest => Outcome::Skipped,
+            Fetched::Trap(kind) => self.trap(place, kind),
+            Fetched::Runs(insn) => self.complete(image, place, &insn, reply),
+        }
+    }
+
+    /// One step of the stream of this number over a memory. It decodes one word and takes no memory.
+    pub(crate) fn served(&mut self, image: &Image, place: usize, memory: &mut Memory) -> Outcome
+        requires counted { IsCounted self.old }
+        ensures { ((self.new, result), memory.new) ≡ served image.now self.old place memory.old }
+    {
+        match self.begun(image, place) {
+            Fetched::Rest => Outcome::Skipped,
+            Fetched::Trap(kind) => self.trap(place, kind),
+            Fetched::Runs(insn) => match self.at(place).request(&insn) {
+                None => self.complete(image, place, &insn, None),
+                Some(request) => {
+                    let reply = memory.serve(&request);
+                    self.complete(image, place, &insn, Some(reply))
+                }
+            },
+        }
+    }
+
+    /// Streams and counts equal to these.
+    pub(crate) fn try_clone(&self) -> Result<CountedStreams<S>, AllocError>
+        ensures { IfOk result (λ c. c ≡ self.now) }
+    {
+        let table = self.table.try_clone()?;
+        Ok(CountedStreams {
+            scur: self.scur,
+            sres: self.sres,
+            table,
+        })
+    }
+}
+
+/// Whether the instruction asks nothing of its processor, as most do.
+#[tactic(auto, unfolding(stream_core::specs::StreamRow::control_of))]
+fn asks_nothing(insn: &Insn) -> bool
+    ensures { (s : StreamValue) → result ≡ true → control_of s insn.now ≡ Control.Plain }
+{
+    let Insn::Normal { c, .. } = insn else {
+        return true;
+    };
+    match c.op {
+        ControlOp::Reserve | ControlOp::Create | ControlOp::Quit | ControlOp::QuitKeep => false,
+        _ => true,
+    }
+}

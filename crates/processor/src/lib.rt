@@ -1,0 +1,13 @@
+//! A processor of many streams, and the operation table folded over a schedule of steps
+//! (docs/MACHINE.md, "Processors", "Schedules").
+#![tactic(auto)]
+
+mod counted_streams;
+mod processors;
+mod steps;
+mod stream_table;
+#[cfg(test)]
+mod tests;
+
+pub use processors::Processor;
+pub use steps::{Entry, Next, Step};

@@ -1,0 +1,137 @@
+//! A processor.
+
+ghost use Rattle.std.specs.Prelude.{◌≡◌, ◌<◌, ◌≤◌, None, Some, length, slice_index, IfOk};
+ghost use Rattle.std.specs.Option.{option_copied};
+ghost use Rattle.processor.specs.Processors.{IsCounted, stream_seen, opening};
+ghost use Rattle.processor.specs.Row.{next_of, row, served};
+ghost use Rattle.processor.specs.Kept.{KeepsOthers};
+
+use crate::counted_streams::CountedStreams;
+use crate::steps::Next;
+use crate::stream_table::StreamTable;
+use image_file::Image;
+use std::alloc::{AllocError, Global};
+use std::marker::Model;
+use stream_core::{Child, Outcome, StatusWord, Stream, TrapMask};
+use tag_memory::{Memory, Reply, Request};
+
+/// A processor with room for `S` streams, of which those below the slim of its image are used; the others stay idle
+/// ("Processors", docs/MACHINE.md).
+///
+/// A call that takes an image takes the one that the processor was made for, or one of the same slim.
+#[derive(Drop)]
+pub struct Processor<const S: usize> {
+    streams: CountedStreams<S>,
+}
+
+// Contracts see the used streams and the counts, which keep to them.
+impl<const S: usize> Model for Processor<S> {
+    ghost use Rattle.processor.specs.Processors.{ProcessorValue, IsCounted};
+
+    ghost Value = { ProcessorValue };
+
+    ghost view = { λ p. p.streams };
+
+    ghost invariant = { λ p. IsCounted p.streams };
+}
+
+impl<const S: usize> Processor<S> {
+    /// The image's processor of this number at its start: stream 0 runs from the processor's entry.
+    pub fn new(alloc: Global, image: &Image, number: usize) -> Result<Processor<S>, AllocError>
+        requires slim { image.now.slim ≤ S }
+        requires stands { number < length image.now.entries }
+        ensures { IfOk result (λ p. p ≡ opening image.now (slice_index image.now.entries number)) }
+    {
+        let Some(entry) = image.entry(number) else {
+            unreachable!();
+        };
+        let first = Stream::born(&Child {
+            pc: entry,
+            value: 0,
+            t0: StatusWord::at(image.trap_entry()),
+            mask: TrapMask::NONE,
+        });
+        let table = StreamTable::new(alloc, image.slim(), first)?;
+        let streams = CountedStreams {
+            scur: 1,
+            sres: 1,
+            table,
+        };
+        Ok(Processor { streams })
+    }
+
+    /// What the next step of stream `s` needs: nothing to do where no such stream runs, no memory, or the reply to a
+    /// request. A step that traps before it asks needs no memory.
+    pub fn next(&self, image: &Image, s: u8) -> Next
+        ensures { result ≡ next_of image.now self.now s }
+    {
+        self.streams.next(image, s as usize)
+    }
+
+    /// A step of stream `s` that needs no memory.
+    pub fn step_local(&mut self, image: &Image, s: u8) -> Outcome
+        requires slim { image.now.slim ≡ length self.old.streams }
+        requires local { next_of image.now self.old s ≡ Next.Local }
+        ensures row { (self.new, result) ≡ row image.now self.old s None }
+        ensures others { KeepsOthers s self.old self.new }
+    {
+        self.streams.row(image, s as usize, None)
+    }
+
+    /// A step of stream `s` whose request got this reply. Any reply is taken.
+    pub fn step_reply(&mut self, image: &Image, s: u8, request: &Request, reply: Reply) -> Outcome
+        requires slim { image.now.slim ≡ length self.old.streams }
+        requires asks { next_of image.now self.old s ≡ Next.Ask request.now }
+        ensures row { (self.new, result) ≡ row image.now self.old s (Some reply) }
+        ensures others { KeepsOthers s self.old self.new }
+    {
+        self.streams.row(image, s as usize, Some(reply))
+    }
+
+    /// A step of stream `s` over a memory, which answers its request. It decodes one word and takes no memory.
+    pub fn step(&mut self, image: &Image, s: u8, memory: &mut Memory) -> Outcome
+        requires slim { image.now.slim ≡ length self.old.streams }
+        ensures served { ((self.new, result), memory.new) ≡ served image.now self.old s memory.old }
+        ensures others { KeepsOthers s self.old self.new }
+    {
+        self.streams.served(image, s as usize, memory)
+    }
+
+    /// The stream of this number; None from `S` on. From the image's slim on it is idle.
+    pub fn stream(&self, s: u8) -> Option<&Stream>
+        ensures { option_copied result ≡ stream_seen S self.now.streams s }
+    {
+        self.streams.table.stream(s as usize)
+    }
+
+    /// The number of used streams, the slim of its image.
+    pub fn slim(&self) -> u16
+        ensures { result ≡ length self.now.streams }
+    {
+        self.streams.table.slim()
+    }
+
+    /// How many streams are not idle; a stopped one counts.
+    pub fn scur(&self) -> u16
+        ensures is { result ≡ self.now.current }
+        ensures counted { IsCounted self.now }
+    {
+        self.streams.scur
+    }
+
+    /// How many streams are reserved.
+    pub fn sres(&self) -> u16
+        ensures is { result ≡ self.now.reserved }
+        ensures counted { IsCounted self.now }
+    {
+        self.streams.sres
+    }
+
+    /// A processor equal to this one.
+    pub fn try_clone(&self) -> Result<Processor<S>, AllocError>
+        ensures { IfOk result (λ p. p ≡ self.now) }
+    {
+        let streams = self.streams.try_clone()?;
+        Ok(Processor { streams })
+    }
+}

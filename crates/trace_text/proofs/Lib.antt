@@ -1,0 +1,10 @@
+pub mod Counting
+pub mod Fields
+pub mod FirstLine
+pub mod Reading
+pub mod RunsInFront
+pub mod Values
+pub mod WorldSteps
+pub mod LinesRead
+pub mod ReadBack
+pub mod RunsRead

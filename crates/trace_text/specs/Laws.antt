@@ -1,0 +1,13 @@
+-- What is written of a schedule is read as the same steps.
+use Rattle.std.specs.Prelude.{◌≡◌, ◌≤◌, List, length, All, Ok}
+use Rattle.processor.specs.declared.steps.Step.{Step}
+use Rattle.trace_text.specs.Schedules.{schedule_of}
+use Rattle.trace_text.specs.Runs.{written}
+
+-- the numbers of a step are bytes
+abbrev pub IsStep : Step → Type 0
+IsStep t = (t.p ≤ 255) × (t.s ≤ 255)
+
+-- no more steps than a schedule has
+abbrev pub ReadsBack : Type 0
+ReadsBack = (steps : List Step) → All IsStep steps → length steps ≤ 1000000 → schedule_of (written steps) ≡ Ok steps

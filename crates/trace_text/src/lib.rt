@@ -1,0 +1,23 @@
+//! Schedules and traces as text ("Schedules", "Traces", "World text", docs/FORMATS.md).
+#![tactic(auto)]
+
+mod laws;
+mod line_numbers;
+mod lines;
+mod rounds;
+mod runs;
+mod schedule_fault;
+mod schedules;
+#[cfg(test)]
+mod tests;
+mod trace_lines;
+mod world_texts;
+mod written_schedules;
+
+pub use laws::written_schedules_are_read_back;
+pub use rounds::round_schedule;
+pub use schedule_fault::{ScheduleFault, ScheduleFaultKind};
+pub use schedules::read_schedule;
+pub use trace_lines::{push_trace_line, trace_line};
+pub use world_texts::world_text;
+pub use written_schedules::write_schedule;

@@ -1,0 +1,80 @@
+//! A line of a schedule: a step, and how often it is taken.
+
+ghost use Rattle.std.specs.Prelude.{◌≡◌, ℕ, ◌≤◌, IfSome};
+ghost use Rattle.std.specs.Option.{option_map, option_copied};
+ghost use Rattle.number_text.specs.Numbers.{number_from, up_to};
+ghost use Rattle.trace_text.specs.ScheduleLines.{LineValues, values_of};
+ghost use Rattle.trace_text.specs.Fields.{times_in};
+ghost use Rattle.trace_text.specs.LineNumbers.{numbers_from, run_within};
+
+use crate::lines::split_field;
+use crate::runs::{MAX_STEPS, Run};
+use number_text::{Base, Number, read_digits};
+use processor::Step;
+
+/// The numbers of a line, of any size.
+#[derive(Clone, Copy, Debug, PartialEq, Eq)]
+pub struct LineNumbers {
+    processor: Number,
+    stream: Number,
+    times: Number,
+}
+
+impl LineNumbers {
+    /// The numbers that a line spells, and None where it has another form.
+    pub fn read(line: &[u8]) -> Option<LineNumbers>
+        ensures { result ≡ option_map numbers_from (values_of line.now) }
+    {
+        let (processor, rest) = split_field(line);
+        let (stream, rest) = split_field(rest?);
+        let processor = read_digits(Base::Decimal, processor)?;
+        let stream = read_digits(Base::Decimal, stream)?;
+        let times = read_times(rest)?;
+        Some(LineNumbers {
+            processor,
+            stream,
+            times,
+        })
+    }
+
+    /// The run that the numbers say, and None where one of them is out of its limits.
+    pub fn run(self) -> Option<Run>
+        ensures { (v : LineValues) → self ≡ numbers_from v → result ≡ run_within v }
+    {
+        let processor = at_most(self.processor, 255)?;
+        let stream = at_most(self.stream, 255)?;
+        let times = at_most(self.times, MAX_STEPS as u64)?;
+        if times == 0 {
+            return None;
+        }
+        let step = Step {
+            p: processor as u8,
+            s: stream as u8,
+        };
+        Some(Run {
+            step,
+            times: times as usize,
+        })
+    }
+}
+
+/// The number in a line's third field, and 1 where there is none.
+fn read_times(field: Option<&[u8]>) -> Option<Number>
+    ensures { result ≡ option_map number_from (times_in (option_copied field.entry)) }
+{
+    match field {
+        Some(digits) => read_digits(Base::Decimal, digits),
+        None => Some(Number::Word(1)),
+    }
+}
+
+/// A number where it is no more than a limit.
+fn at_most(number: Number, limit: u64) -> Option<u64>
+    ensures value { (n : ℕ) → number ≡ number_from n → result ≡ up_to limit n }
+    ensures below { IfSome result (λ n. n ≤ limit) }
+{
+    match number {
+        Number::Word(word) if word <= limit => Some(word),
+        _ => None,
+    }
+}

@@ -1,0 +1,8 @@
+mod faults;
+mod large;
+mod schedules;
+mod traces;
+mod worlds;
+
+use crate::*;
+use processor::Step;
