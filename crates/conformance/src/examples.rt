@@ -1,4 +1,4 @@
-//! The programs of examples/, run by their schedules.
+//! The programs of data/examples, run by their schedules.
 
 use anyhow::{Context, Result};
 use mta_engines::{asm_engine, list_engine, run_engine};
