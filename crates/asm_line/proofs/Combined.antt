@@ -8,7 +8,8 @@ use Rattle.asm_line.specs.Instructions.{three_parts, triple}
 use Rattle.asm_line.specs.declared.fault.Fault.{Fault}
 use Rattle.asm_line.specs.declared.operation.Operation.{Operation}
 
-pub three_known : (places : Places) (here : ℕ) (x y z a b c d e f : List ℕ) (o p q : Operation) (r s t : Result Operation Fault)
+pub three_known : (places : Places) (here : ℕ) (x y z a b c d e f : List ℕ) (o p q : Operation)
+    (r s t : Result Operation Fault)
     → a ≡ head x → b ≡ head y → c ≡ head z → d ≡ behind_head x → e ≡ behind_head y → f ≡ behind_head z
     → r ≡ operation_of a → s ≡ operation_of b → t ≡ operation_of c → both (both r s) t ≡ Ok ((o, p), q)
     → triple places here o p q (operands_of d) (operands_of e) (operands_of f) ≡ three_parts places here x y z

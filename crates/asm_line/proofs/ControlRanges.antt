@@ -8,13 +8,15 @@ use Rattle.insn_word.specs.declared.operations.ControlOp.TheVariants as control
 use Rattle.asm_line.specs.Faults.{both}
 use Rattle.asm_line.specs.Numbers.{number_within}
 use Rattle.asm_line.specs.Operands.{Places, register, target, offset, condition}
-use Rattle.asm_line.specs.Parts.{jump, skip, call, exchange, to_target, from_target, trap_get, reserve, bare, mask, control_part}
+use Rattle.asm_line.specs.Parts.{jump, skip, call, exchange, to_target, from_target, trap_get, reserve, bare, mask}
+use Rattle.asm_line.specs.Parts.{control_part}
 use Rattle.asm_line.proofs.OkRules.{ok_both, ok_map, ok_any}
 use Rattle.asm_line.proofs.NumberRanges.{number_within_range, register_range, target_range, offset_range}
 use Rattle.asm_line.proofs.PartRanges.{IsGoodControl, condition_small}
 
 test_range : (x y : List ℕ) → IfOk (both (condition x) (number_within 3 y)) (λ v. ⊤ × (v.1 ≤ 3))
-test_range x y = ok_both (λ _. ⊤) (λ n. n ≤ 3) (condition x) (number_within 3 y) (ok_any (condition x)) (number_within_range 3 y)
+test_range x y =
+    ok_both (λ _. ⊤) (λ n. n ≤ 3) (condition x) (number_within 3 y) (ok_any (condition x)) (number_within_range 3 y)
 
 two_targets : (x y : List ℕ) → IfOk (both (target x) (target y)) (λ v. (v.0 < 8) × (v.1 < 8))
 two_targets x y = ok_both (λ n. n < 8) (λ n. n < 8) (target x) (target y) (target_range x) (target_range y)
@@ -26,17 +28,20 @@ register_target : (x y : List ℕ) → IfOk (both (register x) (target y)) (λ v
 register_target x y = ok_both (λ n. n < 32) (λ n. n < 8) (register x) (target y) (register_range x) (target_range y)
 
 two_registers : (x y : List ℕ) → IfOk (both (register x) (register y)) (λ v. (v.0 < 32) × (v.1 < 32))
-two_registers x y = ok_both (λ n. n < 32) (λ n. n < 32) (register x) (register y) (register_range x) (register_range y)
+two_registers x y =
+    ok_both (λ n. n < 32) (λ n. n < 32) (register x) (register y) (register_range x) (register_range y)
 
 jump_range : (os : List (List ℕ)) → IfOk (jump os) IsGoodControl
 jump_range (x ∷ y ∷ z ∷ []) =
-    ok_map (λ v. record (no_control control.Jump) { cond = v.0.0; code = v.0.1; t = v.1 }) (λ v. (⊤ × (v.0.1 ≤ 3)) × (v.1 < 8)) IsGoodControl
+    ok_map (λ v. record (no_control control.Jump) { cond = v.0.0; code = v.0.1; t = v.1 })
+    (λ v. (⊤ × (v.0.1 ≤ 3)) × (v.1 < 8)) IsGoodControl
     (both (both (condition x) (number_within 3 y)) (target z))
     (λ v r. record {
       ranges = (omega arith, (condition_small v.0.0, (omega (arith, r.0.1), (r.1, (omega arith, tt)))));
       rest = refl;
     })
-    (ok_both (λ w. ⊤ × (w.1 ≤ 3)) (λ n. n < 8) (both (condition x) (number_within 3 y)) (target z) (test_range x y) (target_range z))
+    (ok_both (λ w. ⊤ × (w.1 ≤ 3)) (λ n. n < 8) (both (condition x) (number_within 3 y)) (target z) (test_range x y)
+    (target_range z))
 jump_range [] = tt
 jump_range (x ∷ []) = tt
 jump_range (x ∷ y ∷ []) = tt
@@ -44,13 +49,15 @@ jump_range (x ∷ y ∷ z ∷ w ∷ os) = tt
 
 skip_range : (places : Places) (here : ℕ) (os : List (List ℕ)) → IfOk (skip places here os) IsGoodControl
 skip_range places here (x ∷ y ∷ z ∷ []) =
-    ok_map (λ v. record (no_control control.Skip) { cond = v.0.0; code = v.0.1; n = v.1 }) (λ v. (⊤ × (v.0.1 ≤ 3)) × IsInRange (signed 8 v.1)) IsGoodControl
+    ok_map (λ v. record (no_control control.Skip) { cond = v.0.0; code = v.0.1; n = v.1 })
+    (λ v. (⊤ × (v.0.1 ≤ 3)) × IsInRange (signed 8 v.1)) IsGoodControl
     (both (both (condition x) (number_within 3 y)) (offset places here z))
     (λ v r. record {
       ranges = (omega arith, (condition_small v.0.0, (omega (arith, r.0.1), (r.1, tt))));
       rest = refl;
     })
-    (ok_both (λ w. ⊤ × (w.1 ≤ 3)) (λ z. IsInRange (signed 8 z)) (both (condition x) (number_within 3 y)) (offset places here z) (test_range x y) (offset_range places here z))
+    (ok_both (λ w. ⊤ × (w.1 ≤ 3)) (λ z. IsInRange (signed 8 z)) (both (condition x) (number_within 3 y))
+    (offset places here z) (test_range x y) (offset_range places here z))
 skip_range places here [] = tt
 skip_range places here (x ∷ []) = tt
 skip_range places here (x ∷ y ∷ []) = tt
@@ -83,7 +90,8 @@ exchange_range (x ∷ y ∷ os) = tt
 
 target_set_range : (os : List (List ℕ)) → IfOk (to_target control.TargetSet os) IsGoodControl
 target_set_range (x ∷ y ∷ []) =
-    ok_map (λ v. record (no_control control.TargetSet) { t = v.0; ra = v.1 }) (λ v. (v.0 < 8) × (v.1 < 32)) IsGoodControl
+    ok_map (λ v. record (no_control control.TargetSet) { t = v.0; ra = v.1 }) (λ v. (v.0 < 8) × (v.1 < 32))
+    IsGoodControl
     (both (target x) (register y))
     (λ v r. record {
       ranges = (omega arith, (r.0, (r.1, (omega arith, tt))));
@@ -109,7 +117,8 @@ create_range (x ∷ y ∷ z ∷ os) = tt
 
 from_target_range : (os : List (List ℕ)) → IfOk (from_target os) IsGoodControl
 from_target_range (x ∷ y ∷ []) =
-    ok_map (λ v. record (no_control control.TargetGet) { rd = v.0; t = v.1 }) (λ v. (v.0 < 32) × (v.1 < 8)) IsGoodControl
+    ok_map (λ v. record (no_control control.TargetGet) { rd = v.0; t = v.1 }) (λ v. (v.0 < 32) × (v.1 < 8))
+    IsGoodControl
     (both (register x) (target y))
     (λ v r. record {
       ranges = (omega arith, (r.1, (r.0, (omega arith, tt))));
@@ -134,7 +143,8 @@ trap_get_range (x ∷ y ∷ os) = tt
 
 reserve_range : (os : List (List ℕ)) → IfOk (reserve os) IsGoodControl
 reserve_range (x ∷ y ∷ []) =
-    ok_map (λ v. record (no_control control.Reserve) { rd = v.0; ra = v.1 }) (λ v. (v.0 < 32) × (v.1 < 32)) IsGoodControl
+    ok_map (λ v. record (no_control control.Reserve) { rd = v.0; ra = v.1 }) (λ v. (v.0 < 32) × (v.1 < 32))
+    IsGoodControl
     (both (register x) (register y))
     (λ v r. record {
       ranges = (omega arith, (omega arith, (r.0, (r.1, (omega arith, tt)))));
@@ -165,7 +175,8 @@ quit_keep_range : (os : List (List ℕ)) → IfOk (bare control.QuitKeep os) IsG
 quit_keep_range [] = record { ranges = (omega arith, (omega arith, tt)); rest = refl }
 quit_keep_range (x ∷ os) = tt
 
-pub control_part_range : (places : Places) (here : ℕ) (op : ControlOp) (os : List (List ℕ)) → IfOk (control_part places here op os) IsGoodControl
+pub control_part_range : (places : Places) (here : ℕ) (op : ControlOp) (os : List (List ℕ))
+    → IfOk (control_part places here op os) IsGoodControl
 control_part_range places here control.Nop os = tt
 control_part_range places here control.Jump os = jump_range os
 control_part_range places here control.Skip os = skip_range places here os

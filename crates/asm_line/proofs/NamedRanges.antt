@@ -41,14 +41,16 @@ IsNamed _ = ⊤
 
 memory_range : (name : List ℕ) → IfSome (memory_named name) IsMemory
 unfolding memory_named
-memory_range name = found_in (λ o. bytes_eq name (memory_name o)) IsMemory memory_operations (tt, (tt, (tt, (tt, (tt, tt)))))
+memory_range name =
+    found_in (λ o. bytes_eq name (memory_name o)) IsMemory memory_operations (tt, (tt, (tt, (tt, (tt, tt)))))
 
 arithmetic_range : (name : List ℕ) → IfSome (arithmetic_named name) IsArithmetic
 unfolding arithmetic_named
 arithmetic_range name = found_in (λ o. bytes_eq name (arithmetic_name o)) IsArithmetic arithmetic_operations
     (tt, (tt, (tt, (tt, (tt, (tt, (tt, (tt, (tt, (tt, (tt, (tt, (tt, (tt, tt))))))))))))))
 
-access_range : (op : MemoryOp) (suffix : Option (List ℕ)) → IsMemory op → IfSome (access_named op suffix) (IsWithAccess op)
+access_range : (op : MemoryOp) (suffix : Option (List ℕ)) → IsMemory op
+    → IfSome (access_named op suffix) (IsWithAccess op)
 unfolding access_named
 access_range memory.Nop suffix h = absurd h
 access_range memory.Load None h = tt
@@ -74,7 +76,8 @@ access_range memory.FetchAdd (Some letter) h = any (letter_access letter)
 access_range memory.TagGet (Some letter) h = tt
 access_range memory.TagSet (Some letter) h = tt
 
-some_map : {A B : Type 0} (f : A → B) (P : A → Type 0) (Q : B → Type 0) (o : Option A) → ((x : A) → P x → Q (f x)) → IfSome o P → IfSome (option_map f o) Q
+some_map : {A B : Type 0} (f : A → B) (P : A → Type 0) (Q : B → Type 0) (o : Option A) → ((x : A) → P x → Q (f x))
+    → IfSome o P → IfSome (option_map f o) Q
 some_map f P Q None g h = tt
 some_map f P Q (Some x) g h = g x h
 
@@ -98,19 +101,28 @@ plain_range name =
     nop true = tt
     nop false = tt
 
-unsuffixed_range : (suffix : Option (List ℕ)) (o : Option Operation) → IfSome o IsNamed → IfSome (unsuffixed suffix o) IsNamed
+unsuffixed_range : (suffix : Option (List ℕ)) (o : Option Operation) → IfSome o IsNamed
+    → IfSome (unsuffixed suffix o) IsNamed
 unsuffixed_range None o h = h
 unsuffixed_range (Some s) o h = tt
 
-memory_or_plain_range : (name : List ℕ) (suffix : Option (List ℕ)) (o : Option MemoryOp) → IfSome o IsMemory → IfSome (memory_or_plain name suffix o) IsNamed
+memory_or_plain_range : (name : List ℕ) (suffix : Option (List ℕ)) (o : Option MemoryOp) → IfSome o IsMemory
+    → IfSome (memory_or_plain name suffix o) IsNamed
 memory_or_plain_range name suffix None h = unsuffixed_range suffix (plain_named name) (plain_range name)
-memory_or_plain_range name suffix (Some op) h = some_map (operation.Memory op) (IsWithAccess op) IsNamed (access_named op suffix) (λ acc k. k) (access_range op suffix h)
+memory_or_plain_range name suffix (Some op) h =
+    some_map (operation.Memory op) (IsWithAccess op) IsNamed (access_named op suffix) (λ acc k. k)
+    (access_range op suffix h)
 
-arithmetic_or_other_range : (name : List ℕ) (suffix : Option (List ℕ)) (o : Option ArithmeticOp) → IfSome o IsArithmetic → IfSome (arithmetic_or_other name suffix o) IsNamed
-arithmetic_or_other_range name suffix None h = memory_or_plain_range name suffix (memory_named name) (memory_range name)
-arithmetic_or_other_range name suffix (Some op) h = some_map (operation.Arithmetic op) (λ _. ⊤) IsNamed (test_named suffix) (λ test k. h) (some_any (test_named suffix))
+arithmetic_or_other_range : (name : List ℕ) (suffix : Option (List ℕ)) (o : Option ArithmeticOp)
+    → IfSome o IsArithmetic → IfSome (arithmetic_or_other name suffix o) IsNamed
+arithmetic_or_other_range name suffix None h =
+    memory_or_plain_range name suffix (memory_named name) (memory_range name)
+arithmetic_or_other_range name suffix (Some op) h =
+    some_map (operation.Arithmetic op) (λ _. ⊤) IsNamed (test_named suffix) (λ test k. h)
+    (some_any (test_named suffix))
 
 pub operation_range : (head : List ℕ) → IfOk (operation_of head) IsNamed
 unfolding operation_of operation_named
 operation_range head = ok_known (operation_named (before 46 head) (after 46 head)) IsNamed
-    (arithmetic_or_other_range (before 46 head) (after 46 head) (arithmetic_named (before 46 head)) (arithmetic_range (before 46 head)))
+    (arithmetic_or_other_range (before 46 head) (after 46 head) (arithmetic_named (before 46 head))
+    (arithmetic_range (before 46 head)))

@@ -1,5 +1,6 @@
 -- In which ranges operands are.
-use Rattle.std.proofs.Common.{◌≡◌, ℕ, ◌+◌, ◌-◌, ◌<◌, ◌≤◌, ◌^◌, true, false, List, length, drop, Result, Ok, Err, arith, ⊎_elim, pos, neg_ℤ, ◌≤ℤ◌, ◌<ℤ◌}
+use Rattle.std.proofs.Common.{◌≡◌, ℕ, ◌+◌, ◌-◌, ◌<◌, ◌≤◌, ◌^◌, true, false, List, length, drop, Result, Ok, Err}
+use Rattle.std.proofs.Common.{arith, ⊎_elim, pos, neg_ℤ, ◌≤ℤ◌, ◌<ℤ◌}
 use Rattle.std.specs.Prelude.{IfOk, ⊤, slice_index, ◌==◌, nat_lt, nat_le}
 use Rattle.std.proofs.lemmas.Int.{ints}
 use Rattle.std.proofs.Common.{le-ltb}
@@ -8,8 +9,10 @@ use Rattle.std.proofs.lemmas.Bool.Decides.{leb_tells}
 use Rattle.insn_word.specs.Fields.{IsInRange, signed}
 use Rattle.asm_line.specs.Text.{is_name}
 use Rattle.asm_line.specs.Faults.{map_ok, ◌>>=◌}
-use Rattle.asm_line.specs.Numbers.{are_digits, number, within, number_within, at_least_one, count_within, signed_within, has_minus}
-use Rattle.asm_line.specs.Operands.{numbered, is_register, register, is_target, target, Places, found, value_within, distance, offset, displacement, source_of, source_number}
+use Rattle.asm_line.specs.Numbers.{are_digits, number, within, number_within, at_least_one, count_within}
+use Rattle.asm_line.specs.Numbers.{signed_within, has_minus}
+use Rattle.asm_line.specs.Operands.{numbered, is_register, register, is_target, target, Places, found, value_within}
+use Rattle.asm_line.specs.Operands.{distance, offset, displacement, source_of, source_number}
 use Rattle.asm_line.specs.Parts.{immediate}
 use Rattle.asm_line.specs.declared.fault.Fault.{Fault}
 use Rattle.asm_line.specs.declared.fault.Fault.TheVariants as fault
@@ -27,7 +30,8 @@ within_range most n = ⊎_elim (λ h. rw h.0 h.1) (λ h. rw h.0 tt) (leb_tells n
 
 pub number_within_range : (most : ℕ) (text : List ℕ) → IfOk (number_within most text) (λ n. n ≤ most)
 unfolding number_within
-number_within_range most text = ok_then (within most) (λ _. ⊤) (λ n. n ≤ most) (number text) (λ n _. within_range most n) (ok_any (number text))
+number_within_range most text =
+    ok_then (within most) (λ _. ⊤) (λ n. n ≤ most) (number text) (λ n _. within_range most n) (ok_any (number text))
 
 pub count_within_range : (most : ℕ) (text : List ℕ) → IfOk (count_within most text) (λ n. (1 ≤ n) × (n ≤ most))
 unfolding count_within
@@ -51,19 +55,26 @@ target_range text = ok_if (is_target text) (slice_index text 1 - 48) fault.Opera
 
 pub immediate_range : (places : Places) (text : List ℕ) → IfOk (immediate places text) (λ n. n < 2 ^ 32)
 unfolding immediate value_within
-immediate_range places text = ok_either (is_name text) (found (places text) >>= within (2 ^ 32 - 1)) (number_within (2 ^ 32 - 1) text) (λ n. n < 2 ^ 32)
-    (ok_then (within (2 ^ 32 - 1)) (λ _. ⊤) (λ n. n < 2 ^ 32) (found (places text)) (λ n _. less (within (2 ^ 32 - 1) n) (within_range (2 ^ 32 - 1) n)) (ok_any (found (places text))))
+immediate_range places text =
+    ok_either (is_name text) (found (places text) >>= within (2 ^ 32 - 1)) (number_within (2 ^ 32 - 1) text)
+    (λ n. n < 2 ^ 32)
+    (ok_then (within (2 ^ 32 - 1)) (λ _. ⊤) (λ n. n < 2 ^ 32) (found (places text))
+    (λ n _. less (within (2 ^ 32 - 1) n) (within_range (2 ^ 32 - 1) n)) (ok_any (found (places text))))
     (less (number_within (2 ^ 32 - 1) text) (number_within_range (2 ^ 32 - 1) text))
   where
     less : (r : Result ℕ Fault) → IfOk r (λ n. n ≤ 2 ^ 32 - 1) → IfOk r (λ n. n < 2 ^ 32)
     less (Ok n) h = omega (arith, h)
     less (Err e) h = tt
 
-signed_range : (least most : ℕ) (text : List ℕ) → IfOk (signed_within least most text) (λ z. (neg_ℤ (pos least) ≤ℤ z) × (z <ℤ pos (most + 1)))
+signed_range : (least most : ℕ) (text : List ℕ)
+    → IfOk (signed_within least most text) (λ z. (neg_ℤ (pos least) ≤ℤ z) × (z <ℤ pos (most + 1)))
 unfolding signed_within
-signed_range least most text = ok_either (has_minus text) (map_ok (λ n. neg_ℤ (pos n)) (number_within least (drop 1 text))) (map_ok pos (number_within most text))
+signed_range least most text =
+    ok_either (has_minus text) (map_ok (λ n. neg_ℤ (pos n)) (number_within least (drop 1 text)))
+    (map_ok pos (number_within most text))
     (λ z. (neg_ℤ (pos least) ≤ℤ z) × (z <ℤ pos (most + 1)))
-    (ok_map (λ n. neg_ℤ (pos n)) (λ n. n ≤ least) (λ z. (neg_ℤ (pos least) ≤ℤ z) × (z <ℤ pos (most + 1))) (number_within least (drop 1 text))
+    (ok_map (λ n. neg_ℤ (pos n)) (λ n. n ≤ least) (λ z. (neg_ℤ (pos least) ≤ℤ z) × (z <ℤ pos (most + 1)))
+    (number_within least (drop 1 text))
     (λ n h. (omega (arith, ints, h), omega (arith, ints, h))) (number_within_range least (drop 1 text)))
     (ok_map pos (λ n. n ≤ most) (λ z. (neg_ℤ (pos least) ≤ℤ z) × (z <ℤ pos (most + 1))) (number_within most text)
     (λ n h. (omega (arith, ints, h), omega (arith, ints, h))) (number_within_range most text))
@@ -79,14 +90,22 @@ distance_range here v = ok_either (nat_lt here v) _ _ (λ z. IsInRange (signed 8
     (ok_if (nat_lt (here - v) 128) (neg_ℤ (pos (here + 1 - v))) fault.Range (λ z. IsInRange (signed 8 z)) (λ e.
     let h = below_bound (here - v) 128 e in (omega (arith, ints, h), omega (arith, ints, h))))
 
-pub offset_range : (places : Places) (here : ℕ) (text : List ℕ) → IfOk (offset places here text) (λ z. IsInRange (signed 8 z))
+pub offset_range : (places : Places) (here : ℕ) (text : List ℕ)
+    → IfOk (offset places here text) (λ z. IsInRange (signed 8 z))
 unfolding offset
-offset_range places here text = ok_either (is_name text) (found (places text) >>= distance here) (signed_within 128 127 text) (λ z. IsInRange (signed 8 z))
-    (ok_then (distance here) (λ _. ⊤) (λ z. IsInRange (signed 8 z)) (found (places text)) (λ v _. distance_range here v) (ok_any (found (places text))))
+offset_range places here text =
+    ok_either (is_name text) (found (places text) >>= distance here) (signed_within 128 127 text)
+    (λ z. IsInRange (signed 8 z))
+    (ok_then (distance here) (λ _. ⊤) (λ z. IsInRange (signed 8 z)) (found (places text))
+    (λ v _. distance_range here v) (ok_any (found (places text))))
     (signed_range 128 127 text)
 
 pub source_range : (text : List ℕ) → IfOk (source_of text) (λ b. source_number b < 32)
 unfolding source_of
-source_range text = ok_either (slice_index text 0 == 114) (map_ok source.Register (register text)) (map_ok source.Number (number_within 31 text)) (λ b. source_number b < 32)
-    (ok_map source.Register (λ n. n < 32) (λ b. source_number b < 32) (register text) (λ n h. h) (register_range text))
-    (ok_map source.Number (λ n. n ≤ 31) (λ b. source_number b < 32) (number_within 31 text) (λ n h. omega (arith, h)) (number_within_range 31 text))
+source_range text =
+    ok_either (slice_index text 0 == 114) (map_ok source.Register (register text))
+    (map_ok source.Number (number_within 31 text)) (λ b. source_number b < 32)
+    (ok_map source.Register (λ n. n < 32) (λ b. source_number b < 32) (register text) (λ n h. h)
+    (register_range text))
+    (ok_map source.Number (λ n. n ≤ 31) (λ b. source_number b < 32) (number_within 31 text) (λ n h. omega (arith, h))
+    (number_within_range 31 text))

@@ -1,5 +1,6 @@
 -- What holds of each value that a result may have.
-use Rattle.std.proofs.Common.{◌≡◌, Bool, true, false, ◌&&◌, if◌then◌else◌, Result, Ok, Err, Option, Some, None, List, [], ◌∷◌, ◌++◌, refl, cond}
+use Rattle.std.proofs.Common.{◌≡◌, Bool, true, false, ◌&&◌, if◌then◌else◌, Result, Ok, Err, Option, Some, None, List}
+use Rattle.std.proofs.Common.{[], ◌∷◌, ◌++◌, refl, cond}
 use Rattle.std.specs.Prelude.{IfOk, IfSome, ⊤}
 use Rattle.std.specs.List.{AllByRecursion, find}
 use Rattle.asm_line.specs.Faults.{map_ok, ◌>>=◌, both, known}
@@ -27,11 +28,13 @@ pub ok_any : {A : Type 0} (r : Result A Fault) → IfOk r (λ _. ⊤)
 ok_any (Ok x) = tt
 ok_any (Err e) = tt
 
-pub ok_if : {A : Type 0} (b : Bool) (x : A) (e : Fault) (Q : A → Type 0) → (b ≡ true → Q x) → IfOk (if b then Ok x else Err e) Q
+pub ok_if : {A : Type 0} (b : Bool) (x : A) (e : Fault) (Q : A → Type 0) → (b ≡ true → Q x)
+    → IfOk (if b then Ok x else Err e) Q
 ok_if true x e Q h = h refl
 ok_if false x e Q h = tt
 
-pub ok_either : {A : Type 0} (b : Bool) (r s : Result A Fault) (Q : A → Type 0) → IfOk r Q → IfOk s Q → IfOk (if b then r else s) Q
+pub ok_either : {A : Type 0} (b : Bool) (r s : Result A Fault) (Q : A → Type 0) → IfOk r Q → IfOk s Q
+    → IfOk (if b then r else s) Q
 ok_either true r s Q p q = p
 ok_either false r s Q p q = q
 
@@ -48,7 +51,8 @@ found_in {A} p Q (x ∷ xs) h = by_test (p x) (found_in p Q xs h.1)
     by_test true k = h.0
     by_test false k = k
 
-pub all_append : {A : Type 0} (P : A → Type 0) (xs ys : List A) → AllByRecursion P xs → AllByRecursion P ys → AllByRecursion P (xs ++ ys)
+pub all_append : {A : Type 0} (P : A → Type 0) (xs ys : List A) → AllByRecursion P xs → AllByRecursion P ys
+    → AllByRecursion P (xs ++ ys)
 all_append P [] ys h k = k
 all_append P (x ∷ xs) ys h k = (h.0, all_append P xs ys h.1 k)
 

@@ -3,7 +3,8 @@ use Rattle.std.proofs.Common.{◌≡◌, ℕ, ◌<◌, ◌^◌, Bool, true, fals
 use Rattle.std.specs.Prelude.{IfOk}
 use Rattle.insn_word.specs.Operations.{memory_number, access_number, arithmetic_number, condition_number}
 use Rattle.insn_word.specs.Fields.{IsInRange, AreInRange, signed}
-use Rattle.insn_word.specs.Words.{memory_fields, used_memory, arithmetic_fields, used_arithmetic, no_arithmetic, control_fields, used_control}
+use Rattle.insn_word.specs.Words.{memory_fields, used_memory, arithmetic_fields, used_arithmetic, no_arithmetic}
+use Rattle.insn_word.specs.Words.{control_fields, used_control}
 use Rattle.insn_word.specs.declared.operations.MemoryOp.{MemoryOp}
 use Rattle.insn_word.specs.declared.operations.MemoryOp.TheVariants as memory
 use Rattle.insn_word.specs.declared.operations.Access.{Access}
@@ -94,19 +95,25 @@ used_access memory.Nop acc rd base disp h = absurd h
 used_access memory.Load acc rd base disp h = refl
 used_access memory.Store acc rd base disp h = refl
 used_access memory.FetchAdd acc rd base disp h = refl
-used_access memory.TagGet acc rd base disp h = λ i. record { op = memory.TagGet; acc = h i; rd = rd; base = base; disp = disp }
-used_access memory.TagSet acc rd base disp h = λ i. record { op = memory.TagSet; acc = h i; rd = rd; base = base; disp = disp }
+used_access memory.TagGet acc rd base disp h =
+    λ i. record { op = memory.TagGet; acc = h i; rd = rd; base = base; disp = disp }
+used_access memory.TagSet acc rd base disp h =
+    λ i. record { op = memory.TagSet; acc = h i; rd = rd; base = base; disp = disp }
 
-pub memory_part_range : (op : MemoryOp) (acc : Access) (os : List (List ℕ)) → IsWithAccess op acc → IfOk (memory_part op acc os) IsGoodMemory
+pub memory_part_range : (op : MemoryOp) (acc : Access) (os : List (List ℕ)) → IsWithAccess op acc
+    → IfOk (memory_part op acc os) IsGoodMemory
 memory_part_range op acc (x ∷ y ∷ z ∷ []) h =
-    ok_map (λ v. record { op = op; acc = acc; rd = v.0.0; base = v.0.1; disp = v.1 }) (λ v. ((v.0.0 < 32) × (v.0.1 < 32)) × IsInRange (signed 6 v.1)) IsGoodMemory
+    ok_map (λ v. record { op = op; acc = acc; rd = v.0.0; base = v.0.1; disp = v.1 })
+    (λ v. ((v.0.0 < 32) × (v.0.1 < 32)) × IsInRange (signed 6 v.1)) IsGoodMemory
     (both (both (register x) (register y)) (displacement z))
     (λ v r. record {
       ranges = (memory_small op, (access_small acc, (r.0.0, (r.0.1, (r.1, tt)))));
       rest = used_access op acc v.0.0 v.0.1 v.1 h;
     })
-    (ok_both (λ w. (w.0 < 32) × (w.1 < 32)) (λ z. IsInRange (signed 6 z)) (both (register x) (register y)) (displacement z)
-    (ok_both (λ n. n < 32) (λ n. n < 32) (register x) (register y) (register_range x) (register_range y)) (displacement_range z))
+    (ok_both (λ w. (w.0 < 32) × (w.1 < 32)) (λ z. IsInRange (signed 6 z)) (both (register x) (register y))
+    (displacement z)
+    (ok_both (λ n. n < 32) (λ n. n < 32) (register x) (register y) (register_range x) (register_range y))
+    (displacement_range z))
 memory_part_range op acc [] h = tt
 memory_part_range op acc (x ∷ []) h = tt
 memory_part_range op acc (x ∷ y ∷ []) h = tt
@@ -116,7 +123,8 @@ memory_part_range op acc (x ∷ y ∷ z ∷ w ∷ os) h = tt
 
 tally_range : (test : Bool) (os : List (List ℕ)) → IfOk (tally test os) IsGoodArithmetic
 tally_range test (x ∷ y ∷ []) =
-    ok_map (λ v. record no_arithmetic { op = arithmetic.Tally; test = test; rd = v.0; ra = v.1 }) (λ v. (v.0 < 32) × (v.1 < 32)) IsGoodArithmetic
+    ok_map (λ v. record no_arithmetic { op = arithmetic.Tally; test = test; rd = v.0; ra = v.1 })
+    (λ v. (v.0 < 32) × (v.1 < 32)) IsGoodArithmetic
     (both (register x) (register y))
     (λ v r. record {
       ranges = (omega arith, (flag_small test, (omega arith, (r.0, (r.1, (omega arith, tt))))));
@@ -127,7 +135,8 @@ tally_range test [] = tt
 tally_range test (x ∷ []) = tt
 tally_range test (x ∷ y ∷ z ∷ os) = tt
 
-of_two_range : (op : ArithmeticOp) (test : Bool) (os : List (List ℕ)) → ((a : APart) → used_arithmetic op a ≡ a) → IfOk (of_two op test os) IsGoodArithmetic
+of_two_range : (op : ArithmeticOp) (test : Bool) (os : List (List ℕ)) → ((a : APart) → used_arithmetic op a ≡ a)
+    → IfOk (of_two op test os) IsGoodArithmetic
 of_two_range op test (x ∷ y ∷ z ∷ []) u =
     ok_map (λ v. record { op = op; test = test; imm = is_number v.1; rd = v.0.0; ra = v.0.1; rb = source_number v.1 })
     (λ v. ((v.0.0 < 32) × (v.0.1 < 32)) × (source_number v.1 < 32)) IsGoodArithmetic
@@ -137,13 +146,15 @@ of_two_range op test (x ∷ y ∷ z ∷ []) u =
       rest = u (record { op = op; test = test; imm = is_number v.1; rd = v.0.0; ra = v.0.1; rb = source_number v.1 });
     })
     (ok_both (λ w. (w.0 < 32) × (w.1 < 32)) (λ b. source_number b < 32) (both (register x) (register y)) (source_of z)
-    (ok_both (λ n. n < 32) (λ n. n < 32) (register x) (register y) (register_range x) (register_range y)) (source_range z))
+    (ok_both (λ n. n < 32) (λ n. n < 32) (register x) (register y) (register_range x) (register_range y))
+    (source_range z))
 of_two_range op test [] u = tt
 of_two_range op test (x ∷ []) u = tt
 of_two_range op test (x ∷ y ∷ []) u = tt
 of_two_range op test (x ∷ y ∷ z ∷ w ∷ os) u = tt
 
-pub arithmetic_part_range : (op : ArithmeticOp) (test : Bool) (os : List (List ℕ)) → IsArithmetic op → IfOk (arithmetic_part op test os) IsGoodArithmetic
+pub arithmetic_part_range : (op : ArithmeticOp) (test : Bool) (os : List (List ℕ)) → IsArithmetic op
+    → IfOk (arithmetic_part op test os) IsGoodArithmetic
 arithmetic_part_range arithmetic.Nop test os h = absurd h
 arithmetic_part_range arithmetic.Tally test os h = tally_range test os
 arithmetic_part_range arithmetic.Add test os h = of_two_range arithmetic.Add test os (λ a. refl)
@@ -155,7 +166,8 @@ arithmetic_part_range arithmetic.Xor test os h = of_two_range arithmetic.Xor tes
 arithmetic_part_range arithmetic.AndNot test os h = of_two_range arithmetic.AndNot test os (λ a. refl)
 arithmetic_part_range arithmetic.ShiftLeft test os h = of_two_range arithmetic.ShiftLeft test os (λ a. refl)
 arithmetic_part_range arithmetic.ShiftRight test os h = of_two_range arithmetic.ShiftRight test os (λ a. refl)
-arithmetic_part_range arithmetic.ShiftRightSigned test os h = of_two_range arithmetic.ShiftRightSigned test os (λ a. refl)
+arithmetic_part_range arithmetic.ShiftRightSigned test os h =
+    of_two_range arithmetic.ShiftRightSigned test os (λ a. refl)
 arithmetic_part_range arithmetic.LessSigned test os h = of_two_range arithmetic.LessSigned test os (λ a. refl)
 arithmetic_part_range arithmetic.LessUnsigned test os h = of_two_range arithmetic.LessUnsigned test os (λ a. refl)
 arithmetic_part_range arithmetic.Pointer test os h = of_two_range arithmetic.Pointer test os (λ a. refl)

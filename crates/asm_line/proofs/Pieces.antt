@@ -10,7 +10,8 @@ use Rattle.asm_line.specs.Text.{is_blank, trim, parts, before, after, behind_hea
 use Rattle.asm_line.specs.Cutting.{rest_parts}
 use Rattle.asm_line.specs.Seen.{AreMore}
 
-split_whole : (p : ℕ → Bool) (xs : List ℕ) → length xs ≤ position_or_len p xs → slice_split p xs ≡ before_first p xs ∷ []
+split_whole : (p : ℕ → Bool) (xs : List ℕ) → length xs ≤ position_or_len p xs
+    → slice_split p xs ≡ before_first p xs ∷ []
 split_whole p xs h =
     let none : All (λ x. p x ≡ false) xs = λ k d m. fails_before_first p xs k d (omega (arith, h, m)) in
     slice_split_none p xs none ∙ ap (λ t. t ∷ []) (sym (take_all (position_or_len p xs) xs h))
@@ -59,7 +60,8 @@ pub nothing_behind : (text : List ℕ) → None ≡ position is_blank text → [
 unfolding behind_head trim
 nothing_behind text e =
     let h = no_place is_blank text e in
-    let none : drop (position_or_len is_blank text + 1) text ≡ [] = drop_all (position_or_len is_blank text + 1) text (omega (arith, h)) in
+    let none : drop (position_or_len is_blank text + 1) text ≡ [] =
+    drop_all (position_or_len is_blank text + 1) text (omega (arith, h)) in
     rw none refl
 
 -- three commas and more

@@ -1,11 +1,13 @@
 -- Instructions that the assembler reads are valid.
-use Rattle.std.proofs.Common.{◌≡◌, ℕ, ◌<◌, ◌^◌, ◌==◌, true, ◌&&◌, List, [], ◌∷◌, ◌++◌, Result, Ok, Err, refl, arith, ⊎_elim}
+use Rattle.std.proofs.Common.{◌≡◌, ℕ, ◌<◌, ◌^◌, ◌==◌, true, ◌&&◌, List, [], ◌∷◌, ◌++◌, Result, Ok, Err, refl, arith}
+use Rattle.std.proofs.Common.{⊎_elim}
 use Rattle.std.specs.Prelude.{IfOk}
 use Rattle.std.proofs.lemmas.Bool.Decides.{eqb_tells}
 use Rattle.std.proofs.lemmas.Int.{ints}
 use Rattle.insn_word.specs.Operations.{wide_number}
 use Rattle.insn_word.specs.Fields.{IsInRange, AreInRange, zeros, unsigned}
-use Rattle.insn_word.specs.Words.{memory_fields, arithmetic_fields, control_fields, register_fields, no_memory, no_arithmetic}
+use Rattle.insn_word.specs.Words.{memory_fields, arithmetic_fields, control_fields, register_fields, no_memory}
+use Rattle.insn_word.specs.Words.{no_arithmetic}
 use Rattle.insn_word.specs.Words.{memory_destination, arithmetic_destination, AreApart, WriteApart, IsValid}
 use Rattle.insn_word.specs.Reading.{are_apart}
 use Rattle.insn_word.specs.Laws.{IsValidByFields}
@@ -19,8 +21,10 @@ use Rattle.insn_word.specs.declared.insn.Insn.TheVariants as insn
 use Rattle.asm_line.specs.Faults.{both}
 use Rattle.asm_line.specs.Operands.{Places, register, target}
 use Rattle.asm_line.specs.Parts.{immediate, wide_register, wide_word, memory_part, arithmetic_part, control_part}
-use Rattle.asm_line.specs.Instructions.{no_operation, memory_word, arithmetic_word, control_word, nop_word, single, memory_arithmetic_apart}
-use Rattle.asm_line.specs.Instructions.{memory_control_apart, arithmetic_control_apart, unless_two, memory_arithmetic, memory_arithmetic_word}
+use Rattle.asm_line.specs.Instructions.{no_operation, memory_word, arithmetic_word, control_word, nop_word, single}
+use Rattle.asm_line.specs.Instructions.{memory_arithmetic_apart}
+use Rattle.asm_line.specs.Instructions.{memory_control_apart, arithmetic_control_apart, unless_two, memory_arithmetic}
+use Rattle.asm_line.specs.Instructions.{memory_arithmetic_word}
 use Rattle.asm_line.specs.Instructions.{memory_control_word, arithmetic_control_word, full_word}
 use Rattle.asm_line.specs.declared.fault.Fault.{Fault}
 use Rattle.asm_line.specs.declared.fault.Fault.TheVariants as fault
@@ -29,7 +33,8 @@ use Rattle.asm_line.specs.declared.operation.Operation.TheVariants as operation
 use Rattle.asm_line.proofs.OkRules.{ok_both, ok_map, ok_then, ok_if, all_append, and_left, and_right}
 use Rattle.asm_line.proofs.NumberRanges.{register_range, target_range, immediate_range}
 use Rattle.asm_line.proofs.NamedRanges.{IsNamed}
-use Rattle.asm_line.proofs.PartRanges.{IsGoodMemory, IsGoodArithmetic, IsGoodControl, memory_part_range, arithmetic_part_range}
+use Rattle.asm_line.proofs.PartRanges.{IsGoodMemory, IsGoodArithmetic, IsGoodControl, memory_part_range}
+use Rattle.asm_line.proofs.PartRanges.{arithmetic_part_range}
 use Rattle.asm_line.proofs.ControlRanges.{control_part_range}
 
 pub record IsGoodWide (look : ℕ) (op : WideOp) (reg imm : ℕ) : Type 0 where
@@ -55,7 +60,17 @@ wide_small wide.TargetLiteral = omega arith
 
 pub valid : IsValidByFields → (i : Insn) → IsGood i → IsValid i
 valid law (insn.Wide look op reg imm) h = (law (insn.Wide look op reg imm)).1 (
-  (omega arith, (h.look_range, (wide_small op, all_append IsInRange (register_fields op reg) (zeros 20 ∷ unsigned 32 imm ∷ []) h.reg_range (omega arith, (h.imm_range, tt))))),
+  (
+    omega arith,
+    (
+      h.look_range,
+      (
+        wide_small op,
+        all_append IsInRange (register_fields op reg) (zeros 20 ∷ unsigned 32 imm ∷ []) h.reg_range
+            (omega arith, (h.imm_range, tt)),
+      ),
+    ),
+  ),
   tt,
   tt,
 )
@@ -82,7 +97,10 @@ apart x y e same = ⊎_elim (λ h. is_zero x (rw h.0 at e)) (λ h. absurd (h.1 s
 
 good_nop_memory : IsGoodMemory no_memory
 good_nop_memory = record {
-  ranges = (omega arith, (omega arith, (omega arith, (omega arith, ((omega (arith, ints), omega (arith, ints)), tt)))));
+  ranges = (
+    omega arith,
+    (omega arith, (omega arith, (omega arith, ((omega (arith, ints), omega (arith, ints)), tt)))),
+  );
   rest = refl;
 }
 
@@ -139,12 +157,14 @@ register_field wide.Literal text = wider (register text) (register_range text)
     wider (Err e) h = tt
 register_field wide.LiteralHigh text = wider (register text) (register_range text)
   where
-    wider : (r : Result ℕ Fault) → IfOk r (λ n. n < 32) → IfOk r (λ n. AreInRange (register_fields wide.LiteralHigh n))
+    wider : (r : Result ℕ Fault) → IfOk r (λ n. n < 32)
+        → IfOk r (λ n. AreInRange (register_fields wide.LiteralHigh n))
     wider (Ok n) h = (h, tt)
     wider (Err e) h = tt
 register_field wide.TargetLiteral text = wider (target text) (target_range text)
   where
-    wider : (r : Result ℕ Fault) → IfOk r (λ n. n < 8) → IfOk r (λ n. AreInRange (register_fields wide.TargetLiteral n))
+    wider : (r : Result ℕ Fault) → IfOk r (λ n. n < 8)
+        → IfOk r (λ n. AreInRange (register_fields wide.TargetLiteral n))
     wider (Ok n) h = (omega arith, (h, tt))
     wider (Err e) h = tt
 
@@ -159,30 +179,38 @@ wide_range places op [] = tt
 wide_range places op (x ∷ []) = tt
 wide_range places op (x ∷ y ∷ z ∷ os) = tt
 
-pub single_range : (places : Places) (here : ℕ) (o : Operation) (os : List (List ℕ)) → IsNamed o → IfOk (single places here o os) IsGood
+pub single_range : (places : Places) (here : ℕ) (o : Operation) (os : List (List ℕ)) → IsNamed o
+    → IfOk (single places here o os) IsGood
 unfolding single
 single_range places here operation.Nop os h = nop_range os
 single_range places here (operation.Wide op) os h = wide_range places op os
 single_range places here (operation.Memory op acc) os h =
     ok_map memory_word IsGoodMemory IsGood (memory_part op acc os) good_memory (memory_part_range op acc os h)
 single_range places here (operation.Arithmetic op test) os h =
-    ok_map arithmetic_word IsGoodArithmetic IsGood (arithmetic_part op test os) good_arithmetic (arithmetic_part_range op test os h)
+    ok_map arithmetic_word IsGoodArithmetic IsGood (arithmetic_part op test os) good_arithmetic
+    (arithmetic_part_range op test os h)
 single_range places here (operation.Control op) os h =
-    ok_map control_word IsGoodControl IsGood (control_part places here op os) good_control (control_part_range places here op os)
+    ok_map control_word IsGoodControl IsGood (control_part places here op os) good_control
+    (control_part_range places here op os)
 
 -- Two and three operations.
 
 abbrev AreGoodApart : MPart × APart → Type 0
-AreGoodApart v = IsGoodMemory v.0 × IsGoodArithmetic v.1 × AreApart (memory_destination v.0.op v.0.rd) (arithmetic_destination v.1.op v.1.rd)
+AreGoodApart v =
+    IsGoodMemory v.0 × IsGoodArithmetic v.1 × AreApart (memory_destination v.0.op v.0.rd)
+    (arithmetic_destination v.1.op v.1.rd)
 
-memory_arithmetic_range : (m : Result MPart Fault) (a : Result APart Fault) → IfOk m IsGoodMemory → IfOk a IsGoodArithmetic
+memory_arithmetic_range : (m : Result MPart Fault) (a : Result APart Fault) → IfOk m IsGoodMemory
+    → IfOk a IsGoodArithmetic
     → IfOk (memory_arithmetic m a) AreGoodApart
 memory_arithmetic_range m a h k =
-    ok_then (λ v. unless_two (memory_arithmetic_apart v.0 v.1) v) (λ v. IsGoodMemory v.0 × IsGoodArithmetic v.1) AreGoodApart (both m a)
+    ok_then (λ v. unless_two (memory_arithmetic_apart v.0 v.1) v) (λ v. IsGoodMemory v.0 × IsGoodArithmetic v.1)
+    AreGoodApart (both m a)
     (λ v g. ok_if (memory_arithmetic_apart v.0 v.1) v fault.TwoWriters AreGoodApart (λ e. (g.0, g.1, apart _ _ e)))
     (ok_both IsGoodMemory IsGoodArithmetic m a h k)
 
-pub memory_arithmetic_word_range : (m : Result MPart Fault) (a : Result APart Fault) → IfOk m IsGoodMemory → IfOk a IsGoodArithmetic
+pub memory_arithmetic_word_range : (m : Result MPart Fault) (a : Result APart Fault) → IfOk m IsGoodMemory
+    → IfOk a IsGoodArithmetic
     → IfOk (memory_arithmetic_word m a) IsGood
 unfolding memory_arithmetic_word
 memory_arithmetic_word_range m a h k =
@@ -196,41 +224,52 @@ memory_arithmetic_word_range m a h k =
     })
     (memory_arithmetic_range m a h k)
 
-pub memory_control_word_range : (m : Result MPart Fault) (c : Result CPart Fault) → IfOk m IsGoodMemory → IfOk c IsGoodControl
+pub memory_control_word_range : (m : Result MPart Fault) (c : Result CPart Fault) → IfOk m IsGoodMemory
+    → IfOk c IsGoodControl
     → IfOk (memory_control_word m c) IsGood
 unfolding memory_control_word
 memory_control_word_range m c h k =
-    ok_then (λ v. unless_two (memory_control_apart v.0 v.1) (insn.Normal 0 v.0 no_arithmetic v.1)) (λ v. IsGoodMemory v.0 × IsGoodControl v.1) IsGood (both m c)
-    (λ v g. ok_if (memory_control_apart v.0 v.1) (insn.Normal 0 v.0 no_arithmetic v.1) fault.TwoWriters IsGood (λ e. record {
+    ok_then (λ v. unless_two (memory_control_apart v.0 v.1) (insn.Normal 0 v.0 no_arithmetic v.1))
+    (λ v. IsGoodMemory v.0 × IsGoodControl v.1) IsGood (both m c)
+    (λ v g. ok_if (memory_control_apart v.0 v.1) (insn.Normal 0 v.0 no_arithmetic v.1) fault.TwoWriters IsGood
+    (λ e. record {
       look_range = small;
       memory = g.0;
       arithmetic = good_nop_arithmetic;
       control = g.1;
-      one_writer = record { memory_arithmetic = λ e. e; memory_control = apart _ _ e; arithmetic_control = λ e. refl };
+      one_writer =
+          record { memory_arithmetic = λ e. e; memory_control = apart _ _ e; arithmetic_control = λ e. refl };
     }))
     (ok_both IsGoodMemory IsGoodControl m c h k)
 
-pub arithmetic_control_word_range : (a : Result APart Fault) (c : Result CPart Fault) → IfOk a IsGoodArithmetic → IfOk c IsGoodControl
+pub arithmetic_control_word_range : (a : Result APart Fault) (c : Result CPart Fault) → IfOk a IsGoodArithmetic
+    → IfOk c IsGoodControl
     → IfOk (arithmetic_control_word a c) IsGood
 unfolding arithmetic_control_word
 arithmetic_control_word_range a c h k =
-    ok_then (λ v. unless_two (arithmetic_control_apart v.0 v.1) (insn.Normal 0 no_memory v.0 v.1)) (λ v. IsGoodArithmetic v.0 × IsGoodControl v.1) IsGood (both a c)
-    (λ v g. ok_if (arithmetic_control_apart v.0 v.1) (insn.Normal 0 no_memory v.0 v.1) fault.TwoWriters IsGood (λ e. record {
+    ok_then (λ v. unless_two (arithmetic_control_apart v.0 v.1) (insn.Normal 0 no_memory v.0 v.1))
+    (λ v. IsGoodArithmetic v.0 × IsGoodControl v.1) IsGood (both a c)
+    (λ v g. ok_if (arithmetic_control_apart v.0 v.1) (insn.Normal 0 no_memory v.0 v.1) fault.TwoWriters IsGood
+    (λ e. record {
       look_range = small;
       memory = good_nop_memory;
       arithmetic = g.0;
       control = g.1;
-      one_writer = record { memory_arithmetic = λ e. refl; memory_control = λ e. refl; arithmetic_control = apart _ _ e };
+      one_writer =
+          record { memory_arithmetic = λ e. refl; memory_control = λ e. refl; arithmetic_control = apart _ _ e };
     }))
     (ok_both IsGoodArithmetic IsGoodControl a c h k)
 
-pub full_word_range : (m : Result MPart Fault) (a : Result APart Fault) (c : Result CPart Fault) → IfOk m IsGoodMemory → IfOk a IsGoodArithmetic
+pub full_word_range : (m : Result MPart Fault) (a : Result APart Fault) (c : Result CPart Fault) → IfOk m IsGoodMemory
+    → IfOk a IsGoodArithmetic
     → IfOk c IsGoodControl → IfOk (full_word m a c) IsGood
 unfolding full_word
 full_word_range m a c h k l =
-    ok_then (λ v. unless_two (memory_control_apart v.0.0 v.1 && arithmetic_control_apart v.0.1 v.1) (insn.Normal 0 v.0.0 v.0.1 v.1))
+    ok_then (λ v. unless_two (memory_control_apart v.0.0 v.1 && arithmetic_control_apart v.0.1 v.1)
+    (insn.Normal 0 v.0.0 v.0.1 v.1))
     (λ v. AreGoodApart v.0 × IsGoodControl v.1) IsGood (both (memory_arithmetic m a) c)
-    (λ v g. ok_if (memory_control_apart v.0.0 v.1 && arithmetic_control_apart v.0.1 v.1) (insn.Normal 0 v.0.0 v.0.1 v.1) fault.TwoWriters IsGood (λ e. record {
+    (λ v g. ok_if (memory_control_apart v.0.0 v.1 && arithmetic_control_apart v.0.1 v.1)
+    (insn.Normal 0 v.0.0 v.0.1 v.1) fault.TwoWriters IsGood (λ e. record {
       look_range = small;
       memory = g.0.0;
       arithmetic = g.0.1;
@@ -238,7 +277,8 @@ full_word_range m a c h k l =
       one_writer = record {
         memory_arithmetic = g.0.2;
         memory_control = apart _ _ (and_left (memory_control_apart v.0.0 v.1) (arithmetic_control_apart v.0.1 v.1) e);
-        arithmetic_control = apart _ _ (and_right (memory_control_apart v.0.0 v.1) (arithmetic_control_apart v.0.1 v.1) e);
+        arithmetic_control =
+            apart _ _ (and_right (memory_control_apart v.0.0 v.1) (arithmetic_control_apart v.0.1 v.1) e);
       };
     }))
     (ok_both AreGoodApart IsGoodControl (memory_arithmetic m a) c (memory_arithmetic_range m a h k) l)

@@ -13,7 +13,8 @@ use Rattle.insn_word.specs.declared.operations.ControlOp.{ControlOp}
 use Rattle.insn_word.specs.declared.operations.Condition.{Condition}
 use Rattle.asm_line.specs.Text.{before, after}
 use Rattle.asm_line.specs.Faults.{known}
-use Rattle.asm_line.specs.Names.{wide_name, memory_name, arithmetic_name, control_name, condition_name, directive_name}
+use Rattle.asm_line.specs.Names.{wide_name, memory_name, arithmetic_name, control_name, condition_name}
+use Rattle.asm_line.specs.Names.{directive_name}
 use Rattle.asm_line.specs.Names.{wide_operations, memory_operations, arithmetic_operations, control_operations}
 use Rattle.asm_line.specs.Names.{conditions, directives}
 use Rattle.asm_line.specs.declared.fault.Fault.{Fault}

@@ -106,7 +106,8 @@ is_ok (Err _) = false
 
 -- more parts than there can be: an unknown head among them is answered first
 unfoldable pub too_many : List (List ℕ) → Result Insn Fault
-too_many texts = if list_all (λ text. is_ok (operation_of (head text))) texts then Err fault.Operand else Err fault.Unknown
+too_many texts =
+    if list_all (λ text. is_ok (operation_of (head text))) texts then Err fault.Operand else Err fault.Unknown
 
 -- All heads are looked at first.
 

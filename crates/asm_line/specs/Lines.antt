@@ -86,8 +86,8 @@ statement_item places words here text =
     else (if slice_index text 0 == 46 then directive_item places words text
     else map_ok item.Instruction (instruction places here text))
 
--- What line k (from 0) adds, behind so many words, or its least fault. The lines' labels stand at these places, and the
--- lines have so many words in all.
+-- What line k (from 0) adds, behind so many words, or its least fault. The lines' labels stand at these places, and
+-- the lines have so many words in all.
 unfoldable pub line_item : Places → ℕ → ℕ → ℕ → Line → Result Item Fault
 line_item places words k here l =
     map_ok (λ v. v.1) (both (labelling places k l.label l.statement) (statement_item places words here l.statement))

@@ -31,7 +31,8 @@ register text = if is_register text then Ok (numbered text) else Err fault.Opera
 -- t0 to t7
 abbrev pub is_target : List ℕ → Bool
 is_target text =
-    slice_index text 0 == 116 && (length text == 2 && (nat_le 48 (slice_index text 1) && nat_lt (slice_index text 1) 56))
+    slice_index text 0 == 116
+    && (length text == 2 && (nat_le 48 (slice_index text 1) && nat_lt (slice_index text 1) 56))
 
 unfoldable pub target : List ℕ → Result ℕ Fault
 target text = if is_target text then Ok (slice_index text 1 - 48) else Err fault.Operand

@@ -27,7 +27,8 @@ before c bytes = before_first (λ b. b == c) bytes
 -- what stands after the first c, if there is one
 unfoldable pub after : ℕ → List ℕ → Option (List ℕ)
 after c bytes =
-    if nat_lt (position_or_len (λ b. b == c) bytes) (length bytes) then Some (after_first (λ b. b == c) bytes) else None
+    if nat_lt (position_or_len (λ b. b == c) bytes) (length bytes) then Some (after_first (λ b. b == c) bytes)
+    else None
 
 -- the head of a statement ends at its first blank
 unfoldable pub head : List ℕ → List ℕ

@@ -162,7 +162,8 @@ fn arithmetic_control_word(a: Result<APart, Fault>, c: Result<CPart, Fault>) -> 
     }
 }
 
-/// The word of all three parts. Two writers go before a label that is missing, which only the control part can ask for.
+/// The word of all three parts. Two writers go before a label that is missing, which only the control part can ask
+/// for.
 #[tactic(auto, unfolding(crate::specs::Instructions::full_word))]
 fn full_word(
     m: Result<MPart, Fault>,

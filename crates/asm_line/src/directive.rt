@@ -3,7 +3,8 @@
 ghost use Rattle.std.specs.Prelude.{◌≡◌, ◌^◌, ◌-◌, ℕ, List};
 ghost use Rattle.asm_line.specs.Labels.{places_of};
 ghost use Rattle.asm_line.specs.Seen.{AreOperands};
-ghost use Rattle.asm_line.specs.Directives.{profile, slim, retry, trap, entry, word, data_cell, fill, cells, directed};
+ghost use Rattle.asm_line.specs.Directives.{profile, slim, retry, trap, entry, word, data_cell, fill, cells};
+ghost use Rattle.asm_line.specs.Directives.{directed};
 ghost use Rattle.asm_line.specs.Directives.{entry_number, word_number, tags_number};
 
 use crate::arguments::Arguments;

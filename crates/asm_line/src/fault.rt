@@ -3,7 +3,8 @@
 ghost use Rattle.std.specs.Prelude.{◌≡◌};
 ghost use Rattle.asm_line.specs.Faults.{kind_number, least, both};
 
-/// The kinds of faults of a source text ("Source text", docs/FORMATS.md), in the order in which a line's are answered.
+/// The kinds of faults of a source text ("Source text", docs/FORMATS.md), in the order in which a line's are
+/// answered.
 #[derive(Clone, Copy, Debug, PartialEq, Eq)]
 pub enum Fault {
     /// A byte of 80 or more (hexadecimal) stands on the line.

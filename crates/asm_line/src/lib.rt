@@ -11,6 +11,7 @@ mod instruction;
 mod item;
 mod labels;
 mod lines;
+pub mod names;
 mod numbers;
 mod operand;
 mod operation;

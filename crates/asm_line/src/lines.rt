@@ -4,7 +4,8 @@ ghost use Rattle.std.specs.Prelude.{◌≡◌, ◌≤◌, ◌==◌, ◌∷◌, l
 ghost use Rattle.std.specs.Option.{option_copied};
 ghost use Rattle.std.specs.List.{list_any};
 ghost use Rattle.asm_line.specs.Text.{is_name};
-ghost use Rattle.asm_line.specs.Lines.{line, lines, is_word, is_label, labelling, statement_item, directive_item, line_item};
+ghost use Rattle.asm_line.specs.Lines.{line, lines, is_word, is_label, labelling, statement_item, directive_item};
+ghost use Rattle.asm_line.specs.Lines.{line_item};
 ghost use Rattle.asm_line.specs.Labels.{places_of};
 ghost use Rattle.asm_line.specs.Cutting.{rest_lines, rest_length};
 ghost use Rattle.asm_line.specs.Ranges.{IsInRange};

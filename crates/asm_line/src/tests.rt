@@ -1,5 +1,5 @@
-//! Tests against docs/FORMATS.md, "Source text" and "Instruction words". The expected values are worked out by hand from
-//! its tables.
+//! Tests against docs/FORMATS.md, "Source text" and "Instruction words". The expected values are worked out by hand
+//! from its tables.
 use crate::{Fault, Item, Labels, Place, SourceLine, cut, cut_line, is_word, next_line, read_line};
 use insn_word::{
     APart, Access, ArithmeticOp, CPart, Condition, ControlOp, Insn, MPart, MemoryOp, WideOp, decode,
@@ -19,8 +19,8 @@ fn place(line: usize, value: usize) -> Place {
     Place { line, value }
 }
 
-/// What a line adds at place 10 of a program of 20 words, on line 15, where the label `a` stands on line 3 with value 2,
-/// `far` on line 900 with value 400 and `huge` on line 9 with a value of more than 32 bits.
+/// What a line adds at place 10 of a program of 20 words, on line 15, where the label `a` stands on line 3 with value
+/// 2, `far` on line 900 with value 400 and `huge` on line 9 with a value of more than 32 bits.
 fn read(alloc: Global, text: &str) -> Result<Result<Item, Fault>, AllocError> {
     let mut labels = Labels::new(alloc);
     labels.note(Some(b"a".as_slice()), place(3, 2))?;

@@ -66,7 +66,8 @@ not_word false false true t e f g d is = let at : directive.Retry ≡ d = cc in 
 not_word false false false true e f g d is = let at : directive.Trap ≡ d = cc in sym (ap is_word_directive at)
 not_word false false false false true f g d is = let at : directive.Entry ≡ d = cc in sym (ap is_word_directive at)
 not_word false false false false false true g d is = let at : directive.Data ≡ d = cc in sym (ap is_word_directive at)
-not_word false false false false false false true d is = let at : directive.Fill ≡ d = cc in sym (ap is_word_directive at)
+not_word false false false false false false true d is = let at : directive.Fill ≡ d = cc in
+    sym (ap is_word_directive at)
 not_word false false false false false false false d is = absurd cc
 
 word_named : directive_of (codes ".word") ≡ Ok directive.Word
@@ -82,9 +83,11 @@ unnamed name d other is =
     (bytes_eq name (codes ".fill")) d (rw other at is)
 
 -- a head names .word exactly where it is so spelt
-named : (name : List ℕ) (d : Directive) → directive_of name ≡ Ok d → is_word_directive d ≡ bytes_eq name (codes ".word")
+named : (name : List ℕ) (d : Directive) → directive_of name ≡ Ok d
+    → is_word_directive d ≡ bytes_eq name (codes ".word")
 named name d is = ⊎_elim
-    (λ yes. let at : directive.Word ≡ d = cc (word_named, ap directive_of ((bytes_eq-Decides name (codes ".word")).0 yes)) in
+    (λ yes. let at : directive.Word ≡ d =
+    cc (word_named, ap directive_of ((bytes_eq-Decides name (codes ".word")).0 yes)) in
     sym (ap is_word_directive at) ∙ sym yes)
     (λ no. unnamed name d no is ∙ sym no)
     (cases_Bool (bytes_eq name (codes ".word")))
@@ -94,10 +97,12 @@ no_words : {A : Type 0} (f : A → Item) (r : Result A Fault) (i : Item) (n : �
 no_words f r i n h is = let m = mapped f r i is in sym (ap item_words m.2) ∙ h m.0
 
 abbrev Counts : Places → ℕ → Directive → List (List ℕ) → Type 0
-Counts places words d ops = (i : Item) → directed places words d ops ≡ Ok i → item_words i ≡ cond (is_word_directive d) 1 0
+Counts places words d ops = (i : Item) → directed places words d ops ≡ Ok i
+    → item_words i ≡ cond (is_word_directive d) 1 0
 
 cells_count : (a b t : Result ℕ Fault) (i : Item) → cells a b t ≡ Ok i → item_words i ≡ 0
-cells_count a b t i is = no_words (λ (v : (ℕ × ℕ) × ℕ). item.Cells v.0.0 v.0.1 v.1) (both (both a b) t) i 0 (λ v. refl) is
+cells_count a b t i is =
+    no_words (λ (v : (ℕ × ℕ) × ℕ). item.Cells v.0.0 v.0.1 v.1) (both (both a b) t) i 0 (λ v. refl) is
 
 directed_counts : (places : Places) (words : ℕ) (d : Directive) (o : List (List ℕ)) → Counts places words d o
 unfolding directed
@@ -121,7 +126,8 @@ directed_counts places words directive.Word (x ∷ []) i is = no_words (λ (n : 
 directed_counts places words directive.Word (x ∷ y ∷ zs) i is = absurd cc
 directed_counts places words directive.Data [] i is = absurd cc
 directed_counts places words directive.Data (x ∷ []) i is = cells_count (Ok 1) (word_number x) (Ok 1) i is
-directed_counts places words directive.Data (x ∷ y ∷ []) i is = cells_count (Ok 1) (word_number x) (tags_number y) i is
+directed_counts places words directive.Data (x ∷ y ∷ []) i is =
+    cells_count (Ok 1) (word_number x) (tags_number y) i is
 directed_counts places words directive.Data (x ∷ y ∷ z ∷ zs) i is = absurd cc
 directed_counts places words directive.Fill [] i is = absurd cc
 directed_counts places words directive.Fill (x ∷ []) i is = absurd cc
@@ -136,7 +142,8 @@ directive_counts places words t i is =
     let b = bound (directive_of (head t)) (λ d. directed places words d (operands t)) i is in
     directed_counts places words b.0 (operands t) i b.2 ∙ ap (λ w. cond w 1 0) (named (head t) b.0 b.1)
 
-by_form : (none some dot word : Bool) (directed : Result Item Fault) (insn : Result Insn Fault) (i : Item) → some ≡ not none
+by_form : (none some dot word : Bool) (directed : Result Item Fault) (insn : Result Insn Fault) (i : Item)
+    → some ≡ not none
     → (directed ≡ Ok i → item_words i ≡ cond word 1 0)
     → cond none (Ok item.Nothing) (cond dot directed (map_ok (λ (j : Insn). item.Instruction j) insn)) ≡ Ok i
     → item_words i ≡ cond (some && (not dot || word)) 1 0
@@ -150,7 +157,8 @@ by_form false some false word r insn i e h is =
 some_bytes : (n : ℕ) → ltb 0 n ≡ not (eqb n 0)
 some_bytes n = grind (arith, nat_tests)
 
-statement_counts : (places : Places) (words here : ℕ) (t : List ℕ) (i : Item) → statement_item places words here t ≡ Ok i
+statement_counts : (places : Places) (words here : ℕ) (t : List ℕ) (i : Item)
+    → statement_item places words here t ≡ Ok i
     → item_words i ≡ cond (is_word t) 1 0
 unfolding statement_item is_word
 statement_counts places words here t i is =
@@ -162,12 +170,14 @@ line_counts : (places : Places) (words k here : ℕ) (l : Line) (i : Item) → l
     → item_words i ≡ word_count l
 unfolding line_item
 line_counts places words k here l i is =
-    let m = mapped (λ (v : Bool × Item). v.1) (both (labelling places k l.label l.statement) (statement_item places words here l.statement)) i is in
+    let m = mapped (λ (v : Bool × Item). v.1)
+    (both (labelling places k l.label l.statement) (statement_item places words here l.statement)) i is in
     statement_counts places words here l.statement i
     (second (labelling places k l.label l.statement) (statement_item places words here l.statement) m.0 m.1
     ∙ ap (λ (j : Item). Ok j) m.2)
 
-settings_count : (d e : DraftValue) (r : Result Settings Fault) → with_settings d r ≡ Ok e → length e.words ≡ length d.words + 0
+settings_count : (d e : DraftValue) (r : Result Settings Fault) → with_settings d r ≡ Ok e
+    → length e.words ≡ length d.words + 0
 settings_count d e r is =
     let m = mapped (λ s. record d { settings = s }) r e is in
     let same : length d.words ≡ length e.words = ap (λ (f : DraftValue). length f.words) m.2 in omega arith
@@ -185,7 +195,8 @@ word_added d e w is =
 
 cells_kept : (d e : DraftValue) (n : ℕ) (c : Cell) → with_cells d n c ≡ Ok e → length e.words ≡ length d.words + 0
 cells_kept d e n c is =
-    let p = passed (leb (length d.cells + n) 262144) (record d { cells = d.cells ++ replicate n c }) e fault.Limit is in
+    let p = passed (leb (length d.cells + n) 262144) (record d { cells = d.cells ++ replicate n c }) e
+    fault.Limit is in
     let same : length d.words ≡ length e.words = ap (λ (f : DraftValue). length f.words) p.1 in omega arith
 
 add_counts : (d e : DraftValue) (i : Item) → add d i ≡ Ok e → length e.words ≡ length d.words + item_words i
@@ -215,7 +226,8 @@ gone (Ok d) k f e is = (d, refl, is)
 gone (Err x) k f e is = absurd cc
 
 -- each word is a line that counts
-pub counted : (places : Places) (words k : ℕ) (d e : DraftValue) (ls : List Line) → with_lines places words k d ls ≡ Ok e
+pub counted : (places : Places) (words k : ℕ) (d e : DraftValue) (ls : List Line)
+    → with_lines places words k d ls ≡ Ok e
     → length e.words ≡ length d.words + count_words ls
 counted places words k d e [] is =
     let at : d ≡ e = cc in

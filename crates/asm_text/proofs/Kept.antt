@@ -56,7 +56,8 @@ pub passed : {A : Type 0} (b : Bool) (x y : A) (f : Fault) → cond b (Ok x) (Er
 passed true x y f e = (refl, cc)
 passed false x y f e = absurd cc
 
-pub mapped : {A B : Type 0} (f : A → B) (r : Result A Fault) (y : B) → map_ok f r ≡ Ok y → (x : A) × (r ≡ Ok x) × (f x ≡ y)
+pub mapped : {A B : Type 0} (f : A → B) (r : Result A Fault) (y : B) → map_ok f r ≡ Ok y
+    → (x : A) × (r ≡ Ok x) × (f x ≡ y)
 mapped f (Ok x) y e = (x, refl, cc)
 mapped f (Err k) y e = absurd cc
 
@@ -82,7 +83,8 @@ retry_kept s t n h is = subst HasSlim (mapped (λ o. record s { retry = o }) (se
 trap_kept : (s t : Settings) (n : ℕ) → HasSlim s → trap_set s n ≡ Ok t → HasSlim t
 trap_kept s t n h is = subst HasSlim (mapped (λ o. record s { trap = o }) (set_once s.trap n) t is).2 h
 
-entry_kept : (words : ℕ) (d e : DraftValue) (n : ℕ) → IsKept words d → n < words → with_entry d n ≡ Ok e → IsKept words e
+entry_kept : (words : ℕ) (d e : DraftValue) (n : ℕ) → IsKept words d → n < words → with_entry d n ≡ Ok e
+    → IsKept words e
 entry_kept words d e n k h is =
     let p = passed (ltb (length d.entries) 16) (record d { entries = d.entries ++ n ∷ [] }) e fault.Limit is in
     let room = ltb-true (length d.entries) 16 p.0 in
@@ -106,9 +108,11 @@ word_kept words d e w k is =
       few_cells = k.few_cells;
     })
 
-cells_kept : (words : ℕ) (d e : DraftValue) (n : ℕ) (c : Cell) → IsKept words d → with_cells d n c ≡ Ok e → IsKept words e
+cells_kept : (words : ℕ) (d e : DraftValue) (n : ℕ) (c : Cell) → IsKept words d → with_cells d n c ≡ Ok e
+    → IsKept words e
 cells_kept words d e n c k is =
-    let p = passed (leb (length d.cells + n) 262144) (record d { cells = d.cells ++ replicate n c }) e fault.Limit is in
+    let p = passed (leb (length d.cells + n) 262144) (record d { cells = d.cells ++ replicate n c }) e
+    fault.Limit is in
     let room = leb-true (length d.cells + n) 262144 p.0 in
     subst (IsKept words) p.1 (record {
       slim = k.slim;
@@ -119,7 +123,8 @@ cells_kept words d e n c k is =
     })
 
 -- what a line adds keeps the limits
-pub add_kept : (words : ℕ) (d e : DraftValue) (i : Item) → IsKept words d → IsInRange words i → add d i ≡ Ok e → IsKept words e
+pub add_kept : (words : ℕ) (d e : DraftValue) (i : Item) → IsKept words d → IsInRange words i → add d i ≡ Ok e
+    → IsKept words e
 unfolding add
 add_kept words d e item.Nothing k h is = let at : d ≡ e = cc in subst (IsKept words) at k
 add_kept words d e item.Profile k h is =

@@ -15,7 +15,8 @@ use Rattle.asm_text.specs.Runs.{Run, runs}
 use Rattle.asm_text.specs.Listing.{setting_lines, word_lines, run_line, listing_lines, ended, text_of, listing}
 
 -- one line more in the text is one less to come
-pushed : (before line rest whole now : List ℕ) → now ≡ before ++ line → before ++ (line ++ rest) ≡ whole → now ++ rest ≡ whole
+pushed : (before line rest whole now : List ℕ) → now ≡ before ++ line → before ++ (line ++ rest) ≡ whole
+    → now ++ rest ≡ whole
 pushed before line rest whole now is h = ap (λ t. t ++ rest) is ∙ append_assoc before line rest ∙ h
 
 entries_at : (entries : List ℕ) (k entry : ℕ) → k < length entries → slice_get entries k ≡ Some entry
@@ -92,7 +93,8 @@ pub run_pushed : (rs following : List Run) (count : ℕ) (cell : Cell) (before w
     → now ≡ before ++ ended (run_line (record { count = count; cell = cell }))
     → before ++ text_of (map run_line rs) ≡ whole → now ++ text_of (map run_line following) ≡ whole
 run_pushed rs following count cell before whole now first is h =
-    pushed before (ended (run_line (record { count = count; cell = cell }))) (text_of (map run_line following)) whole now is
+    pushed before (ended (run_line (record { count = count; cell = cell }))) (text_of (map run_line following))
+    whole now is
     (sym (ap (λ xs. before ++ text_of (map run_line xs)) first) ∙ h)
 
 pub runs_end : (rs : List Run) (now whole : List ℕ) → rs ≡ [] → now ++ text_of (map run_line rs) ≡ whole → now ≡ whole

@@ -2,10 +2,13 @@
 use Rattle.std.proofs.Common.{◌≡◌, ℕ, ◌<◌, Bool, true, false, cond, eqb, ltb, List, [], ◌∷◌, ◌++◌, map}
 use Rattle.std.proofs.Common.{length}
 use Rattle.std.proofs.Common.{Some, None, Result, Ok, Err, refl, sym, ◌∙◌, ap, arith, lt-ltb}
-use Rattle.std.specs.Prelude.{unwrap_or, ◌&&◌}
+use Rattle.std.specs.Prelude.{unwrap_or, ◌&&◌, ◌^◌}
 use Rattle.std.specs.List.{flat_map}
+use Rattle.std.proofs.lemmas.List.Elements.{All-from_recursion}
 use Rattle.std.proofs.lemmas.Bool.{eqb-true, and_from, false≢true}
+use Rattle.tag_memory.specs.Cell.{Cell}
 use Rattle.image_file.specs.ImageValue.{ImageValue, IsWithin}
+use Rattle.image_file.specs.Spelling.{Fits}
 use Rattle.asm_line.specs.Lines.{line, lines, place, count_words}
 use Rattle.asm_line.specs.declared.fault.Fault.TheVariants as fault
 use Rattle.asm_line.specs.declared.item.Item.{Item}
@@ -16,7 +19,7 @@ use Rattle.asm_text.specs.Drafts.{DraftValue, empty, has_all, image_of_draft}
 use Rattle.asm_text.specs.Sources.{with_lines, completed}
 use Rattle.asm_text.specs.Runs.{runs}
 use Rattle.asm_text.specs.Listing.{setting_lines, word_lines, run_line, listing_lines, text_of, listing}
-use Rattle.asm_text.specs.Laws.{FitsMachine, OneMeaning, ListingsReadBack, cells_of}
+use Rattle.asm_text.specs.Laws.{OneMeaning, ListingsReadBack, cells_of}
 use Rattle.asm_text.proofs.Assembly.{IsFound, draft_whole}
 use Rattle.asm_text.proofs.RunCells.{runs_are_cells, runs_fit}
 use Rattle.asm_text.proofs.ReadLines.{AreRead, read_both, add_all, lines_added, last_line, count_items, lines_counted}
@@ -30,24 +33,29 @@ use Rattle.asm_text.proofs.Sections.{run_item, runs_read, runs_added, runs_count
 abbrev items : ImageValue → List Item
 items i = setting_items i ++ (entry_items i.entries ++ (map word_item i.program ++ map run_item (runs i.cells)))
 
-lines_read : (laws : Laws) (i : ImageValue) → IsWithin i → FitsMachine i
+lines_read : (laws : Laws) (i : ImageValue) → IsWithin i → Fits i
     → AreRead (length i.program) (listing_lines i) (items i)
 unfolding listing_lines
 lines_read laws i w f =
     let words = length i.program in
-    read_both words (setting_lines i) (map entry_line i.entries ++ (word_lines 0 i.program ++ map run_line (runs i.cells)))
+    read_both words (setting_lines i)
+    (map entry_line i.entries ++ (word_lines 0 i.program ++ map run_line (runs i.cells)))
     (setting_items i) (entry_items i.entries ++ (map word_item i.program ++ map run_item (runs i.cells)))
     (settings_read laws words i w.some_slim w.few_slim f.retry_limit f.trap_entry)
     (read_both words (map entry_line i.entries) (word_lines 0 i.program ++ map run_line (runs i.cells))
     (entry_items i.entries) (map word_item i.program ++ map run_item (runs i.cells))
     (entries_read laws words i.entries w.few_words w.entries_stand)
-    (read_both words (word_lines 0 i.program) (map run_line (runs i.cells)) (map word_item i.program) (map run_item (runs i.cells))
-    (words_read laws words 0 i.program (omega (arith, w.few_words)) f.words)
-    (runs_read laws words (length i.cells) (runs i.cells) w.few_cells (runs_fit i.cells f.values))))
+    (read_both words (word_lines 0 i.program) (map run_line (runs i.cells)) (map word_item i.program)
+    (map run_item (runs i.cells))
+    (words_read laws words 0 i.program (omega (arith, w.few_words))
+    (All-from_recursion (λ n. n < 2 ^ 64) i.program f.program))
+    (runs_read laws words (length i.cells) (runs i.cells) w.few_cells
+    (runs_fit i.cells (All-from_recursion (λ (c : Cell). c.value < 2 ^ 64) i.cells f.cells)))))
 
 items_count : (i : ImageValue) → count_items (items i) ≡ length i.program
 items_count i =
-    let all = count_both (setting_items i) (entry_items i.entries ++ (map word_item i.program ++ map run_item (runs i.cells))) in
+    let all = count_both (setting_items i)
+    (entry_items i.entries ++ (map word_item i.program ++ map run_item (runs i.cells))) in
     let behind = count_both (entry_items i.entries) (map word_item i.program ++ map run_item (runs i.cells)) in
     let last = count_both (map word_item i.program) (map run_item (runs i.cells)) in
     let s = settings_count i in
@@ -70,7 +78,8 @@ items_added i w =
     let e : DraftValue = record s { entries = i.entries } in
     let p : DraftValue = record e { words = i.program } in
     let cells = ap length (runs_are_cells i.cells) in
-    add_both empty s (setting_items i) (entry_items i.entries ++ (map word_item i.program ++ map run_item (runs i.cells)))
+    add_both empty s (setting_items i)
+    (entry_items i.entries ++ (map word_item i.program ++ map run_item (runs i.cells)))
     (settings_added i)
     ∙ add_both s e (entry_items i.entries) (map word_item i.program ++ map run_item (runs i.cells))
     (entries_added s i.entries (omega (arith, w.few_processors)))
@@ -78,7 +87,8 @@ items_added i w =
     (words_added e i.program (omega (arith, w.few_words)))
     ∙ runs_added p (runs i.cells) (omega (arith, cells, w.few_cells))
 
-trap_kept : (trap : ℕ) (none : Bool) → eqb trap 4294967295 ≡ none → unwrap_or (cond none None (Some trap)) 4294967295 ≡ trap
+trap_kept : (trap : ℕ) (none : Bool) → eqb trap 4294967295 ≡ none
+    → unwrap_or (cond none None (Some trap)) 4294967295 ≡ trap
 trap_kept trap true e = sym (eqb-true trap 4294967295 e)
 trap_kept trap false e = refl
 
@@ -102,7 +112,8 @@ all_there i w =
     let entries : 0 < length i.entries = omega (arith, w.some_processors) in
     let words : 0 < length i.program = omega (arith, w.some_words) in
     let some : 0 < length (flat_map cells_of (runs i.cells)) = omega (arith, cells, w.some_cells) in
-    and_from (ltb 0 (length i.entries)) (ltb 0 (length i.program) && ltb 0 (length (flat_map cells_of (runs i.cells))))
+    and_from (ltb 0 (length i.entries))
+    (ltb 0 (length i.program) && ltb 0 (length (flat_map cells_of (runs i.cells))))
     (lt-ltb 0 (length i.entries) entries)
     (and_from (ltb 0 (length i.program)) (ltb 0 (length (flat_map cells_of (runs i.cells))))
     (lt-ltb 0 (length i.program) words) (lt-ltb 0 (length (flat_map cells_of (runs i.cells))) some))
@@ -132,7 +143,8 @@ reads_back laws i w f =
     } in
     draft_whole (text_of ls) places words (draft_of i) (Ok i) found
     (ap (with_lines places words 0 empty) cut
-    ∙ lines_added places words 0 empty (draft_of i) ls (items i) (line [] ∷ []) (Ok (draft_of i)) read (items_added i w)
+    ∙ lines_added places words 0 empty (draft_of i) ls (items i) (line [] ∷ []) (Ok (draft_of i)) read
+    (items_added i w)
     (last_line places words (draft_of i)))
     (completes i w)
 

@@ -48,12 +48,14 @@ abbrev pub add_all : DraftValue → List Item → Result DraftValue Fault
 add_all d [] = Ok d
 add_all d (i ∷ is) = add d i >>= λ e. add_all e is
 
-line_added : (places : Places) (words k : ℕ) (d : DraftValue) (l : List ℕ) (c : Bool) (i : Item) → IsReadAs l c words i
+line_added : (places : Places) (words k : ℕ) (d : DraftValue) (l : List ℕ) (c : Bool) (i : Item)
+    → IsReadAs l c words i
     → with_line places words k d (line l) ≡ add d i
 unfolding with_line
 line_added places words k d l c i h = ap (λ r. r >>= add d) (h.adds places k (length d.words))
 
-pub lines_added : (places : Places) (words k : ℕ) (d e : DraftValue) (ls : List (List ℕ)) (is : List Item) (tail : List Line)
+pub lines_added : (places : Places) (words k : ℕ) (d e : DraftValue) (ls : List (List ℕ)) (is : List Item)
+    (tail : List Line)
     (whole : Result DraftValue AsmFault)
     → AreRead words ls is → add_all d is ≡ Ok e → ((n : ℕ) → with_lines places words n e tail ≡ whole)
     → with_lines places words k d (map line ls ++ tail) ≡ whole
@@ -76,7 +78,8 @@ unfolding with_line add
 empty_added places words k d = ap (λ r. r >>= add d) (empty_adds places words k (length d.words))
 
 -- behind the last line end
-pub last_line : (places : Places) (words : ℕ) (d : DraftValue) (n : ℕ) → with_lines places words n d (line [] ∷ []) ≡ Ok d
+pub last_line : (places : Places) (words : ℕ) (d : DraftValue) (n : ℕ)
+    → with_lines places words n d (line [] ∷ []) ≡ Ok d
 last_line places words d n =
     ap (λ r. going r n (λ f. with_lines places words (n + 1) f [])) (empty_added places words n d)
 
@@ -114,7 +117,8 @@ text_cut words [] [] h = refl
 text_cut words [] (i ∷ is) h = absurd h
 text_cut words (l ∷ ls) [] h = absurd h
 text_cut words (l ∷ ls) (i ∷ is) h =
-    let whole = All-weaker (λ b. is_line_byte b ≡ true) (λ b. eqb b 10 ≡ false) no_end l (all_true is_line_byte l h.0.one_line) in
+    let whole =
+    All-weaker (λ b. is_line_byte b ≡ true) (λ b. eqb b 10 ≡ false) no_end l (all_true is_line_byte l h.0.one_line) in
     ap (λ t. map line (parts 10 t)) (append_assoc l (codes "\n") (text_of ls))
     ∙ ap (λ ps. map line ps) (slice_split_at (λ b. eqb b 10) l 10 (text_of ls) whole refl)
     ∙ ap (λ rest. line l ∷ rest) (text_cut words ls is h.1)
@@ -134,11 +138,14 @@ text_ascii words (l ∷ ls) (i ∷ is) h =
 
 none_passes : (p : ℕ → Bool) (xs : List ℕ) → All (λ b. p b ≡ false) xs → position p xs ≡ None
 none_passes p xs h =
-    let past = position_or_len_is p xs (length xs) 0 (omega arith) (λ k here. h k 0 here) (λ more. absurd (omega arith)) in
-    let test : ltb (position_or_len p xs) (length xs) ≡ false = le-ltb (position_or_len p xs) (length xs) (omega arith) in
+    let past =
+    position_or_len_is p xs (length xs) 0 (omega arith) (λ k here. h k 0 here) (λ more. absurd (omega arith)) in
+    let test : ltb (position_or_len p xs) (length xs) ≡ false =
+    le-ltb (position_or_len p xs) (length xs) (omega arith) in
     ap (λ b. cond b (Some (position_or_len p xs)) None) test
 
-pub text_is_ascii : (words : ℕ) (ls : List (List ℕ)) (is : List Item) → AreRead words ls is → not_ascii (text_of ls) ≡ None
+pub text_is_ascii : (words : ℕ) (ls : List (List ℕ)) (is : List Item) → AreRead words ls is
+    → not_ascii (text_of ls) ≡ None
 unfolding not_ascii
 text_is_ascii words ls is h =
     ap (line_of (text_of ls)) (none_passes (λ b. leb 128 b) (text_of ls) (text_ascii words ls is h))

@@ -5,14 +5,15 @@ use Rattle.std.proofs.Common.{refl, sym, ◌∙◌, ap, subst, arith, add-one}
 use Rattle.std.specs.Prelude.{◌≢◌, ◌^◌}
 use Rattle.std.specs.List.{flat_map, All, AllByRecursion}
 use Rattle.std.proofs.lemmas.Bool.{false≢true}
-use Rattle.std.proofs.lemmas.List.Elements.{All-head, All-tail}
+use Rattle.std.proofs.lemmas.List.Elements.{All-head, All-tail, All-append, All-nil, All-replicate}
 use Rattle.tag_memory.specs.Cell.{Cell}
 use Rattle.image_file.specs.Same.{same_cell}
 use Rattle.asm_text.specs.Runs.{Run, joined, runs}
 use Rattle.asm_text.specs.Laws.{cells_of, NeighboursDiffer, RunsAreCells, RunsHaveCells, RunsAreMaximal}
 use Rattle.asm_text.proofs.RunFronts.{same_is, same_self}
 
-by_test : (b : Bool) (xs ys : List Run) (P : List Run → Type 0) → (b ≡ true → P xs) → (b ≡ false → P ys) → P (cond b xs ys)
+by_test : (b : Bool) (xs ys : List Run) (P : List Run → Type 0) → (b ≡ true → P xs) → (b ≡ false → P ys)
+    → P (cond b xs ys)
 by_test true xs ys P p q = p refl
 by_test false xs ys P p q = q refl
 
@@ -21,7 +22,9 @@ by_cell : (c : Cell) (r : Run) (rs : List Run) (P : List Run → Type 0)
     → (same_cell c r.cell ≡ true → P (record r { count = r.count + 1 } ∷ rs))
     → (same_cell c r.cell ≡ false → P (record { count = 1; cell = c } ∷ r ∷ rs))
     → P (joined c (r ∷ rs))
-by_cell c r rs P p q = by_test (same_cell c r.cell) (record r { count = r.count + 1 } ∷ rs) (record { count = 1; cell = c } ∷ r ∷ rs) P p q
+by_cell c r rs P p q =
+    by_test (same_cell c r.cell) (record r { count = r.count + 1 } ∷ rs)
+    (record { count = 1; cell = c } ∷ r ∷ rs) P p q
 
 joined_cells : (c : Cell) (rs : List Run) → flat_map cells_of (joined c rs) ≡ c ∷ flat_map cells_of rs
 joined_cells c [] = refl
@@ -52,7 +55,8 @@ joined_runs n c (r ∷ rs) v h =
     (λ e. ((omega arith, omega arith, h.0.2), weaker n rs h.1))
     (λ e. ((omega arith, omega arith, v), weaker n (r ∷ rs) h))
 
-pub runs_fit : (cells : List Cell) → All (λ (c : Cell). c.value < 2 ^ 64) cells → AllByRecursion (IsRunOf (length cells)) (runs cells)
+pub runs_fit : (cells : List Cell) → All (λ (c : Cell). c.value < 2 ^ 64) cells
+    → AllByRecursion (IsRunOf (length cells)) (runs cells)
 unfolding runs
 runs_fit [] h = tt
 runs_fit (c ∷ cs) h =
@@ -86,3 +90,21 @@ pub runs_are_maximal : RunsAreMaximal
 unfolding runs
 runs_are_maximal [] = tt
 runs_are_maximal (c ∷ cs) = joined_differ c (runs cs) (runs_are_maximal cs)
+
+-- A run and what is behind it, and all cells that they are.
+
+pub run_fits : (cells following : List Cell) (count : ℕ) (cell : Cell)
+    → runs cells ≡ record { count = count; cell = cell } ∷ runs following → cell.value < 2 ^ 64
+    → All (λ (c : Cell). c.value < 2 ^ 64) following → All (λ (c : Cell). c.value < 2 ^ 64) cells
+run_fits cells following count cell first v more =
+    let Fit : Cell → Type 0 = λ c. c.value < 2 ^ 64 in
+    let split : replicate count cell ++ following ≡ cells =
+    ap (λ cs. replicate count cell ++ cs) (sym (runs_are_cells following))
+    ∙ sym (ap (λ rs. flat_map cells_of rs) first) ∙ runs_are_cells cells in
+    subst (All Fit) split
+    (All-append Fit (replicate count cell) following (All-replicate Fit count cell v) more)
+
+pub no_runs_fit : (cells : List Cell) → runs cells ≡ [] → All (λ (c : Cell). c.value < 2 ^ 64) cells
+no_runs_fit cells none =
+    let Fit : Cell → Type 0 = λ c. c.value < 2 ^ 64 in
+    subst (All Fit) (sym (ap (λ rs. flat_map cells_of rs) none) ∙ runs_are_cells cells) (All-nil Fit)

@@ -54,7 +54,8 @@ behind : (c : Cell) (cells : List Cell) (n : ℕ) → front c cells ≡ n
 behind c cells n e = ap (λ m. record { count = m; cell = c } ∷ runs (drop m cells)) e
 
 equal_next : (c d : Cell) (ds : List Cell) → c ≡ d
-    → record { count = front d (d ∷ ds) + 1; cell = d } ∷ runs (drop (front d (d ∷ ds)) (d ∷ ds)) ≡ then_runs c (c ∷ d ∷ ds)
+    → record { count = front d (d ∷ ds) + 1; cell = d } ∷ runs (drop (front d (d ∷ ds)) (d ∷ ds))
+    ≡ then_runs c (c ∷ d ∷ ds)
 equal_next c d ds e =
     ap (λ x. record { count = front x (d ∷ ds) + 1; cell = x } ∷ runs (drop (front x (d ∷ ds)) (d ∷ ds))) (sym e)
     ∙ ap (λ n. record { count = n; cell = c } ∷ runs (drop (front c (d ∷ ds)) (d ∷ ds))) (add-one (front c (d ∷ ds)))

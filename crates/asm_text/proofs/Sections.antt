@@ -64,7 +64,8 @@ trap_set_to trap = cond (eqb trap 4294967295) None (Some trap)
 
 abbrev pub with_settings_of : ImageValue → DraftValue
 with_settings_of i = record empty {
-  settings = record { profile = true; slim = Some i.slim; retry = Some i.retry_limit; trap = trap_set_to i.trap_entry };
+  settings =
+      record { profile = true; slim = Some i.slim; retry = Some i.retry_limit; trap = trap_set_to i.trap_entry };
 }
 
 trap_read : (laws : Laws) (words trap : ℕ) (none : Bool) → trap < 2 ^ 32
@@ -86,7 +87,8 @@ settings_read laws words i some few retry trap = (
 )
 
 trap_added : (slim retry trap : ℕ) (none : Bool)
-    → add_all (record empty { settings = record { profile = true; slim = Some slim; retry = Some retry; trap = None } })
+    → add_all (record
+    empty { settings = record { profile = true; slim = Some slim; retry = Some retry; trap = None } })
     (cond none [] (item.Trap trap ∷ []))
     ≡ Ok (record empty {
       settings = record { profile = true; slim = Some slim; retry = Some retry; trap = cond none None (Some trap) };
@@ -121,10 +123,12 @@ entries_read laws words (e ∷ es) few h =
     let here = All-head (λ n. n < words) e es h in
     (laws.entry e words here (omega arith), entries_read laws words es few (All-tail (λ n. n < words) e es h))
 
-entry_added : (d : DraftValue) (e : ℕ) → length d.entries < 16 → add d (item.Entry e) ≡ Ok (record d { entries = d.entries ++ e ∷ [] })
+entry_added : (d : DraftValue) (e : ℕ) → length d.entries < 16
+    → add d (item.Entry e) ≡ Ok (record d { entries = d.entries ++ e ∷ [] })
 unfolding add
 entry_added d e room =
-    ap (λ b. cond b (Ok (record d { entries = d.entries ++ e ∷ [] })) (Err fault.Limit)) (lt-ltb (length d.entries) 16 room)
+    ap (λ b. cond b (Ok (record d { entries = d.entries ++ e ∷ [] })) (Err fault.Limit))
+    (lt-ltb (length d.entries) 16 room)
 
 pub entries_added : (d : DraftValue) (es : List ℕ) → length d.entries + length es ≤ 16
     → add_all d (entry_items es) ≡ Ok (record d { entries = d.entries ++ es })
@@ -167,11 +171,13 @@ unfolding add
 added_as d w None e = refl
 added_as d w (Some i) e = ap (with_word d) (number_of_spelt w i e)
 
-word_added : (d : DraftValue) (w : ℕ) → length d.words < 65536 → add d (word_item w) ≡ Ok (record d { words = d.words ++ w ∷ [] })
+word_added : (d : DraftValue) (w : ℕ) → length d.words < 65536
+    → add d (word_item w) ≡ Ok (record d { words = d.words ++ w ∷ [] })
 unfolding word_item
 word_added d w room =
     added_as d w (instruction w) refl
-    ∙ ap (λ b. cond b (Ok (record d { words = d.words ++ w ∷ [] })) (Err fault.Limit)) (lt-ltb (length d.words) 65536 room)
+    ∙ ap (λ b. cond b (Ok (record d { words = d.words ++ w ∷ [] })) (Err fault.Limit))
+    (lt-ltb (length d.words) 65536 room)
 
 pub words_added : (d : DraftValue) (ws : List ℕ) → length d.words + length ws ≤ 65536
     → add_all d (map word_item ws) ≡ Ok (record d { words = d.words ++ ws })

@@ -16,7 +16,8 @@ same_place : (a b c d : ℕ) → a ≡ b → c ≡ d
 same_place a b c d e f = λ i. Some (record { line = e i; value = f i })
 
 one_line : (before : Option Place) (here : Bool) (after : Option Place) (k w c : ℕ)
-    → option_or (option_or before (cond here (Some (record { line = k; value = w })) None)) (moved (k + 1) (w + c) after)
+    → option_or (option_or before (cond here (Some (record { line = k; value = w })) None))
+    (moved (k + 1) (w + c) after)
     ≡ option_or before (moved k w (cond here (Some (record { line = 0; value = 0 }))
     (option_map (λ (p : Place). record { line = p.line + 1; value = p.value + c }) after)))
 one_line (Some p) true after k w c = refl

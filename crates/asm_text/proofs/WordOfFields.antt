@@ -18,4 +18,5 @@ pub number_of_spelt : (w : ℕ) (i : Insn) → instruction w ≡ Some i → numb
 unfolding instruction
 number_of_spelt w i e =
     let k = kept (number (fields (candidate w)) == w && has_one_writer (candidate w)) (candidate w) i e in
-    ap (λ (j : Insn). number (fields j)) (sym k.1) ∙ same_number (number (fields (candidate w))) w (has_one_writer (candidate w)) k.0
+    ap (λ (j : Insn). number (fields j)) (sym k.1)
+    ∙ same_number (number (fields (candidate w))) w (has_one_writer (candidate w)) k.0

@@ -1,22 +1,16 @@
 -- Laws of listings and of runs.
-use Rattle.std.specs.Prelude.{◌≡◌, ◌≢◌, ℕ, ◌≤◌, ◌<◌, ◌^◌, ⊤, List, [], ◌∷◌, replicate, All}
+use Rattle.std.specs.Prelude.{◌≡◌, ◌≢◌, ℕ, ◌≤◌, ⊤, List, [], ◌∷◌, replicate}
 use Rattle.std.specs.List.{flat_map, AllByRecursion}
 use Rattle.tag_memory.specs.Cell.{Cell}
 use Rattle.image_file.specs.ImageValue.{ImageValue, IsWithin}
+use Rattle.image_file.specs.Spelling.{Fits}
 use Rattle.asm_text.specs.Sources.{Means}
 use Rattle.asm_text.specs.Runs.{Run, runs}
 use Rattle.asm_text.specs.Listing.{listing}
 
--- the numbers of an image have at most 32 or 64 bits
-pub record FitsMachine (i : ImageValue) : Type 0 where
-  pub retry_limit : i.retry_limit < 2 ^ 32
-  pub trap_entry : i.trap_entry < 2 ^ 32
-  pub words : All (λ w. w < 2 ^ 64) i.program
-  pub values : All (λ (c : Cell). c.value < 2 ^ 64) i.cells
-
--- a listing means the image that it was made of
+-- A listing means the image that it was made of. Every image of the program is within its limits and fits its fields.
 abbrev pub ListingsReadBack : Type 0
-ListingsReadBack = (i : ImageValue) → IsWithin i → FitsMachine i → Means (listing i) i
+ListingsReadBack = (i : ImageValue) → IsWithin i → Fits i → Means (listing i) i
 
 -- a text means one image at most
 abbrev pub OneMeaning : Type 0

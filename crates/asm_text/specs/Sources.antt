@@ -15,7 +15,8 @@ use Rattle.asm_text.specs.Drafts.{DraftValue, empty, add, has_all, image_of_draf
 unfoldable pub with_line : Places → ℕ → ℕ → DraftValue → Line → Result DraftValue Fault
 with_line places words k d l = line_item places words k (length d.words) l >>= add d
 
-abbrev pub going : Result DraftValue Fault → ℕ → (DraftValue → Result DraftValue AsmFault) → Result DraftValue AsmFault
+abbrev pub going : Result DraftValue Fault → ℕ → (DraftValue → Result DraftValue AsmFault)
+    → Result DraftValue AsmFault
 going (Ok d) k f = f d
 going (Err e) k f = Err (record { line = k + 1; kind = e })
 

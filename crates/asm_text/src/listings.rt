@@ -1,12 +1,16 @@
 //! The listing of an image.
 
-ghost use Rattle.std.specs.Prelude.{◌≡◌, ◌++◌, map, IfOk, OnOk, string_bytes};
+ghost use Rattle.std.specs.Prelude.{◌≡◌, ◌<◌, ◌^◌, ◌++◌, map, IfOk, OnOk, string_bytes};
+ghost use Rattle.std.specs.List.{All};
 ghost use Rattle.tag_memory.specs.Cell.{tag_number};
+ghost use Rattle.image_file.specs.ImageValue.{IsWithin};
 ghost use Rattle.listing_line.specs.DirectiveLines.{profile_line, slim_line, retry_line, trap_line};
 ghost use Rattle.listing_line.specs.DirectiveLines.{entry_line, fill_line};
+ghost use Rattle.asm_text.specs.Sources.{Means};
 ghost use Rattle.asm_text.specs.Runs.{runs};
 ghost use Rattle.asm_text.specs.Listing.{setting_lines, trap_lines, word_lines, run_line, text_of, ended, listing};
 
+use crate::laws::listings_are_read_back;
 use crate::runs::first_run;
 use image_file::Image;
 use listing_line::push_word_line;
@@ -20,9 +24,13 @@ const PROFILE: u8 = 1;
 
 /// The listing of an image ("Listing", docs/FORMATS.md): its directives, its entries, its program words and its data
 /// cells, each run of equal cells in one line.
+///
+/// It means just that image, so [`assemble`](crate::assemble) of it gives the image.
 pub fn listing(alloc: Global, image: &Image) -> Result<String, AllocError>
-    ensures { IfOk result (λ t. string_bytes t ≡ listing image.now) }
+    ensures is { IfOk result (λ t. string_bytes t ≡ listing image.now) }
+    ensures means { IfOk result (λ t. Means (string_bytes t) image.now) }
 {
+    listings_are_read_back();
     let mut text = String::new(alloc);
     push_settings(&mut text, image)?;
     push_entries(&mut text, image)?;
@@ -33,7 +41,8 @@ pub fn listing(alloc: Global, image: &Image) -> Result<String, AllocError>
 
 /// Appends the directives that stand once.
 fn push_settings(text: &mut String, image: &Image) -> Result<(), AllocError>
-    ensures { OnOk result (string_bytes text.new ≡ string_bytes text.old ++ text_of (setting_lines image.now)) }
+    ensures is { OnOk result (string_bytes text.new ≡ string_bytes text.old ++ text_of (setting_lines image.now)) }
+    ensures fit { OnOk result ((image.now.retry_limit < 2 ^ 32) × (image.now.trap_entry < 2 ^ 32)) }
 {
     push_profile(text, PROFILE)?;
     push_slim(text, image.slim())?;
@@ -75,8 +84,9 @@ fn push_trap(text: &mut String, trap: u32) -> Result<(), AllocError>
 
 /// Appends the entries.
 fn push_entries(text: &mut String, image: &Image) -> Result<(), AllocError>
-    ensures { OnOk result (string_bytes text.new ≡ string_bytes text.old
+    ensures is { OnOk result (string_bytes text.new ≡ string_bytes text.old
         ++ text_of (map entry_line image.now.entries)) }
+    ensures kept { IsWithin image.now }
 {
     for processor in 0..image.processors() {
         let Some(entry) = image.entry(processor) else {
@@ -96,17 +106,27 @@ fn push_entry(text: &mut String, entry: u32) -> Result<(), AllocError>
 
 /// Appends the program words.
 fn push_program(text: &mut String, image: &Image) -> Result<(), AllocError>
-    ensures { OnOk result (string_bytes text.new ≡ string_bytes text.old ++ text_of (word_lines 0 image.now.program)) }
+    ensures is { OnOk result (string_bytes text.new ≡ string_bytes text.old
+        ++ text_of (word_lines 0 image.now.program)) }
+    ensures fit { All (λ w. w < 2 ^ 64) image.now.program }
 {
+    words_fit(image.program());
     for (place, word) in image.program().iter().enumerate() {
         push_word_line(text, place as u16, *word)?;
     }
     Ok(())
 }
 
+/// Each number of 64 bits fits its type. There is nothing to run.
+fn words_fit(words: &[u64])
+    ensures { All (λ w. w < 2 ^ 64) words.now }
+{}
+
 /// Appends the runs of equal cells.
 fn push_cells(text: &mut String, cells: &[Word]) -> Result<(), AllocError>
-    ensures { OnOk result (string_bytes text.new ≡ string_bytes text.old ++ text_of (map run_line (runs cells.now))) }
+    ensures is { OnOk result (string_bytes text.new ≡ string_bytes text.old
+        ++ text_of (map run_line (runs cells.now))) }
+    ensures fit { OnOk result (All (λ c. c.value < 2 ^ 64) cells.now) }
 {
     let mut rest = cells;
     while let Some((count, cell, following)) = first_run(rest) {
@@ -118,8 +138,9 @@ fn push_cells(text: &mut String, cells: &[Word]) -> Result<(), AllocError>
 
 #[tactic(auto, unfolding(listing_line::specs::DirectiveLines::fill_line))]
 fn push_run(text: &mut String, count: usize, cell: &Word) -> Result<(), AllocError>
-    ensures { OnOk result (string_bytes text.new ≡ string_bytes text.old
+    ensures is { OnOk result (string_bytes text.new ≡ string_bytes text.old
         ++ ended (fill_line count cell.now.value (tag_number cell.now))) }
+    ensures fits { cell.now.value < 2 ^ 64 }
 {
     let value = Hexadecimal(cell.value());
     let tags = cell.tag_number();

@@ -6,7 +6,8 @@ ghost use Rattle.asm_text.specs.Settings.{no_settings, set_once, profile_set, sl
 
 use asm_line::Fault;
 
-/// What the directives that may stand once have said: whether `.profile` stood, and the numbers of the others that did.
+/// What the directives that may stand once have said: whether `.profile` stood, and the numbers of the others that
+/// did.
 #[derive(Clone, Copy, Debug, PartialEq, Eq)]
 pub(crate) struct Settings {
     pub(crate) profile: bool,

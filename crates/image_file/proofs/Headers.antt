@@ -99,7 +99,8 @@ length-header_bytes m v p s r t w c = simp (length-append, length-number_bytes) 
 
 -- the fields of a header, added one by one
 pub header_put : (out : List ℕ) (m v p s r t w c : ℕ)
-    → (((((((out ++ number_bytes 4 m) ++ number_bytes 2 v) ++ number_bytes 2 p) ++ number_bytes 2 s) ++ number_bytes 4 r)
+    → (((((((out ++ number_bytes 4 m) ++ number_bytes 2 v) ++ number_bytes 2 p) ++ number_bytes 2 s)
+    ++ number_bytes 4 r)
     ++ number_bytes 4 t)
     ++ number_bytes 4 w)
     ++ number_bytes 4 c

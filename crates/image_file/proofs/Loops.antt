@@ -8,7 +8,8 @@ use Rattle.image_file.proofs.Searches.{skip}
 use Rattle.image_file.proofs.Sequences.{parts_of-step, parts_of-end}
 
 -- what stands in the list, and what is still to come, are all of it
-pub fill_goes_on : {X : Type 0} (size : ℕ) (value : List ℕ → X) (count i : ℕ) (rest : List ℕ) (x : X) (front all : List X)
+pub fill_goes_on : {X : Type 0} (size : ℕ) (value : List ℕ → X) (count i : ℕ) (rest : List ℕ) (x : X)
+    (front all : List X)
     → i < count → x ≡ value rest → front ++ parts_of size value (count - i) rest ≡ all
     → (front ++ x ∷ []) ++ parts_of size value (count - (i + 1)) (drop size rest) ≡ all
 fill_goes_on size value count i rest x front all here is so_far =

@@ -11,10 +11,12 @@ use Rattle.image_file.specs.ImageValue.{ImageValue, IsWithin}
 use Rattle.image_file.specs.Tags.{cell_of-tag_number, tag_number-below}
 use Rattle.image_file.specs.Fields.{number_bytes, number_of}
 use Rattle.image_file.specs.Parts.{count_fault, entry_fault}
-use Rattle.image_file.specs.Spelling.{magic, version, entry_bytes, word_bytes, cell_bytes, header_bytes, spelling, Stands}
+use Rattle.image_file.specs.Spelling.{magic, version, entry_bytes, word_bytes, cell_bytes, header_bytes, spelling}
+use Rattle.image_file.specs.Spelling.{Stands}
 use Rattle.image_file.specs.Reading.{processors_at, words_at, cells_at}
 use Rattle.image_file.specs.Reading.{program_place, cells_place, asked_length}
-use Rattle.image_file.specs.Reading.{entries_from, program_from, tag_byte, tags_from, cell_from, cells_from, image_at, tag_fault}
+use Rattle.image_file.specs.Reading.{entries_from, program_from, tag_byte, tags_from, cell_from, cells_from, image_at}
+use Rattle.image_file.specs.Reading.{tag_fault}
 use Rattle.image_file.proofs.Limits.{AreCounts, no_count_fault}
 use Rattle.image_file.proofs.Searches.{none_where_all_pass}
 use Rattle.image_file.proofs.Numbers.{length-number_bytes, number_again}
@@ -43,7 +45,8 @@ tag_again c rest =
     let regrouped = append_assoc (number_bytes 8 c.value) (number_bytes 1 (tag_number c)) rest in
     let below = tag_number-below c in
     ap tag_byte regrouped
-    ∙ ap (number_of 1) (drop_at (number_bytes 8 c.value) (number_bytes 1 (tag_number c) ++ rest) 8 (length-number_bytes 8 c.value))
+    ∙ ap (number_of 1)
+    (drop_at (number_bytes 8 c.value) (number_bytes 1 (tag_number c) ++ rest) 8 (length-number_bytes 8 c.value))
     ∙ number_again 1 (tag_number c) rest (omega arith)
 
 cell_again : (c : Cell) (rest : List ℕ) → c.value < 2 ^ 64 → cell_from (cell_bytes c ++ rest) ≡ c
@@ -79,8 +82,10 @@ unfolding spelling
 says b i stands =
     let w = stands.within in
     let f = stands.fits in
-    header_again b magic version (length i.entries) i.slim i.retry_limit i.trap_entry (length i.program) (length i.cells)
-    (entries_text i ++ (program_text i ++ cells_text i)) (omega arith) (omega arith) (omega arith) (omega arith) f.retry_limit
+    header_again b magic version (length i.entries) i.slim i.retry_limit i.trap_entry (length i.program)
+    (length i.cells)
+    (entries_text i ++ (program_text i ++ cells_text i)) (omega arith) (omega arith) (omega arith) (omega arith)
+    f.retry_limit
     f.trap_entry (omega arith) (omega arith) stands.spelled
 
 -- what stands at each place
@@ -116,7 +121,8 @@ lists b i stands h =
       length-append header (entries_text i ++ (program_text i ++ cells_text i)),
       length-append (entries_text i) (program_text i ++ cells_text i),
       length-append (program_text i) (cells_text i),
-      length-header_bytes magic version (length i.entries) i.slim i.retry_limit i.trap_entry (length i.program) (length i.cells),
+      length-header_bytes magic version (length i.entries) i.slim i.retry_limit i.trap_entry (length i.program)
+          (length i.cells),
     ) in
     record { entries = h.after; program = program; cells = last; whole = whole }
 
@@ -135,7 +141,8 @@ program_again : (b : List ℕ) (i : ImageValue) → Stands b i → Says b i → 
     → program_from (words_at b) (drop (program_place b) b) ≡ i.program
 program_again b i stands h l =
     (λ j. program_from (h.words j) (l.program j))
-    ∙ parts_again (λ w. w < 2 ^ 64) 8 (number_of 8) word_bytes (numbers_written 8 (2 ^ 64) (omega arith)) i.program (cells_text i)
+    ∙ parts_again (λ w. w < 2 ^ 64) 8 (number_of 8) word_bytes (numbers_written 8 (2 ^ 64) (omega arith)) i.program
+    (cells_text i)
     stands.fits.program
 
 cells_again : (b : List ℕ) (i : ImageValue) → Stands b i → Says b i → HasLists b i
@@ -184,7 +191,8 @@ entries_pass : (words : ℕ) (entries : List ℕ) → All (λ e. e < words) entr
 entries_pass words entries stand =
     let passes : All (λ e. nat_le words e ≡ false) entries =
     λ k d here. let below = stand k d here in grind (arith, nat_tests) in
-    none_where_all_pass (λ e. nat_le words e) entries (recursion_from_All (λ e. nat_le words e ≡ false) entries passes)
+    none_where_all_pass (λ e. nat_le words e) entries
+    (recursion_from_All (λ e. nat_le words e ≡ false) entries passes)
 
 tags_pass : (cells : List Cell) → AllByRecursion (λ t. nat_le 16 t ≡ false) (map tag_number cells)
 tags_pass [] = tt

@@ -1,5 +1,6 @@
 -- Parts one after another: what is written is read back, and what is read is written back.
-use Rattle.std.proofs.Common.{◌≡◌, ℕ, zero, suc, ◌+◌, ◌-◌, ◌*◌, ◌<◌, ◌≤◌, List, [], ◌∷◌, ◌++◌, length, map, take, drop}
+use Rattle.std.proofs.Common.{◌≡◌, ℕ, zero, suc, ◌+◌, ◌-◌, ◌*◌, ◌<◌, ◌≤◌, List, [], ◌∷◌, ◌++◌, length, map, take}
+use Rattle.std.proofs.Common.{drop}
 use Rattle.std.proofs.Common.{get_or, refl, sym, ap, ◌∙◌, append_assoc, arith, length-append}
 use Rattle.std.specs.List.{flat_map, AllByRecursion}
 use Rattle.std.proofs.lemmas.List.{take-append-drop, drop-drop, drop_at, get_or-drop, length-drop}
@@ -44,7 +45,8 @@ regrouped : {X : Type 0} (write : X → List ℕ) (x : X) (xs : List X) (rest : 
 regrouped write x xs rest = append_assoc (write x) (flat_map write xs) rest
 
 -- how one part is written, and what is read of it where it has P
-pub record IsWritten {X Y : Type 0} (P : X → Type 0) (size : ℕ) (value : List ℕ → Y) (write : X → List ℕ) (seen : X → Y)
+pub record IsWritten {X Y : Type 0} (P : X → Type 0) (size : ℕ) (value : List ℕ → Y) (write : X → List ℕ)
+    (seen : X → Y)
     : Type 0 where
   pub sized : (x : X) → length (write x) ≡ size
   pub again : (x : X) (rest : List ℕ) → P x → value (write x ++ rest) ≡ seen x
@@ -108,7 +110,8 @@ parts_back Q size value write back (suc n) bytes long all =
     let written = back bytes first here in
     sym (take-append-drop size bytes)
     ∙ (λ i. sym written i ++ (tail ∙ ap (λ (r : List ℕ). flat_map write (parts_of size value n rest) ++ r) past) i)
-    ∙ sym (append_assoc (write (value bytes)) (flat_map write (parts_of size value n rest)) (drop (size * suc n) bytes))
+    ∙ sym (append_assoc (write (value bytes)) (flat_map write (parts_of size value n rest))
+    (drop (size * suc n) bytes))
 
 pub parts_all : {X : Type 0} (P : X → Type 0) (size : ℕ) (value : List ℕ → X)
     → ((bytes : List ℕ) → IsBytes bytes → P (value bytes)) → (count : ℕ) (bytes : List ℕ) → IsBytes bytes

@@ -5,13 +5,15 @@ use Rattle.std.specs.Prelude.{nat_lt, ◌==◌}
 use Rattle.std.specs.Option.{option_map}
 use Rattle.std.proofs.lemmas.Bool.Decides.{nat_tests}
 use Rattle.image_file.specs.declared.fault.ImageFault.{ImageFault}
-use Rattle.image_file.specs.declared.fault.ImageFault.TheVariants.{Short, Magic, Version, Trailing, Entry, TagByte, Count}
+use Rattle.image_file.specs.declared.fault.ImageFault.TheVariants.{Short, Magic, Version, Trailing, Entry, TagByte}
+use Rattle.image_file.specs.declared.fault.ImageFault.TheVariants.{Count}
 use Rattle.image_file.specs.Fault.{first_of}
 use Rattle.image_file.specs.Fields.{number_of}
 use Rattle.image_file.specs.Parts.{count_fault, entry_fault}
 use Rattle.image_file.specs.Spelling.{magic, version}
 use Rattle.image_file.specs.Reading.{header_length, front_fault, header_fault, body_fault, image_fault, tag_fault}
-use Rattle.image_file.specs.Reading.{processors_at, slim_at, words_at, cells_at, asked_length, program_place, cells_place}
+use Rattle.image_file.specs.Reading.{processors_at, slim_at, words_at, cells_at, asked_length, program_place}
+use Rattle.image_file.specs.Reading.{cells_place}
 use Rattle.image_file.specs.Reading.{entries_from, tags_from}
 
 pub record IsSound (b : List ℕ) : Type 0 where
@@ -23,7 +25,8 @@ pub record IsSound (b : List ℕ) : Type 0 where
   pub tags : tag_fault (tags_from (cells_at b) (drop (cells_place b) b)) ≡ None
   pub whole : length b ≡ asked_length b
 
-first_of-none : (earlier later : Option ImageFault) → first_of earlier later ≡ None → (earlier ≡ None) × (later ≡ None)
+first_of-none : (earlier later : Option ImageFault) → first_of earlier later ≡ None
+    → (earlier ≡ None) × (later ≡ None)
 first_of-none (Some f) later e = absurd cc
 first_of-none None later e = (refl, e)
 
@@ -73,7 +76,8 @@ unfolding front_fault body_fault
 no_fault b s =
     let long : nat_lt (length b) header_length ≡ false = let h = s.long in grind (arith, nat_tests) in
     let starts : (number_of 4 b == magic) ≡ true = let h = s.magic_stands in grind (arith, nat_tests) in
-    let versioned : (number_of 2 (drop 4 b) == version) ≡ true = let h = s.version_stands in grind (arith, nat_tests) in
+    let versioned : (number_of 2 (drop 4 b) == version) ≡ true = let h = s.version_stands in
+    grind (arith, nat_tests) in
     let asked : nat_lt (length b) (asked_length b) ≡ false = let h = s.whole in grind (arith, nat_tests) in
     let ended : nat_lt (asked_length b) (length b) ≡ false = let h = s.whole in grind (arith, nat_tests) in
     rw (long, starts, versioned, s.counts, asked, s.entries, s.tags, ended) refl

@@ -37,8 +37,10 @@ image_fits b are_bytes =
     record {
       retry_limit = number_below 4 (drop 10 b) (IsBytes-drop 10 b are_bytes);
       trap_entry = number_below 4 (drop 14 b) (IsBytes-drop 14 b are_bytes);
-      program = parts_all (λ w. w < 2 ^ 64) 8 (number_of 8) (number_below 8) (words_at b) (drop (program_place b) b) program;
-      cells = parts_all (λ c. c.value < 2 ^ 64) 9 cell_from (number_below 8) (cells_at b) (drop (cells_place b) b) cells;
+      program = parts_all (λ w. w < 2 ^ 64) 8 (number_of 8) (number_below 8) (words_at b)
+          (drop (program_place b) b) program;
+      cells = parts_all (λ c. c.value < 2 ^ 64) 9 cell_from (number_below 8) (cells_at b)
+          (drop (cells_place b) b) cells;
     }
 
 cell_back : (b : List ℕ) → IsBytes b × (tag_byte b < 16) → 9 ≤ length b → cell_bytes (cell_from b) ≡ take 9 b
@@ -49,7 +51,8 @@ cell_back b fits long =
     let value : number_bytes 8 (number_of 8 b) ≡ take 8 b = number_back 8 b fits.0 (omega arith) in
     (λ i. value i ++ tags i) ∙ sym (take-add 8 1 b)
 
-tag_below : (b : List ℕ) → IsSound b → (k : ℕ) → k < cells_at b → tag_byte (drop (9 * k) (drop (cells_place b) b)) < 16
+tag_below : (b : List ℕ) → IsSound b → (k : ℕ) → k < cells_at b
+    → tag_byte (drop (9 * k) (drop (cells_place b) b)) < 16
 tag_below b s k here =
     let cells = drop (cells_place b) b in
     let all = length-parts_of 9 tag_byte (cells_at b) cells in
@@ -67,7 +70,8 @@ entries_back b are_bytes s =
     let bytes = IsBytes-drop 26 b are_bytes in
     let whole = s.whole in
     let room : 4 * p ≤ length rest = omega (arith, length-drop 26 b) in
-    parts_back IsBytes 4 (number_of 4) entry_bytes (number_back 4) p rest room (λ k below. IsBytes-drop (4 * k) rest bytes)
+    parts_back IsBytes 4 (number_of 4) entry_bytes (number_back 4) p rest room
+    (λ k below. IsBytes-drop (4 * k) rest bytes)
     ∙ ap (λ r. flat_map entry_bytes (entries_from p rest) ++ r) (drop-drop (4 * p) 26 b)
 
 program_back : (b : List ℕ) → IsBytes b → IsSound b
@@ -80,7 +84,8 @@ program_back b are_bytes s =
     let bytes = IsBytes-drop place b are_bytes in
     let whole = s.whole in
     let room : 8 * w ≤ length rest = omega (arith, length-drop place b) in
-    parts_back IsBytes 8 (number_of 8) word_bytes (number_back 8) w rest room (λ k below. IsBytes-drop (8 * k) rest bytes)
+    parts_back IsBytes 8 (number_of 8) word_bytes (number_back 8) w rest room
+    (λ k below. IsBytes-drop (8 * k) rest bytes)
     ∙ ap (λ r. flat_map word_bytes (program_from w rest) ++ r) (drop-drop (8 * w) place b)
 
 cells_back : (b : List ℕ) → IsBytes b → IsSound b
@@ -106,7 +111,8 @@ image_back b are_bytes s =
     let words = length-parts_of 8 (number_of 8) (words_at b) (drop (program_place b) b) in
     let cells = length-parts_of 9 cell_from (cells_at b) (drop (cells_place b) b) in
     let last = program_back b are_bytes s
-    ∙ ap (λ r. flat_map word_bytes (program_from (words_at b) (drop (program_place b) b)) ++ r) (cells_back b are_bytes s) in
+    ∙ ap (λ r. flat_map word_bytes (program_from (words_at b) (drop (program_place b) b)) ++ r)
+    (cells_back b are_bytes s) in
     let lists = entries_back b are_bytes s
     ∙ ap (λ r. flat_map entry_bytes (entries_from (processors_at b) (drop 26 b)) ++ r) last in
     header_back b are_bytes s.long

@@ -38,7 +38,8 @@ header_bytes magic version processors slim retry_limit trap_entry words cells =
 
 abbrev pub header_of : ImageValue → List ℕ
 header_of i =
-    header_bytes magic version (length i.entries) i.slim i.retry_limit i.trap_entry (length i.program) (length i.cells)
+    header_bytes magic version (length i.entries) i.slim i.retry_limit i.trap_entry (length i.program)
+    (length i.cells)
 
 unfoldable pub spelling : ImageValue → List ℕ
 spelling i =

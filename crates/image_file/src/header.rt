@@ -48,7 +48,8 @@ fn front_fault(bytes: &[u8]) -> Option<ImageFault>
 }
 
 impl Header {
-    /// The header that the bytes begin with; else the first of `Short`, `Magic`, `Version` and `Count` that they have.
+    /// The header that the bytes begin with; else the first of `Short`, `Magic`, `Version` and `Count` that they
+    /// have.
     pub(crate) fn read(bytes: &[u8]) -> Result<Header, ImageFault>
         ensures { MatchResult result
             (λ h. (h ≡ header_at bytes.now) × (header_fault bytes.now ≡ None))

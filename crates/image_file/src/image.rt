@@ -29,7 +29,8 @@ impl Model for Image {
 
     ghost view = { λ i. image_of i.entries.items i.slim i.retry_limit i.trap_entry i.program.items i.cells.items };
 
-    ghost invariant = { λ i. IsWithin (image_of i.entries.items i.slim i.retry_limit i.trap_entry i.program.items i.cells.items) };
+    ghost invariant = { λ i.
+        IsWithin (image_of i.entries.items i.slim i.retry_limit i.trap_entry i.program.items i.cells.items) };
 }
 
 impl Image {

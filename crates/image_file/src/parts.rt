@@ -57,8 +57,8 @@ fn taken<T>(vector: &mut Vec<T>) -> Vec<T>
 impl Image {
     /// The image of these parts, whose vectors it takes and leaves empty. Takes no memory.
     ///
-    /// Where they are no image the vectors stay as they are, and the fault is `Count` with the first field that is out
-    /// of its limits, else `Entry` with the least processor whose entry is not below the number of program words.
+    /// Where they are no image the vectors stay as they are, and the fault is `Count` with the first field that is
+    /// out of its limits, else `Entry` with the least processor whose entry is not below the number of program words.
     pub fn from_parts(
         entries: &mut Vec<u32>,
         slim: u16,
@@ -70,12 +70,14 @@ impl Image {
         // Ok exactly within the limits, and then the image has the arguments.
         ensures within { IsOk result
             ↔ IsWithin (image_of entries.old.items slim retry_limit trap_entry program.old.items cells.old.items) }
-        ensures is { let parts = image_of entries.old.items slim retry_limit trap_entry program.old.items cells.old.items in
+        ensures is { let parts =
+            image_of entries.old.items slim retry_limit trap_entry program.old.items cells.old.items in
             MatchResult result (λ i. i ≡ parts) (λ fault. parts_fault parts ≡ Some fault) }
 
         // What becomes of the vectors.
         ensures ok { OnOk result ((entries.new.items ≡ []) × (program.new.items ≡ []) × (cells.new.items ≡ [])) }
-        ensures err { OnErr result ((entries.new ≡ entries.old) × (program.new ≡ program.old) × (cells.new ≡ cells.old)) }
+        ensures err { OnErr result
+            ((entries.new ≡ entries.old) × (program.new ≡ program.old) × (cells.new ≡ cells.old)) }
     {
         if let Some(field) = count_fault(
             entries.len(),

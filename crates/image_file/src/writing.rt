@@ -68,8 +68,8 @@ fn put_cells(out: &mut Vec<u8>, cells: &[Word]) -> Result<(), AllocError>
     Ok(())
 }
 
-/// The bytes that stand for an image: 26 of header, 4 for each processor, 8 for each program word and 9 for each cell.
-/// [`read_image`](crate::read_image) of them gives the image.
+/// The bytes that stand for an image: 26 of header, 4 for each processor, 8 for each program word and 9 for each
+/// cell. [`read_image`](crate::read_image) of them gives the image.
 pub fn write_image(alloc: Global, image: &Image) -> Result<Vec<u8>, AllocError>
     ensures { IfOk result (λ v. Stands v.items image.now) }
 {

@@ -22,6 +22,9 @@ impl MPart {
         requires { bits < 2 ^ 21 }
         ensures { (m : MPart) → (result ≡ Some m) ↔ IsMemoryPart bits m }
     {
+        if bits == 0 {
+            return Some(MPart::NOP);
+        }
         let part = MPart::read(bits)?;
         if part.is_bare() { Some(part) } else { None }
     }
@@ -80,6 +83,9 @@ impl APart {
         requires { bits < 2 ^ 21 }
         ensures { (a : APart) → (result ≡ Some a) ↔ IsArithmeticPart bits a }
     {
+        if bits == 0 {
+            return Some(APart::NOP);
+        }
         let part = APart {
             op: ArithmeticOp::from_number(field(bits, 17, 4))?,
             test: field(bits, 16, 1) == 1,
@@ -130,6 +136,9 @@ impl CPart {
         requires { bits < 2 ^ 18 }
         ensures { (c : CPart) → (result ≡ Some c) ↔ IsControlPart bits c }
     {
+        if bits == 0 {
+            return Some(CPart::NOP);
+        }
         let part = CPart::with_arguments(ControlOp::from_number(field(bits, 14, 4))?, bits)?;
         // digits that the operation does not use are not zero where these differ
         if part.bits() == bits {

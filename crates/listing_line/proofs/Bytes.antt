@@ -115,11 +115,21 @@ trim-blank_before xs t = rw (skip-starts xs t.front, skip-starts (reverse xs) t.
 pub trim-blank_behind : (xs : List ℕ) → IsTrimmed xs → trim (xs ++ 32 ∷ []) ≡ xs
 unfolding trim
 trim-blank_behind xs t =
-    rw (skip-starts (xs ++ 32 ∷ []) (Starts-append xs (32 ∷ []) t.front), reverse-append xs (32 ∷ []), skip-starts (reverse xs) t.back)
+    rw (
+      skip-starts (xs ++ 32 ∷ []) (Starts-append xs (32 ∷ []) t.front),
+      reverse-append xs (32 ∷ []),
+      skip-starts
+          (reverse xs) t.back,
+    )
     (reverse-reverse xs)
 
 pub trim-blank_both : (xs : List ℕ) → IsTrimmed xs → trim (32 ∷ (xs ++ 32 ∷ [])) ≡ xs
 unfolding trim
 trim-blank_both xs t =
-    rw (skip-starts (xs ++ 32 ∷ []) (Starts-append xs (32 ∷ []) t.front), reverse-append xs (32 ∷ []), skip-starts (reverse xs) t.back)
+    rw (
+      skip-starts (xs ++ 32 ∷ []) (Starts-append xs (32 ∷ []) t.front),
+      reverse-append xs (32 ∷ []),
+      skip-starts
+          (reverse xs) t.back,
+    )
     (reverse-reverse xs)

@@ -54,12 +54,15 @@ control-terms control.Skip c r =
     (condition-term c.cond) (decimal-term c.code (omega arith)) (signed-term c.n r.1.1.0.0 r.1.1.0.1)
 control-terms control.Call c r = two-terms (target_text c.t) (target_text c.u) (target c.t r.0) (target c.u r.1.0)
 control-terms control.Exchange c r = one-term (target_text c.t) (target c.t r.0)
-control-terms control.TargetSet c r = two-terms (target_text c.t) (register_text c.ra) (target c.t r.0) (register c.ra r.1.0)
-control-terms control.TargetGet c r = two-terms (register_text c.rd) (target_text c.t) (register c.rd r.1.0) (target c.t r.0)
+control-terms control.TargetSet c r =
+    two-terms (target_text c.t) (register_text c.ra) (target c.t r.0) (register c.ra r.1.0)
+control-terms control.TargetGet c r =
+    two-terms (register_text c.rd) (target_text c.t) (register c.rd r.1.0) (target c.t r.0)
 control-terms control.TrapGet c r = one-term (register_text c.rd) (register c.rd r.1.0)
 control-terms control.Reserve c r =
     two-terms (register_text c.rd) (register_text c.ra) (register c.rd r.1.0) (register c.ra r.1.1.0)
-control-terms control.Create c r = two-terms (target_text c.t) (register_text c.ra) (target c.t r.0) (register c.ra r.1.0)
+control-terms control.Create c r =
+    two-terms (target_text c.t) (register_text c.ra) (target c.t r.0) (register c.ra r.1.0)
 control-terms control.Quit c r = refl
 control-terms control.QuitKeep c r = refl
 control-terms control.Mask c r = one-term (signed_decimal c.n) (mask-term c.n r.0)
@@ -68,7 +71,8 @@ control-reads : (places : Places) (here : ℕ) (op : ControlOp) (c : CPart) → 
     → AreInRange (argument_fields op c)
     → used_control op c ≡ c → control_part places here op (control_operands op c) ≡ Ok (used_control op c)
 control-reads places here control.Nop c h r u = absurd (true≢false h)
-control-reads places here control.Jump c h r u = rw (condition-name c.cond, code-text c.code r.1.0, target-text c.t r.1.1.0)
+control-reads places here control.Jump c h r u =
+    rw (condition-name c.cond, code-text c.code r.1.0, target-text c.t r.1.1.0)
 control-reads places here control.Skip c h r u =
     rw (condition-name c.cond, code-text c.code r.1.0, offset-text places here c.n r.1.1.0.0 r.1.1.0.1)
 control-reads places here control.Call c h r u = rw (target-text c.t r.0, target-text c.u r.1.0)
@@ -92,6 +96,8 @@ pub control-text : (places : Places) (here : ℕ) (c : CPart) → is_no_control 
     → used_control c.op c ≡ c → IsControlText places here c
 unfolding control_text
 control-text places here c h r u = record {
-  operation = operation_text (operation.Control c.op) (control_operands c.op c) (control-head c.op h) (control-terms c.op c r.1);
+  operation =
+      operation_text (operation.Control c.op) (control_operands c.op c) (control-head c.op h)
+      (control-terms c.op c r.1);
   reads = control-reads places here c.op c h r.1 u ∙ ap Ok u;
 }

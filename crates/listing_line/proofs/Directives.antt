@@ -25,7 +25,8 @@ number-line : (d : Directive) (number words : ℕ) (added : Item) → number < 2
     → ((places : Places) → directed places words d (decimal number ∷ []) ≡ Ok added)
     → IsReadAs (number_line d number) (is_program_word d) words added
 number-line d number words added h reads =
-    directive-line d (decimal number ∷ []) words added (and_from (is_term (decimal number)) true (decimal-term number h) refl) reads
+    directive-line d (decimal number ∷ []) words added
+    (and_from (is_term (decimal number)) true (decimal-term number h) refl) reads
 
 pub profile-lines : ProfileLinesReadBack
 unfolding profile_line directed
@@ -48,7 +49,8 @@ retry-lines retry words h =
 pub trap-lines : TrapLinesReadBack
 unfolding trap_line directed
 trap-lines trap words h =
-    number-line directive.Trap trap words (item.Trap trap) (omega arith) (λ places. rw (immediate-decimal places trap h))
+    number-line directive.Trap trap words (item.Trap trap) (omega arith)
+    (λ places. rw (immediate-decimal places trap h))
 
 pub entry-lines : EntryLinesReadBack
 unfolding entry_line directed entry_number
@@ -60,9 +62,12 @@ pub fill-lines : ReadsBack → FillLinesReadBack
 unfolding fill_line directed tags_number
 fill-lines law count value tags words low high v t =
     let more = and_from (is_term (decimal tags)) true (decimal-term tags (omega arith)) refl in
-    let rest = and_from (is_term (digits_text value)) (all_terms (decimal tags ∷ [])) (digits_text-term law value v) more in
-    directive-line directive.Fill (decimal count ∷ digits_text value ∷ decimal tags ∷ []) words (item.Cells count value tags)
-    (and_from (is_term (decimal count)) (all_terms (digits_text value ∷ decimal tags ∷ [])) (decimal-term count (omega arith)) rest)
+    let rest =
+    and_from (is_term (digits_text value)) (all_terms (decimal tags ∷ [])) (digits_text-term law value v) more in
+    directive-line directive.Fill (decimal count ∷ digits_text value ∷ decimal tags ∷ []) words
+    (item.Cells count value tags)
+    (and_from (is_term (decimal count)) (all_terms (digits_text value ∷ decimal tags ∷ []))
+    (decimal-term count (omega arith)) rest)
     (λ places. rw (
       count_within-decimal 262144 count (omega arith) low high,
       word_number-digits law value v,

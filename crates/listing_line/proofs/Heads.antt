@@ -36,25 +36,30 @@ wide-head wide.Literal = record { term = refl; names = refl; no_at = refl; no_do
 wide-head _ = record { term = refl; names = refl; no_at = refl; no_dot = refl }
 
 tag_get : IsHead (operation.Memory memory.TagGet access.FromPointer)
-unfolding operation_of operation_named plain_named wide_named memory_named arithmetic_named control_named access_named after
+unfolding operation_of operation_named plain_named wide_named memory_named arithmetic_named control_named
+    access_named after
 tag_get = record { term = refl; names = refl; no_at = refl; no_dot = refl }
 
 tag_set : IsHead (operation.Memory memory.TagSet access.FromPointer)
-unfolding operation_of operation_named plain_named wide_named memory_named arithmetic_named control_named access_named after
+unfolding operation_of operation_named plain_named wide_named memory_named arithmetic_named control_named
+    access_named after
 tag_set = record { term = refl; names = refl; no_at = refl; no_dot = refl }
 
 load : (acc : Access) → IsHead (operation.Memory memory.Load acc)
-unfolding operation_of operation_named plain_named wide_named memory_named arithmetic_named control_named access_named after
+unfolding operation_of operation_named plain_named wide_named memory_named arithmetic_named control_named
+    access_named after
 load access.FromPointer = record { term = refl; names = refl; no_at = refl; no_dot = refl }
 load _ = record { term = refl; names = refl; no_at = refl; no_dot = refl }
 
 store : (acc : Access) → IsHead (operation.Memory memory.Store acc)
-unfolding operation_of operation_named plain_named wide_named memory_named arithmetic_named control_named access_named after
+unfolding operation_of operation_named plain_named wide_named memory_named arithmetic_named control_named
+    access_named after
 store access.FromPointer = record { term = refl; names = refl; no_at = refl; no_dot = refl }
 store _ = record { term = refl; names = refl; no_at = refl; no_dot = refl }
 
 fetch_add : (acc : Access) → IsHead (operation.Memory memory.FetchAdd acc)
-unfolding operation_of operation_named plain_named wide_named memory_named arithmetic_named control_named access_named after
+unfolding operation_of operation_named plain_named wide_named memory_named arithmetic_named control_named
+    access_named after
 fetch_add access.FromPointer = record { term = refl; names = refl; no_at = refl; no_dot = refl }
 fetch_add _ = record { term = refl; names = refl; no_at = refl; no_dot = refl }
 
@@ -62,15 +67,18 @@ fetch_add _ = record { term = refl; names = refl; no_at = refl; no_dot = refl }
 pub memory-head : (op : MemoryOp) (m : MPart) → is_no_memory op ≡ false → used_memory op m ≡ m
     → IsHead (operation.Memory op m.acc)
 memory-head memory.Nop m h e = absurd (true≢false h)
-memory-head memory.TagGet m h e = subst (λ acc. IsHead (operation.Memory memory.TagGet acc)) (ap (λ (p : MPart). p.acc) e) tag_get
-memory-head memory.TagSet m h e = subst (λ acc. IsHead (operation.Memory memory.TagSet acc)) (ap (λ (p : MPart). p.acc) e) tag_set
+memory-head memory.TagGet m h e =
+    subst (λ acc. IsHead (operation.Memory memory.TagGet acc)) (ap (λ (p : MPart). p.acc) e) tag_get
+memory-head memory.TagSet m h e =
+    subst (λ acc. IsHead (operation.Memory memory.TagSet acc)) (ap (λ (p : MPart). p.acc) e) tag_set
 memory-head memory.Load m h e = load m.acc
 memory-head memory.Store m h e = store m.acc
 memory-head memory.FetchAdd m h e = fetch_add m.acc
 
 pub arithmetic-head : (op : ArithmeticOp) (test : Bool) → is_no_arithmetic op ≡ false
     → IsHead (operation.Arithmetic op test)
-unfolding operation_of operation_named plain_named wide_named memory_named arithmetic_named control_named test_named after
+unfolding operation_of operation_named plain_named wide_named memory_named arithmetic_named control_named
+    test_named after
 arithmetic-head arithmetic.Nop test h = absurd (true≢false h)
 arithmetic-head _ true h = record { term = refl; names = refl; no_at = refl; no_dot = refl }
 arithmetic-head _ false h = record { term = refl; names = refl; no_at = refl; no_dot = refl }

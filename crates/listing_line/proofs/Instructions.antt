@@ -88,9 +88,14 @@ pub record IsOperations (places : Places) (here : ℕ) (text : List ℕ) (i : In
 
 no_operations : (places : Places) (here : ℕ)
     → IsOperations places here (codes "NOP") (insn.Normal 0 no_memory no_arithmetic no_operation)
-unfolding operations trim head behind_head operands_of after operation_of operation_named plain_named wide_named memory_named arithmetic_named control_named single
+unfolding operations trim head behind_head operands_of after operation_of operation_named plain_named wide_named
+    memory_named arithmetic_named control_named single
 no_operations places here = record {
-  plain = record { printed = record { trimmed = record { front = refl; back = refl }; print = refl; no_dot = refl }; no_at = refl };
+  plain = record {
+    printed =
+        record { trimmed = record { front = refl; back = refl }; print = refl; no_dot = refl };
+    no_at = refl;
+  };
   reads = refl;
 }
 
@@ -111,7 +116,8 @@ unfolding operations single
 arithmetic_alone places here a t =
     let texts : AreTexts (arithmetic_text a ∷ []) = (t.operation.is_text, tt) in record {
       plain = joined-plain (arithmetic_text a) [] texts;
-      reads = rw ((joined-parts (arithmetic_text a) [] texts).0, t.operation.names, t.operation.operands_are, t.reads);
+      reads = rw
+          ((joined-parts (arithmetic_text a) [] texts).0, t.operation.names, t.operation.operands_are, t.reads);
     }
 
 control_alone : (places : Places) (here : ℕ) (c : CPart) → IsControlText places here c
@@ -130,7 +136,8 @@ memory_and_arithmetic : (places : Places) (here : ℕ) (m : MPart) (a : APart) �
     → IsOperations places here (joined (memory_text m ∷ arithmetic_text a ∷ [])) (insn.Normal 0 m a no_operation)
 unfolding operations double memory_arithmetic_word
 memory_and_arithmetic places here m a t v h =
-    let texts : AreTexts (memory_text m ∷ arithmetic_text a ∷ []) = (t.operation.is_text, (v.operation.is_text, tt)) in
+    let texts : AreTexts (memory_text m ∷ arithmetic_text a ∷ []) =
+    (t.operation.is_text, (v.operation.is_text, tt)) in
     let separate = apart (memory_destination m.op m.rd) (arithmetic_destination a.op a.rd) h in record {
       plain = joined-plain (memory_text m) (arithmetic_text a ∷ []) texts;
       reads = rw (
@@ -172,7 +179,8 @@ arithmetic_and_control : (places : Places) (here : ℕ) (a : APart) (c : CPart) 
     → IsOperations places here (joined (arithmetic_text a ∷ control_text c ∷ [])) (insn.Normal 0 no_memory a c)
 unfolding operations double arithmetic_control_word
 arithmetic_and_control places here a c t v h =
-    let texts : AreTexts (arithmetic_text a ∷ control_text c ∷ []) = (t.operation.is_text, (v.operation.is_text, tt)) in
+    let texts : AreTexts (arithmetic_text a ∷ control_text c ∷ []) =
+    (t.operation.is_text, (v.operation.is_text, tt)) in
     let separate = apart (arithmetic_destination a.op a.rd) (control_destination c.op c.rd) h in record {
       plain = joined-plain (arithmetic_text a) (control_text c ∷ []) texts;
       reads = rw (
@@ -191,14 +199,16 @@ arithmetic_and_control places here a c t v h =
 
 all_operations : (places : Places) (here : ℕ) (m : MPart) (a : APart) (c : CPart)
     → IsMemoryText m → IsArithmeticText a → IsControlText places here c → WriteApart m a c
-    → IsOperations places here (joined (memory_text m ∷ arithmetic_text a ∷ control_text c ∷ [])) (insn.Normal 0 m a c)
+    → IsOperations places here (joined (memory_text m ∷ arithmetic_text a ∷ control_text c ∷ []))
+    (insn.Normal 0 m a c)
 unfolding operations triple full_word
 all_operations places here m a c t v w h =
     let texts : AreTexts (memory_text m ∷ arithmetic_text a ∷ control_text c ∷ []) =
     (t.operation.is_text, (v.operation.is_text, (w.operation.is_text, tt))) in
     let one = apart (memory_destination m.op m.rd) (arithmetic_destination a.op a.rd) h.memory_arithmetic in
     let two = apart (memory_destination m.op m.rd) (control_destination c.op c.rd) h.memory_control in
-    let three = apart (arithmetic_destination a.op a.rd) (control_destination c.op c.rd) h.arithmetic_control in record {
+    let three = apart (arithmetic_destination a.op a.rd) (control_destination c.op c.rd) h.arithmetic_control in
+    record {
       plain = joined-plain (memory_text m) (arithmetic_text a ∷ control_text c ∷ []) texts;
       reads = rw (
         (joined-parts (memory_text m) (arithmetic_text a ∷ control_text c ∷ []) texts).0,
@@ -229,7 +239,8 @@ along places here text m n a b c d e f g o = record {
 
 normal-operations : (places : Places) (here : ℕ) (m : MPart) (a : APart) (c : CPart) → AreParts m a c
     → IsOperations places here (joined (operation_texts m a c)) (insn.Normal 0 m a c)
-normal-operations places here m a c p = go (is_no_memory m.op) (is_no_arithmetic a.op) (is_no_control c.op) refl refl refl
+normal-operations places here m a c p =
+    go (is_no_memory m.op) (is_no_arithmetic a.op) (is_no_control c.op) refl refl refl
   where
     mt : is_no_memory m.op ≡ false → IsMemoryText m
     mt h = memory-text m h p.memory p.bare_memory
@@ -250,19 +261,24 @@ normal-operations places here m a c p = go (is_no_memory m.op) (is_no_arithmetic
     cn h = nop_control c.op c h p.bare_control
 
     go : (x y z : Bool) → is_no_memory m.op ≡ x → is_no_arithmetic a.op ≡ y → is_no_control c.op ≡ z
-        → IsOperations places here (joined (unless x (memory_text m) ++ (unless y (arithmetic_text a) ++ unless z (control_text c))))
+        → IsOperations places here
+        (joined (unless x (memory_text m) ++ (unless y (arithmetic_text a) ++ unless z (control_text c))))
         (insn.Normal 0 m a c)
     go true true true e f g =
-        along places here (codes "NOP") no_memory m no_arithmetic a no_operation c (mn e) (an f) (cn g) (no_operations places here)
+        along places here (codes "NOP") no_memory m no_arithmetic a no_operation c (mn e) (an f) (cn g)
+        (no_operations places here)
     go true true false e f g =
-        along places here (control_text c) no_memory m no_arithmetic a c c (mn e) (an f) refl (control_alone places here c (ct g))
+        along places here (control_text c) no_memory m no_arithmetic a c c (mn e) (an f) refl
+        (control_alone places here c (ct g))
     go true false true e f g =
-        along places here (arithmetic_text a) no_memory m a a no_operation c (mn e) refl (cn g) (arithmetic_alone places here a (at f))
+        along places here (arithmetic_text a) no_memory m a a no_operation c (mn e) refl (cn g)
+        (arithmetic_alone places here a (at f))
     go true false false e f g =
         along places here (joined (arithmetic_text a ∷ control_text c ∷ [])) no_memory m a a c c (mn e) refl refl
         (arithmetic_and_control places here a c (at f) (ct g) p.apart.arithmetic_control)
     go false true true e f g =
-        along places here (memory_text m) m m no_arithmetic a no_operation c refl (an f) (cn g) (memory_alone places here m (mt e))
+        along places here (memory_text m) m m no_arithmetic a no_operation c refl (an f) (cn g)
+        (memory_alone places here m (mt e))
     go false true false e f g =
         along places here (joined (memory_text m ∷ control_text c ∷ [])) m m no_arithmetic a c c refl (an f) refl
         (memory_and_control places here m c (mt e) (ct g) p.apart.memory_control)
@@ -278,7 +294,8 @@ wide-operations : (places : Places) (here : ℕ) (op : WideOp) (reg imm : ℕ) �
     → IsOperations places here (wide_text op reg imm) (insn.Wide 0 op reg imm)
 unfolding operations single wide_text
 wide-operations places here op reg imm h low k =
-    let t = operation_text (operation.Wide op) (wide_operands op reg imm) (wide-head op) (wide-terms op reg imm low k) in
+    let t = operation_text (operation.Wide op) (wide_operands op reg imm) (wide-head op)
+    (wide-terms op reg imm low k) in
     let text = statement_text (wide_name op) (wide_operands op reg imm) in
     let texts : AreTexts (text ∷ []) = (t.is_text, tt) in record {
       plain = joined-plain text [] texts;
@@ -309,8 +326,10 @@ looked places here look text i h none o = ⊎_elim
         let atoms : list_all is_atom mark ≡ true = term-atoms (decimal look) (decimal-term look (omega arith)) in
         let lack = atoms-lack_blank mark atoms in record {
           printed = record {
-            trimmed = IsTrimmed-append mark (32 ∷ text) refl (Ends-append (32 ∷ []) text o.plain.printed.trimmed.back);
-            print = list_all-both is_print mark (32 ∷ text) (ink-prints mark (atoms-ink mark atoms)) o.plain.printed.print;
+            trimmed = IsTrimmed-append mark (32 ∷ text) refl
+                (Ends-append (32 ∷ []) text o.plain.printed.trimmed.back);
+            print = list_all-both is_print mark (32 ∷ text) (ink-prints mark (atoms-ink mark atoms))
+                o.plain.printed.print;
             no_dot = refl;
           };
           reads = rw (
@@ -331,7 +350,8 @@ pub record AreWideFields (op : WideOp) (reg imm : ℕ) : Type 0 where
 
 wide-fields : (op : WideOp) (reg imm : ℕ) → AreInRange (register_fields op reg ++ zeros 20 ∷ unsigned 32 imm ∷ [])
     → AreWideFields op reg imm
-wide-fields wide.TargetLiteral reg imm r = record { register = r.1.0; five_bits = omega (arith, r.1.0); immediate = r.1.1.1.0 }
+wide-fields wide.TargetLiteral reg imm r =
+    record { register = r.1.0; five_bits = omega (arith, r.1.0); immediate = r.1.1.1.0 }
 wide-fields _ reg imm r = record { register = r.0; five_bits = r.0; immediate = r.1.1.0 }
 
 pub spelt-instruction : (places : Places) (here word : ℕ) (i : Insn) → Spells word i

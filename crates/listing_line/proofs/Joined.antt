@@ -38,9 +38,12 @@ joined-parts x (y ∷ ys) e =
     let rest = 32 ∷ joined (y ∷ ys) in
     let clear = list_all-both (λ b. not (b == 124)) x (32 ∷ []) (ink-lacks_bar x e.0.ink) refl in
     let first = split-at (λ b. b == 124) (x ++ 32 ∷ []) 124 rest clear refl in
-    let grouped : x ++ (32 ∷ 124 ∷ rest) ≡ (x ++ 32 ∷ []) ++ 124 ∷ rest = sym (append_assoc x (32 ∷ []) (124 ∷ rest)) in
-    let more = (joined-parts y ys e.1).1 in
-    (rw (grouped, first, trim-blank_behind x e.0.trimmed, more), rw (grouped, first, trim-blank_both x e.0.trimmed, more))
+    let grouped : x ++ (32 ∷ 124 ∷ rest) ≡ (x ++ 32 ∷ []) ++ 124 ∷ rest =
+    sym (append_assoc x (32 ∷ []) (124 ∷ rest)) in
+    let more = (joined-parts y ys e.1).1 in (
+      rw (grouped, first, trim-blank_behind x e.0.trimmed, more),
+      rw (grouped, first, trim-blank_both x e.0.trimmed, more),
+    )
 
 -- What stands on a line before its comment. It begins with no dot.
 pub record IsPrinted (text : List ℕ) : Type 0 where
@@ -71,7 +74,8 @@ joined-plain x (y ∷ ys) e =
     let behind = 32 ∷ 124 ∷ 32 ∷ rest in
     let same = first-append x behind e.0.trimmed.front in record {
       printed = record {
-        trimmed = IsTrimmed-append x behind e.0.trimmed.front (Ends-append (32 ∷ 124 ∷ 32 ∷ []) rest r.printed.trimmed.back);
+        trimmed = IsTrimmed-append x behind e.0.trimmed.front
+            (Ends-append (32 ∷ 124 ∷ 32 ∷ []) rest r.printed.trimmed.back);
         print = list_all-both is_print x behind (ink-prints x e.0.ink) r.printed.print;
         no_dot = rw same e.0.no_dot;
       };

@@ -137,7 +137,8 @@ pub directive-line : (d : Directive) (ops : List (List ℕ)) (words : ℕ) (adde
 directive-line d ops words added e reads =
     let s = directive-statement d ops words added e reads in
     let text = statement_text (directive_name d) ops in
-    read_as text text (is_program_word d) words added (prints-one_line text s.shown.print) (line-bare text s.shown) s.counted s.adds
+    read_as text text (is_program_word d) words added (prints-one_line text s.shown.print) (line-bare text s.shown)
+    s.counted s.adds
 
 -- Program words.
 
@@ -156,7 +157,8 @@ comment-one_line law place word h k =
     (prints-one_line number (ink-prints number digits)) in
     let word_digits = hexadecimal_16 word in
     let printed = prints-one_line word_digits
-    (ink-prints word_digits (atoms-ink word_digits (hexadecimal-atoms word_digits word (hexadecimal-digits law word k)))) in
+    (ink-prints word_digits
+    (atoms-ink word_digits (hexadecimal-atoms word_digits word (hexadecimal-digits law word k)))) in
     list_all-both is_line_byte (five_digits place) (32 ∷ word_digits) places printed
 
 comment-cut : (text : List ℕ) (place word : ℕ) → IsShown text
@@ -169,7 +171,8 @@ commented-line : ReadsBack → (text : List ℕ) (place word words : ℕ) (added
     → ((places : Places) (here : ℕ) → statement_item places words here text ≡ Ok added)
     → IsReadAs (text ++ place_comment place word) true words added
 commented-line law text place word words added h k s counted adds =
-    let one = list_all-both is_line_byte text (place_comment place word) (prints-one_line text s.print) (comment-one_line law place word h k) in
+    let one = list_all-both is_line_byte text (place_comment place word) (prints-one_line text s.print)
+    (comment-one_line law place word h k) in
     read_as (text ++ place_comment place word) text true words added one (comment-cut text place word s) counted adds
 
 raw-statement : ReadsBack → (word words : ℕ) → word < 2 ^ 64
@@ -192,14 +195,16 @@ instruction-statement word words i s =
     let p = (spelt-instruction (λ name. None) 0 word i s).printed in record {
       shown = record { trimmed = p.trimmed; print = p.print };
       counted = rw (some_bytes text p.trimmed.front, p.no_dot);
-      adds = λ places here. rw (not_empty text p.trimmed.front, p.no_dot, (spelt-instruction places here word i s).reads);
+      adds = λ places here. rw
+          (not_empty text p.trimmed.front, p.no_dot, (spelt-instruction places here word i s).reads);
     }
 
 pub word-lines : InstructionIsSpelt → ReadsBack → WordLinesReadBack
 unfolding word_line word_text word_item
 word-lines spelt law place word words h k = go (reading.instruction word) refl
   where
-    go : (o : Option Insn) → reading.instruction word ≡ o → IsReadAs (text_of word o ++ place_comment place word) true words (item_of word o)
+    go : (o : Option Insn) → reading.instruction word ≡ o
+        → IsReadAs (text_of word o ++ place_comment place word) true words (item_of word o)
     go None e =
         let s = raw-statement law word words k in
         commented-line law (raw_text word) place word words (item.Word word) h k s.shown s.counted s.adds

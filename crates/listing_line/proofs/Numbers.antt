@@ -104,7 +104,8 @@ Digits-no_name (x ∷ xs) d =
 pub immediate-decimal : (places : Places) (n : ℕ) → n < 2 ^ 32 → immediate places (decimal n) ≡ Ok n
 unfolding immediate value_within
 immediate-decimal places n h =
-    rw (Digits-no_name (decimal n) (decimal-Digits n (omega arith))) (number_within-decimal (2 ^ 32 - 1) n (omega arith) (omega arith))
+    rw (Digits-no_name (decimal n) (decimal-Digits n (omega arith)))
+    (number_within-decimal (2 ^ 32 - 1) n (omega arith) (omega arith))
 
 -- Hexadecimal words.
 
@@ -136,7 +137,8 @@ hexadecimal-digits law n h = word_digits (hexadecimal_16 n) n (law n h)
 
 pub hexadecimal-atoms : (ds : List ℕ) (n : ℕ) → IsWordDigits ds n → list_all is_atom ds ≡ true
 hexadecimal-atoms ds n w =
-    list_all-imp is_hexadecimal is_atom hexadecimal-atom ds (and_parts (nat_lt 0 (length ds)) (list_all is_hexadecimal ds) w.digits).1
+    list_all-imp is_hexadecimal is_atom hexadecimal-atom ds
+    (and_parts (nat_lt 0 (length ds)) (list_all is_hexadecimal ds) w.digits).1
 
 pub digits_text-term : ReadsBack → (n : ℕ) → n < 2 ^ 64 → is_term (digits_text n) ≡ true
 digits_text-term law n h = hexadecimal-atoms (hexadecimal_16 n) n (hexadecimal-digits law n h)

@@ -96,20 +96,24 @@ pub displacement-text : (z : ℤ) → neg_ℤ (pos 32) ≤ℤ z → z <ℤ pos 3
 unfolding signed_within number_within number digits
 displacement-text (pos n) low high =
     int_answered (pos n) (displacement (signed_decimal (pos n)))
-    (agree_below_at (λ k. is_int_answer (pos k) (displacement (signed_decimal (pos k)))) (λ _. true) 32 n refl (omega (arith, ints)))
+    (agree_below_at (λ k. is_int_answer (pos k) (displacement (signed_decimal (pos k)))) (λ _. true) 32 n refl
+    (omega (arith, ints)))
 displacement-text (negsuc n) low high =
     int_answered (negsuc n) (displacement (signed_decimal (negsuc n)))
-    (agree_below_at (λ k. is_int_answer (negsuc k) (displacement (signed_decimal (negsuc k)))) (λ _. true) 32 n refl (omega (arith, ints)))
+    (agree_below_at (λ k. is_int_answer (negsuc k) (displacement (signed_decimal (negsuc k)))) (λ _. true) 32 n refl
+    (omega (arith, ints)))
 
 pub offset-text : (places : Places) (here : ℕ) (z : ℤ) → neg_ℤ (pos 128) ≤ℤ z → z <ℤ pos 128
     → offset places here (signed_decimal z) ≡ Ok z
 unfolding offset is_name signed_within number_within number digits
 offset-text places here (pos n) low high =
     int_answered (pos n) (offset places here (signed_decimal (pos n)))
-    (agree_below_at (λ k. is_int_answer (pos k) (offset places here (signed_decimal (pos k)))) (λ _. true) 128 n refl (omega (arith, ints)))
+    (agree_below_at (λ k. is_int_answer (pos k) (offset places here (signed_decimal (pos k)))) (λ _. true) 128 n refl
+    (omega (arith, ints)))
 offset-text places here (negsuc n) low high =
     int_answered (negsuc n) (offset places here (signed_decimal (negsuc n)))
-    (agree_below_at (λ k. is_int_answer (negsuc k) (offset places here (signed_decimal (negsuc k)))) (λ _. true) 128 n refl (omega (arith, ints)))
+    (agree_below_at (λ k. is_int_answer (negsuc k) (offset places here (signed_decimal (negsuc k)))) (λ _. true) 128 n
+    refl (omega (arith, ints)))
 
 -- Conditions.
 

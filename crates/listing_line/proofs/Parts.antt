@@ -129,7 +129,8 @@ memory-text m h r u =
 arithmetic-terms : (op : ArithmeticOp) (a : APart) → a.rd < 32 → a.ra < 32 → a.rb < 32
     → all_terms (arithmetic_operands op a) ≡ true
 arithmetic-terms arithmetic.Tally a d e f =
-    two-terms (register_text a.rd) (register_text a.ra) (register-term a.rd (omega arith)) (register-term a.ra (omega arith))
+    two-terms (register_text a.rd) (register_text a.ra) (register-term a.rd (omega arith))
+    (register-term a.ra (omega arith))
 arithmetic-terms _ a d e f =
     three-terms (register_text a.rd) (register_text a.ra) (source_text a.imm a.rb)
     (register-term a.rd (omega arith)) (register-term a.ra (omega arith)) (source-term a.imm a.rb (omega arith))
@@ -155,7 +156,8 @@ arithmetic-text a h r u =
     let d = r.1.1.1.0 in
     let e = r.1.1.1.1.0 in
     let f = r.1.1.1.1.1.0 in record {
-      operation = operation_text (operation.Arithmetic a.op a.test) (arithmetic_operands a.op a) (arithmetic-head a.op a.test h)
-          (arithmetic-terms a.op a d e f);
+      operation =
+          operation_text (operation.Arithmetic a.op a.test) (arithmetic_operands a.op a)
+          (arithmetic-head a.op a.test h) (arithmetic-terms a.op a d e f);
       reads = arithmetic-reads a.op a.test a.imm a.rd a.ra a.rb h d e f ∙ ap Ok u;
     }

@@ -108,7 +108,8 @@ listed-ink [] e = refl
 listed-ink (x ∷ []) e = atoms-ink x (term-atoms x (and_parts (is_term x) true e).0)
 listed-ink (x ∷ y ∷ ys) e =
     let both = and_parts (is_term x) (all_terms (y ∷ ys)) e in
-    list_all-both is_ink x (44 ∷ 32 ∷ listed (y ∷ ys)) (atoms-ink x (term-atoms x both.0)) (listed-ink (y ∷ ys) both.1)
+    list_all-both is_ink x (44 ∷ 32 ∷ listed (y ∷ ys)) (atoms-ink x (term-atoms x both.0))
+    (listed-ink (y ∷ ys) both.1)
 
 -- cut at the commas and trimmed, also behind a blank
 cut : (x : List ℕ) (xs : List (List ℕ)) → all_terms (x ∷ xs) ≡ true

@@ -15,7 +15,8 @@ use Rattle.listing_line.specs.DirectiveLines.{profile_line, slim_line, retry_lin
 abbrev pub is_line_byte : ℕ → Bool
 is_line_byte byte = nat_lt byte 128 && not (byte == 10)
 
--- What these bytes are as a line, wherever they stand in a text of so many words: they have no label, and add the item.
+-- What these bytes are as a line, wherever they stand in a text of so many words: they have no label, and add the
+-- item.
 pub record IsReadAs (bytes : List ℕ) (counts : Bool) (words : ℕ) (added : Item) : Type 0 where
   pub one_line : list_all is_line_byte bytes ≡ true
   pub no_label : (line bytes).label ≡ None

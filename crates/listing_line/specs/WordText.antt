@@ -1,5 +1,6 @@
 -- A program word as a line: the instruction that it spells, or the word itself, and behind it the place and the word.
-use Rattle.std.specs.Prelude.{ℕ, ◌==◌, Bool, true, false, if◌then◌else◌, List, [], ◌∷◌, ◌++◌, codes, Option, Some, None}
+use Rattle.std.specs.Prelude.{ℕ, ◌==◌, Bool, true, false, if◌then◌else◌, List, [], ◌∷◌, ◌++◌, codes, Option, Some}
+use Rattle.std.specs.Prelude.{None}
 use Rattle.std.specs.Fmt.{decimal, signed_decimal}
 use Rattle.insn_word.specs.Reading.{instruction}
 use Rattle.insn_word.specs.declared.operations.WideOp.{WideOp}

@@ -1,7 +1,8 @@
 //! Each line of a listing is read back as what it was printed from. The functions are laws: there is nothing to run.
 
 ghost use Rattle.listing_line.specs.Laws.{WordLinesReadBack, ProfileLinesReadBack, SlimLinesReadBack};
-ghost use Rattle.listing_line.specs.Laws.{RetryLinesReadBack, TrapLinesReadBack, EntryLinesReadBack, FillLinesReadBack};
+ghost use Rattle.listing_line.specs.Laws.{RetryLinesReadBack, TrapLinesReadBack, EntryLinesReadBack};
+ghost use Rattle.listing_line.specs.Laws.{FillLinesReadBack};
 
 use insn_word::spelling_is_one_to_one;
 use number_text::printed_digits_read_back;

@@ -3,7 +3,6 @@
 #![tactic(auto)]
 
 mod laws;
-mod names;
 mod operations;
 #[cfg(test)]
 mod tests;

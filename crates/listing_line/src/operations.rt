@@ -4,7 +4,7 @@ ghost use Rattle.std.specs.Prelude.{◌≡◌, ◌++◌, OnOk, string_bytes};
 ghost use Rattle.asm_line.specs.Names.{condition_name};
 ghost use Rattle.listing_line.specs.WordText.{wide_text, memory_text, arithmetic_text, control_text};
 
-use crate::names;
+use asm_line::names;
 use insn_word::{APart, ArithmeticOp, CPart, ControlOp, MPart, WideOp};
 use std::alloc::AllocError;
 use std::fmt::Write;

@@ -1,7 +1,8 @@
 //! A program word as a line of a listing.
 
 ghost use Rattle.std.specs.Prelude.{◌≡◌, ◌++◌, OnOk, string_bytes, codes};
-ghost use Rattle.listing_line.specs.WordText.{is_no_memory, is_no_arithmetic, is_no_control, lookahead_text, insn_text};
+ghost use Rattle.listing_line.specs.WordText.{is_no_memory, is_no_arithmetic, is_no_control, lookahead_text};
+ghost use Rattle.listing_line.specs.WordText.{insn_text};
 ghost use Rattle.listing_line.specs.WordText.{joined, memory_texts, arithmetic_texts, control_texts};
 ghost use Rattle.listing_line.specs.WordText.{word_text, word_line};
 

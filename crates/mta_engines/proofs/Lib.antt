@@ -1,4 +1,3 @@
 pub mod ReadBytes
-pub mod LinesLemmas
 pub mod ProgramText
 pub mod Traces

@@ -6,12 +6,12 @@ use Rattle.std.proofs.lemmas.Bool.{eq-eqb, ne_eqb, cases_Bool, lt-leb, le-leb, c
 use Rattle.std.proofs.lemmas.Bool.{cases_eq, eqb-true, eqb-false, true≢false}
 use Rattle.std.specs.List.{filter_map, cons_option, before_first, after_first}
 use Rattle.number_text.specs.Reading.{hexadecimal_word}
-use Rattle.mta_engines.specs.Lines.{is_line_end, lines_of}
+use Rattle.trace_text.specs.Lines.{is_line_end, lines_of}
+use Rattle.trace_text.proofs.FirstLine.{lines-first}
 use Rattle.mta_engines.specs.ProgramLines.{most_words, program_of, least, empty_fault, too_many_fault, malformed_from}
 use Rattle.mta_engines.specs.ProgramLines.{words_unless}
 use Rattle.mta_engines.specs.declared.tool_fault.ToolFault.{ToolFault}
 use Rattle.mta_engines.specs.declared.tool_fault.ToolFault.TheVariants.{Words}
-use Rattle.mta_engines.proofs.LinesLemmas.{lines-first}
 
 -- What is read with so many words read and these lines left.
 
@@ -25,7 +25,8 @@ line_read count (Some word) rest = if count == most_words then Err (Words (count
 
 unfoldable pub read_on : List ℕ → List (List ℕ) → Result (List ℕ) ToolFault
 read_on words [] = ended words
-read_on words (line ∷ lines) = line_read (length words) (hexadecimal_word line) (λ word. read_on (words ++ word ∷ []) lines)
+read_on words (line ∷ lines) = line_read (length words) (hexadecimal_word line)
+    (λ word. read_on (words ++ word ∷ []) lines)
 
 -- The least fault of those.
 
@@ -42,7 +43,8 @@ no_count_fault count some few =
     rw (not_empty, not_many) refl
 
 -- a malformed line is before the first line too many
-least-malformed : (count all : ℕ) → count ≤ most_words → 0 < all → least (Some (count + 1)) (count_fault all) ≡ Some (count + 1)
+least-malformed : (count all : ℕ) → count ≤ most_words → 0 < all
+    → least (Some (count + 1)) (count_fault all) ≡ Some (count + 1)
 least-malformed count all few some =
     let not_empty = ne_eqb all 0 (λ e. omega arith) in
     let same : min (count + 1) (most_words + 1) ≡ count + 1 = omega arith in
@@ -67,7 +69,8 @@ least-at_most : (line : Option ℕ) (n : ℕ) → AtLeast n line → least line 
 least-at_most None n le = refl
 least-at_most (Some line) n le = let same : min line n ≡ n = omega arith in ap (λ m. Some m) same
 
-least-too_many : (line : Option ℕ) (all : ℕ) → AtLeast (most_words + 1) line → most_words < all → least line (count_fault all) ≡ Some (most_words + 1)
+least-too_many : (line : Option ℕ) (all : ℕ) → AtLeast (most_words + 1) line → most_words < all
+    → least line (count_fault all) ≡ Some (most_words + 1)
 least-too_many line all le many =
     let not_empty = ne_eqb all 0 (λ e. omega arith) in
     let too_many = lt-leb all most_words many in
@@ -76,7 +79,8 @@ least-too_many line all le many =
 -- Reading on gives the words, or the least fault.
 
 abbrev IsRead : List ℕ → List (List ℕ) → Type 0
-IsRead words lines = read_on words lines ≡ words_unless (fault_from (length words) lines) (words ++ filter_map hexadecimal_word lines)
+IsRead words lines = read_on words lines ≡ words_unless (fault_from (length words) lines)
+    (words ++ filter_map hexadecimal_word lines)
 
 IsRead-nil : (words : List ℕ) → length words ≤ most_words → IsRead words []
 unfolding read_on
@@ -88,42 +92,54 @@ IsRead-nil (word ∷ words) few =
 IsRead-cons : (o : Option ℕ) (words : List ℕ) (lines : List (List ℕ)) → length words ≤ most_words
     → ((word : ℕ) → length (words ++ word ∷ []) ≤ most_words → IsRead (words ++ word ∷ []) lines)
     → line_read (length words) o (λ word. read_on (words ++ word ∷ []) lines)
-    ≡ words_unless (least (if is_some o then malformed_from (length words + 1 + 1) lines else Some (length words + 1)) (count_fault (length words + suc (length lines)))) (words ++ cons_option o (filter_map hexadecimal_word lines))
+    ≡ words_unless (least (if is_some o then malformed_from (length words + 1 + 1) lines else Some (length words + 1))
+    (count_fault (length words + suc (length lines))))
+    (words ++ cons_option o (filter_map hexadecimal_word lines))
 IsRead-cons None words lines few rest =
-    sym (ap (λ f. words_unless f (words ++ filter_map hexadecimal_word lines)) (least-malformed (length words) (length words + suc (length lines)) few (omega arith)))
+    sym (ap (λ f. words_unless f (words ++ filter_map hexadecimal_word lines))
+    (least-malformed (length words) (length words + suc (length lines)) few (omega arith)))
 IsRead-cons (Some word) words lines few rest =
     let found = filter_map hexadecimal_word lines in
     elim (cases_eq (length words) most_words) [
       | inl full ↦
           let later = malformed-at_least (most_words + 1) (length words + 1 + 1) lines (omega arith) in
           cond-true _ _ _ (eq-eqb (length words) most_words full) ∙ ap (λ n. Err (Words (n + 1))) full
-          ∙ sym (ap (λ f. words_unless f (words ++ word ∷ found)) (least-too_many (malformed_from (length words + 1 + 1) lines) (length words + suc (length lines)) later (omega arith)))
+          ∙ sym (ap (λ f. words_unless f (words ++ word ∷ found))
+          (least-too_many (malformed_from (length words + 1 + 1) lines) (length words + suc (length lines)) later
+          (omega arith)))
       | inr room ↦
-          let one_more : length (words ++ word ∷ []) ≡ length words + 1 = omega (arith, length-append words (word ∷ [])) in
+          let one_more : length (words ++ word ∷ []) ≡ length words + 1 =
+          omega (arith, length-append words (word ∷ [])) in
           let all : length words + 1 + length lines ≡ length words + suc (length lines) = omega arith in
           cond-false _ _ _ (ne_eqb (length words) most_words room) ∙ rest word (omega arith)
-          ∙ ap (λ n. words_unless (least (malformed_from (n + 1) lines) (count_fault (n + length lines))) ((words ++ word ∷ []) ++ found)) one_more
-          ∙ ap (λ n. words_unless (least (malformed_from (length words + 1 + 1) lines) (count_fault n)) ((words ++ word ∷ []) ++ found)) all
-          ∙ ap (λ ws. words_unless (least (malformed_from (length words + 1 + 1) lines) (count_fault (length words + suc (length lines)))) ws) (append_assoc words (word ∷ []) found)
+          ∙ ap (λ n. words_unless (least (malformed_from (n + 1) lines) (count_fault (n + length lines)))
+          ((words ++ word ∷ []) ++ found)) one_more
+          ∙ ap (λ n. words_unless (least (malformed_from (length words + 1 + 1) lines) (count_fault n))
+          ((words ++ word ∷ []) ++ found)) all
+          ∙ ap (λ ws. words_unless (least (malformed_from (length words + 1 + 1) lines)
+          (count_fault (length words + suc (length lines)))) ws) (append_assoc words (word ∷ []) found)
     ]
 
 pub read_is : (words : List ℕ) (lines : List (List ℕ)) → length words ≤ most_words → IsRead words lines
 unfolding read_on
 read_is words [] few = IsRead-nil words few
-read_is words (line ∷ lines) few = IsRead-cons (hexadecimal_word line) words lines few (λ word small. read_is (words ++ word ∷ []) lines small)
+read_is words (line ∷ lines) few = IsRead-cons (hexadecimal_word line) words lines few
+    (λ word small. read_is (words ++ word ∷ []) lines small)
 
 pub program-read : (text : List ℕ) → program_of text ≡ read_on [] (lines_of text)
 unfolding program_of
 program-read text =
     let lines = lines_of text in
-    ap (λ n. words_unless (least (malformed_from 1 lines) (count_fault n)) (filter_map hexadecimal_word lines)) (sym (zero-add (length lines)))
+    ap (λ n. words_unless (least (malformed_from 1 lines) (count_fault n)) (filter_map hexadecimal_word lines))
+    (sym (zero-add (length lines)))
     ∙ sym (read_is [] lines (omega arith))
 
 some_left : (xs : List ℕ) → (length xs == 0) ≡ false → 0 < length xs
 some_left xs some = let ne = eqb-false (length xs) 0 some in omega arith
 
 read-line : (words text : List ℕ) → (length text == 0) ≡ false
-    → read_on words (lines_of text) ≡ line_read (length words) (hexadecimal_word (before_first is_line_end text)) (λ word. read_on (words ++ word ∷ []) (lines_of (after_first is_line_end text)))
+    → read_on words (lines_of text) ≡ line_read (length words) (hexadecimal_word (before_first is_line_end text))
+    (λ word. read_on (words ++ word ∷ []) (lines_of (after_first is_line_end text)))
 unfolding read_on
 read-line words text some = ap (read_on words) (lines-first text (some_left text some))
 
@@ -138,18 +154,26 @@ ended-some (word ∷ words) some = refl
 -- What a text's program is once so many words are read and some text is left.
 
 module _ (text words rest : List ℕ) (left : program_of text ≡ read_on words (lines_of rest)) where
-  pub at_malformed : (length rest == 0) ≡ false → hexadecimal_word (before_first is_line_end rest) ≡ None → program_of text ≡ Err (Words (length words + 1))
-  at_malformed some none = left ∙ read-line words rest some ∙ ap (λ o. line_read (length words) o (λ word. read_on (words ++ word ∷ []) (lines_of (after_first is_line_end rest)))) none
+  pub at_malformed : (length rest == 0) ≡ false → hexadecimal_word (before_first is_line_end rest) ≡ None
+      → program_of text ≡ Err (Words (length words + 1))
+  at_malformed some none = left ∙ read-line words rest some
+      ∙ ap (λ o. line_read (length words) o (λ word. read_on (words ++ word ∷ [])
+      (lines_of (after_first is_line_end rest)))) none
 
   at_word : (word : ℕ) → (length rest == 0) ≡ false → hexadecimal_word (before_first is_line_end rest) ≡ Some word
-      → program_of text ≡ (if length words == most_words then Err (Words (length words + 1)) else read_on (words ++ word ∷ []) (lines_of (after_first is_line_end rest)))
-  at_word word some is = left ∙ read-line words rest some ∙ ap (λ o. line_read (length words) o (λ w. read_on (words ++ w ∷ []) (lines_of (after_first is_line_end rest)))) is
+      → program_of text ≡ (if length words == most_words then Err (Words (length words + 1)) else read_on
+      (words ++ word ∷ []) (lines_of (after_first is_line_end rest)))
+  at_word word some is = left ∙ read-line words rest some
+      ∙ ap (λ o. line_read (length words) o (λ w. read_on (words ++ w ∷ [])
+      (lines_of (after_first is_line_end rest)))) is
 
-  pub at_too_many : (word : ℕ) → (length rest == 0) ≡ false → hexadecimal_word (before_first is_line_end rest) ≡ Some word → length words ≡ most_words
+  pub at_too_many : (word : ℕ) → (length rest == 0) ≡ false
+      → hexadecimal_word (before_first is_line_end rest) ≡ Some word → length words ≡ most_words
       → program_of text ≡ Err (Words (length words + 1))
   at_too_many word some is full = at_word word some is ∙ cond-true _ _ _ (eq-eqb (length words) most_words full)
 
-  pub at_next : (word : ℕ) → (length rest == 0) ≡ false → hexadecimal_word (before_first is_line_end rest) ≡ Some word → (length words ≡ most_words → ⊥)
+  pub at_next : (word : ℕ) → (length rest == 0) ≡ false → hexadecimal_word (before_first is_line_end rest) ≡ Some word
+      → (length words ≡ most_words → ⊥)
       → program_of text ≡ read_on (words ++ word ∷ []) (lines_of (after_first is_line_end rest))
   at_next word some is room = at_word word some is ∙ cond-false _ _ _ (ne_eqb (length words) most_words room)
 

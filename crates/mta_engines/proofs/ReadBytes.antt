@@ -2,7 +2,8 @@
 use Rattle.std.proofs.Common.{◌≡◌, ℕ, List, Option, Some, None, IfSome, Result, Ok, Err, IfErr}
 use Rattle.mta_engines.specs.declared.tool_fault.ToolFault.{ToolFault}
 
-pub told : {A : Type 0} (r : Result A ToolFault) (o : Option (List ℕ)) (bytes : List ℕ) (P : List ℕ → ToolFault → Type 0)
+pub told : {A : Type 0} (r : Result A ToolFault) (o : Option (List ℕ)) (bytes : List ℕ) (P : List ℕ → ToolFault
+    → Type 0)
     → IfSome o (λ input. bytes ≡ input) → ((input : List ℕ) → bytes ≡ input → IfErr r (P input))
     → IfErr r (λ fault. IfSome o (λ input. P input fault))
 told (Ok x) o bytes P e h = tt

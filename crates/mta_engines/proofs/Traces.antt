@@ -67,7 +67,8 @@ trace_first old new o t ts n pc is same at =
     let out : o ≡ outcome_of old.image old.world t = ap (λ (x : World × Outcome). x.1) is in
     λ i. trace_line_of n t (at i) (out i) ++ trace_from (same i) (world i) (n + 1) ts
 
-pub trace_step : (old new : MachineValue) (o : Outcome) (t : Step) (ts : List Step) (i pc : ℕ) (text more all : List ℕ)
+pub trace_step : (old new : MachineValue) (o : Outcome) (t : Step) (ts : List Step) (i pc : ℕ)
+    (text more all : List ℕ)
     → i < length ts → t ≡ get_or ts i t → (new.world, o) ≡ stepped old.image old.world t → new.image ≡ old.image
     → pc ≡ pc_of old.world t → more ≡ text ++ trace_line_of (i + 1) t pc o
     → text ++ trace_from old.image old.world (i + 1) (drop i ts) ≡ all

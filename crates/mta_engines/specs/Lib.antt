@@ -1,7 +1,6 @@
 -- The definitions, in the order of reading.
 pub mod Faults
 pub mod Input
-pub mod Lines
 pub mod ProgramLines
 pub mod WordsMachine
 pub mod WordsOutput

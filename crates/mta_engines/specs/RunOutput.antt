@@ -1,5 +1,6 @@
 -- What the command `run` writes for an image and a schedule.
-use Rattle.std.specs.Prelude.{◌≡◌, ◌≤◌, ◌<◌, ℕ, ◌+◌, List, [], ◌∷◌, ◌++◌, length, Option, Some, None, Ok, Err, slice_get, ◌⊎◌}
+use Rattle.std.specs.Prelude.{◌≡◌, ◌≤◌, ◌<◌, ℕ, ◌+◌, List, [], ◌∷◌, ◌++◌, length, Option, Some, None, Ok, Err}
+use Rattle.std.specs.Prelude.{slice_get, ◌⊎◌}
 use Rattle.image_file.specs.ImageValue.{ImageValue}
 use Rattle.processor.specs.Processors.{ProcessorValue, stream_at}
 use Rattle.processor.specs.World.{World, start, after, outcome_of, run}

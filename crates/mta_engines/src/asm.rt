@@ -14,7 +14,8 @@ use image_file::{Image, write_image};
 use std::alloc::Global;
 use std::io::{Read, Write};
 
-/// Reads a source text, assembles it, and writes the image's bytes ("Source text" and "Image files", docs/FORMATS.md).
+/// Reads a source text, assembles it, and writes the image's bytes ("Source text" and "Image files",
+/// docs/FORMATS.md).
 ///
 /// The bytes are composed before the writer is first touched.
 pub fn asm_engine<R: Read, W: Write>(

@@ -15,7 +15,8 @@ const CHUNK: usize = 8192;
 
 /// All the bytes that a reader has, at most [`INPUT_LIMIT`] of them.
 ///
-/// `TooLarge` where there are more, `Read` where a read failed or was interrupted, `NoMemory` where memory was refused.
+/// `TooLarge` where there are more, `Read` where a read failed or was interrupted, `NoMemory` where memory was
+/// refused.
 pub(crate) fn read_input<R: Read>(alloc: Global, reader: &mut R) -> Result<Vec<u8>, ToolFault>
     ensures whole { IfOk result (λ bytes. IfSome (R.remaining reader.old) (λ input.
         bytes.items ≡ input)) }

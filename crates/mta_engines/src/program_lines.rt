@@ -1,20 +1,20 @@
 //! Program words as lines of text.
-ghost use Rattle.std.specs.Prelude.{◌≡◌, ◌≢◌, ◌≤◌, IfOk, IfErr, length, position};
-ghost use Rattle.std.specs.List.{before_first, after_first};
-ghost use Rattle.mta_engines.specs.Lines.{is_line_end};
+ghost use Rattle.std.specs.Prelude.{◌≡◌, ◌≢◌, ◌≤◌, IfOk, IfErr, length};
 ghost use Rattle.mta_engines.specs.ProgramLines.{program_of};
 
 use crate::tool_fault::ToolFault;
 use number_text::read_hexadecimal;
 use std::alloc::Global;
+use trace_text::split_line;
 
 /// The most words of a program.
 pub const MAX_WORDS: usize = 65_536;
 
-/// The words that a text spells, one a line as 16 hexadecimal digits of either case ("Lines of `words`", docs/FORMATS.md).
+/// The words that a text spells, one a line as 16 hexadecimal digits of either case ("Lines of `words`",
+/// docs/FORMATS.md).
 ///
-/// `Words` names the least line with a fault: one that is anything else, line 1 where there is no line, and the line after
-/// the first [`MAX_WORDS`].
+/// `Words` names the least line with a fault: one that is anything else, line 1 where there is no line, and the line
+/// after the first [`MAX_WORDS`].
 pub fn read_program(alloc: Global, text: &[u8]) -> Result<Vec<u64>, ToolFault>
     ensures words { IfOk result (λ words. program_of text.now ≡ Ok words.items) }
     ensures some { IfOk result (λ words. 1 ≤ length words.items) }
@@ -40,22 +40,4 @@ pub fn read_program(alloc: Global, text: &[u8]) -> Result<Vec<u64>, ToolFault>
         return Err(ToolFault::Words(1));
     }
     Ok(words)
-}
-
-/// The first line of a text, and the text after its end.
-fn split_line(text: &[u8]) -> (&[u8], &[u8])
-    ensures line { result.0.now ≡ before_first is_line_end text.now }
-    ensures after { result.1.now ≡ after_first is_line_end text.now }
-{
-    match line_end(text) {
-        Some(end) => (&text[..end], &text[end + 1..]),
-        None => (text, &[]),
-    }
-}
-
-/// Where the byte that ends the first line stands.
-fn line_end(text: &[u8]) -> Option<usize>
-    ensures { result ≡ position is_line_end text.now }
-{
-    text.iter().position(|byte| *byte == b'\n')
 }

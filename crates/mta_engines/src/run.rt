@@ -19,11 +19,11 @@ use trace_text::{push_trace_line, world_text};
 /// The most bytes of a trace line.
 const TRACE_LINE: usize = 36;
 
-/// Reads an image and a schedule, runs the image by it, and writes a trace line for each step, then what the machine came
-/// to ("Traces", docs/FORMATS.md).
+/// Reads an image and a schedule, runs the image by it, and writes a trace line for each step, then what the machine
+/// came to ("Traces", docs/FORMATS.md).
 ///
-/// The image is read first, and its fault answered before the schedule is read. The output is composed before the writer
-/// is first touched.
+/// The image is read first, and its fault answered before the schedule is read. The output is composed before the
+/// writer is first touched.
 pub fn run_engine<I: Read, R: Read, W: Write>(
     alloc: Global,
     image: &mut I,
@@ -31,7 +31,8 @@ pub fn run_engine<I: Read, R: Read, W: Write>(
     writer: &mut W,
 ) -> Result<(), ToolFault>
     ensures written { OnOk result (IfSome (I.remaining image.old) (λ image_bytes.
-        IfSome (R.remaining schedule.old) (λ schedule_bytes. (output : _) × IsRunOutput image_bytes schedule_bytes output
+        IfSome (R.remaining schedule.old) (λ schedule_bytes.
+        (output : _) × IsRunOutput image_bytes schedule_bytes output
         × Appends (W.contents writer.old) (W.contents writer.new) output))) }
     ensures fault { IfErr result (λ fault. IfSome (I.remaining image.old) (λ image_bytes.
         IfSome (R.remaining schedule.old) (λ schedule_bytes.

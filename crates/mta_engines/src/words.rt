@@ -19,8 +19,8 @@ use stream_core::stream_text;
 /// A step of the only stream.
 const ONLY_STEP: Step = Step { p: 0, s: 0 };
 
-/// Reads a program of one word a line, runs it on one stream for as many steps as it has words, and writes the stream's
-/// text ("What `words` runs", docs/MACHINE.md; "Lines of `words`", docs/FORMATS.md).
+/// Reads a program of one word a line, runs it on one stream for as many steps as it has words, and writes the
+/// stream's text ("What `words` runs", docs/MACHINE.md; "Lines of `words`", docs/FORMATS.md).
 ///
 /// The output is composed before the writer is first touched.
 pub fn words_engine<R: Read, W: Write>(

@@ -21,13 +21,18 @@ pub length-fixed_digits : (base count n : ℕ) → length (fixed_digits base cou
 unfolding fixed_digits
 length-fixed_digits base zero n = refl
 length-fixed_digits base (suc k) n =
-    omega (arith, length-fixed_digits base k (n / base), length-append (fixed_digits base k (n / base)) (digit_glyph true (n % base) ∷ []))
+    omega (
+      arith,
+      length-fixed_digits base k (n / base),
+      length-append (fixed_digits base k (n / base)) (digit_glyph true (n % base) ∷ []),
+    )
 
 -- zeros fill the width
 padded_with : (width : ℕ) (ds : List ℕ)
     → padded_integral (format_spec 32 0 4 width (2 ^ 64 - 1)) false [] ds ≡ replicate (width - length ds) 48 ++ ds
 unfolding padded_integral char_count
-padded_with width ds = simp append-nil (ap (λ (m : ℕ). replicate m 48 ++ ds) {x = width - length ds - 0 - 0} {y = width - length ds} (omega arith))
+padded_with width ds = simp append-nil (ap (λ (m : ℕ). replicate m 48 ++ ds) {x = width - length ds - 0 - 0}
+    {y = width - length ds} (omega arith))
 
 fixed_digits-zero : (base count : ℕ) → 0 < base → fixed_digits base count 0 ≡ replicate count 48
 unfolding fixed_digits
@@ -45,16 +50,24 @@ unfolding fixed_digits
 zeros_before zero j n acc le small = let e : eqb (n / 16) 0 ≡ true = eq-eqb _ 0 (omega arith) in (0, rw e refl)
 zeros_before (suc k) zero n acc le small = absurd (omega arith)
 zeros_before (suc k) (suc j) n acc le small = ⊎_elim
-    (λ h. let e : eqb (n / 16) 0 ≡ true = h.0 in let z : n / 16 ≡ 0 = h.1 in
-    (suc k, rw (e, z, fixed_digits-zero 16 (suc k) (omega arith)) (sym (append_assoc (replicate (suc k) 48) (digit_glyph true (n % 16) ∷ []) acc))))
+    (λ h. let e : eqb (n / 16) 0 ≡ true = h.0 in let z : n / 16 ≡ 0 = h.1 in (
+      suc k,
+      rw (e, z, fixed_digits-zero 16 (suc k) (omega arith))
+          (sym (append_assoc (replicate (suc k) 48) (digit_glyph true (n % 16) ∷ []) acc)),
+    ))
     (λ h. let e : eqb (n / 16) 0 ≡ false = h.0 in
-    let front = zeros_before k j (n / 16) (digit_glyph true (n % 16) ∷ acc) (omega arith) (omega (arith, pow-suc 16 (suc k))) in
-    (front.0, rw e (front.1 ∙ sym (append_assoc (fixed_digits 16 (suc k) (n / 16)) (digit_glyph true (n % 16) ∷ []) acc))))
+    let front = zeros_before k j (n / 16) (digit_glyph true (n % 16) ∷ acc) (omega arith)
+    (omega (arith, pow-suc 16 (suc k))) in (
+      front.0,
+      rw e (front.1 ∙ sym (append_assoc (fixed_digits 16 (suc k) (n / 16))
+          (digit_glyph true (n % 16) ∷ []) acc)),
+    ))
     (eqb_tells (n / 16) 0)
 
 -- what `{:016X}` and its like write: a number of no more digits than the width, with zeros in front
 pub padded_hexadecimal : (k n : ℕ) → k ≤ 63 → n < 16 ^ suc k
-    → padded_integral (format_spec 32 0 4 (suc k) (2 ^ 64 - 1)) false [] (digits 16 true n) ≡ fixed_digits 16 (suc k) n
+    → padded_integral (format_spec 32 0 4 (suc k) (2 ^ 64 - 1)) false [] (digits 16 true n)
+    ≡ fixed_digits 16 (suc k) n
 unfolding digits
 padded_hexadecimal k n le small = let all = zeros_before k 63 n [] le small in
     let z : suc k - length (digits 16 true n) ≡ all.0 =
@@ -68,10 +81,12 @@ padded_hexadecimal k n le small = let all = zeros_before k 63 n [] le small in
     ) in
     padded_with (suc k) (digits 16 true n) ∙ rw z (all.1 ∙ append-nil (fixed_digits 16 (suc k) n))
 
-pub padded_16 : (n : ℕ) → n < 2 ^ 64 → padded_integral (format_spec 32 0 4 16 (2 ^ 64 - 1)) false [] (digits 16 true n) ≡ hexadecimal_16 n
+pub padded_16 : (n : ℕ) → n < 2 ^ 64
+    → padded_integral (format_spec 32 0 4 16 (2 ^ 64 - 1)) false [] (digits 16 true n) ≡ hexadecimal_16 n
 padded_16 n small = padded_hexadecimal 15 n (omega arith) (omega arith)
 
-pub padded_8 : (n : ℕ) → n < 2 ^ 32 → padded_integral (format_spec 32 0 4 8 (2 ^ 64 - 1)) false [] (digits 16 true n) ≡ hexadecimal_8 n
+pub padded_8 : (n : ℕ) → n < 2 ^ 32 → padded_integral (format_spec 32 0 4 8 (2 ^ 64 - 1)) false [] (digits 16 true n)
+    ≡ hexadecimal_8 n
 padded_8 n small = padded_hexadecimal 7 n (omega arith) (omega arith)
 
 -- the digits of a number are those of its rest by that power of 16
@@ -88,7 +103,8 @@ fixed_digits-rest (suc k) n =
     rw (front, last, fixed_digits-rest k (n / 16)) refl
 
 -- what `{:012X}` writes of the low 48 bits
-pub padded_12 : (n : ℕ) → padded_integral (format_spec 32 0 4 12 (2 ^ 64 - 1)) false [] (digits 16 true (n % 2 ^ 48)) ≡ hexadecimal_12 n
+pub padded_12 : (n : ℕ) → padded_integral (format_spec 32 0 4 12 (2 ^ 64 - 1)) false [] (digits 16 true (n % 2 ^ 48))
+    ≡ hexadecimal_12 n
 padded_12 n = padded_hexadecimal 11 (n % 2 ^ 48) (omega arith) (omega arith) ∙ fixed_digits-rest 12 n
 
 -- what `{:X}` writes below 16
@@ -105,10 +121,18 @@ one_decimal_digit k n small =
     let front : n / 10 ≡ 0 = omega arith in
     let last : n % 10 ≡ n = omega arith in
     let zeros : suc k - 1 ≡ k = omega arith in
-    rw (decimal_digit n small, zeros, front, last, fixed_digits-zero 10 k (omega arith), digit_glyph-decimal n small) refl
+    rw (
+      decimal_digit n small,
+      zeros,
+      front,
+      last,
+      fixed_digits-zero 10 k (omega arith),
+      digit_glyph-decimal n small,
+    ) refl
 
 -- a number of no more digits than the width, with zeros in front
-pub zero_filled-fixed_digits : (k n : ℕ) → n < 10 ^ suc k → n < 2 ^ 64 → zero_filled (suc k) n ≡ fixed_digits 10 (suc k) n
+pub zero_filled-fixed_digits : (k n : ℕ) → n < 10 ^ suc k → n < 2 ^ 64
+    → zero_filled (suc k) n ≡ fixed_digits 10 (suc k) n
 unfolding fixed_digits
 zero_filled-fixed_digits zero n small fits = one_decimal_digit zero n (omega arith)
 zero_filled-fixed_digits (suc k) n small fits = ⊎_elim
@@ -124,7 +148,8 @@ zero_filled-fixed_digits (suc k) n small fits = ⊎_elim
     (cases_lt n 10)
 
 -- what `{:02}` writes
-pub padded_2 : (n : ℕ) → n < 100 → padded_integral (format_spec 32 0 4 2 (2 ^ 64 - 1)) false [] (decimal n) ≡ two_digits n
+pub padded_2 : (n : ℕ) → n < 100 → padded_integral (format_spec 32 0 4 2 (2 ^ 64 - 1)) false [] (decimal n)
+    ≡ two_digits n
 padded_2 n small = padded_with 2 (decimal n) ∙ zero_filled-fixed_digits 1 n (omega arith) (omega arith)
 
 -- what `{:05}` writes
@@ -140,7 +165,8 @@ blanks (suc n) = ap (λ (bytes : List ℕ). 32 ∷ bytes) (blanks n)
 pub aligned : (width n : ℕ) → styled_decimal (format_spec 32 3 0 width (2 ^ 64 - 1)) n ≡ right_aligned width n
 unfolding padded_integral char_count
 aligned width n = ⊎_elim
-    (λ h. let e : eqb width 0 ≡ true = h.0 in let z : width - length (decimal n) ≡ 0 = omega (arith, h.1) in rw (e, z) refl)
+    (λ h. let e : eqb width 0 ≡ true = h.0 in let z : width - length (decimal n) ≡ 0 = omega (arith, h.1) in
+    rw (e, z) refl)
     (λ h. let e : eqb width 0 ≡ false = h.0 in
     let z : width - length (decimal n) - 0 - 0 ≡ width - length (decimal n) = omega arith in
     let none : width - length (decimal n) - (width - length (decimal n)) ≡ 0 = omega arith in

@@ -24,14 +24,16 @@ unfolding number_of_digits
 no_number_from_none base digits none = rw none
 
 -- a text with another byte than a digit is no number
-no_number_from_byte : (base : ℕ) (digits : List ℕ) → all_in_base base digits ≡ false → number_of_digits base digits ≡ None
+no_number_from_byte : (base : ℕ) (digits : List ℕ) → all_in_base base digits ≡ false
+    → number_of_digits base digits ≡ None
 unfolding number_of_digits
 no_number_from_byte base digits e = ⊎_elim (λ h. rw (h.0, e)) (λ h. rw h.0) (leb_tells 1 (length digits))
 
 pub no_number_at : (base : ℕ) (digits : List ℕ) (index : ℕ) → index < length digits
     → (digit_value (get_or digits index 0) < base → ⊥) → number_of_digits base digits ≡ None
 no_number_at base digits index lt other =
-    no_number_from_byte base digits (list_all_at _ digits index 0 lt (le-ltb (digit_value (get_or digits index 0)) base (omega (arith, other))))
+    no_number_from_byte base digits (list_all_at _ digits index 0 lt
+    (le-ltb (digit_value (get_or digits index 0)) base (omega (arith, other))))
 
 -- 16 digits are read as their number
 pub word_from_digits : (digits : List ℕ) → length digits ≡ 16 → all_in_base 16 digits ≡ true
@@ -50,7 +52,8 @@ no_word_from_number : (digits : List ℕ) → number_of_digits 16 digits ≡ Non
 unfolding hexadecimal_word
 no_word_from_number digits e = ⊎_elim (λ h. rw (h.0, e)) (λ h. rw h.0) (eqb_tells (length digits) 16)
 
-pub no_word_at : (digits : List ℕ) (index : ℕ) → index < length digits → (digit_value (get_or digits index 0) < 16 → ⊥)
+pub no_word_at : (digits : List ℕ) (index : ℕ) → index < length digits
+    → (digit_value (get_or digits index 0) < 16 → ⊥)
     → hexadecimal_word digits ≡ None
 no_word_at digits index lt other = no_word_from_number digits (no_number_at 16 digits index lt other)
 
@@ -73,7 +76,8 @@ fits_word digits = ⊎_elim
   where
     by_bytes : length digits ≡ 16 → (b : Bool) → all_in_base 16 digits ≡ b
         → IfSome (hexadecimal_word digits) (λ number. number < 2 ^ 64)
-    by_bytes n true all = rw (word_from_digits digits n all) (omega (arith, number_below digits all, ap (λ (k : ℕ). 16 ^ k) n))
+    by_bytes n true all = rw (word_from_digits digits n all)
+        (omega (arith, number_below digits all, ap (λ (k : ℕ). 16 ^ k) n))
     by_bytes n false none = rw (no_word_from_number digits (no_number_from_byte 16 digits none)) tt
 
 -- fewer than 16 digits leave room for one more
@@ -82,10 +86,15 @@ pub room_for_digit : (digits : List ℕ) (index : ℕ) → length digits ≡ 16 
 room_for_digit digits index n lt all =
     let short : length (take index digits) ≤ 15 = omega (arith, length-take-le index digits (omega arith)) in
     let some : 0 < 16 = omega arith in
-    omega (arith, number_below (take index digits) all, pow-le-pow_right {n = 16} some {i = length (take index digits)} {j = 15} short)
+    omega (
+      arith,
+      number_below (take index digits) all,
+      pow-le-pow_right {n = 16} some {i = length (take index digits)} {j = 15} short,
+    )
 
 -- one digit more
-pub one_more_digit : (base : ℕ) (digits : List ℕ) (index : ℕ) → index < length digits → all_in_base base (take index digits) ≡ true
+pub one_more_digit : (base : ℕ) (digits : List ℕ) (index : ℕ) → index < length digits
+    → all_in_base base (take index digits) ≡ true
     → digit_value (get_or digits index 0) < base → all_in_base base (take (index + 1) digits) ≡ true
 one_more_digit base digits index lt all small =
     list_all_more _ digits index 0 lt ∙ rw (all, lt-ltb (digit_value (get_or digits index 0)) base small)

@@ -25,7 +25,8 @@ use Rattle.number_text.proofs.Read.{number_from_digits, word_from_digits}
 digit_value-digit_glyph : (d : ℕ) → d < 16 → digit_value (digit_glyph true d) ≡ d
 digit_value-digit_glyph d small = grind (arith, nat_tests)
 
-list_all-fixed_digits : (base count n : ℕ) → 0 < base → base ≤ 16 → all_in_base base (fixed_digits base count n) ≡ true
+list_all-fixed_digits : (base count n : ℕ) → 0 < base → base ≤ 16
+    → all_in_base base (fixed_digits base count n) ≡ true
 unfolding fixed_digits
 list_all-fixed_digits base zero n some le = refl
 list_all-fixed_digits base (suc k) n some le =
@@ -43,7 +44,11 @@ digits_value-fixed_digits base (suc k) n some le =
     let small : n % base < base = omega arith in
     let some_power : 0 < base ^ k = one-le-pow k base some in
     digits_value_push base (fixed_digits base k (n / base)) (digit_glyph true (n % base))
-    ∙ rw (digits_value-fixed_digits base k (n / base) some le, digit_value-digit_glyph (n % base) (omega arith), pow-suc base k)
+    ∙ rw (
+      digits_value-fixed_digits base k (n / base) some le,
+      digit_value-digit_glyph (n % base) (omega arith),
+      pow-suc base k,
+    )
     (sym (mod-mul n some_power some))
 
 reads_fixed : (base count n : ℕ) → 0 < base → base ≤ 16 → 0 < count
@@ -60,7 +65,8 @@ reads_fixed_small base count n some le long same = reads_fixed base count n some
 pub reads_back : ReadsBack
 reads_back n small =
     let same : n % 16 ^ 16 ≡ n = omega arith in
-    word_from_digits (hexadecimal_16 n) (length-fixed_digits 16 16 n) (list_all-fixed_digits 16 16 n (omega arith) (omega arith))
+    word_from_digits (hexadecimal_16 n) (length-fixed_digits 16 16 n)
+    (list_all-fixed_digits 16 16 n (omega arith) (omega arith))
     ∙ ap Some (digits_value-fixed_digits 16 16 n (omega arith) (omega arith) ∙ same)
 
 pub fixed_width : FixedWidth
@@ -101,8 +107,13 @@ pub reads_back_five : ReadsBackFive
 reads_back_five n small =
     let numeral = decimal_is_IsNumeral n small in
     let zeros = 5 - length (decimal n) in
-    let some : 0 < length (five_digits n) = omega (arith, numeral.0.0, length-append (replicate zeros 48) (decimal n)) in
-    number_from_digits 10 (five_digits n) some (zeros_are_digits zeros (decimal n) (all_digits-list_all 10 (decimal n) numeral.0.1))
+    let some : 0 < length (five_digits n) = omega (
+      arith,
+      numeral.0.0,
+      length-append (replicate zeros 48) (decimal n),
+    ) in
+    number_from_digits 10 (five_digits n) some
+    (zeros_are_digits zeros (decimal n) (all_digits-list_all 10 (decimal n) numeral.0.1))
     ∙ ap Some (zeros_say_nothing zeros (decimal n) ∙ numeral.1)
 
 pub five_digits_are : FiveDigitsAre
@@ -124,9 +135,15 @@ without_blanks-filled (suc k) ds = without_blanks-filled k ds
 pub reads_back_aligned : ReadsBackAligned
 reads_back_aligned width n small =
     let digits = (decimal_is_IsNumeral n small).0.1 in
-    rw (without_blanks-filled (width - length (decimal n)) (decimal n), no_blank_first (decimal n) digits) (reads_back_decimal n small)
+    rw (without_blanks-filled (width - length (decimal n)) (decimal n), no_blank_first (decimal n) digits)
+    (reads_back_decimal n small)
 
 pub aligned_width : AlignedWidth
 aligned_width width n some few small =
     let blanks = width - length (decimal n) in
-    omega (arith, length-append (replicate blanks 32) (decimal n), length-replicate {A = ℕ} blanks 32, length-decimal-le width n some few small)
+    omega (
+      arith,
+      length-append (replicate blanks 32) (decimal n),
+      length-replicate {A = ℕ} blanks 32,
+      length-decimal-le width n some few small,
+    )

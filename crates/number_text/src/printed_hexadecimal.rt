@@ -19,7 +19,7 @@ impl fmt::Display for Hexadecimal {
     }
 }
 
-/// A word whose low 48 bits print as 12 upper-case hexadecimal digits, zeros in front. The other bits are not printed.
+/// A word whose low 48 bits print as 12 upper-case hexadecimal digits, zeros in front. No other bit is printed.
 #[derive(Clone, Copy, Debug, PartialEq, Eq)]
 pub struct Hexadecimal12(pub u64);
 

@@ -115,6 +115,7 @@ impl<const S: usize> StreamTable<S> {
 
     /// A used stream completes the step of an instruction: `reply` is the memory's where the instruction asks it, and
     /// `grant` the number of streams that a RESERVE is granted.
+    #[inline(always)]
     pub(crate) fn complete(
         &mut self,
         place: usize,

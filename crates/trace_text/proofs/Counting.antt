@@ -1,5 +1,6 @@
 -- Steps of rounds, one after another.
-use Rattle.std.proofs.Common.{◌≡◌, ℕ, zero, suc, ◌+◌, ◌*◌, List, [], ◌∷◌, ◌++◌, refl, sym, ap, ◌∙◌, arith, append_assoc, append-nil}
+use Rattle.std.proofs.Common.{◌≡◌, ℕ, zero, suc, ◌+◌, ◌*◌, List, [], ◌∷◌, ◌++◌, refl, sym, ap, ◌∙◌, arith}
+use Rattle.std.proofs.Common.{append_assoc, append-nil}
 use Rattle.std.proofs.lemmas.List.FromFn.{map-range_with_len_more}
 use Rattle.std.proofs.lemmas.Grind.{flat_map-append}
 use Rattle.std.specs.List.{range_with_len, flat_map, repeat}
@@ -12,28 +13,35 @@ range-suc a (suc n) =
     let same : a + 1 + n ≡ a + suc n = omega arith in
     ap (λ ns. a ∷ ns) (range-suc (a + 1) n) ∙ ap (λ m. a ∷ (range_with_len (a + 1) n ++ m ∷ [])) same
 
-pub turns-more : (p s : ℕ) (old items new : List Step) → items ≡ old ++ turns s p → new ≡ items ++ turn p s ∷ [] → new ≡ old ++ turns (s + 1) p
+pub turns-more : (p s : ℕ) (old items new : List Step) → items ≡ old ++ turns s p → new ≡ items ++ turn p s ∷ []
+    → new ≡ old ++ turns (s + 1) p
 turns-more p s old items new so_far e =
     let same : 0 + s ≡ s = omega arith in
     e ∙ ap (λ ts. ts ++ turn p s ∷ []) so_far ∙ append_assoc old (turns s p) (turn p s ∷ [])
     ∙ ap (λ ts. old ++ ts) (sym (map-range_with_len_more (turn p) 0 s s same))
 
-pub round-more : (p streams : ℕ) (old items new : List Step) → items ≡ old ++ round p streams → new ≡ items ++ turns streams p
+pub round-more : (p streams : ℕ) (old items new : List Step) → items ≡ old ++ round p streams
+    → new ≡ items ++ turns streams p
     → new ≡ old ++ round (p + 1) streams
 round-more p streams old items new so_far e =
     let next : p + 1 ≡ suc p = omega arith in
     let same : 0 + p ≡ p = omega arith in
-    let last : flat_map (turns streams) (range_with_len 0 (p + 1)) ≡ flat_map (turns streams) (range_with_len 0 p ++ p ∷ []) =
-    ap (λ n. flat_map (turns streams) (range_with_len 0 n)) next ∙ ap (flat_map (turns streams)) (range-suc 0 p ∙ ap (λ m. range_with_len 0 p ++ m ∷ []) same) in
+    let last : flat_map (turns streams) (range_with_len 0 (p + 1))
+    ≡ flat_map (turns streams) (range_with_len 0 p ++ p ∷ []) =
+    ap (λ n. flat_map (turns streams) (range_with_len 0 n)) next
+    ∙ ap (flat_map (turns streams)) (range-suc 0 p ∙ ap (λ m. range_with_len 0 p ++ m ∷ []) same) in
     let more : round (p + 1) streams ≡ round p streams ++ turns streams p =
-    last ∙ flat_map-append (turns streams) (range_with_len 0 p) (p ∷ []) ∙ ap (λ ts. round p streams ++ ts) (append-nil (turns streams p)) in
-    e ∙ ap (λ ts. ts ++ turns streams p) so_far ∙ append_assoc old (round p streams) (turns streams p) ∙ ap (λ ts. old ++ ts) (sym more)
+    last ∙ flat_map-append (turns streams) (range_with_len 0 p) (p ∷ [])
+    ∙ ap (λ ts. round p streams ++ ts) (append-nil (turns streams p)) in
+    e ∙ ap (λ ts. ts ++ turns streams p) so_far ∙ append_assoc old (round p streams) (turns streams p)
+    ∙ ap (λ ts. old ++ ts) (sym more)
 
 repeat-suc : {A : Type 0} (n : ℕ) (xs : List A) → repeat (suc n) xs ≡ repeat n xs ++ xs
 repeat-suc zero xs = append-nil xs
 repeat-suc (suc n) xs = ap (λ ys. xs ++ ys) (repeat-suc n xs) ∙ sym (append_assoc xs (repeat n xs) xs)
 
-pub rounds-more : (p s n : ℕ) (items new : List Step) → items ≡ rounds p s n → new ≡ items ++ round p s → new ≡ rounds p s (n + 1)
+pub rounds-more : (p s n : ℕ) (items new : List Step) → items ≡ rounds p s n → new ≡ items ++ round p s
+    → new ≡ rounds p s (n + 1)
 rounds-more p s n items new so_far e =
     let next : suc n ≡ n + 1 = omega arith in
     e ∙ ap (λ ts. ts ++ round p s) so_far ∙ sym (repeat-suc n (round p s)) ∙ ap (λ m. repeat m (round p s)) next

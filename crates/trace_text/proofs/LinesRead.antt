@@ -41,7 +41,8 @@ body r = decimal r.step.p ++ 32 ∷ (decimal r.step.s ++ 32 ∷ decimal r.times)
 fields-body : (r : Run) → r.step.p < 2 ^ 64 → r.step.s < 2 ^ 64 → r.times < 2 ^ 64
     → fields_of (body r) ≡ decimal r.step.p ∷ decimal r.step.s ∷ decimal r.times ∷ []
 fields-body r p s n =
-    slice_split_at (λ b. b == 32) (decimal r.step.p) 32 (decimal r.step.s ++ 32 ∷ decimal r.times) (lacks-space r.step.p p) refl
+    slice_split_at (λ b. b == 32) (decimal r.step.p) 32 (decimal r.step.s ++ 32 ∷ decimal r.times)
+    (lacks-space r.step.p p) refl
     ∙ ap (λ fs. decimal r.step.p ∷ fs)
     (slice_split_at (λ b. b == 32) (decimal r.step.s) 32 (decimal r.times) (lacks-space r.step.s s) refl
     ∙ ap (λ fs. decimal r.step.s ∷ fs) (slice_split_none (λ b. b == 32) (decimal r.times) (lacks-space r.times n)))
@@ -49,7 +50,8 @@ fields-body r p s n =
 abbrev pub said_by : Run → LineValues
 said_by r = record { processor = r.step.p; stream = r.step.s; times = r.times }
 
-pub values-body : ReadsBackDecimal → (r : Run) → r.step.p < 2 ^ 64 → r.step.s < 2 ^ 64 → r.times < 2 ^ 64 → values_of (body r) ≡ Some (said_by r)
+pub values-body : ReadsBackDecimal → (r : Run) → r.step.p < 2 ^ 64 → r.step.s < 2 ^ 64 → r.times < 2 ^ 64
+    → values_of (body r) ≡ Some (said_by r)
 unfolding values_of
 values-body back r p s n =
     ap values_in (fields-body r p s n)
@@ -76,8 +78,13 @@ lacks-decimal n small = lacks-digits (decimal n) (decimal_is_IsNumeral n small).
 
 lacks-body : (r : Run) → r.step.p < 2 ^ 64 → r.step.s < 2 ^ 64 → r.times < 2 ^ 64 → Lacks (body r)
 lacks-body r p s n =
-    lacks-append (decimal r.step.p) (32 ∷ (decimal r.step.s ++ 32 ∷ decimal r.times)) (lacks-decimal r.step.p p)
-    (refl, lacks-append (decimal r.step.s) (32 ∷ decimal r.times) (lacks-decimal r.step.s s) (refl, lacks-decimal r.times n))
+    lacks-append (decimal r.step.p) (32 ∷ (decimal r.step.s ++ 32 ∷ decimal r.times)) (lacks-decimal r.step.p p) (
+      refl,
+      lacks-append (decimal r.step.s) (32 ∷ decimal r.times) (lacks-decimal r.step.s s) (
+        refl,
+        lacks-decimal r.times n,
+      ),
+    )
 
 lines-before : (line rest : List ℕ) → Lacks line → lines_of (line ++ 10 ∷ rest) ≡ line ∷ lines_of rest
 unfolding lines_of

@@ -1,5 +1,6 @@
 -- A written schedule is read as the same steps.
-use Rattle.std.proofs.Common.{◌≡◌, ℕ, ◌+◌, ◌/◌, ◌%◌, ◌^◌, ◌<◌, ◌≤◌, true, List, [], ◌∷◌, ◌++◌, length, refl, sym, ap, ◌∙◌, arith}
+use Rattle.std.proofs.Common.{◌≡◌, ℕ, ◌+◌, ◌/◌, ◌%◌, ◌^◌, ◌<◌, ◌≤◌, true, List, [], ◌∷◌, ◌++◌, length, refl, sym, ap}
+use Rattle.std.proofs.Common.{◌∙◌, arith}
 use Rattle.std.proofs.Common.{Some, None, Ok, ne_eqb, append-nil, map, le-leb, ⊎_elim}
 use Rattle.std.proofs.lemmas.Bool.{cases_lt}
 use Rattle.std.proofs.lemmas.List.{length-append, length-replicate}
@@ -33,11 +34,17 @@ parts-full r full =
 text-line : (r : Run) → 1 ≤ r.times → r.times ≤ 1000000 → run_text r ≡ run_line r
 unfolding run_text
 text-line r some few =
-    ap (flat_map run_line) (⊎_elim (λ h. parts-small r some h) (λ h. parts-full r (omega arith)) (cases_lt r.times 1000000))
+    ap (flat_map run_line) (⊎_elim (λ h. parts-small r some h) (λ h. parts-full r (omega arith))
+    (cases_lt r.times 1000000))
     ∙ append-nil (run_line r)
 
-length-expanded : (r : Run) (rs : List Run) → length (flat_map expanded (r ∷ rs)) ≡ r.times + length (flat_map expanded rs)
-length-expanded r rs = omega (arith, length-append (expanded r) (flat_map expanded rs), length-replicate r.times r.step)
+length-expanded : (r : Run) (rs : List Run) → length (flat_map expanded (r ∷ rs))
+    ≡ r.times + length (flat_map expanded rs)
+length-expanded r rs = omega (
+  arith,
+  length-append (expanded r) (flat_map expanded rs),
+  length-replicate r.times r.step,
+)
 
 -- what the lines of runs say, one after another
 
@@ -65,7 +72,8 @@ within r one few =
     let most = le-leb r.times 1000000 few in
     rw (p, s, some, most) refl
 
-no_line_fault : (before : ℕ) (r : Run) → IsRun r → before + r.times ≤ 1000000 → line_fault before (Some (said_by r)) ≡ None
+no_line_fault : (before : ℕ) (r : Run) → IsRun r → before + r.times ≤ 1000000
+    → line_fault before (Some (said_by r)) ≡ None
 no_line_fault before r one few =
     let room = le-leb (before + r.times) 1000000 few in rw (within r one (omega arith), room) refl
 
@@ -90,5 +98,6 @@ reads_back back steps all few =
     let count : length (flat_map expanded rs) ≤ 1000000 = omega (arith, ap length whole) in
     let values = values-written back rs (each-run steps all) count in
     ap (λ vs. unless_fault (fault_from 1 0 vs) (flat_map steps_on vs)) values
-    ∙ ap (λ f. unless_fault f (flat_map steps_on (map (λ r. Some (said_by r)) rs))) (no_fault 1 0 rs (each-run steps all) (omega (arith, count)))
+    ∙ ap (λ f. unless_fault f (flat_map steps_on (map (λ r. Some (said_by r)) rs)))
+    (no_fault 1 0 rs (each-run steps all) (omega (arith, count)))
     ∙ ap Ok (steps-said rs ∙ whole)

@@ -1,5 +1,6 @@
 -- The runs of steps, one after another.
-use Rattle.std.proofs.Common.{◌≡◌, ℕ, suc, ◌+◌, ◌<◌, Bool, true, false, List, [], ◌∷◌, ◌++◌, length, refl, sym, ap, ◌∙◌, arith}
+use Rattle.std.proofs.Common.{◌≡◌, ℕ, suc, ◌+◌, ◌<◌, Bool, true, false, List, [], ◌∷◌, ◌++◌, length, refl, sym, ap}
+use Rattle.std.proofs.Common.{◌∙◌, arith}
 use Rattle.std.proofs.Common.{Some, None, ◌==◌, ◌&&◌, drop, append_assoc, append-nil, subst}
 use Rattle.std.proofs.lemmas.Bool.{eqb-true, eq-eqb, cond-true, cond-false}
 use Rattle.std.specs.List.{flat_map, slice_get}
@@ -57,29 +58,34 @@ front t (u ∷ us) = front-cons t u us (same_step u t) refl (front u us)
 same_run-whole : (t : Step) (ts : List Step) → same_run t (t ∷ ts) ≡ 1 + same_run t ts
 same_run-whole t ts = cond-true _ _ _ (same-step t)
 
-runs-front : (t : Step) (ts : List Step) → runs_of (t ∷ ts) ≡ run t (same_run t (t ∷ ts)) ∷ runs_of (drop (same_run t (t ∷ ts)) (t ∷ ts))
+runs-front : (t : Step) (ts : List Step) → runs_of (t ∷ ts)
+    ≡ run t (same_run t (t ∷ ts)) ∷ runs_of (drop (same_run t (t ∷ ts)) (t ∷ ts))
 runs-front t ts =
     let one_more : 1 + same_run t ts ≡ suc (same_run t ts) = omega arith in
     front t ts ∙ ap (λ n. run t (1 + same_run t ts) ∷ runs_of (drop n (t ∷ ts))) (sym one_more)
     ∙ ap (λ n. run t n ∷ runs_of (drop n (t ∷ ts))) (sym (same_run-whole t ts))
 
-written-cons : (t : Step) (ts : List Step) → written (t ∷ ts) ≡ run_text (run t (same_run t (t ∷ ts))) ++ written (drop (same_run t (t ∷ ts)) (t ∷ ts))
+written-cons : (t : Step) (ts : List Step) → written (t ∷ ts) ≡ run_text (run t (same_run t (t ∷ ts)))
+    ++ written (drop (same_run t (t ∷ ts)) (t ∷ ts))
 unfolding written
 written-cons t ts = ap (flat_map run_text) (runs-front t ts)
 
-at_first : (t u : Step) (ts : List Step) → Some u ≡ Some t → (P : Step → List Step → Type 0) → ((v : Step) → P v (v ∷ ts)) → P t (u ∷ ts)
+at_first : (t u : Step) (ts : List Step) → Some u ≡ Some t → (P : Step → List Step → Type 0)
+    → ((v : Step) → P v (v ∷ ts)) → P t (u ∷ ts)
 at_first t u ts e P all = let same : u ≡ t = cc in subst (λ v. P v (u ∷ ts)) same (all u)
 
 pub written-front : (t : Step) (rest : List Step) → slice_get rest 0 ≡ Some t
     → written rest ≡ run_text (run t (same_run t rest)) ++ written (drop (same_run t rest) rest)
 written-front t [] e = cc
 written-front t (u ∷ us) e =
-    at_first t u us e (λ v ts. written ts ≡ run_text (run v (same_run v ts)) ++ written (drop (same_run v ts) ts)) (λ v. written-cons v us)
+    at_first t u us e (λ v ts. written ts ≡ run_text (run v (same_run v ts)) ++ written (drop (same_run v ts) ts))
+    (λ v. written-cons v us)
 
 pub some-front : (t : Step) (rest : List Step) → slice_get rest 0 ≡ Some t → (0 < same_run t rest) × (0 < length rest)
 some-front t [] e = cc
 some-front t (u ∷ us) e =
-    at_first t u us e (λ v ts. (0 < same_run v ts) × (0 < length ts)) (λ v. (omega (arith, same_run-whole v us), omega arith))
+    at_first t u us e (λ v ts. (0 < same_run v ts) × (0 < length ts))
+    (λ v. (omega (arith, same_run-whole v us), omega arith))
 
 -- one more run in the text is one less to come
 pub run_written : (t : Step) (rest : List Step) (text new all : List ℕ) → slice_get rest 0 ≡ Some t
@@ -90,7 +96,8 @@ run_written t rest text new all first e whole =
     ap (λ xs. xs ++ after) e ∙ append_assoc text (run_text (run t (same_run t rest))) after
     ∙ ap (λ xs. text ++ xs) (sym (written-front t rest first)) ∙ whole
 
-pub all_written : (rest : List Step) (text all : List ℕ) → slice_get rest 0 ≡ None → text ++ written rest ≡ all → text ≡ all
+pub all_written : (rest : List Step) (text all : List ℕ) → slice_get rest 0 ≡ None → text ++ written rest ≡ all
+    → text ≡ all
 unfolding written
 all_written [] text all none whole = sym (append-nil text) ∙ whole
 all_written (t ∷ ts) text all none whole = cc

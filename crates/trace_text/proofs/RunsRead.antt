@@ -1,5 +1,6 @@
 -- The runs of steps say the steps.
-use Rattle.std.proofs.Common.{◌≡◌, suc, ◌+◌, ◌≤◌, Bool, true, false, cond, List, [], ◌∷◌, ◌++◌, replicate, refl, sym, ap, ◌∙◌, arith}
+use Rattle.std.proofs.Common.{◌≡◌, suc, ◌+◌, ◌≤◌, Bool, true, false, cond, List, [], ◌∷◌, ◌++◌, replicate, refl, sym}
+use Rattle.std.proofs.Common.{ap, ◌∙◌, arith}
 use Rattle.std.proofs.lemmas.Bool.{cond-true, cond-false}
 use Rattle.std.proofs.lemmas.List.Elements.{All-head, All-tail}
 use Rattle.std.specs.List.{flat_map, All}
@@ -43,7 +44,8 @@ pub expanded-runs : (ts : List Step) → flat_map expanded (runs_of ts) ≡ ts
 expanded-runs [] = refl
 expanded-runs (t ∷ ts) = expanded-joined t (runs_of ts) ∙ ap (λ us. t ∷ us) (expanded-runs ts)
 
-each-by : (t : Step) (r : Run) (rs : List Run) (same : Bool) → same_step r.step t ≡ same → IsStep t → IsRun r → EachRun rs
+each-by : (t : Step) (r : Run) (rs : List Run) (same : Bool) → same_step r.step t ≡ same → IsStep t → IsRun r
+    → EachRun rs
     → EachRun (cond same (record { step = t; times = r.times + 1 } ∷ rs) (record { step = t; times = 1 } ∷ r ∷ rs))
 each-by t r rs true e step one rest = (record { step = step; some = omega arith }, rest)
 each-by t r rs false e step one rest = (record { step = step; some = omega arith }, (one, rest))

@@ -29,11 +29,14 @@ no_number : (digits : List ℕ) → all_in_base 10 digits ≡ false → decimal_
 unfolding number_of_digits
 no_number digits e = elim (cases_Bool (nat_lt 0 (length digits))) [ inl h ↦ rw (h, e) refl | inr h ↦ rw h refl ]
 
-no_number-space : (digits : List ℕ) → position_or_len (λ b. b == 32) digits < length digits → decimal_number digits ≡ None
+no_number-space : (digits : List ℕ) → position_or_len (λ b. b == 32) digits < length digits
+    → decimal_number digits ≡ None
 no_number-space digits h =
-    let at : (get_or digits (position_or_len (λ b. b == 32) digits) 0 == 32) ≡ true = passes_at_first (λ b. b == 32) digits 0 h in
+    let at : (get_or digits (position_or_len (λ b. b == 32) digits) 0 == 32) ≡ true =
+    passes_at_first (λ b. b == 32) digits 0 h in
     let is : get_or digits (position_or_len (λ b. b == 32) digits) 0 ≡ 32 = eqb-true _ _ at in
-    no_number digits (list_all_at (λ b. is_digit b 10) digits (position_or_len (λ b. b == 32) digits) 0 h (rw is refl))
+    no_number digits (list_all_at (λ b. is_digit b 10) digits (position_or_len (λ b. b == 32) digits) 0 h
+    (rw is refl))
 
 -- one field or more
 fields-some : (text : List ℕ) → (field : List ℕ) × (fields : List (List ℕ)) × (fields_of text ≡ field ∷ fields)
@@ -42,12 +45,14 @@ fields-some text = elim (cases_Bool (nat_lt (position_or_len (λ b. b == 32) tex
   | inr h ↦ (_, _, slice_split-whole (λ b. b == 32) text (λ lt. let not_lt = ltb-false _ _ h in omega arith))
 ]
 
-third-found : (p s digits field : List ℕ) (fields : List (List ℕ)) → decimal_number digits ≡ None → fields_of digits ≡ field ∷ fields
+third-found : (p s digits field : List ℕ) (fields : List (List ℕ)) → decimal_number digits ≡ None
+    → fields_of digits ≡ field ∷ fields
     → (more : List ℕ) (others : List (List ℕ)) → fields ≡ more ∷ others
     → values_in (p ∷ s ∷ fields_of digits) ≡ values (decimal_number p) (decimal_number s) (decimal_number digits)
 third-found p s digits field fields none e more others e' =
     ap (λ fs. values_in (p ∷ s ∷ fs)) (e ∙ ap (λ fs. field ∷ fs) e')
-    ∙ sym (ap (values (decimal_number p) (decimal_number s)) none ∙ values-none_last (decimal_number p) (decimal_number s))
+    ∙ sym (ap (values (decimal_number p) (decimal_number s)) none
+    ∙ values-none_last (decimal_number p) (decimal_number s))
 
 third : (p s digits : List ℕ)
     → values_in (p ∷ s ∷ fields_of digits) ≡ values (decimal_number p) (decimal_number s) (decimal_number digits)
@@ -57,7 +62,8 @@ third p s digits = elim (cases_Bool (nat_lt (position_or_len (λ b. b == 32) dig
       let rest = fields-some (drop (position_or_len (λ b. b == 32) digits + 1) digits) in
       third-found p s digits _ _ (no_number-space digits lt) (fields-found digits lt) rest.0 rest.1 rest.2
   | inr h ↦
-      ap (λ fs. values_in (p ∷ s ∷ fs)) (slice_split-whole (λ b. b == 32) digits (λ lt. let not_lt = ltb-false _ _ h in omega arith))
+      ap (λ fs. values_in (p ∷ s ∷ fs))
+      (slice_split-whole (λ b. b == 32) digits (λ lt. let not_lt = ltb-false _ _ h in omega arith))
 ]
 
 -- a line of two fields, with a third or not
@@ -77,8 +83,9 @@ none_from : {A B : Type 0} (f : A → B) (o : Option A) → option_map f o ≡ N
 none_from f None e = refl
 none_from f (Some x) e = cc
 
-three_numbers : (p s n : Option ℕ) (x y z : Number) → option_map number_from p ≡ Some x → option_map number_from s ≡ Some y
-    → option_map number_from n ≡ Some z → option_map numbers_from (values p s n) ≡ Some (record { processor = x; stream = y; times = z })
+three_numbers : (p s n : Option ℕ) (x y z : Number) → option_map number_from p ≡ Some x
+    → option_map number_from s ≡ Some y → option_map number_from n ≡ Some z
+    → option_map numbers_from (values p s n) ≡ Some (record { processor = x; stream = y; times = z })
 three_numbers None s n x y z a b c = cc
 three_numbers (Some p) None n x y z a b c = cc
 three_numbers (Some p) (Some s) None x y z a b c = cc
@@ -86,24 +93,33 @@ three_numbers (Some p) (Some s) (Some n) x y z a b c = cc
 
 -- What is read of a line of two fields, with a third or not.
 
-module _ (line rest p s : List ℕ) (third_field : Option (List ℕ)) (first : fields_of line ≡ p ∷ fields_of rest) (second : fields_of rest ≡ s ∷ rest_fields third_field) where
-  two : option_map numbers_from (values_of line) ≡ option_map numbers_from (values (decimal_number p) (decimal_number s) (times_in third_field))
+module _ (line rest p s : List ℕ) (third_field : Option (List ℕ)) (first : fields_of line ≡ p ∷ fields_of rest)
+    (second : fields_of rest ≡ s ∷ rest_fields third_field) where
+  two : option_map numbers_from (values_of line)
+      ≡ option_map numbers_from (values (decimal_number p) (decimal_number s) (times_in third_field))
   two = ap (option_map numbers_from) (values_of-two line rest p s third_field first second)
 
-  pub no_processor : option_map number_from (decimal_number p) ≡ None → option_map numbers_from (values_of line) ≡ None
-  no_processor none = two ∙ ap (λ q. option_map numbers_from (values q (decimal_number s) (times_in third_field))) (none_from number_from (decimal_number p) none)
+  pub no_processor : option_map number_from (decimal_number p) ≡ None
+      → option_map numbers_from (values_of line) ≡ None
+  no_processor none = two ∙ ap (λ q. option_map numbers_from (values q (decimal_number s) (times_in third_field)))
+      (none_from number_from (decimal_number p) none)
 
   pub no_stream : option_map number_from (decimal_number s) ≡ None → option_map numbers_from (values_of line) ≡ None
   no_stream none =
-      two ∙ ap (λ q. option_map numbers_from (values (decimal_number p) q (times_in third_field))) (none_from number_from (decimal_number s) none)
+      two ∙ ap (λ q. option_map numbers_from (values (decimal_number p) q (times_in third_field)))
+      (none_from number_from (decimal_number s) none)
       ∙ ap (option_map numbers_from) (values-none_middle (decimal_number p) (times_in third_field))
 
-  pub no_times : option_map number_from (times_in third_field) ≡ None → option_map numbers_from (values_of line) ≡ None
+  pub no_times : option_map number_from (times_in third_field) ≡ None
+      → option_map numbers_from (values_of line) ≡ None
   no_times none =
-      two ∙ ap (λ q. option_map numbers_from (values (decimal_number p) (decimal_number s) q)) (none_from number_from (times_in third_field) none)
+      two ∙ ap (λ q. option_map numbers_from (values (decimal_number p) (decimal_number s) q))
+      (none_from number_from (times_in third_field) none)
       ∙ ap (option_map numbers_from) (values-none_last (decimal_number p) (decimal_number s))
 
-  pub all_numbers : (x y z : Number) → option_map number_from (decimal_number p) ≡ Some x → option_map number_from (decimal_number s) ≡ Some y
+  pub all_numbers : (x y z : Number) → option_map number_from (decimal_number p) ≡ Some x
+      → option_map number_from (decimal_number s) ≡ Some y
       → option_map number_from (times_in third_field) ≡ Some z
       → option_map numbers_from (values_of line) ≡ Some (record { processor = x; stream = y; times = z })
-  all_numbers x y z a b c = two ∙ three_numbers (decimal_number p) (decimal_number s) (times_in third_field) x y z a b c
+  all_numbers x y z a b c = two ∙ three_numbers (decimal_number p) (decimal_number s)
+      (times_in third_field) x y z a b c

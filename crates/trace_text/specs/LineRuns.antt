@@ -9,5 +9,6 @@ use Rattle.trace_text.specs.declared.schedule_fault.ScheduleFaultKind.{ScheduleF
 -- of a line with these numbers, before which so many steps stand
 abbrev pub IsLineRun : ℕ → Option LineValues → Result Run ScheduleFaultKind → Type 0
 IsLineRun before v (Ok run) =
-    (line_fault before v ≡ None) × (before + run.times ≤ 1000000) × ((x : LineValues) × (v ≡ Some x) × (run_of x ≡ run))
+    (line_fault before v ≡ None) × (before + run.times ≤ 1000000)
+    × ((x : LineValues) × (v ≡ Some x) × (run_of x ≡ run))
 IsLineRun before v (Err kind) = line_fault before v ≡ Some kind

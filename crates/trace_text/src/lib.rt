@@ -15,6 +15,7 @@ mod world_texts;
 mod written_schedules;
 
 pub use laws::written_schedules_are_read_back;
+pub use lines::split_line;
 pub use rounds::round_schedule;
 pub use schedule_fault::{ScheduleFault, ScheduleFaultKind};
 pub use schedules::read_schedule;

@@ -7,7 +7,8 @@ ghost use Rattle.trace_text.specs.Lines.{is_line_end};
 ghost use Rattle.trace_text.specs.ScheduleLines.{fields_of};
 ghost use Rattle.trace_text.specs.Fields.{rest_fields};
 
-/// The first line of a text, and the text after its end.
+/// The first line of a text, without the line feed that ends it, and the text after that ("Schedules",
+/// docs/FORMATS.md).
 pub fn split_line(text: &[u8]) -> (&[u8], &[u8])
     ensures line { result.0.now ≡ before_first is_line_end text.now }
     ensures after { result.1.now ≡ after_first is_line_end text.now }

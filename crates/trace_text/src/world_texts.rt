@@ -54,8 +54,8 @@ fn push_processor<const S: usize>(
     machine: &Machine<S>,
     p: u8,
 ) -> Result<(), AllocError>
-    ensures { OnOk result
-        (string_bytes text.new ≡ string_bytes text.old ++ processor_part_at p (slice_get machine.now.world.processors p)) }
+    ensures { let processor = slice_get machine.now.world.processors p in
+        OnOk result (string_bytes text.new ≡ string_bytes text.old ++ processor_part_at p processor) }
 {
     let Some((current, reserved)) = machine.counts(p) else {
         return Ok(());

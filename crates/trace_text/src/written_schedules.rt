@@ -8,8 +8,8 @@ use processor::Step;
 use std::alloc::{AllocError, Global};
 use std::fmt::Write;
 
-/// The text of a schedule: one line `p s n` for each run of equal steps that is as long as it can be, and for a run of
-/// more than 1,000,000 steps lines of 1,000,000 and one of the rest ("Schedules", docs/FORMATS.md).
+/// The text of a schedule: one line `p s n` for each run of equal steps that is as long as it can be, and for a run
+/// of more than 1,000,000 steps lines of 1,000,000 and one of the rest ("Schedules", docs/FORMATS.md).
 pub fn write_schedule(alloc: Global, steps: &[Step]) -> Result<String, AllocError>
     ensures { IfOk result (λ text. string_bytes text ≡ written steps.now) }
 {

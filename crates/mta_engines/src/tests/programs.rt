@@ -9,12 +9,20 @@ fn programs_print_their_stream(rt: HostRuntime) -> Result<(), Fail> {
         (
             "two sums, printed after the last line",
             "8010000000000005\n0000000A208C0000\n",
-            "Running ssw 0000000000000002 xr 0000000000000000 retries 0\nr01 0000000000000005\nr02 0000000000000008\nt0 00000000FFFFFFFF\n",
+            "Running ssw 0000000000000002 xr 0000000000000000 retries 0
+r01 0000000000000005
+r02 0000000000000008
+t0 00000000FFFFFFFF
+",
         ),
         (
             "no last line end, digits of either case",
             "8010000000000005\n0000000a208C0000",
-            "Running ssw 0000000000000002 xr 0000000000000000 retries 0\nr01 0000000000000005\nr02 0000000000000008\nt0 00000000FFFFFFFF\n",
+            "Running ssw 0000000000000002 xr 0000000000000000 retries 0
+r01 0000000000000005
+r02 0000000000000008
+t0 00000000FFFFFFFF
+",
         ),
         (
             "QUIT",
@@ -34,7 +42,11 @@ fn programs_print_their_stream(rt: HostRuntime) -> Result<(), Fail> {
         (
             "STORE and LOAD",
             "8010000000000007\n0484000000000000\n0288000000000000\n",
-            "Running ssw 0000000000000003 xr 0000000000000000 retries 0\nr01 0000000000000007\nr02 0000000000000007\nt0 00000000FFFFFFFF\n",
+            "Running ssw 0000000000000003 xr 0000000000000000 retries 0
+r01 0000000000000007
+r02 0000000000000007
+t0 00000000FFFFFFFF
+",
         ),
         (
             "LOAD past the word",
@@ -44,7 +56,10 @@ fn programs_print_their_stream(rt: HostRuntime) -> Result<(), Fail> {
         (
             "a handler",
             "8400000000000003\n0000000000000001\n0000000000028000\n000000000001C100\n",
-            "Stopped 01 ssw 0100000000000004 xr 0000000000000001 retries 0\nr04 0000000000000002\nt0 0000000000000001\n",
+            "Stopped 01 ssw 0100000000000004 xr 0000000000000001 retries 0
+r04 0000000000000002
+t0 0000000000000001
+",
         ),
         (
             "MASK",

@@ -22,6 +22,7 @@ impl Stream {
     /// reference that answers) and the processor granted so many streams (only for RESERVE). QUIT, QUITP and CREATE do
     /// here what NOP does; the processor completes them.
     #[tactic(auto, unfolding(crate::specs::Effects::executed))]
+    #[inline(always)]
     pub fn execute(&mut self, insn: &Insn, value: u64, grant: u64)
         ensures { self.new ≡ executed self.old insn.now value grant }
     {

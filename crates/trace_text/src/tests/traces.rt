@@ -2,6 +2,13 @@ use super::*;
 use std::test::Fail;
 use stream_core::{Outcome, TrapKind};
 
+/// The trace of a reference that is tried three times, and of the handler's first step.
+pub const RETRIED: &str = "      1   0   0 00000000 BLOCKED
+      2   0   0 00000000 BLOCKED
+      3   0   0 00000000 TRAPPED 10
+      4   0   0 00000002 DONE
+";
+
 #[test]
 fn the_lines_of_a_reference_that_is_tried_three_times(rt: HostRuntime) -> Result<(), Fail> {
     let mut trace = String::new(rt.alloc());
@@ -14,10 +21,7 @@ fn the_lines_of_a_reference_that_is_tried_three_times(rt: HostRuntime) -> Result
     ] {
         push_trace_line(&mut trace, number, step, pc, outcome)?;
     }
-    assert_eq!(rt;
-        trace.as_str(),
-        "      1   0   0 00000000 BLOCKED\n      2   0   0 00000000 BLOCKED\n      3   0   0 00000000 TRAPPED 10\n      4   0   0 00000002 DONE\n"
-    );
+    assert_eq!(rt; trace.as_str(), RETRIED);
     Ok(())
 }
 

@@ -1,3 +1,4 @@
+use super::traces::RETRIED;
 use super::*;
 use image_file::{Image, ImageFault};
 use machine::Machine;
@@ -49,15 +50,14 @@ fn a_run_is_traced_and_its_world_printed(rt: HostRuntime) -> Result<(), Fail> {
         number = number.saturating_add(1);
         push_trace_line(&mut trace, u64::from(number), *step, pc, outcome)?;
     }
-    assert_eq!(rt;
-        trace.as_str(),
-        "      1   0   0 00000000 BLOCKED\n      2   0   0 00000000 BLOCKED\n      3   0   0 00000000 TRAPPED 10\n      4   0   0 00000002 DONE\n"
-    );
+    assert_eq!(rt; trace.as_str(), RETRIED);
     let world = world_text(rt.alloc(), &machine, machine.image())?;
-    assert_eq!(rt;
-        world.as_str(),
-        "processor 0 scur 1 sres 1\nstream 0 0\nRunning ssw 0100000000000003 xr 000000000000080A retries 0\nr04 000000000000080A\n"
-    );
+    let in_handler = "processor 0 scur 1 sres 1
+stream 0 0
+Running ssw 0100000000000003 xr 000000000000080A retries 0
+r04 000000000000080A
+";
+    assert_eq!(rt; world.as_str(), in_handler);
     Ok(())
 }
 
@@ -82,14 +82,16 @@ fn words_that_differ_have_a_line(rt: HostRuntime) -> Result<(), Fail> {
 
 #[test]
 fn worlds_at_their_start(rt: HostRuntime) -> Result<(), Fail> {
+    let start = "processor 0 scur 1 sres 1
+stream 0 0
+Running ssw 0000000000000000 xr 0000000000000000 retries 0
+t0 00000000FFFFFFFF
+";
     for slim in [1, 8, 9, 128] {
         let image = image(rt.alloc(), slim, NO_HANDLER, &WAITING, &[(0, 1)])?;
         let machine = Machine::<128>::load(rt.alloc(), &image)?;
         let world = world_text(rt.alloc(), &machine, &image)?;
-        assert_eq!(rt;
-            world.as_str(),
-            "processor 0 scur 1 sres 1\nstream 0 0\nRunning ssw 0000000000000000 xr 0000000000000000 retries 0\nt0 00000000FFFFFFFF\n"
-        );
+        assert_eq!(rt; world.as_str(), start);
     }
     Ok(())
 }

@@ -12,5 +12,6 @@ pub returns-clause-range : goal.returns-clause-range
 returns-clause-range c =
     let P : Result Item Fault → Type 0 = λ r. IfOk r (IsInRange c.args.words) in
     subst P (sym c.line_item.ensures)
-    (item_range c.spelling_is_one_to_one.ensures.valid (places_of c.args.labels.now) c.args.words c.args.number c.args.here
+    (item_range c.spelling_is_one_to_one.ensures.valid (places_of c.args.labels.now) c.args.words
+    c.args.number c.args.here
     (line_seen c.args.line.now))

@@ -2,7 +2,8 @@ use Rattle.asm_text.proofs.RunFronts.{no_cells, run_cut}
 use Rattle.asm_text.proofs.runs.first_run.Goals as goal
 
 pub returns-in_err-first-clause-runs : goal.returns-in_err-first-clause-runs
-returns-in_err-first-clause-runs c = rw c.from_residual.ensures (no_cells c.args.cells.now c.in_err-first.ensures.item.3)
+returns-in_err-first-clause-runs c =
+    rw c.from_residual.ensures (no_cells c.args.cells.now c.in_err-first.ensures.item.3)
 
 pub returns-clause-runs : goal.returns-clause-runs
 returns-clause-runs c =

@@ -12,7 +12,8 @@ use Rattle.asm_text.proofs.source.assemble.Goals as goal
 pub returns-in-Some-clause-fault : goal.returns-in-Some-clause-fault
 returns-in-Some-clause-fault c =
     let other : fault.NotAscii ≢ fault.NoMemory = λ e. cc in
-    λ _. with_byte c.args.text.now c.in-Some.line (sym c.not_ascii.ensures ∙ c.in-Some.is) ∙ ap Err (sym (c.on_line.ensures.told other))
+    λ _. with_byte c.args.text.now c.in-Some.line (sym c.not_ascii.ensures ∙ c.in-Some.is)
+    ∙ ap Err (sym (c.on_line.ensures.told other))
 
 pub returns-in_err-draft-clause-fault : goal.returns-in_err-draft-clause-fault
 returns-in_err-draft-clause-fault c =
@@ -27,7 +28,8 @@ returns-in_err-draft-clause-fault c =
 
 pub finish-requires : goal.finish-requires
 finish-requires c =
-    let n = counted (places_of c.in_ok-labels.labels) c.in_ok-labels.words 0 empty c.in_ok-draft.draft _ c.in_ok-draft.ensures.takes in
+    let n = counted (places_of c.in_ok-labels.labels) c.in_ok-labels.words 0 empty c.in_ok-draft.draft _
+    c.in_ok-draft.ensures.takes in
     within c.in_ok-labels.words c.in_ok-draft.draft c.in_ok-draft.ensures.kept
     (omega (arith, n, c.in_ok-labels.ensures.words))
 
@@ -39,7 +41,8 @@ returns-clause-means c =
       words_are = c.in_ok-labels.ensures.words;
     } in
     finished_means c.args.text.now c.in_ok-draft.draft c.finish.result
-    (λ s. draft_whole c.args.text.now (places_of c.in_ok-labels.labels) c.in_ok-labels.words c.in_ok-draft.draft s f c.in_ok-draft.ensures.takes)
+    (λ s. draft_whole c.args.text.now (places_of c.in_ok-labels.labels) c.in_ok-labels.words c.in_ok-draft.draft s f
+    c.in_ok-draft.ensures.takes)
     c.finish.ensures
 
 pub returns-clause-fault : goal.returns-clause-fault
@@ -50,5 +53,6 @@ returns-clause-fault c =
       words_are = c.in_ok-labels.ensures.words;
     } in
     finished_fault c.args.text.now c.in_ok-draft.draft c.finish.result
-    (λ s. draft_whole c.args.text.now (places_of c.in_ok-labels.labels) c.in_ok-labels.words c.in_ok-draft.draft s f c.in_ok-draft.ensures.takes)
+    (λ s. draft_whole c.args.text.now (places_of c.in_ok-labels.labels) c.in_ok-labels.words c.in_ok-draft.draft s f
+    c.in_ok-draft.ensures.takes)
     c.finish.ensures

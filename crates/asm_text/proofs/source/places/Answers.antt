@@ -24,7 +24,12 @@ loop-rest-preserved c =
       labels = λ name. labels_taken name l ls these _ _ _ _ _ _ first count (c.in_ok-note.ensures name)
           (c.loop-rest.invariant.labels name);
       words = words_taken l ls these _ _ _ first count c.loop-rest.invariant.words;
-      number = omega (arith, ap (λ r. rest_length (option_copied r)) c.in-Some.is, c.next_line.ensures.shorter, c.loop-rest.invariant.number);
+      number = omega (
+        arith,
+        ap (λ r. rest_length (option_copied r)) c.in-Some.is,
+        c.next_line.ensures.shorter,
+        c.loop-rest.invariant.number,
+      );
       few_words = omega (arith, more, few_more c.is_word.result);
     }
 

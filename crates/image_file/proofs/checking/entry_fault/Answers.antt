@@ -18,7 +18,8 @@ returns-then-u32_of-words-clause-is c =
     let fits : nat_le c.args.words (number_of 4 c.loop-processor.rest.now) ≡ true =
     grind (arith, nat_tests, c.u32_of.ensures) in
     search_stops (λ e. nat_le c.args.words e) 4 (number_of 4) c.args.count c.loop-processor.processor
-    c.loop-processor.rest.now (entry_fault c.args.words (entries_from c.args.count c.args.bytes.now)) c.loop-processor-test.true fits c.loop-processor.invariant.sought
+    c.loop-processor.rest.now (entry_fault c.args.words (entries_from c.args.count c.args.bytes.now))
+    c.loop-processor-test.true fits c.loop-processor.invariant.sought
 
 pub loop-processor-preserved : goal.loop-processor-preserved
 loop-processor-preserved c =
@@ -35,4 +36,5 @@ loop-processor-preserved c =
 pub returns-clause-is : goal.returns-clause-is
 returns-clause-is c =
     search_ends (λ e. nat_le c.args.words e) 4 (number_of 4) c.args.count c.loop-processor.processor
-    c.loop-processor.rest.now (entry_fault c.args.words (entries_from c.args.count c.args.bytes.now)) c.loop-processor-test.false c.loop-processor.invariant.sought
+    c.loop-processor.rest.now (entry_fault c.args.words (entries_from c.args.count c.args.bytes.now))
+    c.loop-processor-test.false c.loop-processor.invariant.sought

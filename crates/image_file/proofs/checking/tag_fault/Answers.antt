@@ -14,20 +14,23 @@ loop-cell-init c = record {
 
 pub returns-then-u8_of-gt15-clause-is : goal.returns-then-u8_of-gt15-clause-is
 returns-then-u8_of-gt15-clause-is c =
-    let is : c.u8_of.result ≡ tag_byte c.loop-cell.rest.now = c.u8_of.ensures ∙ ap (number_of 1) c.from_place.ensures in
+    let is : c.u8_of.result ≡ tag_byte c.loop-cell.rest.now =
+    c.u8_of.ensures ∙ ap (number_of 1) c.from_place.ensures in
     let fits : nat_le 16 (tag_byte c.loop-cell.rest.now) ≡ true = grind (arith, nat_tests) in
     search_stops (λ t. nat_le 16 t) 9 tag_byte c.args.count c.loop-cell.cell c.loop-cell.rest.now
     (tag_fault (tags_from c.args.count c.args.bytes.now)) c.loop-cell-test.true fits c.loop-cell.invariant.sought
 
 pub loop-cell-preserved : goal.loop-cell-preserved
 loop-cell-preserved c =
-    let is : c.u8_of.result ≡ tag_byte c.loop-cell.rest.now = c.u8_of.ensures ∙ ap (number_of 1) c.from_place.ensures in
+    let is : c.u8_of.result ≡ tag_byte c.loop-cell.rest.now =
+    c.u8_of.ensures ∙ ap (number_of 1) c.from_place.ensures in
     let passes : nat_le 16 (tag_byte c.loop-cell.rest.now) ≡ false = grind (arith, nat_tests) in
     record {
       room = rw c.from_place-rest.ensures (omega (arith, length-drop 9 c.loop-cell.rest.now));
       sought = rw c.from_place-rest.ensures
           (search_goes_on (λ t. nat_le 16 t) 9 tag_byte c.args.count c.loop-cell.cell c.loop-cell.rest.now
-          (tag_fault (tags_from c.args.count c.args.bytes.now)) c.loop-cell-test.true passes c.loop-cell.invariant.sought);
+          (tag_fault (tags_from c.args.count c.args.bytes.now)) c.loop-cell-test.true passes
+          c.loop-cell.invariant.sought);
     }
 
 pub returns-clause-is : goal.returns-clause-is

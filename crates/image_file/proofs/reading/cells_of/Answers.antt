@@ -5,17 +5,24 @@ use Rattle.std.proofs.lemmas.Bool.Decides.{nat_tests}
 use Rattle.tag_memory.specs.Cell.{cell_of}
 use Rattle.image_file.specs.Fields.{number_of}
 use Rattle.image_file.specs.Reading.{tag_byte, cell_from, cells_from}
-use Rattle.image_file.proofs.Loops.{nothing_read, fill_goes_on, fill_ends, search_begins, search_goes_on, search_finds_none}
+use Rattle.image_file.proofs.Loops.{nothing_read, fill_goes_on, fill_ends, search_begins, search_goes_on}
+use Rattle.image_file.proofs.Loops.{search_finds_none}
 use Rattle.image_file.proofs.reading.cells_of.Goals as goal
 
 pub loop-init : goal.loop-init
 loop-init c =
     let none = search_begins (λ t. nat_le 16 t) 9 tag_byte c.args.count c.args.bytes.now ∙ c.requires.tags in
-    record { room = omega (arith, c.requires.long); sound = none; filled = rw c.in_ok-cells.ensures.items (nothing_read 9 cell_from c.args.count c.args.bytes.now) }
+    record {
+      room = omega (arith, c.requires.long);
+      sound = none;
+      filled =
+          rw c.in_ok-cells.ensures.items (nothing_read 9 cell_from c.args.count c.args.bytes.now);
+    }
 
 pub unreachable-requires : goal.unreachable-requires
 unreachable-requires c =
-    let sound = search_finds_none (λ t. nat_le 16 t) 9 tag_byte c.args.count c.loop.counter c.loop.rest.now c.loop-test.true
+    let sound =
+    search_finds_none (λ t. nat_le 16 t) 9 tag_byte c.args.count c.loop.counter c.loop.rest.now c.loop-test.true
     c.loop.invariant.sound in
     let is : c.u8_of.result ≡ tag_byte c.loop.rest.now = c.u8_of.ensures ∙ ap (number_of 1) c.from_place.ensures in
     let below : nat_lt c.u8_of.result 16 ≡ true = grind (arith, nat_tests) in
@@ -24,7 +31,8 @@ unreachable-requires c =
 
 pub loop-preserved : goal.loop-preserved
 loop-preserved c =
-    let sound = search_finds_none (λ t. nat_le 16 t) 9 tag_byte c.args.count c.loop.counter c.loop.rest.now c.loop-test.true
+    let sound =
+    search_finds_none (λ t. nat_le 16 t) 9 tag_byte c.args.count c.loop.counter c.loop.rest.now c.loop-test.true
     c.loop.invariant.sound in
     let is : c.u8_of.result ≡ tag_byte c.loop.rest.now = c.u8_of.ensures ∙ ap (number_of 1) c.from_place.ensures in
     let below : nat_lt c.u8_of.result 16 ≡ true = grind (arith, nat_tests) in

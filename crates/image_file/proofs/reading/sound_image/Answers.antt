@@ -1,6 +1,7 @@
 use Rattle.std.proofs.Common.{◌≡◌, ◌*◌, ◌+◌, drop, arith, ap, subst, ◌∙◌, sym}
 use Rattle.image_file.specs.ImageValue.{IsWithin, image_of}
-use Rattle.image_file.specs.Reading.{program_place, cells_place, tag_fault, tags_from, entries_from, program_from, cells_from}
+use Rattle.image_file.specs.Reading.{program_place, cells_place, tag_fault, tags_from, entries_from, program_from}
+use Rattle.image_file.specs.Reading.{cells_from}
 use Rattle.image_file.specs.Reading.{image_at}
 use Rattle.image_file.proofs.Sound.{sound, room}
 use Rattle.image_file.proofs.WrittenBack.{image_within}
@@ -48,7 +49,8 @@ cells_of-requires-clause-tags c =
     let s = sound b c.requires.sound_header c.requires.sound_body in
     let place : c.cells_place.result ≡ cells_place b =
     c.cells_place.ensures ∙ ap (λ h. 26 + 4 * h.processors + 8 * h.words) c.requires.header in
-    let cells : c.from_place-3.result.now ≡ drop (cells_place b) b = c.from_place-3.ensures ∙ ap (λ p. drop p b) place in
+    let cells : c.from_place-3.result.now ≡ drop (cells_place b) b =
+    c.from_place-3.ensures ∙ ap (λ p. drop p b) place in
     (λ i. tag_fault (tags_from (c.requires.header i).cells (cells i))) ∙ s.tags
 
 -- the image that is made is the one that the bytes say
@@ -63,7 +65,8 @@ made c =
     let cells_at : c.cells_place.result ≡ cells_place b =
     c.cells_place.ensures ∙ ap (λ x. 26 + 4 * x.processors + 8 * x.words) h in
     image_made b c.args.header c.in_ok-entries.entries.items c.in_ok-program.program.items c.in_ok-cells.cells.items h
-    (c.in_ok-entries.ensures ∙ (λ i. entries_from ((c.from.ensures ∙ ap (λ x. x.processors) h) i) (c.from_place.ensures i)))
+    (c.in_ok-entries.ensures
+    ∙ (λ i. entries_from ((c.from.ensures ∙ ap (λ x. x.processors) h) i) (c.from_place.ensures i)))
     (c.in_ok-program.ensures
     ∙ (λ i. program_from (h i).words ((c.from_place-2.ensures ∙ ap (λ p. drop p b) program_at) i)))
     (c.in_ok-cells.ensures ∙ (λ i. cells_from (h i).cells ((c.from_place-3.ensures ∙ ap (λ p. drop p b) cells_at) i)))

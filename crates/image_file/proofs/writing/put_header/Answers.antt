@@ -9,7 +9,8 @@ returns-clause-is c =
     let words = length c.program.result.now in
     let cells = length c.cells.result.now in
     let put : c.put_u32-5.new.out.items
-    ≡ out ++ header_bytes magic version c.processors.result c.slim.result c.retry_limit.result c.trap_entry.result words cells =
+    ≡ out ++ header_bytes magic version c.processors.result c.slim.result c.retry_limit.result c.trap_entry.result
+    words cells =
     rw (
       c.in_ok-put_u32-5.ensures,
       c.in_ok-put_u32-4.ensures,
@@ -19,7 +20,9 @@ returns-clause-is c =
       c.in_ok-put_u16-2.ensures,
       c.in_ok-put_u16.ensures,
       c.in_ok-put_u32.ensures,
-    ) (header_put out magic version c.processors.result c.slim.result c.retry_limit.result c.trap_entry.result words cells) in
+    ) (header_put out magic version c.processors.result c.slim.result c.retry_limit.result c.trap_entry.result
+    words cells) in
     put
-    ∙ (λ i. out ++ header_bytes magic version (c.processors.ensures.is i) (c.slim.ensures.is i) (c.retry_limit.ensures i)
+    ∙ (λ i. out ++ header_bytes magic version (c.processors.ensures.is i) (c.slim.ensures.is i)
+    (c.retry_limit.ensures i)
     (c.trap_entry.ensures i) (length (c.program.ensures.is i)) (length (c.cells.ensures.is i)))

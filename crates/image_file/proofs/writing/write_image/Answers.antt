@@ -9,8 +9,10 @@ pub returns : goal.returns
 unfolding spelling
 returns c =
     let image = c.args.image.now in
-    let program : All (λ w. w < 2 ^ 64) image.program = rw (← c.program-program.ensures.is) c.in_ok-put_program.ensures.fit in
-    let cells : All (λ x. x.value < 2 ^ 64) image.cells = rw (← c.cells-cells.ensures.is) c.in_ok-put_cells.ensures.fit in
+    let program : All (λ w. w < 2 ^ 64) image.program =
+    rw (← c.program-program.ensures.is) c.in_ok-put_program.ensures.fit in
+    let cells : All (λ x. x.value < 2 ^ 64) image.cells =
+    rw (← c.cells-cells.ensures.is) c.in_ok-put_cells.ensures.fit in
     record {
       within = c.processors.ensures.kept;
       fits = record {
@@ -23,7 +25,8 @@ returns c =
           c.put_program.new.out.items c.put_cells.new.out.items (header_of image) (flat_map entry_bytes image.entries)
           (flat_map word_bytes image.program) (flat_map cell_bytes image.cells) c.in_ok-out.ensures.items
           c.in_ok-put_header.ensures.is
-          (c.in_ok-put_entries.ensures ∙ ap (λ xs. c.put_header.new.out.items ++ flat_map entry_bytes xs) c.entries.ensures.is)
+          (c.in_ok-put_entries.ensures
+          ∙ ap (λ xs. c.put_header.new.out.items ++ flat_map entry_bytes xs) c.entries.ensures.is)
           (c.in_ok-put_program.ensures.is
           ∙ ap (λ xs. c.put_entries.new.out.items ++ flat_map word_bytes xs) c.program-program.ensures.is)
           (c.in_ok-put_cells.ensures.is

@@ -1,5 +1,6 @@
 -- By the law of printed digits.
-use Rattle.listing_line.proofs.Directives.{profile-lines, slim-lines, retry-lines, trap-lines, entry-lines, fill-lines}
+use Rattle.listing_line.proofs.Directives.{profile-lines, slim-lines, retry-lines, trap-lines, entry-lines}
+use Rattle.listing_line.proofs.Directives.{fill-lines}
 use Rattle.listing_line.proofs.laws.listed_directives_are_read_back.Goals as goal
 
 pub returns-clause-profile : goal.returns-clause-profile

@@ -15,24 +15,30 @@ loop-index-preserved g c =
     let t : Step = get_or ts i (record { p = 0; s = 0 }) in
     let read = get_or-any ts i (record { p = 0; s = 0 }) t below in
     let text : List ℕ = string_bytes c.loop-index.text in
-    let all : List ℕ = string_bytes c.args.text.now ++ trace_from c.args.machine.now.image c.args.machine.now.world 1 ts in
+    let all : List ℕ = string_bytes c.args.text.now
+    ++ trace_from c.args.machine.now.image c.args.machine.now.world 1 ts in
     record {
       text =
-          trace_step old new c.step-outcome.result t ts i c.pc-pc.result text (string_bytes c.push_trace_line.new.text) all below read
+          trace_step old new c.step-outcome.result t ts i c.pc-pc.result text
+          (string_bytes c.push_trace_line.new.text) all below read
           c.step-outcome.ensures.world c.step-outcome.ensures.image c.pc-pc.ensures c.in_ok-push_trace_line.ensures
           c.loop-index.invariant.text;
       world =
-          ran_step old new c.step-outcome.result t ts i below read c.step-outcome.ensures.world c.step-outcome.ensures.image
+          ran_step old new c.step-outcome.result t ts i below read c.step-outcome.ensures.world
+          c.step-outcome.ensures.image
           ∙ c.loop-index.invariant.world;
     }
 
 pub returns-clause-text : goal.returns-clause-text
 returns-clause-text g c =
-    trace_end c.loop-index.machine.image c.loop-index.machine.world (c.loop-index.index + 1) c.loop-index.index c.args.schedule.now
+    trace_end c.loop-index.machine.image c.loop-index.machine.world
+    (c.loop-index.index + 1) c.loop-index.index c.args.schedule.now
     (string_bytes c.loop-index.text)
-    (string_bytes c.args.text.now ++ trace_from c.args.machine.now.image c.args.machine.now.world 1 c.args.schedule.now)
+    (string_bytes c.args.text.now ++ trace_from c.args.machine.now.image c.args.machine.now.world 1
+    c.args.schedule.now)
     c.loop-index-test.false c.loop-index.invariant.text
 
 pub returns-clause-world : goal.returns-clause-world
 returns-clause-world g c =
-    sym (ran_end c.loop-index.machine c.args.schedule.now c.loop-index.index c.loop-index-test.false) ∙ c.loop-index.invariant.world
+    sym (ran_end c.loop-index.machine c.args.schedule.now c.loop-index.index c.loop-index-test.false)
+    ∙ c.loop-index.invariant.world

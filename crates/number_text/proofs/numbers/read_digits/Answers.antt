@@ -29,7 +29,8 @@ loop-digit-preserved c =
     let d = c.in_ok-value.ensures {u = tt} in
     let before = digits_value base (take c.loop-digit.digit-index digits) in
     let next : before * base + c.in_ok-value.value ≡ digits_value base (take (c.loop-digit.digit-index + 1) digits) =
-    ap (λ (digit : ℕ). before * base + digit) d.1 ∙ sym (digits_value_more base digits c.loop-digit.digit-index c.loop-digit-test.true) in
+    ap (λ (digit : ℕ). before * base + digit) d.1
+    ∙ sym (digits_value_more base digits c.loop-digit.digit-index c.loop-digit-test.true) in
     record {
       some = k.some;
       all = one_more_digit base digits c.loop-digit.digit-index c.loop-digit-test.true k.all d.0;

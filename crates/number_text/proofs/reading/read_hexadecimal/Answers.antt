@@ -22,7 +22,8 @@ pub overflow_add-number : goal.overflow_add-number
 overflow_add-number c =
     let k = c.loop-digit.invariant in
     let d = c.in_ok-number.ensures {u = tt} in
-    omega (arith, k.2, d.0, d.1, room_for_digit c.args.digits.now c.loop-digit.digit-index k.0 c.loop-digit-test.true k.1)
+    let room = room_for_digit c.args.digits.now c.loop-digit.digit-index k.0 c.loop-digit-test.true k.1 in
+    omega (arith, k.2, d.0, d.1, room)
 
 pub loop-digit-preserved : goal.loop-digit-preserved
 loop-digit-preserved c =
@@ -36,7 +37,8 @@ loop-digit-preserved c =
 pub returns : goal.returns
 returns c =
     let k = c.loop-digit.invariant in
-    let whole : take c.loop-digit.digit-index c.args.digits.now ≡ c.args.digits.now = take_all _ c.args.digits.now c.loop-digit-test.false in
+    let whole : take c.loop-digit.digit-index c.args.digits.now ≡ c.args.digits.now =
+    take_all _ c.args.digits.now c.loop-digit-test.false in
     let all = rw whole at k.1 in
     let value = rw whole at k.2 in
     sym (word_from_digits c.args.digits.now k.0 all ∙ ap Some (sym value))

@@ -26,7 +26,8 @@ loop-rest-preserved c =
     let count : length c.loop-rest.steps.items ≡ c.len.result = search rules in
     let some : (length c.loop-rest.rest.now == 0) ≡ false = cc in
     let read = c.in-Ok.ensures in
-    let none : line_fault (length c.loop-rest.steps.items) (values_of (before_first is_line_end c.loop-rest.rest.now)) ≡ None =
+    let none : line_fault (length c.loop-rest.steps.items) (values_of (before_first is_line_end c.loop-rest.rest.now))
+    ≡ None =
     rw (count, ← c.split_line.ensures.line) read.0 in
     let shorter : length c.split_line.result.1.now + 1 ≤ length c.loop-rest.rest.now =
     rw c.split_line.ensures.after (after-shorter c.loop-rest.rest.now some) in
@@ -35,10 +36,12 @@ loop-rest-preserved c =
       line = omega (arith, shorter);
       whole =
           c.loop-rest.invariant.whole
-          ∙ at_run (c.loop-rest.number + 1) c.loop-rest.steps.items c.append_run.new.steps.items c.loop-rest.rest.now c.in-Ok.run' read.2.0 some none
+          ∙ at_run (c.loop-rest.number + 1) c.loop-rest.steps.items c.append_run.new.steps.items c.loop-rest.rest.now
+          c.in-Ok.run' read.2.0 some none
           (rw (← c.split_line.ensures.line) read.2.1) read.2.2 c.in_ok-append_run-in-Ok.ensures.items
           ∙ ap (read_on (c.loop-rest.number + 1 + 1) c.append_run.new.steps.items) (sym c.split_line.ensures.after);
     }
 
 pub returns-clause-steps : goal.returns-clause-steps
-returns-clause-steps c = c.loop-rest.invariant.whole ∙ at_end (c.loop-rest.number + 1) c.loop-rest.steps.items c.loop-rest.rest.now (cc)
+returns-clause-steps c = c.loop-rest.invariant.whole
+    ∙ at_end (c.loop-rest.number + 1) c.loop-rest.steps.items c.loop-rest.rest.now (cc)

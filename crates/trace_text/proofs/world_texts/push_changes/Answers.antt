@@ -14,7 +14,8 @@ loop-cell-preserved g c =
     record {
       address = omega (arith, at);
       whole =
-          change_written memory c.args.cells.now c.loop-cell.cell-index c.cell-item.result (string_bytes c.loop-cell.text)
+          change_written memory c.args.cells.now c.loop-cell.cell-index c.cell-item.result
+          (string_bytes c.loop-cell.text)
           (string_bytes c.push_change.new.text) (string_bytes c.args.text.now ++ changes 0 memory c.args.cells.now)
           c.loop-cell-test.true c.cell-item.is written c.loop-cell.invariant.whole;
     }
@@ -23,4 +24,5 @@ pub returns : goal.returns
 returns g c =
     let memory = c.args.machine.now.world.memory in
     changes_end memory c.args.cells.now c.loop-cell.cell-index (string_bytes c.loop-cell.text)
-    (string_bytes c.args.text.now ++ changes 0 memory c.args.cells.now) (omega (arith, c.loop-cell-test.false)) c.loop-cell.invariant.whole
+    (string_bytes c.args.text.now ++ changes 0 memory c.args.cells.now)
+    (omega (arith, c.loop-cell-test.false)) c.loop-cell.invariant.whole

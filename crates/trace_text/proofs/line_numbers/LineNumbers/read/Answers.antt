@@ -7,26 +7,43 @@ use Rattle.trace_text.proofs.line_numbers.LineNumbers.read.Goals as goal
 
 pub returns-in_err-rest : goal.returns-in_err-rest
 returns-in_err-rest c =
-    let alone = c.split_field.ensures ∙ ap (λ r. c.split_field.result.0.now ∷ rest_fields (option_copied r)) c.in_err-rest.was in
-    c.from_residual.ensures ∙ sym (ap (option_map numbers_from) (values_of-one c.args.line.now c.split_field.result.0.now alone))
+    let alone = c.split_field.ensures ∙ ap (λ r. c.split_field.result.0.now ∷ rest_fields (option_copied r))
+    c.in_err-rest.was in
+    c.from_residual.ensures ∙ sym (ap (option_map numbers_from)
+    (values_of-one c.args.line.now c.split_field.result.0.now alone))
 
 pub returns-in_err-processor : goal.returns-in_err-processor
 returns-in_err-processor c =
-    let behind = c.split_field.ensures ∙ ap (λ r. c.split_field.result.0.now ∷ rest_fields (option_copied r)) c.in_ok-rest.was in
-    c.from_residual-in_err-processor.ensures ∙ sym (no_processor c.args.line.now c.in_ok-rest.field-0.now c.split_field.result.0.now c.split_field-2.result.0.now (option_copied c.split_field-2.result.1) behind c.split_field-2.ensures (sym c.read_digits.ensures ∙ c.in_err-processor.was))
+    let behind = c.split_field.ensures ∙ ap (λ r. c.split_field.result.0.now ∷ rest_fields (option_copied r))
+    c.in_ok-rest.was in
+    c.from_residual-in_err-processor.ensures ∙ sym (no_processor c.args.line.now c.in_ok-rest.field-0.now
+    c.split_field.result.0.now c.split_field-2.result.0.now
+    (option_copied c.split_field-2.result.1) behind c.split_field-2.ensures (sym c.read_digits.ensures
+    ∙ c.in_err-processor.was))
 
 pub returns-in_err-stream : goal.returns-in_err-stream
 returns-in_err-stream c =
-    let behind = c.split_field.ensures ∙ ap (λ r. c.split_field.result.0.now ∷ rest_fields (option_copied r)) c.in_ok-rest.was in
-    c.from_residual-in_err-stream.ensures ∙ sym (no_stream c.args.line.now c.in_ok-rest.field-0.now c.split_field.result.0.now c.split_field-2.result.0.now (option_copied c.split_field-2.result.1) behind c.split_field-2.ensures (sym c.read_digits-2.ensures ∙ c.in_err-stream.was))
+    let behind = c.split_field.ensures ∙ ap (λ r. c.split_field.result.0.now ∷ rest_fields (option_copied r))
+    c.in_ok-rest.was in
+    c.from_residual-in_err-stream.ensures ∙ sym (no_stream c.args.line.now c.in_ok-rest.field-0.now
+    c.split_field.result.0.now c.split_field-2.result.0.now
+    (option_copied c.split_field-2.result.1) behind c.split_field-2.ensures (sym c.read_digits-2.ensures
+    ∙ c.in_err-stream.was))
 
 pub returns-in_err-times : goal.returns-in_err-times
 returns-in_err-times c =
-    let behind = c.split_field.ensures ∙ ap (λ r. c.split_field.result.0.now ∷ rest_fields (option_copied r)) c.in_ok-rest.was in
-    c.from_residual-in_err-times.ensures ∙ sym (no_times c.args.line.now c.in_ok-rest.field-0.now c.split_field.result.0.now c.split_field-2.result.0.now (option_copied c.split_field-2.result.1) behind c.split_field-2.ensures (sym c.read_times.ensures ∙ c.in_err-times.was))
+    let behind = c.split_field.ensures ∙ ap (λ r. c.split_field.result.0.now ∷ rest_fields (option_copied r))
+    c.in_ok-rest.was in
+    c.from_residual-in_err-times.ensures ∙ sym (no_times c.args.line.now c.in_ok-rest.field-0.now
+    c.split_field.result.0.now c.split_field-2.result.0.now
+    (option_copied c.split_field-2.result.1) behind c.split_field-2.ensures (sym c.read_times.ensures
+    ∙ c.in_err-times.was))
 
 pub returns : goal.returns
 returns c =
-    let behind = c.split_field.ensures ∙ ap (λ r. c.split_field.result.0.now ∷ rest_fields (option_copied r)) c.in_ok-rest.was in
-    sym (all_numbers c.args.line.now c.in_ok-rest.field-0.now c.split_field.result.0.now c.split_field-2.result.0.now (option_copied c.split_field-2.result.1) behind c.split_field-2.ensures _ _ _ (sym c.read_digits.ensures ∙ c.in_ok-processor.was)
+    let behind = c.split_field.ensures ∙ ap (λ r. c.split_field.result.0.now ∷ rest_fields (option_copied r))
+    c.in_ok-rest.was in
+    sym (all_numbers c.args.line.now c.in_ok-rest.field-0.now c.split_field.result.0.now c.split_field-2.result.0.now
+    (option_copied c.split_field-2.result.1) behind c.split_field-2.ensures _ _ _ (sym c.read_digits.ensures
+    ∙ c.in_ok-processor.was)
     (sym c.read_digits-2.ensures ∙ c.in_ok-stream.was) (sym c.read_times.ensures ∙ c.in_ok-times.was))

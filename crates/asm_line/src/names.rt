@@ -1,12 +1,15 @@
-//! The names that a listing prints.
+//! The names of operations, conditions and directives ("Source text", docs/FORMATS.md). Texts are read and listed by
+//! these.
 
 ghost use Rattle.std.specs.Prelude.{◌≡◌};
 ghost use Rattle.asm_line.specs.Names.{wide_name, memory_name, arithmetic_name, control_name, condition_name};
-ghost use Rattle.asm_line.specs.Names.{access_suffix, test_suffix};
+ghost use Rattle.asm_line.specs.Names.{access_suffix, test_suffix, directive_name};
 
+use crate::operation::Directive;
 use insn_word::{Access, ArithmeticOp, Condition, ControlOp, MemoryOp, WideOp};
 
-pub(crate) fn wide(op: WideOp) -> &'static str
+/// The name of a wide operation.
+pub fn wide(op: WideOp) -> &'static str
     ensures { result.now ≡ wide_name op }
 {
     match op {
@@ -16,7 +19,8 @@ pub(crate) fn wide(op: WideOp) -> &'static str
     }
 }
 
-pub(crate) fn memory(op: MemoryOp) -> &'static str
+/// The name of a memory operation, without a suffix.
+pub fn memory(op: MemoryOp) -> &'static str
     ensures { result.now ≡ memory_name op }
 {
     match op {
@@ -30,7 +34,7 @@ pub(crate) fn memory(op: MemoryOp) -> &'static str
 }
 
 /// What stands behind the name of a memory operation with this access.
-pub(crate) fn access(access: Access) -> &'static str
+pub fn access(access: Access) -> &'static str
     ensures { result.now ≡ access_suffix access }
 {
     match access {
@@ -41,7 +45,8 @@ pub(crate) fn access(access: Access) -> &'static str
     }
 }
 
-pub(crate) fn arithmetic(op: ArithmeticOp) -> &'static str
+/// The name of an arithmetic operation, without a suffix.
+pub fn arithmetic(op: ArithmeticOp) -> &'static str
     ensures { result.now ≡ arithmetic_name op }
 {
     match op {
@@ -64,13 +69,14 @@ pub(crate) fn arithmetic(op: ArithmeticOp) -> &'static str
 }
 
 /// What stands behind the name of an arithmetic operation that makes a condition code, or makes none.
-pub(crate) fn test(test: bool) -> &'static str
+pub fn test(test: bool) -> &'static str
     ensures { result.now ≡ test_suffix test }
 {
     if test { ".T" } else { "" }
 }
 
-pub(crate) fn control(op: ControlOp) -> &'static str
+/// The name of a control operation.
+pub fn control(op: ControlOp) -> &'static str
     ensures { result.now ≡ control_name op }
 {
     match op {
@@ -90,7 +96,8 @@ pub(crate) fn control(op: ControlOp) -> &'static str
     }
 }
 
-pub(crate) fn condition(condition: Condition) -> &'static str
+/// The name of a condition.
+pub fn condition(condition: Condition) -> &'static str
     ensures { result.now ≡ condition_name condition }
 {
     match condition {
@@ -109,5 +116,21 @@ pub(crate) fn condition(condition: Condition) -> &'static str
         Condition::Positive => "POS",
         Condition::Overflow => "OV",
         Condition::NoOverflow => "NOV",
+    }
+}
+
+/// The name of a directive, with its dot.
+pub(crate) fn directive(directive: Directive) -> &'static str
+    ensures { result.now ≡ directive_name directive }
+{
+    match directive {
+        Directive::Profile => ".profile",
+        Directive::Slim => ".slim",
+        Directive::Retry => ".retry",
+        Directive::Trap => ".trap",
+        Directive::Entry => ".entry",
+        Directive::Word => ".word",
+        Directive::Data => ".data",
+        Directive::Fill => ".fill",
     }
 }
