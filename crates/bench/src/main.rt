@@ -1,5 +1,5 @@
-//! Does one thing again and again, without any text, so that bench/run.sh can time it: steps of a machine, or the bytes
-//! of the largest image.
+//! Does one thing again and again, without any text, so that bench/run.sh can time it: steps of a machine, or the
+//! bytes of the largest image.
 #![tactic(auto)]
 
 mod image_bytes;

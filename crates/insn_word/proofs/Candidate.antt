@@ -51,14 +51,18 @@ signed_6_small : (n : ℕ) → n < 64 → (neg_ℤ (pos 32) ≤ℤ signed_read 6
 signed_6_small n h =
     elim (cases_lt n 32) [
       | inl low ↦ rw (lt-ltb n 32 low) (omega (arith, ints), omega (arith, ints))
-      | inr high ↦ rw (le-ltb n 32 high) (let near : 64 - 1 - n < 32 = omega arith in (omega (arith, ints), omega (arith, ints)))
+      | inr high ↦
+          let near : 64 - 1 - n < 32 = omega arith in
+          rw (le-ltb n 32 high) (omega (arith, ints), omega (arith, ints))
     ]
 
 signed_8_small : (n : ℕ) → n < 256 → (neg_ℤ (pos 128) ≤ℤ signed_read 8 n) × (signed_read 8 n <ℤ pos 128)
 signed_8_small n h =
     elim (cases_lt n 128) [
       | inl low ↦ rw (lt-ltb n 128 low) (omega (arith, ints), omega (arith, ints))
-      | inr high ↦ rw (le-ltb n 128 high) (let near : 256 - 1 - n < 128 = omega arith in (omega (arith, ints), omega (arith, ints)))
+      | inr high ↦
+          let near : 256 - 1 - n < 128 = omega arith in
+          rw (le-ltb n 128 high) (omega (arith, ints), omega (arith, ints))
     ]
 
 memory_in_range : (op : MemoryOp) (m : MPart) → AreInRange (memory_fields m)
@@ -81,11 +85,14 @@ memory_rest memory.TagGet m e = ap (λ x. used_memory x (used_memory memory.TagG
 memory_rest memory.TagSet m e = ap (λ x. used_memory x (used_memory memory.TagSet m)) e
 
 memory_whole : (bits : ℕ)
-    → AreInRange (memory_fields (memory_at bits)) × (used_memory (memory_at bits).op (memory_at bits) ≡ memory_at bits)
-memory_whole bits = (
-  memory_in_range (memory_raw bits).op (memory_raw bits) (memory_small _, (access_small _, (omega arith, (omega arith, (signed_6_small (bits % 2 ^ 6) (omega arith), tt))))),
-  memory_rest (memory_raw bits).op (memory_raw bits) refl,
-)
+    → AreInRange (memory_fields (memory_at bits))
+    × (used_memory (memory_at bits).op (memory_at bits) ≡ memory_at bits)
+memory_whole bits =
+    let last = signed_6_small (bits % 2 ^ 6) (omega arith) in (
+      memory_in_range (memory_raw bits).op (memory_raw bits)
+          (memory_small _, (access_small _, (omega arith, (omega arith, (last, tt))))),
+      memory_rest (memory_raw bits).op (memory_raw bits) refl,
+    )
 
 arithmetic_in_range : (op : ArithmeticOp) (a : APart) → AreInRange (arithmetic_fields a)
     → AreInRange (arithmetic_fields (used_arithmetic op a))
@@ -106,9 +113,11 @@ flag_small true = omega arith
 flag_small false = omega arith
 
 arithmetic_whole : (bits : ℕ)
-    → AreInRange (arithmetic_fields (arithmetic_at bits)) × (used_arithmetic (arithmetic_at bits).op (arithmetic_at bits) ≡ arithmetic_at bits)
+    → AreInRange (arithmetic_fields (arithmetic_at bits))
+    × (used_arithmetic (arithmetic_at bits).op (arithmetic_at bits) ≡ arithmetic_at bits)
 arithmetic_whole bits = (
-  arithmetic_in_range (arithmetic_raw bits).op (arithmetic_raw bits) (arithmetic_small _, (flag_small _, (flag_small _, (omega arith, (omega arith, (omega arith, tt)))))),
+  arithmetic_in_range (arithmetic_raw bits).op (arithmetic_raw bits)
+      (arithmetic_small _, (flag_small _, (flag_small _, (omega arith, (omega arith, (omega arith, tt)))))),
   arithmetic_rest (arithmetic_raw bits).op (arithmetic_raw bits) refl,
 )
 
@@ -117,7 +126,8 @@ control_in_range control.Nop bits = (control_small control.Nop, (omega arith, tt
 control_in_range control.Jump bits =
     (control_small control.Jump, (condition_small _, (omega arith, (omega arith, (omega arith, tt)))))
 control_in_range control.Skip bits =
-    (control_small control.Skip, (condition_small _, (omega arith, (signed_8_small (bits % 2 ^ 8) (omega arith), tt))))
+    let last = signed_8_small (bits % 2 ^ 8) (omega arith) in
+    (control_small control.Skip, (condition_small _, (omega arith, (last, tt))))
 control_in_range control.Call bits = (control_small control.Call, (omega arith, (omega arith, (omega arith, tt))))
 control_in_range control.Exchange bits = (control_small control.Exchange, (omega arith, (omega arith, tt)))
 control_in_range control.TargetSet bits =
@@ -198,16 +208,18 @@ pub instruction-spelt : InstructionIsSpelt
 unfolding instruction
 instruction-spelt word i =
     let test = number (fields (candidate word)) == word && has_one_writer (candidate word) in
-    let tested = Decides-and _ _ (Decides-eqb (number (fields (candidate word))) word) (Decides-one_writer (candidate word)) in
+    let tested =
+    Decides-and _ _ (Decides-eqb (number (fields (candidate word))) word) (Decides-one_writer (candidate word)) in
     let whole = candidate_whole word in (
       λ e.
           let found = kept test (candidate word) i e in
           let holds = tested.0 found.0 in
-          subst (λ j. Spells word j) found.1 (Spells-from_number word (candidate word) whole.in_range holds.0 whole.rest holds.1),
+          subst (λ j. Spells word j) found.1
+          (Spells-from_number word (candidate word) whole.in_range holds.0 whole.rest holds.1),
       λ spelt.
           let same = candidate-holds word i (Holds-from_spells word i spelt) in
-          let holds : test ≡ true =
-          tested.1 (ap (λ j. number (fields j)) same ∙ Spells-number word i spelt, subst HasOneWriter (sym same) spelt.one_writer) in
+          let number_is = ap (λ j. number (fields j)) same ∙ Spells-number word i spelt in
+          let holds : test ≡ true = tested.1 (number_is, subst HasOneWriter (sym same) spelt.one_writer) in
           ap (λ keep. kept_if keep (candidate word)) holds ∙ ap Some same,
     )
 

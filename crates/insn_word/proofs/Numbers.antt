@@ -23,7 +23,8 @@ pub number-lt : (fs : List Field) → AreInRange fs → number fs < 2 ^ total_wi
 number-lt [] h = omega arith
 number-lt (f ∷ fs) h =
     rw (pow-add 2 (width f) (total_width fs))
-    (let below : value f * 2 ^ total_width fs + number fs < 2 ^ total_width fs * 2 ^ width f = mul-add-lt (value f) (2 ^ total_width fs) (number fs) (2 ^ width f) (value-lt f h.0) (number-lt fs h.1) in
+    (let below : value f * 2 ^ total_width fs + number fs < 2 ^ total_width fs * 2 ^ width f =
+    mul-add-lt (value f) (2 ^ total_width fs) (number fs) (2 ^ width f) (value-lt f h.0) (number-lt fs h.1) in
     omega arith)
 
 pub digits-add : (j k n : ℕ) → digits (j + k) n ≡ digits j (n / 2 ^ k) ++ digits k n
@@ -46,7 +47,10 @@ unfolding digits spelling
 digits-number [] h = refl
 digits-number (f ∷ fs) h =
     digits-add (width f) (total_width fs) (number (f ∷ fs))
-    ∙ rw (div-mul-add (value f) (2 ^ total_width fs) (number fs) (number-lt fs h.1), digits-low (total_width fs) (total_width fs) (value f) (number fs) (omega arith))
+    ∙ rw (
+      div-mul-add (value f) (2 ^ total_width fs) (number fs) (number-lt fs h.1),
+      digits-low (total_width fs) (total_width fs) (value f) (number fs) (omega arith),
+    )
     (ap (λ ds. digits (width f) (value f) ++ ds) (digits-number fs h.1))
 
 -- the same digits are the same number, as far as they go
@@ -99,5 +103,7 @@ reads n [] h e = tt
 reads n (f ∷ fs) h e =
     let cut = mod-pow-add n (width f) (total_width fs) in
     let small : n % 2 ^ total_width fs < 2 ^ total_width fs = mod-lt n (pow_pos (total_width fs)) in
-    let same = same_parts (2 ^ total_width fs) (n / 2 ^ total_width fs % 2 ^ width f) (n % 2 ^ total_width fs) (value f) (number fs) small (number-lt fs h.1) (sym cut ∙ e) in
+    let same =
+    same_parts (2 ^ total_width fs) (n / 2 ^ total_width fs % 2 ^ width f) (n % 2 ^ total_width fs) (value f)
+    (number fs) small (number-lt fs h.1) (sym cut ∙ e) in
     (same.0, reads n fs h.1 same.1)

@@ -160,10 +160,18 @@ arguments_read : (op : ControlOp) (bits : ℕ) (c : CPart) → AreInRange (argum
     → Reads bits (argument_fields op c) → used_control op c ≡ c → control_from op bits ≡ c
 arguments_read control.Nop bits c h r rest = rest
 arguments_read control.Jump bits c h r rest =
-    (λ i. record (no_control control.Jump) { cond = (ap condition_read r.0 ∙ condition_back c.cond) i; code = r.1.0 i; t = r.1.1.0 i }) ∙ rest
+    (λ i. record (no_control control.Jump) {
+      cond = (ap condition_read r.0 ∙ condition_back c.cond) i;
+      code = r.1.0 i;
+      t = r.1.1.0 i;
+    }) ∙ rest
 arguments_read control.Skip bits c h r rest =
     let last : bits % 2 ^ 8 ≡ complement 8 c.n = omega (arith, r.1.1.0) in
-    (λ i. record (no_control control.Skip) { cond = (ap condition_read r.0 ∙ condition_back c.cond) i; code = r.1.0 i; n = (ap (signed_read 8) last ∙ signed_8_back c.n h.1.1.0.0 h.1.1.0.1) i }) ∙ rest
+    (λ i. record (no_control control.Skip) {
+      cond = (ap condition_read r.0 ∙ condition_back c.cond) i;
+      code = r.1.0 i;
+      n = (ap (signed_read 8) last ∙ signed_8_back c.n h.1.1.0.0 h.1.1.0.1) i;
+    }) ∙ rest
 arguments_read control.Call bits c h r rest =
     (λ i. record (no_control control.Call) { t = r.0 i; u = r.1.0 i }) ∙ rest
 arguments_read control.Exchange bits c h r rest = (λ i. record (no_control control.Exchange) { t = r.0 i }) ∙ rest
@@ -183,30 +191,47 @@ arguments_read control.Mask bits c h r rest = (λ i. record (no_control control.
 control_reads : (bits : ℕ) (c : CPart) → IsControlPart bits c → control_at bits ≡ c
 control_reads bits c p =
     let r = reads bits (control_fields c) p.in_range (fits bits (control_fields c) p.in_range p.number_is) in
-    let op : control_read (bits / 2 ^ 14 % 2 ^ 4) ≡ c.op =
-    ap control_read (subst (λ (k : ℕ). bits / 2 ^ k % 2 ^ 4 ≡ control_number c.op) (argument_width c.op c) r.0) ∙ control_back c.op in
+    let number_is : bits / 2 ^ 14 % 2 ^ 4 ≡ control_number c.op =
+    subst (λ (k : ℕ). bits / 2 ^ k % 2 ^ 4 ≡ control_number c.op) (argument_width c.op c) r.0 in
+    let op : control_read (bits / 2 ^ 14 % 2 ^ 4) ≡ c.op = ap control_read number_is ∙ control_back c.op in
     ap (λ x. control_from x bits) op ∙ arguments_read c.op bits c p.in_range.1 r.1 p.rest
 
 pub candidate-holds : (word : ℕ) (i : Insn) → Holds word i → candidate word ≡ i
 unfolding candidate
 candidate-holds word (insn.Wide look wide.Literal reg imm) h =
-    let r = reads word (fields (insn.Wide look wide.Literal reg imm)) h.in_range (fits word (fields (insn.Wide look wide.Literal reg imm)) h.in_range h.number_is) in
+    let r =
+    reads word (fields (insn.Wide look wide.Literal reg imm)) h.in_range
+    (fits word (fields (insn.Wide look wide.Literal reg imm)) h.in_range h.number_is) in
     let above : 2 ^ 63 ≤ word = omega (arith, r.0) in
     let reg_is : register_from wide.Literal (word / 2 ^ 52 % 2 ^ 5) ≡ reg = omega (arith, r.1.1.1.0) in
     let imm_is : word % 2 ^ 32 ≡ imm = omega (arith, r.1.1.1.1.1.0) in
-    rw (le-ltb word (2 ^ 63) above) (ap (λ n. wide_from (wide_read n) word) r.1.1.0 ∙ (λ i. insn.Wide (r.1.0 i) wide.Literal (reg_is i) (imm_is i)))
+    rw (le-ltb word (2 ^ 63) above)
+    (ap (λ n. wide_from (wide_read n) word) r.1.1.0
+    ∙ (λ i. insn.Wide (r.1.0 i) wide.Literal (reg_is i) (imm_is i)))
 candidate-holds word (insn.Wide look wide.LiteralHigh reg imm) h =
-    let r = reads word (fields (insn.Wide look wide.LiteralHigh reg imm)) h.in_range (fits word (fields (insn.Wide look wide.LiteralHigh reg imm)) h.in_range h.number_is) in
+    let r =
+    reads word (fields (insn.Wide look wide.LiteralHigh reg imm)) h.in_range
+    (fits word (fields (insn.Wide look wide.LiteralHigh reg imm)) h.in_range h.number_is) in
     let above : 2 ^ 63 ≤ word = omega (arith, r.0) in
     let reg_is : register_from wide.LiteralHigh (word / 2 ^ 52 % 2 ^ 5) ≡ reg = omega (arith, r.1.1.1.0) in
     let imm_is : word % 2 ^ 32 ≡ imm = omega (arith, r.1.1.1.1.1.0) in
-    rw (le-ltb word (2 ^ 63) above) (ap (λ n. wide_from (wide_read n) word) r.1.1.0 ∙ (λ i. insn.Wide (r.1.0 i) wide.LiteralHigh (reg_is i) (imm_is i)))
+    rw (le-ltb word (2 ^ 63) above)
+    (ap (λ n. wide_from (wide_read n) word) r.1.1.0
+    ∙ (λ i. insn.Wide (r.1.0 i) wide.LiteralHigh (reg_is i) (imm_is i)))
 candidate-holds word (insn.Wide look wide.TargetLiteral reg imm) h =
-    let r = reads word (fields (insn.Wide look wide.TargetLiteral reg imm)) h.in_range (fits word (fields (insn.Wide look wide.TargetLiteral reg imm)) h.in_range h.number_is) in
+    let r =
+    reads word (fields (insn.Wide look wide.TargetLiteral reg imm)) h.in_range
+    (fits word (fields (insn.Wide look wide.TargetLiteral reg imm)) h.in_range h.number_is) in
     let above : 2 ^ 63 ≤ word = omega (arith, r.0) in
     let reg_is : register_from wide.TargetLiteral (word / 2 ^ 52 % 2 ^ 5) ≡ reg = omega (arith, r.1.1.1.1.0) in
     let imm_is : word % 2 ^ 32 ≡ imm = omega (arith, r.1.1.1.1.1.1.0) in
-    rw (le-ltb word (2 ^ 63) above) (ap (λ n. wide_from (wide_read n) word) r.1.1.0 ∙ (λ i. insn.Wide (r.1.0 i) wide.TargetLiteral (reg_is i) (imm_is i)))
+    rw (le-ltb word (2 ^ 63) above)
+    (ap (λ n. wide_from (wide_read n) word) r.1.1.0
+    ∙ (λ i. insn.Wide (r.1.0 i) wide.TargetLiteral (reg_is i) (imm_is i)))
 candidate-holds word (insn.Normal look m a c) h =
     let look_is : word / 2 ^ 60 % 2 ^ 3 ≡ look = omega (arith, h.in_word, h.look_is) in
-    rw (lt-ltb word (2 ^ 63) h.in_word) (λ i. insn.Normal (look_is i) (memory_reads _ m h.memory i) (arithmetic_reads _ a h.arithmetic i) (control_reads _ c h.control i))
+    let memory_is = memory_reads _ m h.memory in
+    let arithmetic_is = arithmetic_reads _ a h.arithmetic in
+    let control_is = control_reads _ c h.control in
+    rw (lt-ltb word (2 ^ 63) h.in_word)
+    (λ i. insn.Normal (look_is i) (memory_is i) (arithmetic_is i) (control_is i))

@@ -53,7 +53,9 @@ fields_width (insn.Normal look m a c) =
     omega (arith, total_width-append (front look m a) (control_fields c), control_width c)
 
 pub number-normal : (look : ℕ) (m : MPart) (a : APart) (c : CPart)
-    → number (fields (insn.Normal look m a c)) ≡ look * 2 ^ 60 + number (memory_fields m) * 2 ^ 39 + number (arithmetic_fields a) * 2 ^ 18 + number (control_fields c)
+    → number (fields (insn.Normal look m a c))
+    ≡ look * 2 ^ 60 + number (memory_fields m) * 2 ^ 39 + number (arithmetic_fields a) * 2 ^ 18
+    + number (control_fields c)
 number-normal look m a c =
     number-append (front look m a) (control_fields c) ∙ rw (control_width c) (grind arith)
 
@@ -63,7 +65,8 @@ pub normal_in_range : (look : ℕ) (m : MPart) (a : APart) (c : CPart) → look 
     → AreInRange (fields (insn.Normal look m a c))
 normal_in_range look m a c l x y z =
     let some : 0 < 2 = omega arith in
-    AreInRange-append (front look m a) (control_fields c) (AreInRange-append (unsigned 1 0 ∷ unsigned 3 look ∷ memory_fields m) (arithmetic_fields a) (some, (l, x)) y) z
+    AreInRange-append (front look m a) (control_fields c)
+    (AreInRange-append (unsigned 1 0 ∷ unsigned 3 look ∷ memory_fields m) (arithmetic_fields a) (some, (l, x)) y) z
 
 pub normal_parts : (look : ℕ) (m : MPart) (a : APart) (c : CPart) → AreInRange (fields (insn.Normal look m a c))
     → (look < 8) × AreInRange (memory_fields m) × AreInRange (arithmetic_fields a) × AreInRange (control_fields c)
@@ -75,7 +78,8 @@ normal_parts look m a c h =
 -- the numbers that are cut from a word, from the numbers that it is joined of
 cut_word : (word look m a c : ℕ) → look < 8 → m < 2 ^ 21 → a < 2 ^ 21 → c < 2 ^ 18
     → look * 2 ^ 60 + m * 2 ^ 39 + a * 2 ^ 18 + c ≡ word
-    → (word < 2 ^ 63) × (word / 2 ^ 60 ≡ look) × (word / 2 ^ 39 % 2 ^ 21 ≡ m) × (word / 2 ^ 18 % 2 ^ 21 ≡ a) × (word % 2 ^ 18 ≡ c)
+    → (word < 2 ^ 63) × (word / 2 ^ 60 ≡ look) × (word / 2 ^ 39 % 2 ^ 21 ≡ m) × (word / 2 ^ 18 % 2 ^ 21 ≡ a)
+    × (word % 2 ^ 18 ≡ c)
 cut_word word look m a c hl hm ha hc e = (omega arith, omega arith, omega arith, omega arith, omega arith)
 
 joined_word : (word look m a c : ℕ) → word < 2 ^ 63 → word / 2 ^ 60 ≡ look → word / 2 ^ 39 % 2 ^ 21 ≡ m
@@ -92,8 +96,14 @@ Spells-number word i s =
 pub Spells-from_number : (word : ℕ) (i : Insn) → AreInRange (fields i) → number (fields i) ≡ word → RestIsZero i
     → HasOneWriter i → Spells word i
 Spells-from_number word i h e rest one = record {
-  in_word = let below = number-lt (fields i) h in let same = fields_width i in subst (λ n. n < 2 ^ 64) e (subst (λ k. number (fields i) < 2 ^ k) same below);
-  digits_are = subst (λ n. digits 64 n ≡ spelling (fields i)) e (subst (λ k. digits k (number (fields i)) ≡ spelling (fields i)) (fields_width i) (digits-number (fields i) h));
+  in_word =
+      let below = number-lt (fields i) h in
+      let same = fields_width i in
+      subst (λ n. n < 2 ^ 64) e (subst (λ k. number (fields i) < 2 ^ k) same below);
+  digits_are =
+      let made = digits-number (fields i) h in
+      let same = subst (λ k. digits k (number (fields i)) ≡ spelling (fields i)) (fields_width i) made in
+      subst (λ n. digits 64 n ≡ spelling (fields i)) e same;
   in_range = h;
   rest = rest;
   one_writer = one;
@@ -106,7 +116,9 @@ Holds-from_spells word (insn.Normal look m a c) s =
     let parts = normal_parts look m a c s.in_range in
     let joined = sym (number-normal look m a c) ∙ Spells-number word (insn.Normal look m a c) s in
     let below = control_number-lt c parts.3 in
-    let cut = cut_word word look (number (memory_fields m)) (number (arithmetic_fields a)) (number (control_fields c)) parts.0 (number-lt (memory_fields m) parts.1) (number-lt (arithmetic_fields a) parts.2) below joined in
+    let cut =
+    cut_word word look (number (memory_fields m)) (number (arithmetic_fields a)) (number (control_fields c)) parts.0
+    (number-lt (memory_fields m) parts.1) (number-lt (arithmetic_fields a) parts.2) below joined in
     record {
       in_word = cut.0;
       look_is = cut.1;
@@ -122,8 +134,11 @@ Spells-from_holds word (insn.Wide look op reg imm) h =
 Spells-from_holds word (insn.Normal look m a c) h =
     let below : word / 2 ^ 60 < 8 = omega (arith, h.in_word) in
     Spells-from_number word (insn.Normal look m a c)
-    (normal_in_range look m a c (subst (λ n. n < 8) h.look_is below) h.memory.in_range h.arithmetic.in_range h.control.in_range)
-    (number-normal look m a c ∙ joined_word word look _ _ _ h.in_word h.look_is (sym h.memory.number_is) (sym h.arithmetic.number_is) (sym h.control.number_is))
+    (normal_in_range look m a c (subst (λ n. n < 8) h.look_is below) h.memory.in_range h.arithmetic.in_range
+    h.control.in_range)
+    (number-normal look m a c
+    ∙ joined_word word look _ _ _ h.in_word h.look_is (sym h.memory.number_is) (sym h.arithmetic.number_is)
+    (sym h.control.number_is))
     (h.memory.rest, h.arithmetic.rest, h.control.rest)
     h.one_writer
 
@@ -135,9 +150,11 @@ pub control_is : (bits : ℕ) (op : ControlOp) (c : CPart) → IsControlPart bit
     → control_number op ≡ bits / 2 ^ 14 % 2 ^ 4 → c.op ≡ op
 control_is bits op c p e =
     let below : number (argument_fields c.op c) < 2 ^ 14 =
-    subst (λ k. number (argument_fields c.op c) < 2 ^ k) (argument_width c.op c) (number-lt (argument_fields c.op c) p.in_range.1) in
+    subst (λ k. number (argument_fields c.op c) < 2 ^ k) (argument_width c.op c)
+    (number-lt (argument_fields c.op c) p.in_range.1) in
     let joined : control_number c.op * 2 ^ 14 + number (argument_fields c.op c) ≡ bits =
-    subst (λ k. control_number c.op * 2 ^ k + number (argument_fields c.op c) ≡ bits) (argument_width c.op c) p.number_is in
+    subst (λ k. control_number c.op * 2 ^ k + number (argument_fields c.op c) ≡ bits) (argument_width c.op c)
+    p.number_is in
     let small : control_number c.op < 2 ^ 4 = p.in_range.0 in
     same_control c.op op (omega arith)
 

@@ -12,7 +12,7 @@ OneInstruction = (word : ℕ) (i j : Insn) → Spells word i → Spells word j �
 abbrev pub OneWord : Type 0
 OneWord = (i : Insn) (v w : ℕ) → Spells v i → Spells w i → v ≡ w
 
--- Some word spells an instruction exactly where its fields are in their ranges, its unused fields are zero, and no two of
--- its operations write the same register other than r0.
+-- Some word spells an instruction exactly where its fields are in their ranges, its unused fields are zero, and no
+-- two of its operations write the same register other than r0.
 abbrev pub IsValidByFields : Type 0
 IsValidByFields = (i : Insn) → IsValid i ↔ (AreInRange (fields i) × RestIsZero i × HasOneWriter i)

@@ -1,5 +1,5 @@
--- The instruction that a word spells, by computing: each field is read, what the operation doesn't use is cleared, and
--- the result counts where it is spelt by the word again. Definitions that fold over runs go by it.
+-- The instruction that a word spells, by computing: each field is read, what the operation doesn't use is cleared,
+-- and the result counts where it is spelt by the word again. Definitions that fold over runs go by it.
 use Rattle.std.specs.Prelude.{◌≡◌, ◌↔◌, ℕ, ◌-◌, ◌/◌, ◌%◌, ◌^◌, ◌==◌, ℤ, pos, negsuc}
 use Rattle.std.specs.Prelude.{Bool, true, not, ◌&&◌, ◌||◌, nat_lt, if◌then◌else◌}
 use Rattle.std.specs.Prelude.{List, [], ◌∷◌, Option, Some, None, slice_index_or}
@@ -24,8 +24,8 @@ use Rattle.insn_word.specs.declared.insn.CPart.{CPart}
 use Rattle.insn_word.specs.declared.insn.Insn.{Insn}
 use Rattle.insn_word.specs.declared.insn.Insn.TheVariants as insn
 
--- The operations in the order of their numbers. A number past the end reads as the first one, which the test at the end
--- refuses.
+-- The operations in the order of their numbers. A number past the end reads as the first one, which the test at the
+-- end refuses.
 
 abbrev pub wide_read : ℕ → WideOp
 wide_read n = slice_index_or (wide.Literal ∷ wide.LiteralHigh ∷ wide.TargetLiteral ∷ []) n wide.Literal

@@ -32,8 +32,8 @@ memory_fields m =
 
 abbrev pub arithmetic_fields : APart → List Field
 arithmetic_fields a =
-    unsigned 4 (arithmetic_number a.op) ∷ flag a.test ∷ flag a.imm ∷ unsigned 5 a.rd ∷ unsigned 5 a.ra ∷ unsigned 5 a.rb
-    ∷ []
+    unsigned 4 (arithmetic_number a.op) ∷ flag a.test ∷ flag a.imm ∷ unsigned 5 a.rd ∷ unsigned 5 a.ra
+    ∷ unsigned 5 a.rb ∷ []
 
 abbrev pub argument_fields : ControlOp → CPart → List Field
 argument_fields control.Nop c = zeros 14 ∷ []
@@ -56,8 +56,8 @@ control_fields c = unsigned 4 (control_number c.op) ∷ argument_fields c.op c
 
 abbrev pub fields : Insn → List Field
 fields (insn.Wide look op reg imm) =
-    unsigned 1 1 ∷ unsigned 3 look ∷ unsigned 3 (wide_number op) ∷ register_fields op reg ++ zeros 20 ∷ unsigned 32 imm
-    ∷ []
+    unsigned 1 1 ∷ unsigned 3 look ∷ unsigned 3 (wide_number op) ∷ register_fields op reg ++ zeros 20
+    ∷ unsigned 32 imm ∷ []
 fields (insn.Normal look m a c) =
     unsigned 1 0 ∷ unsigned 3 look ∷ memory_fields m ++ arithmetic_fields a ++ control_fields c
 
@@ -102,7 +102,8 @@ used_control control.Mask c = record (no_control control.Mask) { n = pos (unsign
 -- A field that an operation doesn't use is zero.
 abbrev pub RestIsZero : Insn → Type 0
 RestIsZero (insn.Wide look op reg imm) = ⊤
-RestIsZero (insn.Normal look m a c) = (used_memory m.op m ≡ m) × (used_arithmetic a.op a ≡ a) × (used_control c.op c ≡ c)
+RestIsZero (insn.Normal look m a c) =
+    (used_memory m.op m ≡ m) × (used_arithmetic a.op a ≡ a) × (used_control c.op c ≡ c)
 
 -- The register that an operation with this rd writes, and 0 where it writes none.
 

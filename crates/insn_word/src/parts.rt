@@ -34,7 +34,8 @@ impl MPart {
         requires { bits < 2 ^ 21 }
         ensures in_range { IfSome result (λ m. AreInRange (memory_fields m)) }
         ensures number { IfSome result (λ m. number (memory_fields m) ≡ bits) }
-        ensures only { (m : MPart) → AreInRange (memory_fields m) → number (memory_fields m) ≡ bits → result ≡ Some m }
+        ensures only { (m : MPart) → AreInRange (memory_fields m) → number (memory_fields m) ≡ bits
+            → result ≡ Some m }
     {
         Some(MPart {
             op: MemoryOp::from_number(field(bits, 18, 3))?,
@@ -66,7 +67,8 @@ impl MPart {
         }
     }
 
-    /// The register that the part writes, 0 to 31 in a valid part; r0, whose writes are discarded, where it writes none.
+    /// The register that the part writes, 0 to 31 in a valid part; r0, whose writes are discarded, where it writes
+    /// none.
     pub fn destination(&self) -> u8
         ensures { result ≡ memory_destination self.now.op self.now.rd }
     {
@@ -119,7 +121,8 @@ impl APart {
         }
     }
 
-    /// The register that the part writes, 0 to 31 in a valid part; r0, whose writes are discarded, where it writes none.
+    /// The register that the part writes, 0 to 31 in a valid part; r0, whose writes are discarded, where it writes
+    /// none.
     pub fn destination(&self) -> u8
         ensures { result ≡ arithmetic_destination self.now.op self.now.rd }
     {
@@ -197,7 +200,8 @@ impl CPart {
         Some(part)
     }
 
-    /// The part with the condition and the place of the code that the digits name; None where there is no such condition.
+    /// The part with the condition and the place of the code that the digits name; None where there is no such
+    /// condition.
     fn with_condition(self, bits: u64) -> Option<CPart>
         ensures named { IfSome result (λ c. condition_number c.cond ≡ bits / 2 ^ 10 % 2 ^ 4) }
         ensures others { IfSome result (λ c. c ≡ record self { cond = c.cond; code = bits / 2 ^ 8 % 2 ^ 2 }) }
@@ -247,7 +251,8 @@ impl CPart {
         with_field(self.cond.number(), 2, u64::from(self.code))
     }
 
-    /// The register that the part writes, 0 to 31 in a valid part; r0, whose writes are discarded, where it writes none.
+    /// The register that the part writes, 0 to 31 in a valid part; r0, whose writes are discarded, where it writes
+    /// none.
     pub fn destination(&self) -> u8
         ensures { result ≡ control_destination self.now.op self.now.rd }
     {

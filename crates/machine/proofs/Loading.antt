@@ -33,8 +33,9 @@ opened size image ps m within all =
     })
 
 -- one more processor is opened
-pub opens_more : (image : ImageValue) (ps : List ProcessorValue) (n : ℕ) (p : ProcessorValue) → n < length image.entries
-    → ps ≡ map (opening image) (take n image.entries) → p ≡ opening image (slice_index image.entries n)
+pub opens_more : (image : ImageValue) (ps : List ProcessorValue) (n : ℕ) (p : ProcessorValue)
+    → n < length image.entries → ps ≡ map (opening image) (take n image.entries)
+    → p ≡ opening image (slice_index image.entries n)
     → ps ++ p ∷ [] ≡ map (opening image) (take (n + 1) image.entries)
 opens_more image ps n p below all is =
     ap (λ x. x ++ p ∷ []) all
@@ -43,8 +44,9 @@ opens_more image ps n p below all is =
     ∙ ap (map (opening image)) (sym (take_more image.entries n 0 below))
 
 -- all are opened
-pub all_opened : (image : ImageValue) (ps : List ProcessorValue) (n : ℕ) → ps ≡ map (opening image) (take n image.entries)
-    → length image.entries ≤ n → ps ≡ map (opening image) image.entries
+pub all_opened : (image : ImageValue) (ps : List ProcessorValue) (n : ℕ)
+    → ps ≡ map (opening image) (take n image.entries) → length image.entries ≤ n
+    → ps ≡ map (opening image) image.entries
 all_opened image ps n all past = all ∙ ap (map (opening image)) (take_all n image.entries past)
 
 pub at_start : (image : ImageValue) (ps : List ProcessorValue) (m : TaggedMemory) (cells : List Cell)

@@ -14,8 +14,8 @@ pub record MachineValue : Type 0 where
 abbrev pub machine_of : ImageValue → List ProcessorValue → TaggedMemory → MachineValue
 machine_of image ps m = record { image = image; world = record { processors = ps; memory = m } }
 
--- A machine with room for so many streams a processor has a processor for each entry of its image, and each has as many
--- streams as the image says.
+-- A machine with room for so many streams a processor has a processor for each entry of its image, and each has as
+-- many streams as the image says.
 pub record IsMachine (size : ℕ) (m : MachineValue) : Type 0 where
   pub within : m.image.slim ≤ size
   pub one_each : length m.world.processors ≡ length m.image.entries

@@ -36,8 +36,8 @@ impl<'i, const S: usize> Model for Machine<'i, S> {
 }
 
 impl<'i, const S: usize> Machine<'i, S> {
-    /// The machine of an image at its start: each processor has the one stream that runs from its entry, and the memory
-    /// holds the image's cells.
+    /// The machine of an image at its start: each processor has the one stream that runs from its entry, and the
+    /// memory holds the image's cells.
     ///
     /// `Streams` where the image's slim is above `S`; no memory is asked for then.
     pub fn load(alloc: Global, image: &'i Image) -> Result<Machine<'i, S>, LoadFault>
@@ -75,8 +75,8 @@ impl<'i, const S: usize> Machine<'i, S> {
         self.processors[place].step(image, s, &mut self.memory)
     }
 
-    /// Takes the steps of a schedule in order, from whatever state the machine has reached: registers, words, tags and
-    /// traps are the operation table's after each step.
+    /// Takes the steps of a schedule in order, from whatever state the machine has reached: registers, words, tags
+    /// and traps are the operation table's after each step.
     pub fn run(&mut self, schedule: &[Step])
         ensures { self.new ≡ record self.old { world = steps self.old.image self.old.world schedule.now } }
     {
@@ -85,8 +85,8 @@ impl<'i, const S: usize> Machine<'i, S> {
         }
     }
 
-    /// The stream of these numbers; None where there is no such processor, or `s` is `S` or more. From the image's slim
-    /// on a stream is idle.
+    /// The stream of these numbers; None where there is no such processor, or `s` is `S` or more. From the image's
+    /// slim on a stream is idle.
     pub fn stream(&self, p: u8, s: u8) -> Option<&Stream>
         ensures { option_copied result ≡ stream_of S self.now.world p s }
     {

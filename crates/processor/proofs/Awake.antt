@@ -17,7 +17,8 @@ use Rattle.stream_core.specs.declared.steps.Outcome.{Outcome}
 use Rattle.stream_core.specs.declared.steps.Outcome.TheVariants as outcome
 use Rattle.processor.specs.Processors.{is_idle}
 
-awake-trapped_if : (b : Bool) (k : TrapKind) (s : StreamValue) → is_idle s ≡ false → is_idle (trapped_if b k s).0 ≡ false
+awake-trapped_if : (b : Bool) (k : TrapKind) (s : StreamValue) → is_idle s ≡ false
+    → is_idle (trapped_if b k s).0 ≡ false
 awake-trapped_if true k s h = refl
 awake-trapped_if false k s h = h
 
@@ -25,7 +26,8 @@ pub awake-trapped : (k : TrapKind) (a : ℕ) (s : StreamValue) → is_idle s ≡
 awake-trapped k a s h =
     awake-trapped_if (cannot_trap s) k (record s { xr = trap_number k + a % 2 ^ 48 * 256; retries = 0 }) h
 
-awake-executed : (s : StreamValue) (i : Insn) (value grant : ℕ) → is_idle s ≡ false → is_idle (executed s i value grant) ≡ false
+awake-executed : (s : StreamValue) (i : Insn) (value grant : ℕ) → is_idle s ≡ false
+    → is_idle (executed s i value grant) ≡ false
 unfolding executed
 awake-executed s (Wide look wide.Literal reg imm) value grant h = h
 awake-executed s (Wide look wide.LiteralHigh reg imm) value grant h = h

@@ -6,7 +6,6 @@ use Rattle.insn_word.specs.declared.insn.Insn.{Insn}
 use Rattle.tag_memory.specs.declared.requests.Request.{Request}
 use Rattle.tag_memory.specs.declared.requests.Reply.{Reply}
 use Rattle.tag_memory.specs.Storage.{TaggedMemory}
-use Rattle.tag_memory.specs.Answer.{answer}
 use Rattle.image_file.specs.ImageValue.{ImageValue}
 use Rattle.stream_core.specs.Streams.{StreamValue, idle}
 use Rattle.stream_core.specs.Effects.{request_of}
@@ -19,13 +18,14 @@ use Rattle.stream_core.specs.declared.steps.Fetched.TheVariants as fetch
 use Rattle.processor.specs.Processors.{ProcessorValue, is_idle, is_idle_status, stream_at}
 use Rattle.processor.specs.Row.{lacks_stream, begun_from, begun, begun_at, begun_of, asked_by, request_at}
 use Rattle.processor.specs.Row.{request, next_asking, next_by, next_at, next_of}
-use Rattle.processor.specs.Row.{row_by, row_at, row, served, served_asking}
+use Rattle.processor.specs.Row.{row_by, row_at, row, replied, served_replied, served}
 use Rattle.processor.specs.declared.steps.Next.TheVariants as next
 
 -- The table by the stream and what its step begins with.
 
-row_seen : (image : ImageValue) (proc : ProcessorValue) (n : ℕ) (r : Option Reply) (o : Option StreamValue) (s : StreamValue)
-    → unwrap_or o idle ≡ s → row_at image proc n r o ≡ row_by image proc n r s (begun_at image proc o)
+row_seen : (image : ImageValue) (proc : ProcessorValue) (n : ℕ) (r : Option Reply) (o : Option StreamValue)
+    (s : StreamValue) → unwrap_or o idle ≡ s
+    → row_at image proc n r o ≡ row_by image proc n r s (begun_at image proc o)
 row_seen image proc n r None s e = refl
 row_seen image proc n r (Some t) s e = ap (λ x. row_by image proc n r x (begun image proc t)) e
 
@@ -33,7 +33,8 @@ pub row_is : (image : ImageValue) (proc : ProcessorValue) (n : ℕ) (r : Option 
     → row image proc n r ≡ row_by image proc n r (stream_at proc.streams n) (begun_of image proc n)
 unfolding row begun_of
 row_is image proc n r =
-    row_seen image proc n r (slice_get proc.streams n) (stream_at proc.streams n) (unwrap_or-slice_get proc.streams n idle)
+    row_seen image proc n r (slice_get proc.streams n) (stream_at proc.streams n)
+    (unwrap_or-slice_get proc.streams n idle)
 
 request_seen : (image : ImageValue) (proc : ProcessorValue) (o : Option StreamValue) (s : StreamValue)
     → unwrap_or o idle ≡ s → request_at image proc o ≡ asked_by s (begun_at image proc o)
@@ -44,7 +45,8 @@ request_is : (image : ImageValue) (proc : ProcessorValue) (n : ℕ)
     → request image proc n ≡ asked_by (stream_at proc.streams n) (begun_of image proc n)
 unfolding request begun_of
 request_is image proc n =
-    request_seen image proc (slice_get proc.streams n) (stream_at proc.streams n) (unwrap_or-slice_get proc.streams n idle)
+    request_seen image proc (slice_get proc.streams n) (stream_at proc.streams n)
+    (unwrap_or-slice_get proc.streams n idle)
 
 next_seen : (image : ImageValue) (proc : ProcessorValue) (o : Option StreamValue) (s : StreamValue)
     → unwrap_or o idle ≡ s → next_at image proc o ≡ next_by s (begun_at image proc o)
@@ -55,7 +57,8 @@ next_is : (image : ImageValue) (proc : ProcessorValue) (n : ℕ)
     → next_of image proc n ≡ next_by (stream_at proc.streams n) (begun_of image proc n)
 unfolding next_of begun_of
 next_is image proc n =
-    next_seen image proc (slice_get proc.streams n) (stream_at proc.streams n) (unwrap_or-slice_get proc.streams n idle)
+    next_seen image proc (slice_get proc.streams n) (stream_at proc.streams n)
+    (unwrap_or-slice_get proc.streams n idle)
 
 -- Where it is known what the step begins with.
 
@@ -76,28 +79,24 @@ pub asked_there : (proc : ProcessorValue) (n : ℕ) (i : Insn) (s : StreamValue)
     → s ≡ stream_at proc.streams n → o ≡ request_of s i → o ≡ request_of (stream_at proc.streams n) i
 asked_there proc n i s o is asks = asks ∙ ap (λ x. request_of x i) is
 
-pub next_needed : (image : ImageValue) (proc : ProcessorValue) (n : ℕ) (i : Insn) (s : StreamValue) (o : Option Request)
-    → begun_of image proc n ≡ fetch.Runs i → s ≡ stream_at proc.streams n → o ≡ request_of s i
-    → next_asking o ≡ next_of image proc n
+pub next_needed : (image : ImageValue) (proc : ProcessorValue) (n : ℕ) (i : Insn) (s : StreamValue)
+    (o : Option Request) → begun_of image proc n ≡ fetch.Runs i → s ≡ stream_at proc.streams n
+    → o ≡ request_of s i → next_asking o ≡ next_of image proc n
 next_needed image proc n i s o e is asks =
     ap next_asking (asked_there proc n i s o is asks) ∙ next_begun image proc n (fetch.Runs i) e
 
-pub served_unasked : (image : ImageValue) (proc : ProcessorValue) (n : ℕ) (m : TaggedMemory) (f : Fetched)
-    → begun_of image proc n ≡ f → asked_by (stream_at proc.streams n) f ≡ None
-    → (row_by image proc n None (stream_at proc.streams n) f, m) ≡ served image proc n m
+pub served_begun : (image : ImageValue) (proc : ProcessorValue) (n : ℕ) (m after : TaggedMemory) (f : Fetched)
+    (r : Option Reply) → begun_of image proc n ≡ f → (after, r) ≡ replied m (asked_by (stream_at proc.streams n) f)
+    → (row_by image proc n r (stream_at proc.streams n) f, after) ≡ served image proc n m
 unfolding served
-served_unasked image proc n m f e none =
-    ap (λ x. (x, m)) (row_begun image proc n None f e)
-    ∙ sym (ap (served_asking image proc n m) (request_begun image proc n f e ∙ none))
+served_begun image proc n m after f r e answers =
+    ap (λ x. (x, after)) (row_begun image proc n r f e)
+    ∙ ap (served_replied image proc n) (answers ∙ sym (ap (replied m) (request_begun image proc n f e)))
 
-pub served_answered : (image : ImageValue) (proc : ProcessorValue) (n : ℕ) (m after : TaggedMemory) (f : Fetched) (q : Request)
-    (a : Reply) → begun_of image proc n ≡ f → asked_by (stream_at proc.streams n) f ≡ Some q → (after, a) ≡ answer m q
-    → (row_by image proc n (Some a) (stream_at proc.streams n) f, after) ≡ served image proc n m
-unfolding served
-served_answered image proc n m after f q a e some answers =
-    ap (λ (x : TaggedMemory × Reply). (row_by image proc n (Some x.1) (stream_at proc.streams n) f, x.0)) answers
-    ∙ ap (λ x. (x, (answer m q).0)) (row_begun image proc n (Some (answer m q).1) f e)
-    ∙ sym (ap (served_asking image proc n m) (request_begun image proc n f e ∙ some))
+pub is_replied : (m after : TaggedMemory) (o : Option Request) (r : Option Reply) → (after, r) ≡ replied m o
+    → is_some r ≡ is_some o
+is_replied m after None r e = ap (λ (x : TaggedMemory × Option Reply). is_some x.1) e
+is_replied m after (Some q) r e = ap (λ (x : TaggedMemory × Option Reply). is_some x.1) e
 
 -- What a step that begins says of its stream.
 
@@ -106,12 +105,14 @@ rests fetch.Rest = true
 rests (fetch.Trap k) = false
 rests (fetch.Runs i) = false
 
-awake_status : (st : Status) (program : List ℕ) (pc : ℕ) → rests (fetched_if st program pc) ≡ false → is_idle_status st ≡ false
+awake_status : (st : Status) (program : List ℕ) (pc : ℕ) → rests (fetched_if st program pc) ≡ false
+    → is_idle_status st ≡ false
 awake_status Idle program pc e = cc
 awake_status Running program pc e = refl
 awake_status (Stopped k) program pc e = refl
 
-awake_from : (proc : ProcessorValue) (s : StreamValue) (f : Fetched) → rests (begun_from proc s f) ≡ false → rests f ≡ false
+awake_from : (proc : ProcessorValue) (s : StreamValue) (f : Fetched) → rests (begun_from proc s f) ≡ false
+    → rests f ≡ false
 awake_from proc s fetch.Rest e = e
 awake_from proc s (fetch.Trap k) e = refl
 awake_from proc s (fetch.Runs i) e = refl
@@ -134,9 +135,11 @@ pub awake : (image : ImageValue) (proc : ProcessorValue) (n : ℕ) → rests (be
     → (n < length proc.streams) × (is_idle (stream_at proc.streams n) ≡ false)
 unfolding begun_of
 awake image proc n there =
-    awake_seen image proc n (slice_get proc.streams n) (stream_at proc.streams n) refl (unwrap_or-slice_get proc.streams n idle) there
+    awake_seen image proc n (slice_get proc.streams n) (stream_at proc.streams n) refl
+    (unwrap_or-slice_get proc.streams n idle) there
 
-free_if : (b : Bool) (j i : Insn) → (if b then fetch.Trap kind.Create else fetch.Runs j) ≡ fetch.Runs i → (b ≡ false) × (j ≡ i)
+free_if : (b : Bool) (j i : Insn) → (if b then fetch.Trap kind.Create else fetch.Runs j) ≡ fetch.Runs i
+    → (b ≡ false) × (j ≡ i)
 free_if true j i e = cc
 free_if false j i e = (refl, cc)
 
@@ -160,7 +163,8 @@ pub free : (image : ImageValue) (proc : ProcessorValue) (n : ℕ) (i : Insn) →
     → lacks_stream proc (control_of (stream_at proc.streams n) i) ≡ false
 unfolding begun_of
 free image proc n i runs =
-    free_seen image proc (slice_get proc.streams n) (stream_at proc.streams n) i (unwrap_or-slice_get proc.streams n idle) runs
+    free_seen image proc (slice_get proc.streams n) (stream_at proc.streams n) i
+    (unwrap_or-slice_get proc.streams n idle) runs
 
 -- What a step needs says what it asks.
 
@@ -176,7 +180,8 @@ local_by s (fetch.Runs i) e = local_asks (request_of s i) e
 pub local_request : (image : ImageValue) (proc : ProcessorValue) (n : ℕ) → next_of image proc n ≡ next.Local
     → request image proc n ≡ None
 local_request image proc n e =
-    request_is image proc n ∙ local_by (stream_at proc.streams n) (begun_of image proc n) (sym (next_is image proc n) ∙ e)
+    request_is image proc n
+    ∙ local_by (stream_at proc.streams n) (begun_of image proc n) (sym (next_is image proc n) ∙ e)
 
 ask_asks : (o : Option Request) (q : Request) → next_asking o ≡ next.Ask q → o ≡ Some q
 ask_asks None q e = cc
@@ -187,10 +192,11 @@ ask_by s fetch.Rest q e = cc
 ask_by s (fetch.Trap k) q e = cc
 ask_by s (fetch.Runs i) q e = ask_asks (request_of s i) q e
 
-pub ask_request : (image : ImageValue) (proc : ProcessorValue) (n : ℕ) (q : Request) → next_of image proc n ≡ next.Ask q
-    → request image proc n ≡ Some q
+pub ask_request : (image : ImageValue) (proc : ProcessorValue) (n : ℕ) (q : Request)
+    → next_of image proc n ≡ next.Ask q → request image proc n ≡ Some q
 ask_request image proc n q e =
-    request_is image proc n ∙ ask_by (stream_at proc.streams n) (begun_of image proc n) q (sym (next_is image proc n) ∙ e)
+    request_is image proc n
+    ∙ ask_by (stream_at proc.streams n) (begun_of image proc n) q (sym (next_is image proc n) ∙ e)
 
 -- The same of the parts of a processor.
 

@@ -2,16 +2,14 @@
 use Rattle.std.proofs.Common.{◌≡◌, ℕ, zero, suc, ◌+◌, ◌<◌, ◌≤◌, ◌==◌, Bool, true, false, not, refl}
 use Rattle.std.proofs.Common.{sym, ap, ◌∙◌, subst, arith, zero-add, if◌then◌else◌}
 use Rattle.std.proofs.Common.{List, [], ◌∷◌, length, set, replicate, slice_get, slice_index, Option}
-use Rattle.std.proofs.Common.{None, Some}
+use Rattle.std.proofs.Common.{Some}
 use Rattle.std.proofs.lemmas.Option.{get_or_from_slice_get}
 use Rattle.std.specs.List.{position_or_len}
 use Rattle.std.proofs.lemmas.List.{length-set, get_or-set_same, length-replicate, get_or-replicate}
 use Rattle.std.proofs.lemmas.List.Sums.{passes_at_first}
 use Rattle.std.proofs.lemmas.Bool.{eqb-false}
-use Rattle.tag_memory.specs.declared.requests.Request.{Request}
 use Rattle.tag_memory.specs.declared.requests.Reply.{Reply}
 use Rattle.tag_memory.specs.Storage.{TaggedMemory}
-use Rattle.tag_memory.specs.Answer.{answer}
 use Rattle.image_file.specs.ImageValue.{ImageValue}
 use Rattle.stream_core.specs.Streams.{StreamValue, idle, trapped}
 use Rattle.stream_core.specs.Children.{born}
@@ -26,7 +24,7 @@ use Rattle.stream_core.specs.declared.steps.Control.TheVariants as asks
 use Rattle.processor.specs.Processors.{ProcessorValue, is_idle, count_current, IsCounted, stream_at}
 use Rattle.processor.specs.Processors.{first_stream, opening}
 use Rattle.processor.specs.Row.{lacks_stream, begun_of, granted, with_stream, lowest_idle, controlled, settled}
-use Rattle.processor.specs.Row.{row_by, row, request, served, served_asking}
+use Rattle.processor.specs.Row.{row_by, row, request, replied, served}
 use Rattle.processor.proofs.Begun.{rests, awake, free, row_is}
 use Rattle.processor.proofs.Awake.{awake-trapped, awake-row_asking}
 
@@ -45,7 +43,8 @@ count-set [] n t below = absurd (omega arith)
 count-set (x ∷ ss) zero t below = swapped (weight t) (count_current ss) (weight x)
 count-set (x ∷ ss) (suc n) t below =
     let inner : n < length ss = omega arith in
-    beside (weight x) (count_current (set ss n t)) (weight (stream_at ss n)) (count_current ss) (weight t) (count-set ss n t inner)
+    beside (weight x) (count_current (set ss n t)) (weight (stream_at ss n)) (count_current ss) (weight t)
+    (count-set ss n t inner)
 
 weight_awake : (s : StreamValue) → is_idle s ≡ false → weight s ≡ 1
 weight_awake s e = ap (λ b. if b then 0 else 1) e
@@ -53,7 +52,8 @@ weight_awake s e = ap (λ b. if b then 0 else 1) e
 weight_idle : (s : StreamValue) → is_idle s ≡ true → weight s ≡ 0
 weight_idle s e = ap (λ b. if b then 0 else 1) e
 
-some_counted : (ss : List StreamValue) (n : ℕ) → n < length ss → is_idle (stream_at ss n) ≡ false → 1 ≤ count_current ss
+some_counted : (ss : List StreamValue) (n : ℕ) → n < length ss → is_idle (stream_at ss n) ≡ false
+    → 1 ≤ count_current ss
 some_counted ss n below e =
     omega (arith, count-set ss n idle below, weight_awake (stream_at ss n) e, weight_idle idle refl)
 
@@ -84,40 +84,51 @@ idle_there (x ∷ ss) less =
 
 counted_with : (proc : ProcessorValue) (n : ℕ) (s : StreamValue) → IsCounted proc → n < length proc.streams
     → is_idle (stream_at proc.streams n) ≡ false → is_idle s ≡ false → IsCounted (with_stream proc n s)
-counted_with proc n s counted there was is = record {
-  counts = omega (arith, counted.counts, count-set proc.streams n s there, weight_awake (stream_at proc.streams n) was, weight_awake s is);
-  within_reserved = counted.within_reserved;
-  within_slim = omega (arith, counted.within_slim, length-set proc.streams n s);
-}
+counted_with proc n s counted there was is =
+    let change = count-set proc.streams n s there in
+    let before = weight_awake (stream_at proc.streams n) was in
+    record {
+      counts = omega (arith, counted.counts, change, before, weight_awake s is);
+      within_reserved = counted.within_reserved;
+      within_slim = omega (arith, counted.within_slim, length-set proc.streams n s);
+    }
 
 -- the counts, where stream n becomes idle
 counted_without : (proc : ProcessorValue) (n : ℕ) → IsCounted proc → n < length proc.streams
     → is_idle (stream_at proc.streams n) ≡ false → proc.current ≡ count_current (set proc.streams n idle) + 1
 counted_without proc n counted there was =
-    omega (arith, counted.counts, count-set proc.streams n idle there, weight_awake (stream_at proc.streams n) was, weight_idle idle refl)
+    let change = count-set proc.streams n idle there in
+    let before = weight_awake (stream_at proc.streams n) was in
+    omega (arith, counted.counts, change, before, weight_idle idle refl)
 
 created : (proc : ProcessorValue) (s : StreamValue) → IsCounted proc → (proc.current == proc.reserved) ≡ false
     → is_idle s ≡ false → IsCounted (record (with_stream proc (lowest_idle proc) s) { current = proc.current + 1 })
 created proc s counted apart is =
-    let less : proc.current < proc.reserved = omega (arith, counted.within_reserved, eqb-false proc.current proc.reserved apart) in
-    let there : lowest_idle proc < length proc.streams = idle_there proc.streams (omega (arith, counted.counts, counted.within_slim)) in
-    let free : is_idle (stream_at proc.streams (lowest_idle proc)) ≡ true = passes_at_first is_idle proc.streams idle there in
+    let less : proc.current < proc.reserved =
+    omega (arith, counted.within_reserved, eqb-false proc.current proc.reserved apart) in
+    let there : lowest_idle proc < length proc.streams =
+    idle_there proc.streams (omega (arith, counted.counts, counted.within_slim)) in
+    let free : is_idle (stream_at proc.streams (lowest_idle proc)) ≡ true =
+    passes_at_first is_idle proc.streams idle there in
+    let change = count-set proc.streams (lowest_idle proc) s there in
+    let before = weight_idle (stream_at proc.streams (lowest_idle proc)) free in
     record {
-      counts = omega (arith, counted.counts, count-set proc.streams (lowest_idle proc) s there, weight_idle (stream_at proc.streams (lowest_idle proc)) free, weight_awake s is);
+      counts = omega (arith, counted.counts, change, before, weight_awake s is);
       within_reserved = omega arith;
       within_slim = omega (arith, counted.within_slim, length-set proc.streams (lowest_idle proc) s);
     }
 
 counted_controlled : (proc : ProcessorValue) (n grant : ℕ) (c : Control) → IsCounted proc → n < length proc.streams
-    → is_idle (stream_at proc.streams n) ≡ false → lacks_stream proc c ≡ false → proc.reserved + grant ≤ length proc.streams
-    → IsCounted (controlled proc n grant c)
+    → is_idle (stream_at proc.streams n) ≡ false → lacks_stream proc c ≡ false
+    → proc.reserved + grant ≤ length proc.streams → IsCounted (controlled proc n grant c)
 counted_controlled proc n grant asks.Plain counted there was free fits = counted
 counted_controlled proc n grant (asks.Reserve asked) counted there was free fits = record {
   counts = counted.counts;
   within_reserved = omega (arith, counted.within_reserved);
   within_slim = fits;
 }
-counted_controlled proc n grant (asks.Create child) counted there was free fits = created proc (born child) counted free refl
+counted_controlled proc n grant (asks.Create child) counted there was free fits =
+    created proc (born child) counted free refl
 counted_controlled proc n grant asks.Quit counted there was free fits =
     let without = counted_without proc n counted there was in
     record {
@@ -137,7 +148,8 @@ counted_settled : (proc : ProcessorValue) (n grant : ℕ) (c : Control) (o : Out
     → n < length proc.streams → is_idle (stream_at proc.streams n) ≡ false → lacks_stream proc c ≡ false
     → proc.reserved + grant ≤ length proc.streams → IsCounted (settled proc n grant c o)
 counted_settled proc n grant c outcome.Skipped counted there was free fits = counted
-counted_settled proc n grant c outcome.Done counted there was free fits = counted_controlled proc n grant c counted there was free fits
+counted_settled proc n grant c outcome.Done counted there was free fits =
+    counted_controlled proc n grant c counted there was free fits
 counted_settled proc n grant c outcome.Blocked counted there was free fits = counted
 counted_settled proc n grant c (outcome.Trapped k) counted there was free fits = counted
 counted_settled proc n grant c (outcome.Stopped k) counted there was free fits = counted
@@ -165,7 +177,8 @@ counted_done : (image : ImageValue) (proc : ProcessorValue) (n : ℕ) (s : Strea
 counted_done image proc n s c o slim counted there was is free =
     let same = length-set proc.streams n s in
     let fits = granted_fits image proc c slim counted.within_slim in
-    let here : is_idle (stream_at (set proc.streams n s) n) ≡ false = ap is_idle (get_or-set_same proc.streams n s idle there) ∙ is in
+    let here : is_idle (stream_at (set proc.streams n s) n) ≡ false =
+    ap is_idle (get_or-set_same proc.streams n s idle there) ∙ is in
     counted_settled (with_stream proc n s) n (granted image proc c) c o (counted_with proc n s counted there was is)
     (omega (arith, there, same)) here (lacks-with_stream proc n s c ∙ free) (omega (arith, fits, same))
 
@@ -193,15 +206,11 @@ counted_row image proc n r slim counted =
     let P : ProcessorValue × Outcome → Type 0 = λ x. IsCounted x.0 in
     subst P (sym (row_is image proc n r)) (counted_by image proc n r (begun_of image proc n) slim counted refl)
 
-counted_asking : (image : ImageValue) (proc : ProcessorValue) (n : ℕ) (m : TaggedMemory) (o : Option Request)
-    → image.slim ≡ length proc.streams → IsCounted proc → IsCounted (served_asking image proc n m o).0.0
-counted_asking image proc n m None slim counted = counted_row image proc n None slim counted
-counted_asking image proc n m (Some q) slim counted = counted_row image proc n (Some (answer m q).1) slim counted
-
 pub counted_served : (image : ImageValue) (proc : ProcessorValue) (n : ℕ) (m : TaggedMemory)
     → image.slim ≡ length proc.streams → IsCounted proc → IsCounted (served image proc n m).0.0
 unfolding served
-counted_served image proc n m slim counted = counted_asking image proc n m (request image proc n) slim counted
+counted_served image proc n m slim counted =
+    counted_row image proc n (replied m (request image proc n)).1 slim counted
 
 -- The counts at the start.
 
@@ -217,25 +226,30 @@ counted_opening image entry some =
     let there : 0 < length ss = omega (arith, all) in
     let was : is_idle (stream_at ss 0) ≡ true = ap is_idle (get_or-replicate image.slim 0 idle idle (omega arith)) in
     let first = first_stream image entry in
+    let change = count-set ss 0 first there in
+    let before = weight_idle (stream_at ss 0) was in
     record {
-      counts = omega (arith, count-set ss 0 first there, count-idle image.slim, weight_idle (stream_at ss 0) was, weight_awake first refl);
+      counts = omega (arith, change, count-idle image.slim, before, weight_awake first refl);
       within_reserved = omega arith;
       within_slim = omega (arith, length-set ss 0 first, all);
     }
 
 -- The same of the parts of a processor.
 
-pub counted_new : (image : ImageValue) (now old new : ProcessorValue) (n : ℕ) (r : Option Reply) (o : Outcome) → old ≡ now
-    → image.slim ≡ length now.streams → IsCounted old → (new, o) ≡ row image old n r → IsCounted new
+pub counted_new : (image : ImageValue) (now old new : ProcessorValue) (n : ℕ) (r : Option Reply) (o : Outcome)
+    → old ≡ now → image.slim ≡ length now.streams → IsCounted old → (new, o) ≡ row image old n r → IsCounted new
 counted_new image now old new n r o same slim counted stepped =
     let P : ProcessorValue × Outcome → Type 0 = λ x. IsCounted x.0 in
-    subst P (sym stepped) (counted_row image old n r (slim ∙ ap (λ (p : ProcessorValue). length p.streams) (sym same)) counted)
+    let as_many = slim ∙ ap (λ (p : ProcessorValue). length p.streams) (sym same) in
+    subst P (sym stepped) (counted_row image old n r as_many counted)
 
 pub counted_over : (image : ImageValue) (now old new : ProcessorValue) (n : ℕ) (m after : TaggedMemory) (o : Outcome)
-    → old ≡ now → image.slim ≡ length now.streams → IsCounted old → ((new, o), after) ≡ served image old n m → IsCounted new
+    → old ≡ now → image.slim ≡ length now.streams → IsCounted old → ((new, o), after) ≡ served image old n m
+    → IsCounted new
 counted_over image now old new n m after o same slim counted stepped =
     let P : (ProcessorValue × Outcome) × TaggedMemory → Type 0 = λ x. IsCounted x.0.0 in
-    subst P (sym stepped) (counted_served image old n m (slim ∙ ap (λ (p : ProcessorValue). length p.streams) (sym same)) counted)
+    let as_many = slim ∙ ap (λ (p : ProcessorValue). length p.streams) (sym same) in
+    subst P (sym stepped) (counted_served image old n m as_many counted)
 
 -- a processor made of a table with its first stream
 pub opened : (image : ImageValue) (number entry slim : ℕ) (first : StreamValue) (ss : List StreamValue)

@@ -1,13 +1,11 @@
 -- A step keeps the other streams.
 use Rattle.std.proofs.Common.{◌≡◌, ◌≢◌, ℕ, ◌+◌, ◌⊎◌, inl, inr, false, refl, sym, ap, ◌∙◌}
-use Rattle.std.proofs.Common.{subst, arith, set, Option, None, Some}
+use Rattle.std.proofs.Common.{subst, arith, set, Option}
 use Rattle.std.proofs.lemmas.Bool.{cases_lt}
 use Rattle.std.proofs.lemmas.List.{length-set, get_or-set_other}
 use Rattle.std.proofs.lemmas.List.Folds.{position_or_len-set}
 use Rattle.tag_memory.specs.declared.requests.Reply.{Reply}
-use Rattle.tag_memory.specs.declared.requests.Request.{Request}
 use Rattle.tag_memory.specs.Storage.{TaggedMemory}
-use Rattle.tag_memory.specs.Answer.{answer}
 use Rattle.image_file.specs.ImageValue.{ImageValue}
 use Rattle.stream_core.specs.Streams.{StreamValue, idle, trapped}
 use Rattle.stream_core.specs.Children.{born}
@@ -21,7 +19,7 @@ use Rattle.stream_core.specs.declared.steps.Control.{Control}
 use Rattle.stream_core.specs.declared.steps.Control.TheVariants as asks
 use Rattle.processor.specs.Processors.{ProcessorValue, is_idle, stream_at}
 use Rattle.processor.specs.Row.{begun_of, granted, with_stream, lowest_idle, controlled, settled, row_by, row}
-use Rattle.processor.specs.Row.{request, served, served_asking}
+use Rattle.processor.specs.Row.{request, replied, served}
 use Rattle.processor.specs.Kept.{IsStarted, KeepsOthers}
 use Rattle.processor.proofs.Begun.{rests, awake, row_is}
 use Rattle.processor.proofs.Awake.{awake-row_asking}
@@ -41,7 +39,8 @@ kept_twice : (n : ℕ) (proc : ProcessorValue) (s t : StreamValue) (current rese
     → KeepsOthers n proc (record { streams = set (set proc.streams n s) n t; current = current; reserved = reserved })
 kept_twice n proc s t current reserved = record {
   as_many = length-set (set proc.streams n s) n t ∙ length-set proc.streams n s;
-  others = λ k apart. inl (get_or-set_other (set proc.streams n s) n k t idle apart ∙ get_or-set_other proc.streams n k s idle apart);
+  others = λ k apart. inl (get_or-set_other (set proc.streams n s) n k t idle apart
+      ∙ get_or-set_other proc.streams n k s idle apart);
 }
 
 same_or_other : (k j : ℕ) → (k ≢ j) ⊎ (k ≡ j)
@@ -53,15 +52,20 @@ same_or_other k j = elim (cases_lt k j) [
 started : (n j : ℕ) (proc : ProcessorValue) (s t : StreamValue) (reserved : ℕ) → j ≡ lowest_idle proc
     → (k : ℕ) → (k ≢ n)
     → (stream_at (set (set proc.streams n s) j t) k ≡ stream_at proc.streams k)
-    ⊎ IsStarted proc (record { streams = set (set proc.streams n s) j t; current = proc.current + 1; reserved = reserved }) k
+    ⊎ IsStarted proc (record {
+      streams = set (set proc.streams n s) j t;
+      current = proc.current + 1;
+      reserved = reserved;
+    }) k
 started n j proc s t reserved is k apart = elim (same_or_other k j) [
-  | inl other ↦ inl (get_or-set_other (set proc.streams n s) j k t idle other ∙ get_or-set_other proc.streams n k s idle apart)
+  | inl other ↦ inl (get_or-set_other (set proc.streams n s) j k t idle other
+      ∙ get_or-set_other proc.streams n k s idle apart)
   | inr same ↦ inr (same ∙ is, refl)
 ]
 
 -- the lowest idle stream is the same after a step of another
-lowest_same : (proc : ProcessorValue) (n : ℕ) (s : StreamValue) → is_idle (stream_at proc.streams n) ≡ false → is_idle s ≡ false
-    → lowest_idle (with_stream proc n s) ≡ lowest_idle proc
+lowest_same : (proc : ProcessorValue) (n : ℕ) (s : StreamValue) → is_idle (stream_at proc.streams n) ≡ false
+    → is_idle s ≡ false → lowest_idle (with_stream proc n s) ≡ lowest_idle proc
 lowest_same proc n s was is = position_or_len-set is_idle proc.streams n s idle (is ∙ sym was)
 
 kept_controlled : (n grant : ℕ) (proc : ProcessorValue) (s : StreamValue) (c : Control)
@@ -87,8 +91,8 @@ kept_settled n grant proc s c outcome.Blocked was is = kept_with n proc s proc.c
 kept_settled n grant proc s c (outcome.Trapped k) was is = kept_with n proc s proc.current proc.reserved
 kept_settled n grant proc s c (outcome.Stopped k) was is = kept_with n proc s proc.current proc.reserved
 
-kept_by : (image : ImageValue) (proc : ProcessorValue) (n : ℕ) (r : Option Reply) (f : Fetched) → begun_of image proc n ≡ f
-    → KeepsOthers n proc (row_by image proc n r (stream_at proc.streams n) f).0
+kept_by : (image : ImageValue) (proc : ProcessorValue) (n : ℕ) (r : Option Reply) (f : Fetched)
+    → begun_of image proc n ≡ f → KeepsOthers n proc (row_by image proc n r (stream_at proc.streams n) f).0
 kept_by image proc n r fetch.Rest e = kept_same n proc
 kept_by image proc n r (fetch.Trap k) e =
     kept_with n proc (trapped k 0 (stream_at proc.streams n)).0 proc.current proc.reserved
@@ -106,20 +110,15 @@ kept_row image proc n r =
     let P : ProcessorValue × Outcome → Type 0 = λ x. KeepsOthers n proc x.0 in
     subst P (sym (row_is image proc n r)) (kept_by image proc n r (begun_of image proc n) refl)
 
-kept_asking : (image : ImageValue) (proc : ProcessorValue) (n : ℕ) (m : TaggedMemory) (o : Option Request)
-    → KeepsOthers n proc (served_asking image proc n m o).0.0
-kept_asking image proc n m None = kept_row image proc n None
-kept_asking image proc n m (Some q) = kept_row image proc n (Some (answer m q).1)
-
 pub kept_served : (image : ImageValue) (proc : ProcessorValue) (n : ℕ) (m : TaggedMemory)
     → KeepsOthers n proc (served image proc n m).0.0
 unfolding served
-kept_served image proc n m = kept_asking image proc n m (request image proc n)
+kept_served image proc n m = kept_row image proc n (replied m (request image proc n)).1
 
 -- The same of the parts of a processor.
 
-pub kept_new : (image : ImageValue) (now old new : ProcessorValue) (n : ℕ) (r : Option Reply) (o : Outcome) → old ≡ now
-    → (new, o) ≡ row image old n r → KeepsOthers n now new
+pub kept_new : (image : ImageValue) (now old new : ProcessorValue) (n : ℕ) (r : Option Reply) (o : Outcome)
+    → old ≡ now → (new, o) ≡ row image old n r → KeepsOthers n now new
 kept_new image now old new n r o same stepped =
     let P : ProcessorValue × Outcome → Type 0 = λ x. KeepsOthers n now x.0 in
     subst P (sym (stepped ∙ ap (λ p. row image p n r) same)) (kept_row image now n r)

@@ -19,8 +19,8 @@ use Rattle.processor.specs.Processors.{is_idle, stream_at, stream_seen, IsRoom}
 use Rattle.processor.specs.Table.{placed}
 
 -- a used place is one below slim
-pub below_slim : (size slim n : ℕ) (ss now : List StreamValue) → IsRoom size slim ss → take slim ss ≡ now → n < length now
-    → n < slim
+pub below_slim : (size slim n : ℕ) (ss now : List StreamValue) → IsRoom size slim ss → take slim ss ≡ now
+    → n < length now → n < slim
 below_slim size slim n ss now room seen used =
     let within : slim ≤ length ss = omega (arith, room.size_is, room.within) in
     omega (arith, ap length seen, length-take-le slim ss within)
@@ -30,16 +30,16 @@ pub put_seen : (slim n : ℕ) (ss now : List StreamValue) (x : StreamValue) → 
 put_seen slim n ss now x seen below = take-set-lt slim ss n x below ∙ ap (λ v. set v n x) seen
 
 -- what is read below slim is what is seen there
-pub read_seen : (size slim n : ℕ) (ss now : List StreamValue) (x : StreamValue) → IsRoom size slim ss → take slim ss ≡ now
-    → n < slim → x ≡ get_or ss n x → x ≡ stream_at now n
+pub read_seen : (size slim n : ℕ) (ss now : List StreamValue) (x : StreamValue) → IsRoom size slim ss
+    → take slim ss ≡ now → n < slim → x ≡ get_or ss n x → x ≡ stream_at now n
 read_seen size slim n ss now x room seen below e =
     let inside : n < length ss = omega (arith, room.size_is, room.within) in
     get_or_read ss n x inside e idle ∙ sym (get_or-take slim ss n idle below) ∙ ap (λ v. get_or v n idle) seen
 
 -- a stream that takes its step in its place
 pub step_seen : (size slim n : ℕ) (ss now : List StreamValue) (x y : StreamValue) (o : Outcome)
-    (f : StreamValue → StreamValue × Outcome) → IsRoom size slim ss → take slim ss ≡ now → n < length now → x ≡ get_or ss n x
-    → (y, o) ≡ f x → (take slim (set ss n y), o) ≡ placed now n (f (stream_at now n))
+    (f : StreamValue → StreamValue × Outcome) → IsRoom size slim ss → take slim ss ≡ now → n < length now
+    → x ≡ get_or ss n x → (y, o) ≡ f x → (take slim (set ss n y), o) ≡ placed now n (f (stream_at now n))
 step_seen size slim n ss now x y o f room seen used e stepped =
     let below = below_slim size slim n ss now room seen used in
     ap (λ v. (v, o)) (put_seen slim n ss now y seen below)
@@ -52,8 +52,8 @@ unasked limit s i grant r None same none = refl
 unasked limit s i grant None (Some q) same none = cc
 unasked limit s i grant (Some a) (Some q) same none = cc
 
-pub answered : (limit : ℕ) (s : StreamValue) (i : Insn) (grant : ℕ) (r : Option Reply) (o : Option Request) (a : Reply)
-    → is_some r ≡ is_some o → r ≡ Some a → replied limit s i grant a ≡ row_asking limit s i grant r o
+pub answered : (limit : ℕ) (s : StreamValue) (i : Insn) (grant : ℕ) (r : Option Reply) (o : Option Request)
+    (a : Reply) → is_some r ≡ is_some o → r ≡ Some a → replied limit s i grant a ≡ row_asking limit s i grant r o
 answered limit s i grant None o a same some = cc
 answered limit s i grant (Some b) None a same some = cc
 answered limit s i grant (Some b) (Some q) a same some = ap (λ v. row_asking limit s i grant v (Some q)) (sym some)
@@ -67,27 +67,28 @@ at_past size slim n ss now x room seen below e past =
     get_or_read ss n x inside e idle ∙ room.others_idle n past ∙ sym (get_or_past now n idle short)
 
 -- what is read anywhere is what is seen there, where streams that are not used are idle
-pub at_any : (size slim n : ℕ) (ss now : List StreamValue) (x : StreamValue) → IsRoom size slim ss → take slim ss ≡ now
-    → n < size → x ≡ get_or ss n x → x ≡ stream_at now n
+pub at_any : (size slim n : ℕ) (ss now : List StreamValue) (x : StreamValue) → IsRoom size slim ss
+    → take slim ss ≡ now → n < size → x ≡ get_or ss n x → x ≡ stream_at now n
 at_any size slim n ss now x room seen below e = elim (cases_lt n slim) [
   | inl used ↦ read_seen size slim n ss now x room seen used e
   | inr past ↦ at_past size slim n ss now x room seen below e past
 ]
 
 -- an instruction that is completed in its place
-pub complete_unasked : (size slim n : ℕ) (ss now : List StreamValue) (x y : StreamValue) (limit : ℕ) (i : Insn) (grant : ℕ)
-    (r : Option Reply) → IsRoom size slim ss → take slim ss ≡ now → n < length now → x ≡ get_or ss n x
+pub complete_unasked : (size slim n : ℕ) (ss now : List StreamValue) (x y : StreamValue) (limit : ℕ) (i : Insn)
+    (grant : ℕ) (r : Option Reply) → IsRoom size slim ss → take slim ss ≡ now → n < length now → x ≡ get_or ss n x
     → is_some r ≡ is_some (request_of (stream_at now n) i) → r ≡ None → y ≡ executed x i 0 grant
     → (take slim (set ss n y), outcome.Done)
     ≡ placed now n (row_asking limit (stream_at now n) i grant r (request_of (stream_at now n) i))
 complete_unasked size slim n ss now x y limit i grant r room seen used e same none done =
     let there = read_seen size slim n ss now x room seen (below_slim size slim n ss now room seen used) e in
     let asks = same ∙ ap (λ s. is_some (request_of s i)) (sym there) in
-    step_seen size slim n ss now x y outcome.Done (λ s. row_asking limit s i grant r (request_of s i)) room seen used e
-    (ap (λ s. (s, outcome.Done)) done ∙ unasked limit x i grant r (request_of x i) asks none)
+    let done_is = ap (λ s. (s, outcome.Done)) done ∙ unasked limit x i grant r (request_of x i) asks none in
+    step_seen size slim n ss now x y outcome.Done (λ s. row_asking limit s i grant r (request_of s i))
+    room seen used e done_is
 
-pub complete_answered : (size slim n : ℕ) (ss now : List StreamValue) (x y : StreamValue) (o : Outcome) (limit : ℕ) (i : Insn)
-    (grant : ℕ) (r : Option Reply) (a : Reply) → IsRoom size slim ss → take slim ss ≡ now → n < length now
+pub complete_answered : (size slim n : ℕ) (ss now : List StreamValue) (x y : StreamValue) (o : Outcome) (limit : ℕ)
+    (i : Insn) (grant : ℕ) (r : Option Reply) (a : Reply) → IsRoom size slim ss → take slim ss ≡ now → n < length now
     → x ≡ get_or ss n x → is_some r ≡ is_some (request_of (stream_at now n) i) → r ≡ Some a
     → (y, o) ≡ replied limit x i grant a
     → (take slim (set ss n y), o)
@@ -108,17 +109,20 @@ first_idle size slim n ss now x b room seen below e is found before =
     let here = ap is_idle (sym (read_seen size slim n ss now x room seen below e)) ∙ sym is ∙ found in
     sym (position_or_len_is is_idle now n idle inside before (λ _. here))
 
-pub no_idle : (size slim n end : ℕ) (ss now : List StreamValue) → IsRoom size slim ss → take slim ss ≡ now → end ≡ slim
-    → end ≤ n → ((k : ℕ) → k < n → is_idle (stream_at now k) ≡ false) → end ≡ position_or_len is_idle now
+pub no_idle : (size slim n end : ℕ) (ss now : List StreamValue) → IsRoom size slim ss → take slim ss ≡ now
+    → end ≡ slim → end ≤ n → ((k : ℕ) → k < n → is_idle (stream_at now k) ≡ false)
+    → end ≡ position_or_len is_idle now
 no_idle size slim n end ss now room seen is past before =
     let within : slim ≤ length ss = omega (arith, room.size_is, room.within) in
     let same : end ≡ length now = omega (arith, ap length seen, length-take-le slim ss within) in
-    sym (position_or_len_is is_idle now end idle (omega arith) (λ k h. before k (omega arith)) (λ h. absurd (omega arith)))
+    sym (position_or_len_is is_idle now end idle (omega arith) (λ k h. before k (omega arith))
+    (λ h. absurd (omega arith)))
 
 -- a stream that is seen, used or not
-pub any_seen : (size slim n : ℕ) (ss now : List StreamValue) (x : StreamValue) → IsRoom size slim ss → take slim ss ≡ now
-    → n < size → x ≡ get_or ss n x → Some x ≡ stream_seen size now n
-any_seen size slim n ss now x room seen below e = rw (lt-ltb n size below) (ap Some (at_any size slim n ss now x room seen below e))
+pub any_seen : (size slim n : ℕ) (ss now : List StreamValue) (x : StreamValue) → IsRoom size slim ss
+    → take slim ss ≡ now → n < size → x ≡ get_or ss n x → Some x ≡ stream_seen size now n
+any_seen size slim n ss now x room seen below e =
+    rw (lt-ltb n size below) (ap Some (at_any size slim n ss now x room seen below e))
 
 -- a new table
 pub new_seen : (size slim : ℕ) (ss : List StreamValue) (x y : StreamValue) → 1 ≤ slim → slim ≤ size → y ≡ idle

@@ -38,8 +38,8 @@ begun_from proc s fetch.Rest = fetch.Rest
 begun_from proc s (fetch.Trap k) = fetch.Trap k
 begun_from proc s (fetch.Runs i) = if lacks_stream proc (control_of s i) then fetch.Trap kind.Create else fetch.Runs i
 
--- rest where the stream does not run; a trap where there is no word, no instruction or no stream for a CREATE, in this
--- order; else the instruction at the pc
+-- rest where the stream does not run; a trap where there is no word, no instruction or no stream for a CREATE, in
+-- this order; else the instruction at the pc
 unfoldable pub begun : ImageValue → ProcessorValue → StreamValue → Fetched
 begun image proc s = begun_from proc s (fetched image.program s)
 
@@ -149,11 +149,15 @@ row image proc n reply = row_at image proc n reply (slice_get proc.streams n)
 
 -- Over a memory.
 
-abbrev pub served_asking : ImageValue → ProcessorValue → ℕ → TaggedMemory → Option Request
+-- the memory after it answers what a step asks, and its reply
+abbrev pub replied : TaggedMemory → Option Request → TaggedMemory × Option Reply
+replied m None = (m, None)
+replied m (Some q) = ((answer m q).0, Some (answer m q).1)
+
+abbrev pub served_replied : ImageValue → ProcessorValue → ℕ → TaggedMemory × Option Reply
     → (ProcessorValue × Outcome) × TaggedMemory
-served_asking image proc n m None = (row image proc n None, m)
-served_asking image proc n m (Some q) = (row image proc n (Some (answer m q).1), (answer m q).0)
+served_replied image proc n e = (row image proc n e.1, e.0)
 
 -- the processor after a step of stream n whose request this memory answers, the outcome, and the memory
 unfoldable pub served : ImageValue → ProcessorValue → ℕ → TaggedMemory → (ProcessorValue × Outcome) × TaggedMemory
-served image proc n m = served_asking image proc n m (request image proc n)
+served image proc n m = served_replied image proc n (replied m (request image proc n))

@@ -7,7 +7,7 @@ ghost use Rattle.stream_core.specs.Effects.{request_of};
 ghost use Rattle.stream_core.specs.Streams.{StreamValue, idle, trapped};
 ghost use Rattle.processor.specs.Processors.{stream_at, IsCounted};
 ghost use Rattle.processor.specs.Row.{lacks_stream, granted, begun_of, controlled, put_back, row_controlling};
-ghost use Rattle.processor.specs.Row.{request, next_of, row, served};
+ghost use Rattle.processor.specs.Row.{request, next_of, row, replied, served};
 
 use crate::steps::Next;
 use crate::stream_table::StreamTable;
@@ -16,7 +16,7 @@ use insn_word::{ControlOp, Insn};
 use std::alloc::{AllocError, Global};
 use std::marker::Model;
 use stream_core::{Control, Fetched, Outcome, Stream, TrapKind};
-use tag_memory::{Memory, Reply};
+use tag_memory::{Memory, Reply, Request};
 
 /// The streams and the counts, which clauses see as a processor.
 #[derive(Drop)]
@@ -126,8 +126,9 @@ impl<const S: usize> CountedStreams<S> {
         self.table.trap(place, kind)
     }
 
-    /// Completes the step of the instruction that stands at the pc of a stream, with the memory's reply to its request
-    /// where it has one.
+    /// Completes the step of the instruction that stands at the pc of a stream, with the memory's reply to its
+    /// request where it has one.
+    #[inline(always)]
     fn complete(
         &mut self,
         image: &Image,
@@ -193,13 +194,11 @@ impl<const S: usize> CountedStreams<S> {
         match self.begun(image, place) {
             Fetched::Rest => Outcome::Skipped,
             Fetched::Trap(kind) => self.trap(place, kind),
-            Fetched::Runs(insn) => match self.at(place).request(&insn) {
-                None => self.complete(image, place, &insn, None),
-                Some(request) => {
-                    let reply = memory.serve(&request);
-                    self.complete(image, place, &insn, Some(reply))
-                }
-            },
+            Fetched::Runs(insn) => {
+                let request = self.at(place).request(&insn);
+                let reply = reply_of(memory, request);
+                self.complete(image, place, &insn, reply)
+            }
         }
     }
 
@@ -213,6 +212,17 @@ impl<const S: usize> CountedStreams<S> {
             sres: self.sres,
             table,
         })
+    }
+}
+
+/// The memory's reply to what a step asks, if it asks anything.
+#[inline(always)]
+fn reply_of(memory: &mut Memory, request: Option<Request>) -> Option<Reply>
+    ensures { (memory.new, result) ≡ replied memory.old request }
+{
+    match request {
+        None => None,
+        Some(request) => Some(memory.serve(&request)),
     }
 }
 

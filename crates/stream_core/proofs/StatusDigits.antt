@@ -35,7 +35,9 @@ four_digits m z n c v x hz hn hc hv e = (omega arith, omega arith, omega arith, 
 
 code_kept : (m : ℕ) (c : Code) (x : ℕ) → m ≡ code_number c + 16 * x → code_from m ≡ c
 code_kept m c x e =
-    let d = four_digits m (number_of c.zero) (number_of c.negative) (number_of c.carry) (number_of c.overflow) x (flag_small c.zero) (flag_small c.negative) (flag_small c.carry) (flag_small c.overflow) e in
+    let d =
+    four_digits m (number_of c.zero) (number_of c.negative) (number_of c.carry) (number_of c.overflow) x
+    (flag_small c.zero) (flag_small c.negative) (flag_small c.carry) (flag_small c.overflow) e in
     λ i. record {
       zero = flag_is c.zero _ d.0 i;
       negative = flag_is c.negative _ d.1 i;
@@ -72,7 +74,11 @@ mask_kept m k x e =
     let first : m / 2 ^ 0 % 2 ≡ number_of k.trap0 = omega arith in
     let second : m / 2 ^ 1 % 2 ≡ number_of k.trap1 = omega arith in
     let third : m / 2 ^ 2 % 2 ≡ number_of k.blocked = omega arith in
-    λ i. record { trap0 = flag_is k.trap0 _ first i; trap1 = flag_is k.trap1 _ second i; blocked = flag_is k.blocked _ third i }
+    λ i. record {
+      trap0 = flag_is k.trap0 _ first i;
+      trap1 = flag_is k.trap1 _ second i;
+      blocked = flag_is k.blocked _ third i;
+    }
 
 pub status_kept : IsKeptInDigits
 unfolding status_number status_from
@@ -118,7 +124,8 @@ and_digits n =
     let split : n ≡ high * 2 ^ 51 + low = omega arith in
     let cut = and_block 51 high 32 low (2 ^ 51 - 1) (omega arith) (omega arith) in
     let whole : bit_and low (2 ^ 51 - 1) ≡ low = and_mask low 51 ∙ (let e : low % 2 ^ 51 ≡ low = omega arith in e) in
-    let cut_high : bit_and (high / 32 * 2 ^ 5 + high % 32) (1 * 2 ^ 5 + 0) ≡ bit_and (high / 32) 1 * 2 ^ 5 + bit_and (high % 32) 0 =
+    let cut_high : bit_and (high / 32 * 2 ^ 5 + high % 32) (1 * 2 ^ 5 + 0)
+    ≡ bit_and (high / 32) 1 * 2 ^ 5 + bit_and (high % 32) 0 =
     and_block 5 (high / 32) 1 (high % 32) 0 (omega arith) (omega arith) in
     let split_high : high ≡ high / 32 * 2 ^ 5 + high % 32 = omega arith in
     let one : bit_and (high / 32) 1 ≡ high / 32 % 2 = and_mask (high / 32) 1 in
@@ -134,6 +141,7 @@ status_own n =
     let codes : codes_number (codes_from (n / 2 ^ 32)) ≡ n / 2 ^ 32 % 65536 = codes_digits (n / 2 ^ 32) in
     let mask : mask_number (mask_from (n / 2 ^ 48)) ≡ n / 2 ^ 48 % 8 = mask_digits (n / 2 ^ 48) in
     let in_trap : number_of (n / 2 ^ 56 % 2 == 1) ≡ n / 2 ^ 56 % 2 = has_digit n 56 in
-    let sum : n % 2 ^ 32 + codes_number (codes_from (n / 2 ^ 32)) * 2 ^ 32 + mask_number (mask_from (n / 2 ^ 48)) * 2 ^ 48 + number_of (n / 2 ^ 56 % 2 == 1) * 2 ^ 56
+    let sum : n % 2 ^ 32 + codes_number (codes_from (n / 2 ^ 32)) * 2 ^ 32
+    + mask_number (mask_from (n / 2 ^ 48)) * 2 ^ 48 + number_of (n / 2 ^ 56 % 2 == 1) * 2 ^ 56
     ≡ n % 2 ^ 51 + n / 2 ^ 56 % 2 * 2 ^ 56 = omega arith in
     sum ∙ sym (and_digits n)

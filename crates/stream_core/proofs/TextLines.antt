@@ -19,7 +19,8 @@ unfolding register_lines
 register_lines-end rs r h = let none : 32 - r ≡ 0 = omega arith in ap (λ k. register_lines rs k r) none
 
 pub target_lines-step : (ts : List StatusWord) (t : ℕ) → t < 8
-    → target_lines ts (8 - t) t ≡ target_line t (status_number (target_at ts t)) ++ target_lines ts (8 - (t + 1)) (t + 1)
+    → target_lines ts (8 - t) t
+    ≡ target_line t (status_number (target_at ts t)) ++ target_lines ts (8 - (t + 1)) (t + 1)
 unfolding target_lines
 target_lines-step ts t h = let one : 8 - t ≡ suc (8 - (t + 1)) = omega arith in ap (λ k. target_lines ts k t) one
 
@@ -34,8 +35,8 @@ text_begins text s e = ap (λ xs. xs ++ register_lines s.registers 32 0 ++ targe
 
 -- one more line in the text is one less to come
 pub register_written : (rs : List ℕ) (r v : ℕ) (text new targets all : List ℕ) → r < 32 → v ≡ register_at rs r
-    → new ≡ text ++ register_line r v
-    → text ++ register_lines rs (32 - r) r ++ targets ≡ all → new ++ register_lines rs (32 - (r + 1)) (r + 1) ++ targets ≡ all
+    → new ≡ text ++ register_line r v → text ++ register_lines rs (32 - r) r ++ targets ≡ all
+    → new ++ register_lines rs (32 - (r + 1)) (r + 1) ++ targets ≡ all
 register_written rs r v text new targets all h is e whole =
     let rest = register_lines rs (32 - (r + 1)) (r + 1) in
     ap (λ xs. xs ++ rest ++ targets) (e ∙ ap (λ n. text ++ register_line r n) is)

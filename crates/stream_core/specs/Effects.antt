@@ -84,7 +84,9 @@ next pc = (pc + 1) % 2 ^ 32
 abbrev pub left : StreamValue → APart → StatusWord
 left s a = record s.ssw {
   pc = next s.ssw.pc;
-  codes = if a.test then pushed (code_of a.op (register_at s.registers a.ra) (second s a)) s.ssw.codes else s.ssw.codes;
+  codes =
+      if a.test then pushed (code_of a.op (register_at s.registers a.ra) (second s a)) s.ssw.codes
+      else s.ssw.codes;
 }
 
 -- The control operation; l is the status word that the step would leave.

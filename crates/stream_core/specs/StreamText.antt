@@ -19,8 +19,8 @@ status_text (Stopped k) = codes "Stopped " ++ two_digits (trap_number k)
 -- the line of a stream's status
 unfoldable pub status_line : StreamValue → List ℕ
 status_line s =
-    status_text s.status ++ codes " ssw " ++ hexadecimal_16 (status_number s.ssw) ++ codes " xr " ++ hexadecimal_16 s.xr
-    ++ codes " retries " ++ decimal s.retries ++ codes "\n"
+    status_text s.status ++ codes " ssw " ++ hexadecimal_16 (status_number s.ssw) ++ codes " xr "
+    ++ hexadecimal_16 s.xr ++ codes " retries " ++ decimal s.retries ++ codes "\n"
 
 -- a register's line; one that is zero has none
 unfoldable pub register_line : ℕ → ℕ → List ℕ

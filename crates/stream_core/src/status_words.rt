@@ -1,4 +1,5 @@
-//! Status words: the pc, four condition codes, the trap mask and the in-trap bit. Target registers have the same format.
+//! Status words: the pc, four condition codes, the trap mask and the in-trap bit. Target registers have the same
+//! format.
 
 ghost use Rattle.std.specs.Prelude.{◌≡◌, ◌<◌, ◌^◌, bit_and};
 ghost use Rattle.stream_core.specs.Effects.{code_at};

@@ -21,8 +21,10 @@ LeadsOn m q hops p (next ∷ rest) end = (probe m q p ≡ Forward next) × Leads
 
 -- a path that leads to an end does so from each of its pointers on
 leads_on : (m : TaggedMemory) (q : Request) (path : List ℕ) (end : End) → Leads m q path end
-    → (rest front : List ℕ) (hops p : ℕ) → hops ≡ length front → path ≡ front ++ p ∷ rest → LeadsOn m q hops p rest end
-leads_on m q path end leads [] front hops p made cut = ap (λ h. ending h p (probe m q p)) made ∙ leads.ends front p cut
+    → (rest front : List ℕ) (hops p : ℕ) → hops ≡ length front → path ≡ front ++ p ∷ rest
+    → LeadsOn m q hops p rest end
+leads_on m q path end leads [] front hops p made cut =
+    ap (λ h. ending h p (probe m q p)) made ∙ leads.ends front p cut
 leads_on m q path end leads (next ∷ rest) front hops p made cut = (
   leads.linked front rest p next cut,
   leads_on m q path end leads rest (front ++ p ∷ []) (hops + 1) next (omega (arith, length-append front (p ∷ [])))
@@ -98,10 +100,11 @@ there_by m q zero hops p (Forward next) room e further = record {
       ∙ ap (λ t. Some t) (forward_stops m q p (address_of p) next e refl);
 }
 there_by m q (suc n) hops p (Forward next) room e further =
-    let onward : There m q n (hops + 1) next = further n next refl in record {
+    let onward : There m q n (hops + 1) next = further n next refl in
+    let same = forward_goes m q n p next e in record {
       rest = next ∷ onward.rest;
       short = omega (arith, onward.short);
-      on = (sym e, subst (λ end. LeadsOn m q (hops + 1) next onward.rest end) (forward_goes m q n p next e) onward.on);
+      on = (sym e, subst (λ end. LeadsOn m q (hops + 1) next onward.rest end) same onward.on);
     }
 
 there : (m : TaggedMemory) (q : Request) (n hops p : ℕ) → hops + n ≡ chain_limit → There m q n hops p
@@ -152,6 +155,7 @@ path_there m q =
         begins = refl;
         linked = linked_of m q found.rest 0 q.pointer (end_of m q) on;
         at_most = omega (arith, found.short);
-        ends = λ front p cut. ends_of m q found.rest 0 q.pointer (end_of m q) on front p (length front) cut (omega arith);
+        ends = λ front p cut.
+            ends_of m q found.rest 0 q.pointer (end_of m q) on front p (length front) cut (omega arith);
       },
     )

@@ -53,8 +53,8 @@ abbrev pub Begins : List ℕ → ℕ → Type 0
 Begins [] p = ⊥
 Begins (first ∷ path) p = first ≡ p
 
--- The pointers that a request is probed with, and how it ends: each probe but the last asks for another one at the next
--- pointer, and the last one's decides.
+-- The pointers that a request is probed with, and how it ends: each probe but the last asks for another one at the
+-- next pointer, and the last one's decides.
 pub record Leads (m : TaggedMemory) (q : Request) (path : List ℕ) (end : End) : Type 0 where
   pub begins : Begins path q.pointer
   pub linked : (front back : List ℕ) (p next : ℕ) → path ≡ front ++ p ∷ next ∷ back → probe m q p ≡ Forward next

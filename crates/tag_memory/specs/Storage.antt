@@ -1,4 +1,5 @@
--- The memory, as contracts see it: a map from the byte addresses 0, 8, 16, .. to words, kept as the list of its words.
+-- The memory, as contracts see it: a map from the byte addresses 0, 8, 16, .. to words, kept as the list of its
+-- words.
 use Rattle.std.specs.Prelude.{ℕ, ◌/◌, ◌%◌, ◌==◌, List, Option, None, if◌then◌else◌, slice_get, slice_set}
 use Rattle.tag_memory.specs.Cell.{Cell}
 

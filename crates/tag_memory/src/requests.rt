@@ -95,8 +95,8 @@ pub struct Request {
     pub pointer: Pointer,
     /// Where the control comes from.
     pub acc: Acc,
-    /// What `Store` writes, what `Fadd` adds, and for `TagSet` the tags as a number, of which the four low bits count.
-    /// `Load` and `TagGet` make nothing of it.
+    /// What `Store` writes, what `Fadd` adds, and for `TagSet` the tags as a number, of which the four low bits
+    /// count. `Load` and `TagGet` make nothing of it.
     pub value: u64,
     /// The trap bits that are passed over.
     pub masked: Masked,

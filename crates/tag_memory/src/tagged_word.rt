@@ -29,7 +29,10 @@ impl Model for Word {
 
     ghost inverse = { λ c. record { value = c.value; tags = record { 0 = tag_number c } } };
 
-    ghost inverse_ok = { λ w h i. record { value = w.value; tags = record { 0 = tag_number-cell_of w.value w.tags.0 h i } } };
+    ghost inverse_ok = { λ w h i. record {
+      value = w.value;
+      tags = record { 0 = tag_number-cell_of w.value w.tags.0 h i };
+    } };
 }
 
 impl Word {

@@ -19,8 +19,8 @@ use tag_memory::Reply;
 
 impl Stream {
     /// Executes the instruction, where the memory answered `value` (it counts only where the instruction has a
-    /// reference that answers) and the processor granted so many streams (only for RESERVE). QUIT, QUITP and CREATE do
-    /// here what NOP does; the processor completes them.
+    /// reference that answers) and the processor granted so many streams (only for RESERVE). QUIT, QUITP and CREATE
+    /// do here what NOP does; the processor completes them.
     #[tactic(auto, unfolding(crate::specs::Effects::executed))]
     #[inline(always)]
     pub fn execute(&mut self, insn: &Insn, value: u64, grant: u64)
@@ -158,8 +158,8 @@ impl Stream {
         }
     }
 
-    /// Completes the step of an instruction with a reference, by the memory's reply: it is executed, blocked or trapped
-    /// ("Retries", docs/MACHINE.md). `limit` is the image's retry limit.
+    /// Completes the step of an instruction with a reference, by the memory's reply: it is executed, blocked or
+    /// trapped ("Retries", docs/MACHINE.md). `limit` is the image's retry limit.
     pub fn reply(&mut self, insn: &Insn, reply: Reply, limit: u32, grant: u64) -> Outcome
         ensures { (self.new, result) ≡ replied limit self.old insn.now grant reply }
     {

@@ -66,7 +66,8 @@ fn trap_bits_disables_and_masks(rt: HostRuntime) -> Result<(), Fail> {
     };
     let first = Reply::Trap(MemTrap::Trap0, 0);
     let second = Reply::Trap(MemTrap::Trap1, 0);
-    // the first word has the value 8 and these tags, the second 77; the value 8 is read where the word does not forward
+    // the first word has the value 8 and these tags, the second 77; the value 8 is read where the word does not
+    // forward
     let rows = [
         (5, 0, NONE, first),
         (5, NO_TRAP0, NONE, Reply::Done(8)),

@@ -3,8 +3,8 @@ use super::*;
 use crate::{Control, MemTrap, Reply};
 use std::test::Fail;
 
-/// Operation, control and full bit of a word of the value 40, asked with the value 2: the number answered, `None` where
-/// the reference is blocked, and the value and the full bit afterwards.
+/// Operation, control and full bit of a word of the value 40, asked with the value 2: the number answered, `None`
+/// where the reference is blocked, and the value and the full bit afterwards.
 const TABLE: [(MemOp, Control, u8, Option<u64>, u64, u8); 18] = [
     (MemOp::Load, Control::Normal, 0, Some(40), 40, 0),
     (MemOp::Load, Control::Normal, 1, Some(40), 40, 1),

@@ -8,7 +8,8 @@ use Rattle.insn_word.proofs.laws.spelling_is_one_to_one.Goals as goal
 
 pub returns-clause-one_instruction : goal.returns-clause-one_instruction
 returns-clause-one_instruction c word i j first second =
-    sym (candidate-holds word i (Holds-from_spells word i first)) ∙ candidate-holds word j (Holds-from_spells word j second)
+    sym (candidate-holds word i (Holds-from_spells word i first))
+    ∙ candidate-holds word j (Holds-from_spells word j second)
 
 pub returns-clause-one_word : goal.returns-clause-one_word
 returns-clause-one_word c i v w first second = sym (Spells-number v i first) ∙ Spells-number w i second

@@ -18,4 +18,7 @@ returns-clause-none c = none_iff c.args.word c.read_parts.result (returns-clause
 pub returns-clause-is : goal.returns-clause-is
 returns-clause-is c =
     same_option c.read_parts.result (instruction c.args.word)
-    (λ i. let found = returns-clause-some c i in let spelt = instruction-spelt c.args.word i in (λ e. spelt.1 (found.0 e), λ e. found.1 (spelt.0 e)))
+    (λ i.
+    let found = returns-clause-some c i in
+    let spelt = instruction-spelt c.args.word i in
+    (λ e. spelt.1 (found.0 e), λ e. found.1 (spelt.0 e)))

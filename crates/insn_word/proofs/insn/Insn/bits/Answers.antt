@@ -19,5 +19,7 @@ returns-in-Normal c h =
     let one = c.with_field-bits-in-Normal.ensures (omega arith) (omega arith) in
     let two = c.with_field-bits-in-Normal-2.ensures (omega arith) (omega arith) in
     let three = c.with_field-in-Normal.ensures (omega arith) (omega arith) in
-    let sum : c.with_field-in-Normal.result ≡ look * 2 ^ 60 + number (memory_fields m) * 2 ^ 39 + number (arithmetic_fields a) * 2 ^ 18 + number (control_fields p) = omega arith in
+    let sum : c.with_field-in-Normal.result
+    ≡ look * 2 ^ 60 + number (memory_fields m) * 2 ^ 39 + number (arithmetic_fields a) * 2 ^ 18
+    + number (control_fields p) = omega arith in
     sum ∙ sym (number-normal look m a p) ∙ ap (λ i. number (fields i)) (sym c.in-Normal.is)

@@ -7,9 +7,12 @@ use Rattle.insn_word.proofs.insn.Insn.is_valid.Goals as goal
 pub returns-in-Some : goal.returns-in-Some
 returns-in-Some c =
     let same = Decides-insn c.in-Some.insn c.args.self.now in (
-      λ equal. (c.bits.result, subst (Spells c.bits.result) (same.0 (sym c.eq.ensures ∙ equal)) ((c.decode.ensures.some c.in-Some.insn).0 c.in-Some.is)),
+      λ equal.
+          let spelt = (c.decode.ensures.some c.in-Some.insn).0 c.in-Some.is in
+          (c.bits.result, subst (Spells c.bits.result) (same.0 (sym c.eq.ensures ∙ equal)) spelt),
       λ valid.
-          let found = (c.decode.ensures.some c.args.self.now).1 (Spells-bits c.bits.result c.args.self.now c.bits.ensures valid) in
+          let spelt = Spells-bits c.bits.result c.args.self.now c.bits.ensures valid in
+          let found = (c.decode.ensures.some c.args.self.now).1 spelt in
           let one : c.in-Some.insn ≡ c.args.self.now = cc in
           c.eq.ensures ∙ same.1 one,
     )
@@ -17,5 +20,7 @@ returns-in-Some c =
 pub returns-in-None : goal.returns-in-None
 returns-in-None c = (
   λ equal. cc,
-  λ valid. let found = (c.decode.ensures.some c.args.self.now).1 (Spells-bits c.bits.result c.args.self.now c.bits.ensures valid) in cc,
+  λ valid.
+      let spelt = Spells-bits c.bits.result c.args.self.now c.bits.ensures valid in
+      let found = (c.decode.ensures.some c.args.self.now).1 spelt in cc,
 )

@@ -5,10 +5,12 @@ use Rattle.machine.proofs.machines.Machine.load.Goals as goal
 pub invariant_of-result : goal.invariant_of-result
 invariant_of-result g c =
     opened g.row.S c.args.image.now c.loop-number.processors.items c.in_ok-memory.memory (search rules)
-    (all_opened c.args.image.now c.loop-number.processors.items c.loop-number.number c.loop-number.invariant (search rules))
+    (all_opened c.args.image.now c.loop-number.processors.items c.loop-number.number c.loop-number.invariant
+    (search rules))
 
 pub returns-clause-loaded : goal.returns-clause-loaded
 returns-clause-loaded g c =
     at_start c.args.image.now c.loop-number.processors.items c.in_ok-memory.memory c.cells.result.now
-    (all_opened c.args.image.now c.loop-number.processors.items c.loop-number.number c.loop-number.invariant (search rules))
+    (all_opened c.args.image.now c.loop-number.processors.items c.loop-number.number c.loop-number.invariant
+    (search rules))
     c.in_ok-memory.ensures c.cells.ensures.is

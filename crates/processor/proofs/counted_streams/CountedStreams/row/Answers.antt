@@ -5,7 +5,8 @@ use Rattle.processor.proofs.Counting.{some_current}
 use Rattle.processor.proofs.counted_streams.CountedStreams.row.Goals as goal
 
 pub trap-requires : goal.trap-requires
-trap-requires g c = (lit< tt, (awake c.args.image.now c.args.self.now c.args.place (ap rests (sym c.in-Trap.ensures))).0)
+trap-requires g c =
+    (lit< tt, (awake c.args.image.now c.args.self.now c.args.place (ap rests (sym c.in-Trap.ensures))).0)
 
 pub complete-requires : goal.complete-requires
 complete-requires g c =
@@ -18,18 +19,26 @@ complete-requires g c =
         (awake image proc n (ap rests found)).0,
         (
           c.requires.replied ∙ ap is_some (request_begun image proc n (Runs c.in-Runs.insn) found),
-          (some_current image proc n c.requires.counted (ap rests found), (c.requires.counted.within_reserved, free image proc n c.in-Runs.insn found)),
+          (
+            some_current image proc n c.requires.counted (ap rests found),
+            (c.requires.counted.within_reserved, free image proc n c.in-Runs.insn found),
+          ),
         ),
       ),
     )
 
 pub returns-in-Rest : goal.returns-in-Rest
-returns-in-Rest g c = row_begun c.args.image.now c.args.self.now c.args.place c.args.reply Rest (sym c.in-Rest.ensures)
+returns-in-Rest g c =
+    row_begun c.args.image.now c.args.self.now c.args.place c.args.reply Rest (sym c.in-Rest.ensures)
 
 pub returns-in-Trap : goal.returns-in-Trap
 returns-in-Trap g c =
-    c.trap.ensures ∙ row_begun c.args.image.now c.args.self.now c.args.place c.args.reply (Trap c.in-Trap.kind) (sym c.in-Trap.ensures)
+    c.trap.ensures
+    ∙ row_begun c.args.image.now c.args.self.now c.args.place c.args.reply (Trap c.in-Trap.kind)
+    (sym c.in-Trap.ensures)
 
 pub returns-in-Runs : goal.returns-in-Runs
 returns-in-Runs g c =
-    c.complete.ensures ∙ row_begun c.args.image.now c.args.self.now c.args.place c.args.reply (Runs c.in-Runs.insn) (sym c.in-Runs.ensures)
+    c.complete.ensures
+    ∙ row_begun c.args.image.now c.args.self.now c.args.place c.args.reply (Runs c.in-Runs.insn)
+    (sym c.in-Runs.ensures)

@@ -6,7 +6,9 @@ use Rattle.processor.proofs.processors.Processor.step_local.Goals as goal
 
 pub row-requires : goal.row-requires
 row-requires g c =
-    (lit< tt, (c.self.invariant, unasked c.args.image.now c.args.self.now c.self.inside.streams c.args.s c.self.view_is c.requires.local))
+    let local =
+    unasked c.args.image.now c.args.self.now c.self.inside.streams c.args.s c.self.view_is c.requires.local in
+    (lit< tt, (c.self.invariant, local))
 
 pub invariant_of-self : goal.invariant_of-self
 invariant_of-self g c =

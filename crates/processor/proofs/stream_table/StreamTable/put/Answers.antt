@@ -4,4 +4,5 @@ use Rattle.processor.proofs.stream_table.StreamTable.put.Goals as goal
 
 pub returns-then-place-from : goal.returns-then-place-from
 returns-then-place-from g c =
-    put_seen c.self.inside.slim c.args.place c.self.inside.streams.items c.args.self.now c.args.stream c.self.view_is (search rules)
+    put_seen c.self.inside.slim c.args.place c.self.inside.streams.items c.args.self.now c.args.stream
+    c.self.view_is (search rules)

@@ -3,4 +3,6 @@ use Rattle.std.proofs.lemmas.Option.{unwrap_or-slice_get}
 use Rattle.stream_core.proofs.registers.Registers.value.Goals as goal
 
 pub returns : goal.returns
-returns c = c.unwrap_or.ensures ∙ ap (λ o. unwrap_or o 0) c.get.ensures.is ∙ unwrap_or-slice_get c.args.self.now c.args.register 0
+returns c =
+    c.unwrap_or.ensures ∙ ap (λ o. unwrap_or o 0) c.get.ensures.is
+    ∙ unwrap_or-slice_get c.args.self.now c.args.register 0

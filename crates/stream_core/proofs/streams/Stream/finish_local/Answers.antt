@@ -11,4 +11,6 @@ unreachable-requires c =
 pub returns : goal.returns
 returns c limit =
     let found = sym c.fetch.ensures ∙ c.in-Runs.is in
-    ap (λ s. (s, Done)) c.execute.ensures ∙ sym (row_local c.args.program.now limit c.args.self.now c.in-Runs.insn c.args.grant None found c.requires.local)
+    ap (λ s. (s, Done)) c.execute.ensures
+    ∙ sym (row_local c.args.program.now limit c.args.self.now c.in-Runs.insn c.args.grant None found
+    c.requires.local)

@@ -11,4 +11,5 @@ pub returns : goal.returns
 returns c =
     let found = sym c.fetch.ensures ∙ c.in-Runs.is in
     c.reply.ensures
-    ∙ sym (row_asked c.args.program.now c.args.limit c.args.self.now c.in-Runs.insn c.args.grant c.args.reply c.requires.asks.0 found c.requires.asks.1)
+    ∙ sym (row_asked c.args.program.now c.args.limit c.args.self.now c.in-Runs.insn c.args.grant c.args.reply
+    c.requires.asks.0 found c.requires.asks.1)

@@ -6,10 +6,12 @@ use Rattle.tag_memory.proofs.storage.Memory.end.Goals as goal
 
 pub returns-in-Trap : goal.returns-in-Trap
 returns-in-Trap c =
-    trap_ends c.args.self.now c.args.request.now _ c.loop.pointer _ _ c.in-Trap.ensures c.address.ensures ∙ c.loop.invariant
+    trap_ends c.args.self.now c.args.request.now _ c.loop.pointer _ _ c.in-Trap.ensures c.address.ensures
+    ∙ c.loop.invariant
 
 pub returns-in-Reach : goal.returns-in-Reach
-returns-in-Reach c = reach_ends c.args.self.now c.args.request.now _ c.loop.pointer _ c.in-Reach.ensures ∙ c.loop.invariant
+returns-in-Reach c =
+    reach_ends c.args.self.now c.args.request.now _ c.loop.pointer _ c.in-Reach.ensures ∙ c.loop.invariant
 
 pub loop-preserved : goal.loop-preserved
 loop-preserved c =
@@ -20,7 +22,8 @@ loop-preserved c =
 
 pub returns-in-Trap-probe : goal.returns-in-Trap-probe
 returns-in-Trap-probe c =
-    trap_ends c.args.self.now c.args.request.now _ c.loop.pointer _ _ c.in-Trap-probe.ensures c.address-in-Trap-probe.ensures
+    trap_ends c.args.self.now c.args.request.now _ c.loop.pointer _ _ c.in-Trap-probe.ensures
+    c.address-in-Trap-probe.ensures
     ∙ c.loop.invariant
 
 pub returns-in-Reach-probe : goal.returns-in-Reach-probe
