@@ -1,7 +1,26 @@
 //! Lines that say what an arithmetic operation makes of two words.
+use asm_line::names;
 use insn_word::ArithmeticOp;
 use number_text::read_hexadecimal;
 use stream_core::{Code, alu};
+
+/// The operations that make a result.
+const OPERATIONS: [ArithmeticOp; 14] = [
+    ArithmeticOp::Add,
+    ArithmeticOp::Sub,
+    ArithmeticOp::Mul,
+    ArithmeticOp::And,
+    ArithmeticOp::Or,
+    ArithmeticOp::Xor,
+    ArithmeticOp::AndNot,
+    ArithmeticOp::ShiftLeft,
+    ArithmeticOp::ShiftRight,
+    ArithmeticOp::ShiftRightSigned,
+    ArithmeticOp::Tally,
+    ArithmeticOp::LessSigned,
+    ArithmeticOp::LessUnsigned,
+    ArithmeticOp::Pointer,
+];
 
 /// Whether the line's operation makes the result and the code's number at its end.
 pub(crate) fn is_computed(line: &str) -> bool {
@@ -30,21 +49,8 @@ fn number(code: Code) -> u8 {
 
 /// The operation with this name that makes a result; None where there is none.
 fn arithmetic_op(name: &str) -> Option<ArithmeticOp> {
-    match name {
-        "ADD" => Some(ArithmeticOp::Add),
-        "SUB" => Some(ArithmeticOp::Sub),
-        "MUL" => Some(ArithmeticOp::Mul),
-        "AND" => Some(ArithmeticOp::And),
-        "OR" => Some(ArithmeticOp::Or),
-        "XOR" => Some(ArithmeticOp::Xor),
-        "ANDN" => Some(ArithmeticOp::AndNot),
-        "SHL" => Some(ArithmeticOp::ShiftLeft),
-        "SHR" => Some(ArithmeticOp::ShiftRight),
-        "SAR" => Some(ArithmeticOp::ShiftRightSigned),
-        "TALLY" => Some(ArithmeticOp::Tally),
-        "LTS" => Some(ArithmeticOp::LessSigned),
-        "LTU" => Some(ArithmeticOp::LessUnsigned),
-        "PTR" => Some(ArithmeticOp::Pointer),
-        _ => None,
-    }
+    OPERATIONS
+        .iter()
+        .copied()
+        .find(|op| names::arithmetic(*op) == name)
 }

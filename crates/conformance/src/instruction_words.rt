@@ -5,8 +5,8 @@ use insn_word::{decode, encode};
 use number_text::read_hexadecimal;
 use std::alloc::Global;
 
-/// Whether the line's word spells the instruction whose source text follows it: the text is assembled to the word, the
-/// word is listed as the text, and its instruction is encoded to it.
+/// Whether the line's word spells the instruction whose source text follows it: the text is assembled to the word,
+/// the word is listed as the text, and its instruction is encoded to it.
 pub(crate) fn is_spelt(alloc: Global, line: &str) -> Result<bool> {
     let Some((word, text)) = split(line) else {
         return Ok(false);

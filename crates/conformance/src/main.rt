@@ -1,15 +1,15 @@
-//! Compares the crates below with the test vectors in data/, and counts the lines that hold; then runs the examples.
+//! Compares the crates below with the test vectors in data/ and counts the lines that hold, then runs its programs.
 #![tactic(auto)]
 
 mod arithmetic;
-mod examples;
 mod instruction_words;
+mod programs;
 #[cfg(test)]
 mod tests;
 mod vectors;
 
 use anyhow::{Context, Result};
-use examples::compare_examples;
+use programs::compare_programs;
 use std::fs;
 use std::rt::Files;
 use vectors::Vectors;
@@ -18,7 +18,7 @@ fn main(rt: HostRuntime) -> Result<()> {
     for vectors in Vectors::ALL {
         compare(&rt, vectors)?;
     }
-    compare_examples(&rt)
+    compare_programs(&rt)
 }
 
 /// Prints each line of the file that does not hold, and how many of its lines hold.

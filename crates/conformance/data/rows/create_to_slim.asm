@@ -1,0 +1,10 @@
+; CREATE until the current streams are as many as the reserved ones, which are as many as slim allows: then it traps.
+.slim 8
+.entry 0
+LIT r2, 200
+RESERVE r3, r2
+TLIT t1, 5
+CREATE t1, r2
+SKIP ALWAYS, 0, -2
+QUIT
+.data 0
