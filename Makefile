@@ -3,7 +3,7 @@ PREFIX ?= /usr/local
 PROGRAM = crates/mta_sim/out/mta_sim
 BENCH = crates/bench/out/bench
 
-.PHONY: run try test bench install build
+.PHONY: run try test refuse bench install build
 
 # proves and builds the program, and shows its first run
 run:
@@ -31,6 +31,10 @@ build:
 bench: build
 	@test -x $(BENCH) || (cd crates/bench && rt run -- arithmetic 1 > /dev/null)
 	@bench/run.sh
+
+# refuses each allocation of the commands in turn, on the programs of conformance/data; needs a C compiler
+refuse: build
+	@tests/refused_allocations.sh
 
 # puts the built program in place
 install: build
