@@ -1,5 +1,5 @@
 -- The operation or directive that a head names. An operation's head is its name and perhaps, after a dot, a suffix.
-use Rattle.std.specs.Prelude.{ℕ, Bool, true, false, if◌then◌else◌, List, codes, Option, Some, None, Result}
+use Rattle.std.specs.Prelude.{ℕ, Bool, true, false, if◌then◌else◌, List, drop, codes, Option, Some, None, Result}
 use Rattle.std.specs.Option.{option_map, option_or}
 use Rattle.std.specs.List.{find}
 use Rattle.std.specs.Str.{bytes_eq}
@@ -14,9 +14,9 @@ use Rattle.insn_word.specs.declared.operations.Condition.{Condition}
 use Rattle.asm_line.specs.Text.{before, after}
 use Rattle.asm_line.specs.Faults.{known}
 use Rattle.asm_line.specs.Names.{wide_name, memory_name, arithmetic_name, control_name, condition_name}
-use Rattle.asm_line.specs.Names.{directive_name}
+use Rattle.asm_line.specs.Names.{access_suffix, test_suffix, directive_name}
 use Rattle.asm_line.specs.Names.{wide_operations, memory_operations, arithmetic_operations, control_operations}
-use Rattle.asm_line.specs.Names.{conditions, directives}
+use Rattle.asm_line.specs.Names.{accesses, conditions, directives}
 use Rattle.asm_line.specs.declared.fault.Fault.{Fault}
 use Rattle.asm_line.specs.declared.operation.Operation.{Operation}
 use Rattle.asm_line.specs.declared.operation.Operation.TheVariants as operation
@@ -52,11 +52,9 @@ abbrev pub unsuffixed : Option (List ℕ) → Option Operation → Option Operat
 unsuffixed None o = o
 unsuffixed (Some _) o = None
 
+-- the access of the letter behind the dot of its suffix
 abbrev pub letter_access : List ℕ → Option Access
-letter_access letter =
-    if bytes_eq letter (codes "N") then Some access.Normal
-    else (if bytes_eq letter (codes "F") then Some access.Future
-    else (if bytes_eq letter (codes "S") then Some access.Sync else None))
+letter_access letter = find (λ a. bytes_eq letter (drop 1 (access_suffix a))) accesses
 
 -- LOAD, STORE and FADD may name an access; with no suffix it is the pointer's
 abbrev pub has_access : MemoryOp → Bool
@@ -69,10 +67,10 @@ unfoldable pub access_named : MemoryOp → Option (List ℕ) → Option Access
 access_named op None = Some access.FromPointer
 access_named op (Some letter) = if has_access op then letter_access letter else None
 
--- T asks for a condition code
+-- the letter of the test suffix asks for a condition code
 unfoldable pub test_named : Option (List ℕ) → Option Bool
 test_named None = Some false
-test_named (Some letter) = if bytes_eq letter (codes "T") then Some true else None
+test_named (Some letter) = if bytes_eq letter (drop 1 (test_suffix true)) then Some true else None
 
 abbrev pub memory_suffixed : Option (List ℕ) → MemoryOp → Option Operation
 memory_suffixed suffix op = option_map (operation.Memory op) (access_named op suffix)

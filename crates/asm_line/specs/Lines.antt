@@ -1,5 +1,5 @@
 -- Lines, where labels stand, and what a line adds.
-use Rattle.std.specs.Prelude.{ℕ, ◌+◌, ◌==◌, Bool, true, false, not, nat_lt, ◌&&◌, ◌||◌, if◌then◌else◌}
+use Rattle.std.specs.Prelude.{ℕ, ◌+◌, ◌==◌, ⊤, Bool, false, not, nat_lt, ◌&&◌, ◌||◌, if◌then◌else◌}
 use Rattle.std.specs.Prelude.{List, [], ◌∷◌, length, slice_index, map, codes, Option, Some, None, Result, Ok, Err}
 use Rattle.std.specs.Option.{option_map}
 use Rattle.std.specs.List.{list_any}
@@ -69,11 +69,11 @@ stands_earlier k (Some p) = nat_lt p.line k
 abbrev pub is_label : List ℕ → List ℕ → Bool
 is_label name statement = is_name name && not (list_any (λ b. b == 58) statement)
 
--- the label of line k
-unfoldable pub labelling : Places → ℕ → Option (List ℕ) → List ℕ → Result Bool Fault
-labelling places k None statement = Ok true
+-- whether the label of line k may stand there
+unfoldable pub labelling : Places → ℕ → Option (List ℕ) → List ℕ → Result ⊤ Fault
+labelling places k None statement = Ok tt
 labelling places k (Some name) statement =
-    if is_label name statement then (if stands_earlier k (places name) then Err fault.LabelTwice else Ok true)
+    if is_label name statement then (if stands_earlier k (places name) then Err fault.LabelTwice else Ok tt)
     else Err fault.Unknown
 
 abbrev pub directive_item : Places → ℕ → List ℕ → Result Item Fault

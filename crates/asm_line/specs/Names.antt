@@ -115,6 +115,9 @@ wide_operations = wide.Literal ∷ wide.LiteralHigh ∷ wide.TargetLiteral ∷ [
 abbrev pub memory_operations : List MemoryOp
 memory_operations = memory.Load ∷ memory.Store ∷ memory.FetchAdd ∷ memory.TagGet ∷ memory.TagSet ∷ []
 
+abbrev pub accesses : List Access
+accesses = access.Normal ∷ access.Future ∷ access.Sync ∷ []
+
 abbrev pub arithmetic_operations : List ArithmeticOp
 arithmetic_operations =
     arithmetic.Add ∷ arithmetic.Sub ∷ arithmetic.Mul ∷ arithmetic.And ∷ arithmetic.Or ∷ arithmetic.Xor

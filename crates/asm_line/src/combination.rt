@@ -5,6 +5,7 @@ ghost use Rattle.asm_line.specs.Labels.{places_of};
 ghost use Rattle.asm_line.specs.Seen.{AreOperands};
 ghost use Rattle.asm_line.specs.Instructions.{nop_word, single, double, triple, memory_arithmetic, full_word};
 ghost use Rattle.asm_line.specs.Instructions.{memory_arithmetic_word, memory_control_word, arithmetic_control_word};
+ghost use Rattle.asm_line.specs.Instructions.{unless_two};
 ghost use Rattle.insn_word.specs.Reading.{are_apart};
 
 use crate::arguments::Arguments;
@@ -123,11 +124,7 @@ fn memory_arithmetic(
     ensures { result ≡ memory_arithmetic m a }
 {
     let (m, a) = both(m, a)?;
-    if are_apart(m.destination(), a.destination()) {
-        Ok((m, a))
-    } else {
-        Err(Fault::TwoWriters)
-    }
+    unless_two(are_apart(m.destination(), a.destination()), (m, a))
 }
 
 #[tactic(auto, unfolding(crate::specs::Instructions::memory_arithmetic_word))]
@@ -143,11 +140,10 @@ fn memory_control_word(m: Result<MPart, Fault>, c: Result<CPart, Fault>) -> Resu
     ensures { result ≡ memory_control_word m c }
 {
     let (m, c) = both(m, c)?;
-    if are_apart(m.destination(), c.destination()) {
-        Ok(normal(m, APart::NOP, c))
-    } else {
-        Err(Fault::TwoWriters)
-    }
+    unless_two(
+        are_apart(m.destination(), c.destination()),
+        normal(m, APart::NOP, c),
+    )
 }
 
 #[tactic(auto, unfolding(crate::specs::Instructions::arithmetic_control_word))]
@@ -155,11 +151,10 @@ fn arithmetic_control_word(a: Result<APart, Fault>, c: Result<CPart, Fault>) -> 
     ensures { result ≡ arithmetic_control_word a c }
 {
     let (a, c) = both(a, c)?;
-    if are_apart(a.destination(), c.destination()) {
-        Ok(normal(MPart::NOP, a, c))
-    } else {
-        Err(Fault::TwoWriters)
-    }
+    unless_two(
+        are_apart(a.destination(), c.destination()),
+        normal(MPart::NOP, a, c),
+    )
 }
 
 /// The word of all three parts. Two writers go before a label that is missing, which only the control part can ask
@@ -173,8 +168,17 @@ fn full_word(
     ensures { result ≡ full_word m a c }
 {
     let ((m, a), c) = both(memory_arithmetic(m, a), c)?;
-    if are_apart(m.destination(), c.destination()) && are_apart(a.destination(), c.destination()) {
-        Ok(normal(m, a, c))
+    let last = c.destination();
+    let apart = are_apart(m.destination(), last) && are_apart(a.destination(), last);
+    unless_two(apart, normal(m, a, c))
+}
+
+/// The value, if the registers that are written are apart.
+fn unless_two<A: Drop>(apart: bool, value: A) -> Result<A, Fault>
+    ensures { result ≡ unless_two apart value }
+{
+    if apart {
+        Ok(value)
     } else {
         Err(Fault::TwoWriters)
     }

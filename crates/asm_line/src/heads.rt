@@ -4,13 +4,13 @@ ghost use Rattle.std.specs.Prelude.{◌≡◌};
 ghost use Rattle.std.specs.Option.{option_copied};
 ghost use Rattle.asm_line.specs.Heads.{wide_named, memory_named, arithmetic_named, control_named, condition_named};
 ghost use Rattle.asm_line.specs.Heads.{directive_named, access_named, test_named, operation_named, has_access};
-ghost use Rattle.asm_line.specs.Heads.{plain_named};
+ghost use Rattle.asm_line.specs.Heads.{plain_named, letter_access};
 ghost use Rattle.asm_line.specs.Heads.{operation_of, directive_of, memory_suffixed, arithmetic_suffixed};
 
 use crate::fault::Fault;
 use crate::names;
 use crate::operation::{Directive, Operation};
-use crate::text::cut;
+use crate::text::{cut, tail};
 use insn_word::{Access, ArithmeticOp, Condition, ControlOp, MemoryOp, WideOp};
 
 // What a source text may name: all but the operations NOP of the parts.
@@ -24,6 +24,8 @@ const MEMORY_OPERATIONS: [MemoryOp; 5] = [
     MemoryOp::TagGet,
     MemoryOp::TagSet,
 ];
+
+const ACCESSES: [Access; 3] = [Access::Normal, Access::Future, Access::Sync];
 
 const ARITHMETIC_OPERATIONS: [ArithmeticOp; 14] = [
     ArithmeticOp::Add,
@@ -151,12 +153,17 @@ fn access_named(op: MemoryOp, suffix: Option<&[u8]>) -> Option<Access>
     if !has_access(op) {
         return None;
     }
-    match letter {
-        b"N" => Some(Access::Normal),
-        b"F" => Some(Access::Future),
-        b"S" => Some(Access::Sync),
-        _ => None,
-    }
+    letter_access(letter)
+}
+
+/// The access of the letter behind the dot of its suffix.
+fn letter_access(letter: &[u8]) -> Option<Access>
+    ensures { result ≡ letter_access letter.now }
+{
+    ACCESSES
+        .iter()
+        .copied()
+        .find(|access| letter == tail(names::access(*access).as_bytes()))
 }
 
 /// Whether the operation may name an access.
@@ -173,7 +180,7 @@ fn test_named(suffix: Option<&[u8]>) -> Option<bool>
 {
     match suffix {
         None => Some(false),
-        Some(b"T") => Some(true),
+        Some(letter) if letter == tail(names::test(true).as_bytes()) => Some(true),
         Some(_) => None,
     }
 }
@@ -183,7 +190,7 @@ fn test_named(suffix: Option<&[u8]>) -> Option<bool>
 fn plain_named(name: &[u8]) -> Option<Operation>
     ensures { result ≡ plain_named name.now }
 {
-    if name == b"NOP".as_slice() {
+    if name == names::control(ControlOp::Nop).as_bytes() {
         return Some(Operation::Nop);
     }
     if let Some(op) = wide_named(name) {

@@ -27,7 +27,7 @@ impl<'t> Labels<'t> {
         }
     }
 
-    /// Where the label stands first.
+    /// Where the label stands first; None where it was noted on no line.
     #[tactic(auto, unfolding(crate::specs::Labels::places_of))]
     pub fn find(&self, name: &[u8]) -> Option<Place>
         ensures { result ≡ places_of self.now name.now }

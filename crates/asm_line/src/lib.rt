@@ -11,6 +11,7 @@ mod instruction;
 mod item;
 mod labels;
 mod lines;
+/// The names of operations, conditions and directives.
 pub mod names;
 mod numbers;
 mod operand;

@@ -3,7 +3,7 @@
 ghost use Rattle.std.specs.Prelude.{◌≡◌, ◌≤◌, ◌==◌, ◌∷◌, length, IfOk};
 ghost use Rattle.std.specs.Option.{option_copied};
 ghost use Rattle.std.specs.List.{list_any};
-ghost use Rattle.asm_line.specs.Text.{is_name};
+ghost use Rattle.asm_line.specs.Text.{is_name, before, after};
 ghost use Rattle.asm_line.specs.Lines.{line, lines, is_word, is_label, labelling, statement_item, directive_item};
 ghost use Rattle.asm_line.specs.Lines.{line_item};
 ghost use Rattle.asm_line.specs.Labels.{places_of};
@@ -18,21 +18,24 @@ use crate::heads::directive_of;
 use crate::instruction::instruction;
 use crate::item::Item;
 use crate::labels::Labels;
+use crate::names;
+use crate::operation::Directive;
 use crate::text::{begins, cut, is_name, split_head, trim};
 use insn_word::spelling_is_one_to_one;
 
 /// A line without its comment: the label that stands before its first colon, and its statement.
 #[derive(Clone, Copy)]
 pub struct SourceLine<'t> {
-    /// What stands before the first colon, whether or not it is a name.
+    /// What stands before the first colon, whether or not it is a name; None where there is no colon.
     pub label: Option<&'t [u8]>,
-    /// What follows it, without blanks at its ends.
+    /// What follows the label, or all that stands on the line where there is none, without blanks at its ends.
     pub statement: &'t [u8],
 }
 
 /// The bytes of the first line, without its end, and what follows that, if there is a line end.
-#[tactic(auto)]
 pub fn next_line(text: &[u8]) -> (&[u8], Option<&[u8]>)
+    ensures front { result.0.now ≡ before 10 text.now }
+    ensures back { option_copied result.1 ≡ after 10 text.now }
     ensures lines { lines text.now ≡ line result.0.now ∷ rest_lines (option_copied result.1) }
     ensures shorter { rest_length (option_copied result.1) ≤ length text.now }
 {
@@ -70,7 +73,7 @@ pub fn is_word(statement: &[u8]) -> bool
         return true;
     }
     let (head, _) = split_head(statement);
-    head == b".word".as_slice()
+    head == names::directive(Directive::Word).as_bytes()
 }
 
 /// What line `number` (from 0) adds, behind so many program words (`here`), or its least fault. The labels are those
@@ -104,26 +107,26 @@ fn line_item(
     Ok(item)
 }
 
-/// Whether the label of line `number` may stand there: it is a name, no second colon follows, and it stands on no
-/// earlier line.
+/// The fault of the label of line `number`, if it has one: it is no name or a second colon follows, or it stands on
+/// an earlier line.
 #[tactic(auto, unfolding(crate::specs::Lines::labelling))]
 fn labelling(
     labels: &Labels,
     number: usize,
     label: Option<&[u8]>,
     statement: &[u8],
-) -> Result<bool, Fault>
+) -> Result<(), Fault>
     ensures { result ≡ labelling (places_of labels.now) number (option_copied label.entry) statement.now }
 {
     let Some(name) = label else {
-        return Ok(true);
+        return Ok(());
     };
     if !is_label(name, statement) {
         return Err(Fault::Unknown);
     }
     match labels.find(name) {
         Some(place) if place.line < number => Err(Fault::LabelTwice),
-        _ => Ok(true),
+        _ => Ok(()),
     }
 }
 

@@ -120,7 +120,7 @@ pub fn condition(condition: Condition) -> &'static str
 }
 
 /// The name of a directive, with its dot.
-pub(crate) fn directive(directive: Directive) -> &'static str
+pub fn directive(directive: Directive) -> &'static str
     ensures { result.now ≡ directive_name directive }
 {
     match directive {

@@ -3,7 +3,7 @@ use Rattle.std.proofs.Common.{◌≡◌, ℕ, ◌+◌, Bool, true, false, not, c
 use Rattle.std.proofs.Common.{replicate}
 use Rattle.std.proofs.Common.{Some, None, Result, Ok, Err, refl, sym, ◌∙◌, ap, arith, length-append}
 use Rattle.std.proofs.Common.{⊎_elim}
-use Rattle.std.specs.Prelude.{codes, slice_index, ◌&&◌, ◌||◌}
+use Rattle.std.specs.Prelude.{⊤, codes, slice_index, ◌&&◌, ◌||◌}
 use Rattle.std.specs.Str.{bytes_eq}
 use Rattle.std.proofs.lemmas.Bool.{cases_Bool}
 use Rattle.std.proofs.lemmas.Bool.Decides.{nat_tests}
@@ -170,7 +170,7 @@ line_counts : (places : Places) (words k here : ℕ) (l : Line) (i : Item) → l
     → item_words i ≡ word_count l
 unfolding line_item
 line_counts places words k here l i is =
-    let m = mapped (λ (v : Bool × Item). v.1)
+    let m = mapped (λ (v : ⊤ × Item). v.1)
     (both (labelling places k l.label l.statement) (statement_item places words here l.statement)) i is in
     statement_counts places words here l.statement i
     (second (labelling places k l.label l.statement) (statement_item places words here l.statement) m.0 m.1

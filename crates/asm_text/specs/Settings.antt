@@ -8,7 +8,7 @@ use Rattle.asm_text.specs.declared.settings.Settings.{Settings}
 abbrev pub no_settings : Settings
 no_settings = record { profile = false; slim = None; retry = None; trap = None }
 
-abbrev pub set_once : Option ℕ → ℕ → Result (Option ℕ) Fault
+abbrev pub set_once : {A : Type 0} → Option A → A → Result (Option A) Fault
 set_once None n = Ok (Some n)
 set_once (Some m) n = Err fault.Directive
 

@@ -4,7 +4,7 @@ ghost use Rattle.std.specs.Prelude.{◌≡◌, ◌<◌, ◌^◌, ◌++◌, map, 
 ghost use Rattle.std.specs.List.{All};
 ghost use Rattle.tag_memory.specs.Cell.{tag_number};
 ghost use Rattle.image_file.specs.ImageValue.{IsWithin};
-ghost use Rattle.listing_line.specs.DirectiveLines.{profile_line, slim_line, retry_line, trap_line};
+ghost use Rattle.listing_line.specs.DirectiveLines.{profile_line, slim_line, retry_line, number_line};
 ghost use Rattle.listing_line.specs.DirectiveLines.{entry_line, fill_line};
 ghost use Rattle.asm_text.specs.Sources.{Means};
 ghost use Rattle.asm_text.specs.Runs.{runs};
@@ -12,6 +12,7 @@ ghost use Rattle.asm_text.specs.Listing.{setting_lines, trap_lines, word_lines, 
 
 use crate::laws::listings_are_read_back;
 use crate::runs::first_run;
+use asm_line::{Directive, names};
 use image_file::Image;
 use listing_line::push_word_line;
 use number_text::Hexadecimal;
@@ -20,7 +21,7 @@ use std::fmt::Write;
 use tag_memory::Word;
 
 /// The profile of every image.
-const PROFILE: u8 = 1;
+const PROFILE: u32 = 1;
 
 /// The listing of an image ("Listing", docs/FORMATS.md): its directives, its entries, its program words and its data
 /// cells, each run of equal cells in one line.
@@ -44,32 +45,31 @@ fn push_settings(text: &mut String, image: &Image) -> Result<(), AllocError>
     ensures is { OnOk result (string_bytes text.new ≡ string_bytes text.old ++ text_of (setting_lines image.now)) }
     ensures fit { OnOk result ((image.now.retry_limit < 2 ^ 32) × (image.now.trap_entry < 2 ^ 32)) }
 {
-    push_profile(text, PROFILE)?;
+    push_profile(text)?;
     push_slim(text, image.slim())?;
     push_retry(text, image.retry_limit())?;
     push_trap(text, image.trap_entry())
 }
 
 #[tactic(auto, unfolding(listing_line::specs::DirectiveLines::profile_line))]
-fn push_profile(text: &mut String, profile: u8) -> Result<(), AllocError>
-    requires { profile ≡ 1 }
+fn push_profile(text: &mut String) -> Result<(), AllocError>
     ensures { OnOk result (string_bytes text.new ≡ string_bytes text.old ++ ended profile_line) }
 {
-    writeln!(text, ".profile {profile}")
+    push_number(text, Directive::Profile, PROFILE)
 }
 
 #[tactic(auto, unfolding(listing_line::specs::DirectiveLines::slim_line))]
 fn push_slim(text: &mut String, slim: u16) -> Result<(), AllocError>
     ensures { OnOk result (string_bytes text.new ≡ string_bytes text.old ++ ended (slim_line slim)) }
 {
-    writeln!(text, ".slim {slim}")
+    push_number(text, Directive::Slim, u32::from(slim))
 }
 
 #[tactic(auto, unfolding(listing_line::specs::DirectiveLines::retry_line))]
 fn push_retry(text: &mut String, retry: u32) -> Result<(), AllocError>
     ensures { OnOk result (string_bytes text.new ≡ string_bytes text.old ++ ended (retry_line retry)) }
 {
-    writeln!(text, ".retry {retry}")
+    push_number(text, Directive::Retry, retry)
 }
 
 #[tactic(auto, unfolding(listing_line::specs::DirectiveLines::trap_line))]
@@ -79,7 +79,15 @@ fn push_trap(text: &mut String, trap: u32) -> Result<(), AllocError>
     if trap == u32::MAX {
         return Ok(());
     }
-    writeln!(text, ".trap {trap}")
+    push_number(text, Directive::Trap, trap)
+}
+
+/// Appends a directive that has one number.
+fn push_number(text: &mut String, directive: Directive, number: u32) -> Result<(), AllocError>
+    ensures { OnOk result (string_bytes text.new ≡ string_bytes text.old ++ ended (number_line directive number)) }
+{
+    let name = names::directive(directive);
+    writeln!(text, "{name} {number}")
 }
 
 /// Appends the entries.
@@ -101,7 +109,7 @@ fn push_entries(text: &mut String, image: &Image) -> Result<(), AllocError>
 fn push_entry(text: &mut String, entry: u32) -> Result<(), AllocError>
     ensures { OnOk result (string_bytes text.new ≡ string_bytes text.old ++ ended (entry_line entry)) }
 {
-    writeln!(text, ".entry {entry}")
+    push_number(text, Directive::Entry, entry)
 }
 
 /// Appends the program words.
@@ -142,7 +150,8 @@ fn push_run(text: &mut String, count: usize, cell: &Word) -> Result<(), AllocErr
         ++ ended (fill_line count cell.now.value (tag_number cell.now))) }
     ensures fits { cell.now.value < 2 ^ 64 }
 {
+    let name = names::directive(Directive::Fill);
     let value = Hexadecimal(cell.value());
     let tags = cell.tag_number();
-    writeln!(text, ".fill {count}, 0x{value}, {tags}")
+    writeln!(text, "{name} {count}, 0x{value}, {tags}")
 }

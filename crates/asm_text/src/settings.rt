@@ -39,36 +39,31 @@ impl Settings {
     pub(crate) fn with_slim(self, slim: u8) -> Result<Settings, Fault>
         ensures { result ≡ slim_set self slim }
     {
-        match self.slim {
-            None => Ok(Settings {
-                slim: Some(slim),
-                ..self
-            }),
-            Some(_) => Err(Fault::Directive),
-        }
+        let slim = set_once(self.slim, slim)?;
+        Ok(Settings { slim, ..self })
     }
 
     pub(crate) fn with_retry(self, retry: u32) -> Result<Settings, Fault>
         ensures { result ≡ retry_set self retry }
     {
-        match self.retry {
-            None => Ok(Settings {
-                retry: Some(retry),
-                ..self
-            }),
-            Some(_) => Err(Fault::Directive),
-        }
+        let retry = set_once(self.retry, retry)?;
+        Ok(Settings { retry, ..self })
     }
 
     pub(crate) fn with_trap(self, trap: u32) -> Result<Settings, Fault>
         ensures { result ≡ trap_set self trap }
     {
-        match self.trap {
-            None => Ok(Settings {
-                trap: Some(trap),
-                ..self
-            }),
-            Some(_) => Err(Fault::Directive),
-        }
+        let trap = set_once(self.trap, trap)?;
+        Ok(Settings { trap, ..self })
+    }
+}
+
+/// The number of a directive, if an earlier line has not set it.
+fn set_once<A: Drop>(earlier: Option<A>, number: A) -> Result<Option<A>, Fault>
+    ensures { result ≡ set_once earlier number }
+{
+    match earlier {
+        None => Ok(Some(number)),
+        Some(_) => Err(Fault::Directive),
     }
 }

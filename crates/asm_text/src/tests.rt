@@ -1,5 +1,6 @@
 //! Tests against docs/FORMATS.md, "Source text" and "Listing". The expected values are worked out by hand from its
-//! tables.
+//! tables. Where memory runs out a test ends with `no memory` or the allocator's own error, so that a run with a
+//! refused allocation tells that from a wrong answer.
 use crate::{AsmFault, Fault, assemble, cells_are_their_runs, listing, listings_are_read_back};
 use image_file::{Image, ImageFault};
 use std::alloc::{AllocError, Global};
@@ -7,25 +8,31 @@ use std::process::Abort;
 use std::test::Fail;
 use tag_memory::Word;
 
+mod bad_texts;
 mod directives;
-mod faults;
 mod forms;
 mod limits;
 mod listings;
 
-/// The line and the number of a text's fault; None where it means an image.
-fn fault_of(alloc: Global, text: &[u8]) -> Option<(usize, u8)> {
+/// What a text is assembled to, where memory is enough.
+fn assembled(alloc: Global, text: &[u8]) -> Result<Result<Image, AsmFault>, Fail> {
     match assemble(alloc, text) {
-        Ok(_) => None,
-        Err(fault) => Some((fault.line, fault.kind.number())),
+        Err(fault) if fault.kind == Fault::NoMemory => Err(Fail::new("no memory")),
+        answer => Ok(answer),
     }
 }
 
-/// The image of a text that the test knows to be right.
-fn image_of(rt: &impl Abort, alloc: Global, text: &str) -> Image {
-    match assemble(alloc, text.as_bytes()) {
-        Ok(image) => image,
-        Err(_) => panic!(rt; "the text means an image"),
+/// The line and the number of a text's fault; None where it means an image.
+fn fault_of(alloc: Global, text: &[u8]) -> Result<Option<(usize, u8)>, Fail> {
+    let answer = assembled(alloc, text)?;
+    Ok(answer.err().map(|fault| (fault.line, fault.kind.number())))
+}
+
+/// The image of a text that the test knows to be right. Any fault of it fails the test.
+fn image_of(rt: &impl Abort, alloc: Global, text: &str) -> Result<Image, Fail> {
+    match assembled(alloc, text.as_bytes())? {
+        Ok(image) => Ok(image),
+        Err(fault) => panic!(rt; "line {} kind {}", fault.line, fault.kind.number()),
     }
 }
 

@@ -1,3 +1,4 @@
+//! Tests against docs/FORMATS.md, "Listing". The expected lines are worked out by hand from its tables.
 use super::*;
 use std::alloc::{AllocError, Global};
 use std::process::Abort;

@@ -7,6 +7,7 @@ ghost use Rattle.listing_line.specs.WordText.{joined, memory_texts, arithmetic_t
 ghost use Rattle.listing_line.specs.WordText.{word_text, word_line};
 
 use crate::operations::{push_arithmetic, push_control, push_memory, push_wide};
+use asm_line::{Directive, names};
 use insn_word::{APart, ArithmeticOp, CPart, ControlOp, Insn, MPart, MemoryOp, decode};
 use number_text::{FiveDigits, Hexadecimal};
 use std::alloc::AllocError;
@@ -32,8 +33,9 @@ fn push_word(text: &mut String, word: u64) -> Result<(), AllocError>
     match decode(word) {
         Some(insn) => push_insn(text, &insn),
         None => {
+            let name = names::directive(Directive::Word);
             let digits = Hexadecimal(word);
-            write!(text, ".word 0x{digits}")
+            write!(text, "{name} 0x{digits}")
         }
     }
 }

@@ -15,8 +15,8 @@ const TEXT: &str = "; a program\r\n\
     .data 6, 15";
 
 #[test]
-fn labels_stand_for_places(rt: HostRuntime) {
-    let image = image_of(&rt, rt.alloc(), TEXT);
+fn labels_stand_for_places(rt: HostRuntime) -> Result<(), Fail> {
+    let image = image_of(&rt, rt.alloc(), TEXT)?;
     assert_eq!(rt;
         (image.slim(), image.retry_limit(), image.trap_entry()),
         (3, 7, 2)
@@ -39,10 +39,11 @@ fn labels_stand_for_places(rt: HostRuntime) {
         ]
         .as_slice()
     );
+    Ok(())
 }
 
 #[test]
-fn the_last_line_end_may_be_absent(rt: HostRuntime) {
+fn the_last_line_end_may_be_absent(rt: HostRuntime) -> Result<(), Fail> {
     for text in [
         ".entry 0\nNOP\n.data 0",
         ".entry 0\nNOP\n.data 0\n",
@@ -51,14 +52,15 @@ fn the_last_line_end_may_be_absent(rt: HostRuntime) {
         ".data 0\nNOP\n.entry 0",
         ".data 0;\n;\nNOP;x\n  .entry\t0 ; y",
     ] {
-        let image = image_of(&rt, rt.alloc(), text);
-        assert_eq!(rt; image.program(), [0].as_slice());
-        assert_eq!(rt; (image.processors(), image.cells().len()), (1, 1));
+        let image = image_of(&rt, rt.alloc(), text)?;
+        assert_eq!(rt; image.program(), [0].as_slice(), "{text}");
+        assert_eq!(rt; (image.processors(), image.cells().len()), (1, 1), "{text}");
     }
+    Ok(())
 }
 
 #[test]
-fn skip_reaches_127_words(rt: HostRuntime) -> Result<(), AllocError> {
+fn skip_reaches_127_words(rt: HostRuntime) -> Result<(), Fail> {
     let near = repeated(
         rt.alloc(),
         ".entry 0\nSKIP ALWAYS, 0, far\n",
@@ -66,7 +68,7 @@ fn skip_reaches_127_words(rt: HostRuntime) -> Result<(), AllocError> {
         127,
         "far: NOP\n.data 0\n",
     )?;
-    let image = image_of(&rt, rt.alloc(), near.as_str());
+    let image = image_of(&rt, rt.alloc(), near.as_str())?;
     assert_eq!(rt; image.program().first(), Some(&0x807F));
     let far = repeated(
         rt.alloc(),
@@ -75,6 +77,6 @@ fn skip_reaches_127_words(rt: HostRuntime) -> Result<(), AllocError> {
         128,
         "far: NOP\n.data 0\n",
     )?;
-    assert_eq!(rt; fault_of(rt.alloc(), far.as_bytes()), Some((2, 4)));
+    assert_eq!(rt; fault_of(rt.alloc(), far.as_bytes())?, Some((2, 4)));
     Ok(())
 }

@@ -28,14 +28,15 @@ fn an_image_both_ways(rt: HostRuntime) -> Result<(), Fail> {
     let image = small_image(&rt, rt.alloc())?;
     let text = listing(rt.alloc(), &image)?;
     assert_eq!(rt; text.as_str(), SMALL);
-    assert!(rt; image_of(&rt, rt.alloc(), SMALL) == image);
+    let assembled = image_of(&rt, rt.alloc(), SMALL)?;
+    assert!(rt; assembled == image);
     listings_are_read_back();
     cells_are_their_runs();
     Ok(())
 }
 
 #[test]
-fn settings_entries_and_runs(rt: HostRuntime) -> Result<(), AllocError> {
+fn settings_entries_and_runs(rt: HostRuntime) -> Result<(), Fail> {
     for (text, want) in [
         (
             ".entry 0\nNOP\n.data 0\n",
@@ -56,16 +57,17 @@ fn settings_entries_and_runs(rt: HostRuntime) -> Result<(), AllocError> {
              .fill 262144, 0xFFFFFFFFFFFFFFFF, 0\n",
         ),
     ] {
-        let image = image_of(&rt, rt.alloc(), text);
+        let image = image_of(&rt, rt.alloc(), text)?;
         let found = listing(rt.alloc(), &image)?;
         assert_eq!(rt; found.as_str(), want);
-        assert!(rt; image_of(&rt, rt.alloc(), want) == image);
+        let assembled = image_of(&rt, rt.alloc(), want)?;
+        assert!(rt; assembled == image);
     }
     Ok(())
 }
 
 #[test]
-fn a_full_program(rt: HostRuntime) -> Result<(), AllocError> {
+fn a_full_program(rt: HostRuntime) -> Result<(), Fail> {
     let text = repeated(
         rt.alloc(),
         ".entry 65535\n",
@@ -73,9 +75,10 @@ fn a_full_program(rt: HostRuntime) -> Result<(), AllocError> {
         65_536,
         ".data 0\n",
     )?;
-    let image = image_of(&rt, rt.alloc(), text.as_str());
+    let image = image_of(&rt, rt.alloc(), text.as_str())?;
     let listed = listing(rt.alloc(), &image)?;
-    assert!(rt; image_of(&rt, rt.alloc(), listed.as_str()) == image);
+    let assembled = image_of(&rt, rt.alloc(), listed.as_str())?;
+    assert!(rt; assembled == image);
     assert!(rt; listed.as_str().contains(" ; 65535 "));
     Ok(())
 }
