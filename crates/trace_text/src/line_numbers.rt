@@ -1,8 +1,8 @@
 //! A line of a schedule: a step, and how often it is taken.
 
-ghost use Rattle.std.specs.Prelude.{◌≡◌, ℕ, ◌≤◌, IfSome};
+ghost use Rattle.std.specs.Prelude.{◌≡◌};
 ghost use Rattle.std.specs.Option.{option_map, option_copied};
-ghost use Rattle.number_text.specs.Numbers.{number_from, up_to};
+ghost use Rattle.number_text.specs.Numbers.{number_from};
 ghost use Rattle.trace_text.specs.ScheduleLines.{LineValues, values_of};
 ghost use Rattle.trace_text.specs.Fields.{times_in};
 ghost use Rattle.trace_text.specs.LineNumbers.{numbers_from, run_within};
@@ -14,7 +14,7 @@ use processor::Step;
 
 /// The numbers of a line, of any size.
 #[derive(Clone, Copy, Debug, PartialEq, Eq)]
-pub struct LineNumbers {
+pub(crate) struct LineNumbers {
     processor: Number,
     stream: Number,
     times: Number,
@@ -22,7 +22,7 @@ pub struct LineNumbers {
 
 impl LineNumbers {
     /// The numbers that a line spells, and None where it has another form.
-    pub fn read(line: &[u8]) -> Option<LineNumbers>
+    pub(crate) fn read(line: &[u8]) -> Option<LineNumbers>
         ensures { result ≡ option_map numbers_from (values_of line.now) }
     {
         let (processor, rest) = split_field(line);
@@ -38,18 +38,18 @@ impl LineNumbers {
     }
 
     /// The run that the numbers say, and None where one of them is out of its limits.
-    pub fn run(self) -> Option<Run>
+    pub(crate) fn run(self) -> Option<Run>
         ensures { (v : LineValues) → self ≡ numbers_from v → result ≡ run_within v }
     {
-        let processor = at_most(self.processor, 255)?;
-        let stream = at_most(self.stream, 255)?;
-        let times = at_most(self.times, MAX_STEPS as u64)?;
+        let processor = self.processor.up_to(255)?;
+        let stream = self.stream.up_to(255)?;
+        let times = self.times.up_to(MAX_STEPS as u64)?;
         if times == 0 {
             return None;
         }
         let step = Step {
-            p: processor as u8,
-            s: stream as u8,
+            p: u8::try_from(processor).ok()?,
+            s: u8::try_from(stream).ok()?,
         };
         Some(Run {
             step,
@@ -65,16 +65,5 @@ fn read_times(field: Option<&[u8]>) -> Option<Number>
     match field {
         Some(digits) => read_digits(Base::Decimal, digits),
         None => Some(Number::Word(1)),
-    }
-}
-
-/// A number where it is no more than a limit.
-fn at_most(number: Number, limit: u64) -> Option<u64>
-    ensures value { (n : ℕ) → number ≡ number_from n → result ≡ up_to limit n }
-    ensures below { IfSome result (λ n. n ≤ limit) }
-{
-    match number {
-        Number::Word(word) if word <= limit => Some(word),
-        _ => None,
     }
 }

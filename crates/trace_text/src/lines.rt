@@ -21,7 +21,7 @@ pub fn split_line(text: &[u8]) -> (&[u8], &[u8])
 
 /// What stands before the first space of a line, or all of it, and what stands after that space, if there is one.
 #[tactic(auto, using(crate::proofs::Fields::cutting))]
-pub fn split_field(line: &[u8]) -> (&[u8], Option<&[u8]>)
+pub(crate) fn split_field(line: &[u8]) -> (&[u8], Option<&[u8]>)
     ensures { fields_of line.now ≡ result.0.now ∷ rest_fields (option_copied result.1) }
 {
     match find(line, b' ') {

@@ -3,13 +3,13 @@
 use processor::Step;
 
 /// The most steps of a schedule that is read, and the most that one line says.
-pub const MAX_STEPS: usize = 1_000_000;
+pub(crate) const MAX_STEPS: usize = 1_000_000;
 
 /// A step, so many times in a row.
 #[derive(Clone, Copy, Debug, PartialEq, Eq)]
-pub struct Run {
+pub(crate) struct Run {
     /// The step.
-    pub step: Step,
+    pub(crate) step: Step,
     /// How many times it is taken.
-    pub times: usize,
+    pub(crate) times: usize,
 }

@@ -1,3 +1,5 @@
+//! Schedules, traces and world texts by example.
+
 mod faults;
 mod large;
 mod schedules;

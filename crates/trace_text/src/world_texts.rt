@@ -14,7 +14,8 @@ use stream_core::{Status, Stream, stream_text};
 use tag_memory::Word;
 
 /// The text of a machine's world: each processor with its counts and its streams that are not idle, then each word
-/// that differs from the image ("World text", docs/FORMATS.md).
+/// that differs from the image ("World text", docs/FORMATS.md). The image is the one that the machine was loaded
+/// from.
 #[tactic(auto, unfolding(crate::specs::WorldTexts::world_text_of))]
 pub fn world_text<const S: usize>(
     alloc: Global,

@@ -1,3 +1,5 @@
+//! Texts that are no schedule.
+
 use super::*;
 use ScheduleFaultKind::{Form, Limit, Number};
 

@@ -1,3 +1,5 @@
+//! Schedules that are read and written.
+
 use super::*;
 use std::test::Fail;
 

@@ -1,3 +1,5 @@
+//! The lines of a trace.
+
 use super::*;
 use std::test::Fail;
 use stream_core::{Outcome, TrapKind};

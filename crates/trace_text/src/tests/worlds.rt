@@ -1,3 +1,5 @@
+//! What a machine came to, as text.
+
 use super::traces::RETRIED;
 use super::*;
 use image_file::{Image, ImageFault};
