@@ -1,5 +1,11 @@
 -- What faults say of the input.
-use Rattle.std.specs.Prelude.{◌≡◌, ℕ, List, Result, Err, ⊤}
+use Rattle.std.specs.Prelude.{◌≡◌, ◌≢◌, ℕ, List, Result, Err, ⊤}
+use Rattle.asm_text.specs.Faults as source
+use Rattle.asm_text.specs.declared.fault.AsmFault.{AsmFault}
+use Rattle.image_file.specs.declared.fault.ImageFault.{ImageFault}
+use Rattle.image_file.specs.declared.fault.ImageFault.TheVariants as image
+use Rattle.trace_text.specs.ScheduleFaults as schedule
+use Rattle.trace_text.specs.declared.schedule_fault.ScheduleFault.{ScheduleFault}
 use Rattle.mta_engines.specs.declared.tool_fault.ToolFault.{ToolFault}
 use Rattle.mta_engines.specs.declared.tool_fault.ToolFault.TheVariants.{Read, Write, TooLarge, NoMemory, Words}
 use Rattle.mta_engines.specs.declared.tool_fault.ToolFault.TheVariants.{Asm, Image, Schedule}
@@ -29,3 +35,18 @@ IsFaultBy has (Schedule fault) = has (Schedule fault)
 -- the fault stands in place of the output
 abbrev pub IsFaultOf : Result (List ℕ) ToolFault → ToolFault → Type 0
 IsFaultOf output = IsFaultBy (λ fault. output ≡ Err fault)
+
+-- Faults of the lower crates.
+
+-- a refusal of memory is the tool's own; a fault of any other kind is told as it is
+abbrev pub IsTold : {A : Type 0} → A → A → ToolFault → ToolFault → Type 0
+IsTold kind no_memory as_it_is fault = (kind ≡ no_memory → fault ≡ NoMemory) × (kind ≢ no_memory → fault ≡ as_it_is)
+
+abbrev pub IsOfSource : AsmFault → ToolFault → Type 0
+IsOfSource found = IsTold found.kind source.no_memory.kind (Asm found)
+
+abbrev pub IsOfImage : ImageFault → ToolFault → Type 0
+IsOfImage found = IsTold found image.NoMemory (Image found)
+
+abbrev pub IsOfSchedule : ScheduleFault → ToolFault → Type 0
+IsOfSchedule found = IsTold found.kind schedule.no_memory.kind (Schedule found)

@@ -1,16 +1,14 @@
 //! The engine of the command `asm`.
-ghost use Rattle.std.specs.Prelude.{◌≡◌, ◌≢◌, ◌≤◌, ℕ, List, length, OnOk, IfOk, IfErr, IfSome};
+ghost use Rattle.std.specs.Prelude.{◌≢◌, OnOk, IfErr, IfSome};
 ghost use Rattle.std.specs.Io.KnownBytes.{Appends, Keeps};
 ghost use Rattle.mta_engines.specs.Faults.{IsFaultBy};
 ghost use Rattle.mta_engines.specs.AsmOutput.{IsAsmOutput, HasAsmFault};
-ghost use Rattle.mta_engines.specs.Input.{input_limit};
-ghost use Rattle.asm_text.specs.Sources.{Means};
 
 use crate::input::read_input;
 use crate::output::write_output;
 use crate::tool_fault::ToolFault;
-use asm_text::{AsmFault, Fault, assemble};
-use image_file::{Image, write_image};
+use asm_text::assemble;
+use image_file::write_image;
 use std::alloc::Global;
 use std::io::{Read, Write};
 
@@ -31,25 +29,7 @@ pub fn asm_engine<R: Read, W: Write>(
         → Keeps (W.contents writer.old) (W.contents writer.new)) }
 {
     let text = read_input(alloc, source)?;
-    let image = image_of(alloc, &text)?;
+    let image = assemble(alloc, &text)?;
     let bytes = write_image(alloc, &image)?;
     write_output(writer, &bytes)
-}
-
-/// The image that a text means, or its fault.
-fn image_of(alloc: Global, text: &[u8]) -> Result<Image, ToolFault>
-    requires { length text.now ≤ input_limit }
-    ensures means { IfOk result (Means text.now) }
-    ensures fault { (input : List ℕ) → text.now ≡ input → IfErr result (IsFaultBy (HasAsmFault input)) }
-{
-    match assemble(alloc, text) {
-        Ok(image) => Ok(image),
-        Err(
-            AsmFault {
-                kind: Fault::NoMemory,
-                ..
-            },
-        ) => Err(ToolFault::NoMemory),
-        Err(fault) => Err(ToolFault::Asm(fault)),
-    }
 }

@@ -1,17 +1,16 @@
 //! Inputs that are images and schedules.
-ghost use Rattle.std.specs.Prelude.{◌≡◌, ◌≤◌, ℕ, List, length, IfOk, IfErr, IfSome};
+ghost use Rattle.std.specs.Prelude.{IfOk, IfErr, IfSome};
 ghost use Rattle.mta_engines.specs.Faults.{IsFaultBy};
-ghost use Rattle.mta_engines.specs.Input.{input_limit};
 ghost use Rattle.mta_engines.specs.Images.{IsImageOf, HasImageFault};
 ghost use Rattle.mta_engines.specs.RunOutput.{IsScheduleOf, HasScheduleFault};
 
 use crate::input::read_input;
 use crate::tool_fault::ToolFault;
-use image_file::{Image, ImageFault, read_image};
+use image_file::{Image, read_image};
 use processor::Step;
 use std::alloc::Global;
 use std::io::Read;
-use trace_text::{ScheduleFault, ScheduleFaultKind, read_schedule};
+use trace_text::read_schedule;
 
 /// The image that a reader's bytes stand for, or their fault.
 pub(crate) fn read_image_input<R: Read>(alloc: Global, reader: &mut R) -> Result<Image, ToolFault>
@@ -20,20 +19,7 @@ pub(crate) fn read_image_input<R: Read>(alloc: Global, reader: &mut R) -> Result
         IsFaultBy (HasImageFault bytes) fault)) }
 {
     let bytes = read_input(alloc, reader)?;
-    image_of(alloc, &bytes)
-}
-
-/// The image that bytes stand for, or their fault.
-fn image_of(alloc: Global, bytes: &[u8]) -> Result<Image, ToolFault>
-    requires { length bytes.now ≤ input_limit }
-    ensures image { IfOk result (IsImageOf bytes.now) }
-    ensures fault { (input : List ℕ) → bytes.now ≡ input → IfErr result (IsFaultBy (HasImageFault input)) }
-{
-    match read_image(alloc, bytes) {
-        Ok(image) => Ok(image),
-        Err(ImageFault::NoMemory) => Err(ToolFault::NoMemory),
-        Err(fault) => Err(ToolFault::Image(fault)),
-    }
+    Ok(read_image(alloc, &bytes)?)
 }
 
 /// The schedule that a reader's bytes say, or their fault.
@@ -47,14 +33,5 @@ pub(crate) fn read_schedule_input<R: Read>(
         IsFaultBy (HasScheduleFault bytes) fault)) }
 {
     let bytes = read_input(alloc, reader)?;
-    match read_schedule(alloc, &bytes) {
-        Ok(steps) => Ok(steps),
-        Err(
-            ScheduleFault {
-                kind: ScheduleFaultKind::NoMemory,
-                ..
-            },
-        ) => Err(ToolFault::NoMemory),
-        Err(fault) => Err(ToolFault::Schedule(fault)),
-    }
+    Ok(read_schedule(alloc, &bytes)?)
 }

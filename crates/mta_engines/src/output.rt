@@ -6,7 +6,7 @@ use crate::tool_fault::ToolFault;
 use std::io::Write;
 
 /// Writes all of an output, and flushes the writer. Of the writer after a fault nothing is said.
-pub fn write_output<W: Write>(writer: &mut W, output: &[u8]) -> Result<(), ToolFault>
+pub(crate) fn write_output<W: Write>(writer: &mut W, output: &[u8]) -> Result<(), ToolFault>
     ensures written { OnOk result (Appends (W.contents writer.old) (W.contents writer.new) output.now) }
     ensures fault { IfErr result (λ fault. fault ≡ ToolFault.Write) }
 {

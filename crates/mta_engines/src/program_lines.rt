@@ -15,7 +15,7 @@ pub const MAX_WORDS: usize = 65_536;
 ///
 /// `Words` names the least line with a fault: one that is anything else, line 1 where there is no line, and the line
 /// after the first [`MAX_WORDS`].
-pub fn read_program(alloc: Global, text: &[u8]) -> Result<Vec<u64>, ToolFault>
+pub(crate) fn read_program(alloc: Global, text: &[u8]) -> Result<Vec<u64>, ToolFault>
     ensures words { IfOk result (λ words. program_of text.now ≡ Ok words.items) }
     ensures some { IfOk result (λ words. 1 ≤ length words.items) }
     ensures few { IfOk result (λ words. length words.items ≤ 65536) }

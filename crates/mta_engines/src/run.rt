@@ -4,6 +4,7 @@ ghost use Rattle.std.specs.Option.{option_copied};
 ghost use Rattle.std.specs.Io.KnownBytes.{Appends, Keeps};
 ghost use Rattle.processor.specs.World.{steps};
 ghost use Rattle.mta_engines.specs.Faults.{IsFaultBy};
+ghost use Rattle.mta_engines.specs.Images.{HasImageFault};
 ghost use Rattle.mta_engines.specs.RunOutput.{run_text, trace_from, pc_of, IsRunOutput, HasRunFault};
 
 use crate::inputs::{read_image_input, read_schedule_input};
@@ -37,6 +38,8 @@ pub fn run_engine<I: Read, R: Read, W: Write>(
     ensures fault { IfErr result (λ fault. IfSome (I.remaining image.old) (λ image_bytes.
         IfSome (R.remaining schedule.old) (λ schedule_bytes.
         IsFaultBy (HasRunFault image_bytes schedule_bytes) fault))) }
+    ensures unread { IfErr result (λ fault. IfSome (I.remaining image.old) (λ image_bytes.
+        HasImageFault image_bytes fault → Keeps (R.remaining schedule.old) (R.remaining schedule.new))) }
     ensures kept { IfErr result (λ fault. fault ≢ ToolFault.Write
         → Keeps (W.contents writer.old) (W.contents writer.new)) }
 {
@@ -90,11 +93,10 @@ fn push_trace<const S: usize>(
     ensures world { OnOk result (machine.new
         ≡ record machine.old { world = steps machine.old.image machine.old.world schedule.now }) }
 {
-    for index in 0..schedule.len() {
-        let step = schedule[index];
-        let pc = pc(machine, step);
+    for (index, step) in schedule.iter().enumerate() {
+        let pc = pc(machine, *step);
         let outcome = machine.step(step.p, step.s);
-        push_trace_line(text, index as u64 + 1, step, pc, outcome)?;
+        push_trace_line(text, index as u64 + 1, *step, pc, outcome)?;
     }
     Ok(())
 }

@@ -1,20 +1,21 @@
 //! Why the tool gives up.
 ghost use Rattle.std.specs.Prelude.{◌≡◌};
+ghost use Rattle.mta_engines.specs.Faults.{IsOfSource, IsOfImage, IsOfSchedule};
 ghost use Rattle.mta_engines.specs.declared.tool_fault.ToolFault.TheVariants.{NoMemory};
 
-use asm_text::AsmFault;
+use asm_text::{AsmFault, Fault};
 use image_file::ImageFault;
 use std::alloc::{AllocError, AllocFailed};
 use thiserror::Error;
-use trace_text::ScheduleFault;
+use trace_text::{ScheduleFault, ScheduleFaultKind};
 
 /// Why a command ended with status 1. Its text goes to standard error after `mta_sim: `.
 #[derive(Clone, Copy, Debug, PartialEq, Eq, Error)]
 pub enum ToolFault {
-    /// A reader failed, or was interrupted.
+    /// A reader failed, or was interrupted; or a file can't be opened for reading.
     #[error("read failed")]
     Read,
-    /// A writer failed.
+    /// A writer failed; or a file can't be made or emptied.
     #[error("write failed")]
     Write,
     /// A reader had more than [`INPUT_LIMIT`](crate::INPUT_LIMIT) bytes.
@@ -50,5 +51,38 @@ impl<T: Drop> From<AllocFailed<T>> for ToolFault {
 
     fn from(_error: AllocFailed<T>) -> ToolFault {
         ToolFault::NoMemory
+    }
+}
+
+impl From<AsmFault> for ToolFault {
+    ghost from_gives = { λ found fault. IsOfSource found fault };
+
+    fn from(fault: AsmFault) -> ToolFault {
+        match fault.kind {
+            Fault::NoMemory => ToolFault::NoMemory,
+            _ => ToolFault::Asm(fault),
+        }
+    }
+}
+
+impl From<ImageFault> for ToolFault {
+    ghost from_gives = { λ found fault. IsOfImage found fault };
+
+    fn from(fault: ImageFault) -> ToolFault {
+        match fault {
+            ImageFault::NoMemory => ToolFault::NoMemory,
+            _ => ToolFault::Image(fault),
+        }
+    }
+}
+
+impl From<ScheduleFault> for ToolFault {
+    ghost from_gives = { λ found fault. IsOfSchedule found fault };
+
+    fn from(fault: ScheduleFault) -> ToolFault {
+        match fault.kind {
+            ScheduleFaultKind::NoMemory => ToolFault::NoMemory,
+            _ => ToolFault::Schedule(fault),
+        }
     }
 }

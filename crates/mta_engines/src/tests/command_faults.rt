@@ -61,6 +61,32 @@ fn a_damaged_image_is_not_listed(rt: HostRuntime) {
 }
 
 #[test]
+fn a_damaged_image_leaves_the_schedule_unread(rt: HostRuntime) {
+    for bytes in [&BYTES[..0], &BYTES[..88]] {
+        let mut written = Vec::new(rt.alloc());
+        let mut schedule = failing(b"0 0 4", 0);
+        let done = run_engine(rt.alloc(), &mut &bytes[..], &mut schedule, &mut written);
+        assert_eq!(rt; done, Err(ToolFault::Image(ImageFault::Short)));
+        assert_eq!(rt; written.len(), 0);
+    }
+}
+
+#[test]
+fn an_image_that_is_too_large_is_refused(rt: HostRuntime) {
+    let too_large = || Repeated {
+        byte: b'M',
+        left: INPUT_LIMIT + 1,
+    };
+    let mut written = Vec::new(rt.alloc());
+    let done = list_engine(rt.alloc(), &mut too_large(), &mut written);
+    assert_eq!(rt; done, Err(ToolFault::TooLarge));
+    let mut schedule = failing(b"0 0 4", 0);
+    let done = run_engine(rt.alloc(), &mut too_large(), &mut schedule, &mut written);
+    assert_eq!(rt; done, Err(ToolFault::TooLarge));
+    assert_eq!(rt; written.len(), 0);
+}
+
+#[test]
 fn a_schedule_with_a_fault_runs_nothing(rt: HostRuntime) {
     for (schedule, line, kind) in [
         ("0 0\n1\n", 2, ScheduleFaultKind::Form),
@@ -132,15 +158,22 @@ fn each_write_of_a_command_may_fail(rt: HostRuntime) -> Result<(), Fail> {
     let image = assembled(alloc, BLOCKED)?;
     // seven bytes a write, and a flush
     let calls_of = |bytes: usize| bytes.div_ceil(7) + 1;
-    for calls in 0..calls_of(BYTES.len()) {
+    let outcome = |calls: usize, bytes: usize| {
+        if calls < calls_of(bytes) {
+            Err(ToolFault::Write)
+        } else {
+            Ok(())
+        }
+    };
+    for calls in 0..=calls_of(BYTES.len()) {
         let done = asm_engine(alloc, &mut LISTING.as_bytes(), &mut FailingWriter { calls });
-        assert_eq!(rt; done, Err(ToolFault::Write), "{calls}");
+        assert_eq!(rt; done, outcome(calls, BYTES.len()), "{calls}");
     }
-    for calls in 0..calls_of(LISTING.len()) {
+    for calls in 0..=calls_of(LISTING.len()) {
         let done = list_engine(alloc, &mut BYTES.as_slice(), &mut FailingWriter { calls });
-        assert_eq!(rt; done, Err(ToolFault::Write), "{calls}");
+        assert_eq!(rt; done, outcome(calls, LISTING.len()), "{calls}");
     }
-    for calls in 0..calls_of(TRACE.len()) {
+    for calls in 0..=calls_of(TRACE.len()) {
         let mut writer = FailingWriter { calls };
         let done = run_engine(
             alloc,
@@ -148,7 +181,7 @@ fn each_write_of_a_command_may_fail(rt: HostRuntime) -> Result<(), Fail> {
             &mut "0 0 4".as_bytes(),
             &mut writer,
         );
-        assert_eq!(rt; done, Err(ToolFault::Write), "{calls}");
+        assert_eq!(rt; done, outcome(calls, TRACE.len()), "{calls}");
     }
     Ok(())
 }

@@ -56,6 +56,13 @@ Running ssw 0100000000000003 xr 000000000000080A retries 0
 r04 000000000000080A
 ";
 
+/// What a machine of one stream with no handler comes to before its first step.
+pub const START: &str = "processor 0 scur 1 sres 1
+stream 0 0
+Running ssw 0000000000000000 xr 0000000000000000 retries 0
+t0 00000000FFFFFFFF
+";
+
 /// The bytes of the image that a text means.
 pub fn assembled(alloc: Global, source: &str) -> Result<Vec<u8>, ToolFault> {
     let mut bytes = Vec::new(alloc);
@@ -64,7 +71,7 @@ pub fn assembled(alloc: Global, source: &str) -> Result<Vec<u8>, ToolFault> {
 }
 
 /// What the image of a text prints by a schedule.
-fn traced(alloc: Global, source: &str, schedule: &str) -> Result<Vec<u8>, ToolFault> {
+pub fn traced(alloc: Global, source: &str, schedule: &str) -> Result<Vec<u8>, ToolFault> {
     let image = assembled(alloc, source)?;
     let mut text = Vec::new(alloc);
     run_engine(
@@ -101,12 +108,7 @@ fn a_run_prints_its_trace_and_what_the_machine_came_to(rt: HostRuntime) -> Resul
 #[test]
 fn a_run_of_no_steps_prints_the_start(rt: HostRuntime) -> Result<(), Fail> {
     let text = traced(rt.alloc(), ".entry 0\nQUIT\n.data 0\n", "")?;
-    let start = "processor 0 scur 1 sres 1
-stream 0 0
-Running ssw 0000000000000000 xr 0000000000000000 retries 0
-t0 00000000FFFFFFFF
-";
-    assert_eq!(rt; text.as_slice(), start.as_bytes());
+    assert_eq!(rt; text.as_slice(), START.as_bytes());
     Ok(())
 }
 

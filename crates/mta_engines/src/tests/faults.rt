@@ -2,8 +2,11 @@
 
 use super::devices::{FailingReader, FailingWriter, Repeated};
 use crate::{INPUT_LIMIT, MAX_WORDS, ToolFault, words_engine};
+use asm_text::{AsmFault, Fault};
+use image_file::ImageFault;
 use std::io::ErrorKind;
 use std::test::Fail;
+use trace_text::{ScheduleFault, ScheduleFaultKind};
 
 const PROGRAM: &str = "8010000000000005\n0000000A208C0000\n";
 
@@ -90,12 +93,24 @@ fn each_write_may_fail(rt: HostRuntime) {
 
 #[test]
 fn faults_have_their_texts(rt: HostRuntime) -> Result<(), Fail> {
+    let source = AsmFault {
+        line: 17,
+        kind: Fault::Limit,
+    };
+    let schedule = ScheduleFault {
+        line: 2,
+        kind: ScheduleFaultKind::Limit,
+    };
     for (fault, text) in [
         (ToolFault::Read, "read failed"),
         (ToolFault::Write, "write failed"),
         (ToolFault::TooLarge, "input too large"),
         (ToolFault::NoMemory, "no memory"),
         (ToolFault::Words(65_537), "words line 65537"),
+        (ToolFault::Asm(source), "source line 17 fault 9"),
+        (ToolFault::Image(ImageFault::Short), "image fault 1"),
+        (ToolFault::Image(ImageFault::TagByte(2)), "image fault 6"),
+        (ToolFault::Schedule(schedule), "schedule line 2 fault 3"),
     ] {
         let printed = fault.to_string(rt.alloc())?;
         assert_eq!(rt; printed.as_str(), text);
