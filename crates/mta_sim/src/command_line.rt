@@ -1,4 +1,9 @@
 //! The command line.
+ghost use Rattle.std.specs.Prelude.{◌≡◌, List, [], ◌∷◌, Some, codes, false, map, unwrap_or, IfOk, IfSome};
+ghost use Rattle.clap.specs.Words.{FailsBy, app_of, fault_of, first_value, found_of, rule_of};
+ghost use Rattle.clap.specs.Words.{subcommand_rows_of};
+ghost use Rattle.clap.specs.declared.builder.command.Command.TheViews.{out-Command as fields_of};
+ghost use Rattle.mta_sim.specs.CommandLine.{asked, asked_in, command_app, file_rule, meaning, tool_app};
 
 use clap::{Arg, ArgAction, ArgMatches, Command, Error};
 use std::alloc::{AllocError, Global};
@@ -19,17 +24,23 @@ pub(crate) enum Request<'a> {
 
 /// The request that the words of a command line say, the first of which is the program's name.
 ///
-/// The error has the text for the user, also where help or the version was asked for. The contract is silent on both.
+/// The error has the text for the user, also where help or the version was asked for, or memory was refused. The
+/// clauses say which kind it has, and nothing of the text.
 pub(crate) fn read_command_line<'a, S: AsStr>(
     alloc: Global,
     words: &'a [S],
-) -> Result<Request<'a>, Error> {
+) -> Result<Request<'a>, Error>
+    ensures request { IfOk result (λ request. asked (map S.text words.entry.now) ≡ Some (meaning request)) }
+    ensures fault { FailsBy (fault_of tool_app (map S.text words.entry.now)) result }
+{
     let matches = tool_command(alloc)?.try_get_matches_from(words)?;
     Ok(requested(&matches))
 }
 
 /// The request of the subcommand that stood on the command line, which has all its arguments.
-fn requested<'a>(matches: &ArgMatches<'a>) -> Request<'a> {
+fn requested<'a>(matches: &ArgMatches<'a>) -> Request<'a>
+    ensures { IfSome (asked_in (subcommand_rows_of matches.now)) (λ wanted. meaning result ≡ wanted) }
+{
     match matches.subcommand() {
         Some(("asm", files)) => Request::Assemble {
             source: path(files, "SOURCE"),
@@ -47,41 +58,74 @@ fn requested<'a>(matches: &ArgMatches<'a>) -> Request<'a> {
 }
 
 /// The path that an argument gives.
-fn path<'a>(matches: &ArgMatches<'a>, argument: &str) -> &'a str {
+fn path<'a>(matches: &ArgMatches<'a>, argument: &str) -> &'a str
+    ensures { result.now ≡ unwrap_or (first_value (found_of matches.now) argument.now) [] }
+{
     matches.get_str(argument).unwrap_or("")
 }
 
 /// The tool's commands and their texts.
-fn tool_command<'a>(alloc: Global) -> Result<Command<'a>, AllocError> {
+fn tool_command<'a>(alloc: Global) -> Result<Command<'a>, AllocError>
+    ensures { IfOk result (λ command. app_of command ≡ tool_app) }
+{
     Command::new(alloc, "mta_sim")
         .about("Simulates processors of the Tera MTA")
         .version("0.2.0")
         .subcommand_required(true)
-        .subcommand(Command::new(alloc, "words").about(
-            "Runs program words, one a line as 16 hexadecimal digits, from standard input, and prints the stream's state",
-        ))?
-        .subcommand(
-            Command::new(alloc, "asm")
-                .about("Assembles a source text, and writes the image")
-                .arg(file(alloc, "SOURCE"))?
-                .arg(file(alloc, "IMAGE"))?,
-        )?
-        .subcommand(
-            Command::new(alloc, "list")
-                .about("Prints the source text that means just this image")
-                .arg(file(alloc, "IMAGE"))?,
-        )?
-        .subcommand(
-            Command::new(alloc, "run")
-                .about(
-                    "Runs an image by a schedule, and prints each step and what the machine came to",
-                )
-                .arg(file(alloc, "IMAGE"))?
-                .arg(file(alloc, "SCHEDULE"))?,
-        )
+        .subcommand(words_command(alloc))?
+        .subcommand(asm_command(alloc)?)?
+        .subcommand(list_command(alloc)?)?
+        .subcommand(run_command(alloc)?)
+}
+
+/// The command `words`.
+fn words_command<'a>(alloc: Global) -> Command<'a>
+    ensures app { app_of result ≡ command_app (codes "words") [] }
+    ensures local { (fields_of result).has_globals ≡ false }
+{
+    Command::new(alloc, "words").about(
+        "Runs program words, one a line as 16 hexadecimal digits, from standard input, and prints the stream's state",
+    )
+}
+
+/// The command `asm`.
+fn asm_command<'a>(alloc: Global) -> Result<Command<'a>, AllocError>
+    ensures app { IfOk result (λ command.
+        app_of command ≡ command_app (codes "asm") (codes "SOURCE" ∷ codes "IMAGE" ∷ [])) }
+    ensures local { IfOk result (λ command. (fields_of command).has_globals ≡ false) }
+{
+    Command::new(alloc, "asm")
+        .about("Assembles a source text, and writes the image")
+        .arg(file(alloc, "SOURCE"))?
+        .arg(file(alloc, "IMAGE"))
+}
+
+/// The command `list`.
+fn list_command<'a>(alloc: Global) -> Result<Command<'a>, AllocError>
+    ensures app { IfOk result (λ command. app_of command ≡ command_app (codes "list") (codes "IMAGE" ∷ [])) }
+    ensures local { IfOk result (λ command. (fields_of command).has_globals ≡ false) }
+{
+    Command::new(alloc, "list")
+        .about("Prints the source text that means just this image")
+        .arg(file(alloc, "IMAGE"))
+}
+
+/// The command `run`.
+fn run_command<'a>(alloc: Global) -> Result<Command<'a>, AllocError>
+    ensures app { IfOk result (λ command.
+        app_of command ≡ command_app (codes "run") (codes "IMAGE" ∷ codes "SCHEDULE" ∷ [])) }
+    ensures local { IfOk result (λ command. (fields_of command).has_globals ≡ false) }
+{
+    Command::new(alloc, "run")
+        .about("Runs an image by a schedule, and prints each step and what the machine came to")
+        .arg(file(alloc, "IMAGE"))?
+        .arg(file(alloc, "SCHEDULE"))
 }
 
 /// An argument that names a file.
-fn file<'a>(alloc: Global, name: &'a str) -> Arg<'a> {
+fn file<'a>(alloc: Global, name: &'a str) -> Arg<'a>
+    ensures rule { rule_of result ≡ file_rule name.entry.now }
+    ensures local { result.global ≡ false }
+{
     Arg::new(alloc, name).required(true).action(ArgAction::Set)
 }

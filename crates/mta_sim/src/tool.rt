@@ -1,7 +1,10 @@
 //! The tool, from its command line to its status.
-ghost use Rattle.std.specs.Prelude.{◌≡◌, ◌≢◌, IfSome, IfErr, OnOk, IsOkAnd, MatchResult};
+ghost use Rattle.std.specs.Prelude.{◌≡◌, ◌≢◌, Some, IfSome, IfErr, OnOk, IsOkAnd, MatchResult, map};
 ghost use Rattle.std.specs.Io.KnownBytes.{Appends, Keeps};
+ghost use Rattle.clap.specs.Words.{Text};
+ghost use Rattle.mta_engines.specs.Faults.{IsFaultOf};
 ghost use Rattle.mta_engines.specs.WordsOutput.{words_output};
+ghost use Rattle.mta_sim.specs.CommandLine.{IsCommand, asked, assemble, meaning, run_words};
 
 use crate::command_line::{Request, read_command_line};
 use crate::files::{create_output, open_input};
@@ -25,8 +28,9 @@ pub enum Status {
 /// Runs the command of a command line, whose first word is the program's name, on these files and standard streams
 /// ("The command line", docs/FORMATS.md).
 ///
-/// Standard error gets a fault's line, or where there is no command the text of the command line's parser. The clauses
-/// say nothing of that text, and not which command lines have a command.
+/// Standard error gets a fault's line, or where there is no command the text of the command line's parser; no clause
+/// says anything of that text. `NoCommand` also comes where memory was refused while the command line was read, so no
+/// clause says that a command is run; and what files hold stands in none.
 pub fn run_tool<S: AsStr, F: Files, R: Read, W: Write, E: Write>(
     alloc: Global,
     words: &[S],
@@ -38,6 +42,12 @@ pub fn run_tool<S: AsStr, F: Files, R: Read, W: Write, E: Write>(
     ensures silent { result ≡ Status.Done → Keeps (E.contents errors.old) (E.contents errors.new) }
     ensures no_command { result ≡ Status.NoCommand
         → Keeps (W.contents output.old) (W.contents output.new) }
+    ensures command { result ≢ Status.NoCommand → IsCommand (map S.text words.now) }
+    ensures program { asked (map S.text words.now) ≡ Some run_words → result ≡ Status.Done
+        → IfSome (R.remaining input.old) (λ bytes.
+        IsOkAnd (words_output bytes) (Appends (W.contents output.old) (W.contents output.new))) }
+    ensures assembly { (source image : Text) → asked (map S.text words.now) ≡ Some (assemble source image)
+        → Keeps (W.contents output.old) (W.contents output.new) }
 {
     match read_command_line(alloc, words) {
         Ok(request) => report(run_command(alloc, request, files, input, output), errors),
@@ -48,8 +58,8 @@ pub fn run_tool<S: AsStr, F: Files, R: Read, W: Write, E: Write>(
     }
 }
 
-/// Runs one command. Its files are opened in the order of its arguments, up to the first that can't be; what they hold
-/// stands in no clause.
+/// Runs one command. Its files are opened in the order of its arguments, up to the first that can't be; what they
+/// hold stands in no clause.
 fn run_command<F: Files, R: Read, W: Write>(
     alloc: Global,
     request: Request,
@@ -57,8 +67,12 @@ fn run_command<F: Files, R: Read, W: Write>(
     input: &mut R,
     output: &mut W,
 ) -> Result<(), ToolFault>
-    ensures words { request.entry ≡ Request.Words → OnOk result (IfSome (R.remaining input.old) (λ bytes.
+    ensures program { meaning request.entry ≡ run_words → OnOk result (IfSome (R.remaining input.old) (λ bytes.
         IsOkAnd (words_output bytes) (Appends (W.contents output.old) (W.contents output.new)))) }
+    ensures fault { meaning request.entry ≡ run_words → IfErr result (λ fault.
+        IfSome (R.remaining input.old) (λ bytes. IsFaultOf (words_output bytes) fault)) }
+    ensures assembly { (source image : Text) → meaning request.entry ≡ assemble source image
+        → Keeps (W.contents output.old) (W.contents output.new) }
     ensures kept { IfErr result (λ fault. fault ≢ ToolFault.Write
         → Keeps (W.contents output.old) (W.contents output.new)) }
 {

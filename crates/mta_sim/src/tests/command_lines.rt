@@ -1,12 +1,12 @@
 //! What command lines do, and with which status.
 
-use crate::tool::{Status, run_tool};
+use super::tool_runs::ToolRun;
+use crate::tool::Status;
 use std::test::Fail;
 
 #[test]
 fn command_lines_have_their_status(rt: HostRuntime) -> Result<(), Fail> {
-    let program = "0000000000000000\n";
-    for (words, status) in [
+    for (line, status) in [
         ("mta_sim words", Status::Done),
         ("mta_sim", Status::NoCommand),
         ("mta_sim word", Status::NoCommand),
@@ -19,73 +19,30 @@ fn command_lines_have_their_status(rt: HostRuntime) -> Result<(), Fail> {
         ("mta_sim list", Status::NoCommand),
         ("mta_sim run missing.image", Status::NoCommand),
     ] {
-        let mut list = Vec::new(rt.alloc());
-        for word in words.split(' ') {
-            list.push(word)?;
-        }
-        let mut output = Vec::new(rt.alloc());
-        let mut errors = Vec::new(rt.alloc());
-        let ended = run_tool(
-            rt.alloc(),
-            &list,
-            &rt,
-            &mut program.as_bytes(),
-            &mut output,
-            &mut errors,
-        );
-        assert_eq!(rt; ended, status, "{words}");
-        assert_eq!(rt; output.is_empty(), status != Status::Done, "{words}");
-        assert_eq!(rt; errors.is_empty(), status == Status::Done, "{words}");
+        let run = ToolRun::new(rt.alloc(), &rt, line, "0000000000000000\n")?;
+        assert_eq!(rt; run.status, status, "{line}");
+        assert_eq!(rt; run.output.is_empty(), status != Status::Done, "{line}");
+        assert_eq!(rt; run.errors.is_empty(), status == Status::Done, "{line}");
     }
     Ok(())
 }
 
 #[test]
-fn a_fault_is_one_line(rt: HostRuntime) {
-    let words = ["mta_sim", "words"];
-    let mut output = Vec::new(rt.alloc());
-    let mut errors = Vec::new(rt.alloc());
-    let ended = run_tool(
-        rt.alloc(),
-        &words,
-        &rt,
-        &mut "xyz".as_bytes(),
-        &mut output,
-        &mut errors,
-    );
-    assert_eq!(rt; ended, Status::Fault);
-    assert_eq!(rt; output.len(), 0);
-    assert_eq!(rt; errors.as_slice(), b"mta_sim: words line 1\n".as_slice());
+fn a_fault_is_one_line(rt: HostRuntime) -> Result<(), Fail> {
+    let run = ToolRun::new(rt.alloc(), &rt, "mta_sim words", "xyz")?;
+    run.assert_fault(&rt, "mta_sim: words line 1\n");
+    Ok(())
 }
 
 #[test]
-fn an_input_that_is_not_there_is_a_failed_read(rt: HostRuntime) -> Result<(), Fail> {
-    for words in [
+fn a_file_of_the_system_that_is_not_there_is_a_failed_read(rt: HostRuntime) -> Result<(), Fail> {
+    for line in [
         "mta_sim asm missing.asm missing/folder.image",
         "mta_sim list missing.image",
         "mta_sim run missing.image missing.schedule",
     ] {
-        let mut list = Vec::new(rt.alloc());
-        for word in words.split(' ') {
-            list.push(word)?;
-        }
-        let mut output = Vec::new(rt.alloc());
-        let mut errors = Vec::new(rt.alloc());
-        let ended = run_tool(
-            rt.alloc(),
-            &list,
-            &rt,
-            &mut "".as_bytes(),
-            &mut output,
-            &mut errors,
-        );
-        assert_eq!(rt; ended, Status::Fault, "{words}");
-        assert_eq!(rt; output.len(), 0, "{words}");
-        assert_eq!(rt;
-            errors.as_slice(),
-            b"mta_sim: read failed\n".as_slice(),
-            "{words}"
-        );
+        let run = ToolRun::new(rt.alloc(), &rt, line, "")?;
+        run.assert_fault(&rt, "mta_sim: read failed\n");
     }
     Ok(())
 }

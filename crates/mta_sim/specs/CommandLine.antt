@@ -1,0 +1,83 @@
+-- The command line: which lines are commands, and what a command asks for.
+use Rattle.std.specs.Prelude.{◌≡◌, List, [], ◌∷◌, Option, Some, None, codes, map, true, false, option_and_then}
+use Rattle.std.specs.Prelude.{option_map, if◌then◌else◌}
+use Rattle.std.specs.Str.{bytes_eq}
+use Rattle.clap.specs.Words.{App, Row, Rule, Shape, Text, fault_of, first_of, new_rule, subcommand_of}
+use Rattle.clap.specs.Simple.{new_shape}
+use Rattle.clap.specs.declared.builder.ArgAction.TheVariants.{Set}
+use Rattle.mta_sim.specs.declared.command_line.Request.{Request}
+use Rattle.mta_sim.specs.declared.command_line.Request.TheVariants as request
+
+-- ---- the tool's commands, as the parser of command lines sees them
+
+-- an argument that has to be there, and names a file
+abbrev pub file_rule : Text → Rule
+file_rule name = record (new_rule name) { action = Some Set; required = true }
+
+-- a command with its files
+abbrev pub command_shape : Text → List Text → Shape
+command_shape name files = record (new_shape name) { rules = map file_rule files }
+
+-- the same, with no command below it
+abbrev pub command_app : Text → List Text → App
+command_app name files = record { top = command_shape name files; subs = [] }
+
+abbrev pub tool_shape : Shape
+tool_shape = record (new_shape (codes "mta_sim")) {
+  is_leaf = false;
+  has_version = true;
+  subcommand_required = true;
+}
+
+abbrev pub tool_app : App
+tool_app = record {
+  top = tool_shape;
+  subs = command_shape (codes "words") []
+      ∷ command_shape (codes "asm") (codes "SOURCE" ∷ codes "IMAGE" ∷ [])
+      ∷ command_shape (codes "list") (codes "IMAGE" ∷ [])
+      ∷ command_shape (codes "run") (codes "IMAGE" ∷ codes "SCHEDULE" ∷ [])
+      ∷ [];
+}
+
+-- the words, the first of which is the program's name, are a command: a parse of them meets no fault, and no call for
+-- help or for the version
+abbrev pub IsCommand : List Text → Type 0
+IsCommand words = fault_of tool_app words ≡ []
+
+-- ---- what a command asks for, with the paths of its files
+
+pub data Asked : Type 0 where
+  run_words : Asked
+  assemble : Text → Text → Asked
+  list_image : Text → Asked
+  run_image : Text → Text → Asked
+
+-- with two paths, where both are given
+abbrev pub with_paths : (Text → Text → Asked) → Option Text → Option Text → Option Asked
+with_paths request first second = option_and_then (λ path. option_map (request path) second) first
+
+-- what the command of this name asks for, with these values of its arguments
+abbrev pub asked_by : Text → List Row → Option Asked
+asked_by name rows =
+    if bytes_eq name (codes "words") then Some run_words
+    else (if bytes_eq name (codes "asm")
+    then with_paths assemble (first_of (codes "SOURCE") rows) (first_of (codes "IMAGE") rows)
+    else (if bytes_eq name (codes "list") then option_map list_image (first_of (codes "IMAGE") rows)
+    else (if bytes_eq name (codes "run")
+    then with_paths run_image (first_of (codes "IMAGE") rows) (first_of (codes "SCHEDULE") rows)
+    else None)))
+
+abbrev pub asked_in : Option (Text × List Row) → Option Asked
+asked_in = option_and_then (λ entered. asked_by entered.0 entered.1)
+
+-- what a line asks for, where it is a command
+abbrev pub asked : List Text → Option Asked
+asked words = asked_in (subcommand_of tool_app words)
+
+-- ---- a request, as the code has it
+
+abbrev pub meaning : Request → Asked
+meaning request.Words = run_words
+meaning (request.Assemble source image) = assemble source.now image.now
+meaning (request.List image) = list_image image.now
+meaning (request.Run image schedule) = run_image image.now schedule.now

@@ -1,0 +1,2 @@
+-- The definitions, in the order of reading.
+pub mod CommandLine
