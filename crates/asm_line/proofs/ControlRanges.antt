@@ -1,8 +1,8 @@
 -- Control parts have their fields in range, and nothing but what their operation uses.
 use Rattle.std.proofs.Common.{ℕ, ◌<◌, ◌≤◌, List, [], ◌∷◌, refl, arith, pos}
 use Rattle.std.specs.Prelude.{IfOk, ⊤}
-use Rattle.insn_word.specs.Fields.{IsInRange, signed}
-use Rattle.insn_word.specs.Words.{no_control}
+use Rattle.insn_word.specs.Fields.{IsFieldInRange, signed}
+use Rattle.insn_word.specs.Words.{only_control}
 use Rattle.insn_word.specs.declared.operations.ControlOp.{ControlOp}
 use Rattle.insn_word.specs.declared.operations.ControlOp.TheVariants as control
 use Rattle.asm_line.specs.Faults.{both}
@@ -33,7 +33,7 @@ two_registers x y =
 
 jump_range : (os : List (List ℕ)) → IfOk (jump os) IsGoodControl
 jump_range (x ∷ y ∷ z ∷ []) =
-    ok_map (λ v. record (no_control control.Jump) { cond = v.0.0; code = v.0.1; t = v.1 })
+    ok_map (λ v. record (only_control control.Jump) { cond = v.0.0; code = v.0.1; t = v.1 })
     (λ v. (⊤ × (v.0.1 ≤ 3)) × (v.1 < 8)) IsGoodControl
     (both (both (condition x) (number_within 3 y)) (target z))
     (λ v r. record {
@@ -49,14 +49,14 @@ jump_range (x ∷ y ∷ z ∷ w ∷ os) = tt
 
 skip_range : (places : Places) (here : ℕ) (os : List (List ℕ)) → IfOk (skip places here os) IsGoodControl
 skip_range places here (x ∷ y ∷ z ∷ []) =
-    ok_map (λ v. record (no_control control.Skip) { cond = v.0.0; code = v.0.1; n = v.1 })
-    (λ v. (⊤ × (v.0.1 ≤ 3)) × IsInRange (signed 8 v.1)) IsGoodControl
+    ok_map (λ v. record (only_control control.Skip) { cond = v.0.0; code = v.0.1; n = v.1 })
+    (λ v. (⊤ × (v.0.1 ≤ 3)) × IsFieldInRange (signed 8 v.1)) IsGoodControl
     (both (both (condition x) (number_within 3 y)) (offset places here z))
     (λ v r. record {
       ranges = (omega arith, (condition_small v.0.0, (omega (arith, r.0.1), (r.1, tt))));
       rest = refl;
     })
-    (ok_both (λ w. ⊤ × (w.1 ≤ 3)) (λ z. IsInRange (signed 8 z)) (both (condition x) (number_within 3 y))
+    (ok_both (λ w. ⊤ × (w.1 ≤ 3)) (λ z. IsFieldInRange (signed 8 z)) (both (condition x) (number_within 3 y))
     (offset places here z) (test_range x y) (offset_range places here z))
 skip_range places here [] = tt
 skip_range places here (x ∷ []) = tt
@@ -65,7 +65,7 @@ skip_range places here (x ∷ y ∷ z ∷ w ∷ os) = tt
 
 call_range : (os : List (List ℕ)) → IfOk (call os) IsGoodControl
 call_range (x ∷ y ∷ []) =
-    ok_map (λ v. record (no_control control.Call) { t = v.0; u = v.1 }) (λ v. (v.0 < 8) × (v.1 < 8)) IsGoodControl
+    ok_map (λ v. record (only_control control.Call) { t = v.0; u = v.1 }) (λ v. (v.0 < 8) × (v.1 < 8)) IsGoodControl
     (both (target x) (target y))
     (λ v r. record {
       ranges = (omega arith, (r.0, (r.1, (omega arith, tt))));
@@ -78,7 +78,7 @@ call_range (x ∷ y ∷ z ∷ os) = tt
 
 exchange_range : (os : List (List ℕ)) → IfOk (exchange os) IsGoodControl
 exchange_range (x ∷ []) =
-    ok_map (λ t. record (no_control control.Exchange) { t = t }) (λ t. t < 8) IsGoodControl
+    ok_map (λ t. record (only_control control.Exchange) { t = t }) (λ t. t < 8) IsGoodControl
     (target x)
     (λ t r. record {
       ranges = (omega arith, (r, (omega arith, tt)));
@@ -90,7 +90,7 @@ exchange_range (x ∷ y ∷ os) = tt
 
 target_set_range : (os : List (List ℕ)) → IfOk (to_target control.TargetSet os) IsGoodControl
 target_set_range (x ∷ y ∷ []) =
-    ok_map (λ v. record (no_control control.TargetSet) { t = v.0; ra = v.1 }) (λ v. (v.0 < 8) × (v.1 < 32))
+    ok_map (λ v. record (only_control control.TargetSet) { t = v.0; ra = v.1 }) (λ v. (v.0 < 8) × (v.1 < 32))
     IsGoodControl
     (both (target x) (register y))
     (λ v r. record {
@@ -104,7 +104,7 @@ target_set_range (x ∷ y ∷ z ∷ os) = tt
 
 create_range : (os : List (List ℕ)) → IfOk (to_target control.Create os) IsGoodControl
 create_range (x ∷ y ∷ []) =
-    ok_map (λ v. record (no_control control.Create) { t = v.0; ra = v.1 }) (λ v. (v.0 < 8) × (v.1 < 32)) IsGoodControl
+    ok_map (λ v. record (only_control control.Create) { t = v.0; ra = v.1 }) (λ v. (v.0 < 8) × (v.1 < 32)) IsGoodControl
     (both (target x) (register y))
     (λ v r. record {
       ranges = (omega arith, (r.0, (r.1, (omega arith, tt))));
@@ -117,7 +117,7 @@ create_range (x ∷ y ∷ z ∷ os) = tt
 
 from_target_range : (os : List (List ℕ)) → IfOk (from_target os) IsGoodControl
 from_target_range (x ∷ y ∷ []) =
-    ok_map (λ v. record (no_control control.TargetGet) { rd = v.0; t = v.1 }) (λ v. (v.0 < 32) × (v.1 < 8))
+    ok_map (λ v. record (only_control control.TargetGet) { rd = v.0; t = v.1 }) (λ v. (v.0 < 32) × (v.1 < 8))
     IsGoodControl
     (both (register x) (target y))
     (λ v r. record {
@@ -131,7 +131,7 @@ from_target_range (x ∷ y ∷ z ∷ os) = tt
 
 trap_get_range : (os : List (List ℕ)) → IfOk (trap_get os) IsGoodControl
 trap_get_range (x ∷ []) =
-    ok_map (λ rd. record (no_control control.TrapGet) { rd = rd }) (λ rd. rd < 32) IsGoodControl
+    ok_map (λ rd. record (only_control control.TrapGet) { rd = rd }) (λ rd. rd < 32) IsGoodControl
     (register x)
     (λ rd r. record {
       ranges = (omega arith, (omega arith, (r, (omega arith, tt))));
@@ -143,7 +143,7 @@ trap_get_range (x ∷ y ∷ os) = tt
 
 reserve_range : (os : List (List ℕ)) → IfOk (reserve os) IsGoodControl
 reserve_range (x ∷ y ∷ []) =
-    ok_map (λ v. record (no_control control.Reserve) { rd = v.0; ra = v.1 }) (λ v. (v.0 < 32) × (v.1 < 32))
+    ok_map (λ v. record (only_control control.Reserve) { rd = v.0; ra = v.1 }) (λ v. (v.0 < 32) × (v.1 < 32))
     IsGoodControl
     (both (register x) (register y))
     (λ v r. record {
@@ -157,7 +157,7 @@ reserve_range (x ∷ y ∷ z ∷ os) = tt
 
 mask_range : (os : List (List ℕ)) → IfOk (mask os) IsGoodControl
 mask_range (x ∷ []) =
-    ok_map (λ m. record (no_control control.Mask) { n = pos m }) (λ m. m ≤ 7) IsGoodControl
+    ok_map (λ m. record (only_control control.Mask) { n = pos m }) (λ m. m ≤ 7) IsGoodControl
     (number_within 7 x)
     (λ m r. record {
       ranges = (omega arith, (omega (arith, r), (omega arith, tt)));

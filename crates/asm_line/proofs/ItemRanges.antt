@@ -13,11 +13,11 @@ use Rattle.asm_line.specs.Heads.{operation_of, directive_of}
 use Rattle.asm_line.specs.Parts.{immediate}
 use Rattle.asm_line.specs.Instructions.{double, triple, is_ok, too_many, single}
 use Rattle.asm_line.specs.Instructions.{one_part, two_parts, three_parts, instruction_of, operations, looking}
-use Rattle.asm_line.specs.Instructions.{instruction}
+use Rattle.asm_line.specs.Instructions.{instruction_of_text}
 use Rattle.asm_line.specs.Directives.{word_number, tags_number, cells, data_cell, fill, below, entry_number}
-use Rattle.asm_line.specs.Directives.{directed}
+use Rattle.asm_line.specs.Directives.{item_of_directive}
 use Rattle.asm_line.specs.Lines.{Line, labelling, directive_item, statement_item, line_item}
-use Rattle.asm_line.specs.Ranges.{IsInRange}
+use Rattle.asm_line.specs.Ranges.{IsItemInRange}
 use Rattle.asm_line.specs.declared.fault.Fault.{Fault}
 use Rattle.asm_line.specs.declared.fault.Fault.TheVariants as fault
 use Rattle.asm_line.specs.declared.item.Item.TheVariants as item
@@ -110,8 +110,8 @@ looking_range n (insn.Normal look m a c) h g =
       one_writer = g.one_writer;
     }
 
-instruction_range : (places : Places) (here : ℕ) (text : List ℕ) → IfOk (instruction places here text) IsGood
-unfolding instruction
+instruction_range : (places : Places) (here : ℕ) (text : List ℕ) → IfOk (instruction_of_text places here text) IsGood
+unfolding instruction_of_text
 instruction_range places here text =
     ok_either (slice_index text 0 == 64) _ (operations places here text) IsGood
     (ok_map (λ v. looking v.0 v.1) (λ v. (v.0 ≤ 7) × IsGood v.1) IsGood
@@ -141,10 +141,10 @@ tags_number_range text = less (number_within 15 text) (number_within_range 15 te
 
 cells_range : (words : ℕ) (count value tags : Result ℕ Fault) → IfOk count (λ n. (1 ≤ n) × (n ≤ 262144))
     → IfOk value (λ n. n < 2 ^ 64)
-    → IfOk tags (λ n. n < 16) → IfOk (cells count value tags) (IsInRange words)
+    → IfOk tags (λ n. n < 16) → IfOk (cells count value tags) (IsItemInRange words)
 cells_range words count value tags h k l =
     ok_map (λ v. item.Cells v.0.0 v.0.1 v.1) (λ v. (((1 ≤ v.0.0) × (v.0.0 ≤ 262144)) × (v.0.1 < 2 ^ 64)) × (v.1 < 16))
-    (IsInRange words)
+    (IsItemInRange words)
     (both (both count value) tags) (λ v g. (g.0.0.0, g.0.0.1, g.0.1, g.1))
     (ok_both (λ w. ((1 ≤ w.0) × (w.0 ≤ 262144)) × (w.1 < 2 ^ 64)) (λ n. n < 16) (both count value) tags
     (ok_both (λ n. (1 ≤ n) × (n ≤ 262144)) (λ n. n < 2 ^ 64) count value h k) l)
@@ -155,14 +155,14 @@ one_cell = (omega arith, omega arith)
 full_tags : 1 < 16
 full_tags = omega arith
 
-data_range : (words : ℕ) (os : List (List ℕ)) → IfOk (data_cell os) (IsInRange words)
+data_range : (words : ℕ) (os : List (List ℕ)) → IfOk (data_cell os) (IsItemInRange words)
 data_range words (x ∷ []) = cells_range words (Ok 1) (word_number x) (Ok 1) one_cell (word_number_range x) full_tags
 data_range words (x ∷ y ∷ []) =
     cells_range words (Ok 1) (word_number x) (tags_number y) one_cell (word_number_range x) (tags_number_range y)
 data_range words [] = tt
 data_range words (x ∷ y ∷ z ∷ os) = tt
 
-fill_range : (words : ℕ) (os : List (List ℕ)) → IfOk (fill os) (IsInRange words)
+fill_range : (words : ℕ) (os : List (List ℕ)) → IfOk (fill os) (IsItemInRange words)
 fill_range words (x ∷ y ∷ z ∷ []) = cells_range words (count_within 262144 x) (word_number y) (tags_number z)
     (count_within_range 262144 x) (word_number_range y) (tags_number_range z)
 fill_range words [] = tt
@@ -179,25 +179,25 @@ entry_number_range places words text =
     (ok_any (immediate places text))
 
 directed_range : (places : Places) (words : ℕ) (d : Directive) (os : List (List ℕ))
-    → IfOk (directed places words d os) (IsInRange words)
-unfolding directed
+    → IfOk (item_of_directive places words d os) (IsItemInRange words)
+unfolding item_of_directive
 directed_range places words directive.Data os = data_range words os
 directed_range places words directive.Fill os = fill_range words os
 directed_range places words directive.Profile (x ∷ []) =
-    ok_map (λ n. item.Profile) (λ _. ⊤) (IsInRange words) (count_within 1 x) (λ n h. tt) (ok_any (count_within 1 x))
+    ok_map (λ n. item.Profile) (λ _. ⊤) (IsItemInRange words) (count_within 1 x) (λ n h. tt) (ok_any (count_within 1 x))
 directed_range places words directive.Slim (x ∷ []) =
-    ok_map item.Slim (λ n. (1 ≤ n) × (n ≤ 128)) (IsInRange words) (count_within 128 x) (λ n h. h)
+    ok_map item.Slim (λ n. (1 ≤ n) × (n ≤ 128)) (IsItemInRange words) (count_within 128 x) (λ n h. h)
     (count_within_range 128 x)
 directed_range places words directive.Retry (x ∷ []) =
-    ok_map item.Retry (λ n. n ≤ 2 ^ 32 - 1) (IsInRange words) (number_within (2 ^ 32 - 1) x) (λ n h. omega (arith, h))
+    ok_map item.Retry (λ n. n ≤ 2 ^ 32 - 1) (IsItemInRange words) (number_within (2 ^ 32 - 1) x) (λ n h. omega (arith, h))
     (number_within_range (2 ^ 32 - 1) x)
 directed_range places words directive.Trap (x ∷ []) =
-    ok_map item.Trap (λ n. n < 2 ^ 32) (IsInRange words) (immediate places x) (λ n h. h) (immediate_range places x)
+    ok_map item.Trap (λ n. n < 2 ^ 32) (IsItemInRange words) (immediate places x) (λ n h. h) (immediate_range places x)
 directed_range places words directive.Entry (x ∷ []) =
-    ok_map item.Entry (λ n. n < words) (IsInRange words) (entry_number places words x) (λ n h. h)
+    ok_map item.Entry (λ n. n < words) (IsItemInRange words) (entry_number places words x) (λ n h. h)
     (entry_number_range places words x)
 directed_range places words directive.Word (x ∷ []) =
-    ok_map item.Word (λ n. n < 2 ^ 64) (IsInRange words) (word_number x) (λ n h. h) (word_number_range x)
+    ok_map item.Word (λ n. n < 2 ^ 64) (IsItemInRange words) (word_number x) (λ n h. h) (word_number_range x)
 directed_range places words directive.Profile [] = tt
 directed_range places words directive.Slim [] = tt
 directed_range places words directive.Retry [] = tt
@@ -214,23 +214,23 @@ directed_range places words directive.Word (x ∷ y ∷ os) = tt
 -- Lines.
 
 statement_range : IsValidByFields → (places : Places) (words here : ℕ) (text : List ℕ)
-    → IfOk (statement_item places words here text) (IsInRange words)
+    → IfOk (statement_item places words here text) (IsItemInRange words)
 unfolding statement_item
 statement_range law places words here text =
-    ok_either (length text == 0) (Ok item.Nothing) _ (IsInRange words) tt
-    (ok_either (slice_index text 0 == 46) (directive_item places words text) _ (IsInRange words)
-    (ok_then (λ d. directed places words d (operands text)) (λ _. ⊤) (IsInRange words) (directive_of (head text))
+    ok_either (length text == 0) (Ok item.Nothing) _ (IsItemInRange words) tt
+    (ok_either (slice_index text 0 == 46) (directive_item places words text) _ (IsItemInRange words)
+    (ok_then (λ d. item_of_directive places words d (operands text)) (λ _. ⊤) (IsItemInRange words) (directive_of (head text))
     (λ d h. directed_range places words d (operands text)) (ok_any (directive_of (head text))))
-    (ok_map item.Instruction IsGood (IsInRange words) (instruction places here text) (λ i h. valid law i h)
+    (ok_map item.Instruction IsGood (IsItemInRange words) (instruction_of_text places here text) (λ i h. valid law i h)
     (instruction_range places here text)))
 
 pub item_range : IsValidByFields → (places : Places) (words k here : ℕ) (l : Line)
-    → IfOk (line_item places words k here l) (IsInRange words)
+    → IfOk (line_item places words k here l) (IsItemInRange words)
 unfolding line_item
 item_range law places words k here l =
-    ok_map (λ v. v.1) (λ v. ⊤ × IsInRange words v.1) (IsInRange words)
+    ok_map (λ v. v.1) (λ v. ⊤ × IsItemInRange words v.1) (IsItemInRange words)
     (both (labelling places k l.label l.statement) (statement_item places words here l.statement))
     (λ v h. h.1)
-    (ok_both (λ _. ⊤) (IsInRange words) (labelling places k l.label l.statement)
+    (ok_both (λ _. ⊤) (IsItemInRange words) (labelling places k l.label l.statement)
     (statement_item places words here l.statement)
     (ok_any (labelling places k l.label l.statement)) (statement_range law places words here l.statement))

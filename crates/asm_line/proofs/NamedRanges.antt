@@ -9,10 +9,10 @@ use Rattle.insn_word.specs.declared.operations.Access.{Access}
 use Rattle.insn_word.specs.declared.operations.Access.TheVariants as access
 use Rattle.insn_word.specs.declared.operations.ArithmeticOp.{ArithmeticOp}
 use Rattle.insn_word.specs.declared.operations.ArithmeticOp.TheVariants as arithmetic
-use Rattle.asm_line.specs.Text.{before, after}
+use Rattle.asm_line.specs.Text.{text_before, text_after}
 use Rattle.asm_line.specs.Names.{memory_name, arithmetic_name, memory_operations, arithmetic_operations}
 use Rattle.asm_line.specs.Heads.{wide_named, memory_named, arithmetic_named, control_named, nop_named, plain_named}
-use Rattle.asm_line.specs.Heads.{unsuffixed, letter_access, access_named, test_named}
+use Rattle.asm_line.specs.Heads.{without_suffix, letter_access, access_named, test_named}
 use Rattle.asm_line.specs.Heads.{memory_or_plain, arithmetic_or_other, operation_named, operation_of}
 use Rattle.asm_line.specs.declared.operation.Operation.{Operation}
 use Rattle.asm_line.specs.declared.operation.Operation.TheVariants as operation
@@ -102,7 +102,7 @@ plain_range name =
     nop false = tt
 
 unsuffixed_range : (suffix : Option (List ℕ)) (o : Option Operation) → IfSome o IsNamed
-    → IfSome (unsuffixed suffix o) IsNamed
+    → IfSome (without_suffix suffix o) IsNamed
 unsuffixed_range None o h = h
 unsuffixed_range (Some s) o h = tt
 
@@ -123,6 +123,6 @@ arithmetic_or_other_range name suffix (Some op) h =
 
 pub operation_range : (head : List ℕ) → IfOk (operation_of head) IsNamed
 unfolding operation_of operation_named
-operation_range head = ok_known (operation_named (before 46 head) (after 46 head)) IsNamed
-    (arithmetic_or_other_range (before 46 head) (after 46 head) (arithmetic_named (before 46 head))
-    (arithmetic_range (before 46 head)))
+operation_range head = ok_known (operation_named (text_before 46 head) (text_after 46 head)) IsNamed
+    (arithmetic_or_other_range (text_before 46 head) (text_after 46 head) (arithmetic_named (text_before 46 head))
+    (arithmetic_range (text_before 46 head)))

@@ -6,12 +6,12 @@ use Rattle.std.proofs.lemmas.Int.{ints}
 use Rattle.std.proofs.Common.{le-ltb}
 use Rattle.std.proofs.lemmas.Bool.{cases_lt}
 use Rattle.std.proofs.lemmas.Bool.Decides.{leb_tells}
-use Rattle.insn_word.specs.Fields.{IsInRange, signed}
+use Rattle.insn_word.specs.Fields.{IsFieldInRange, signed}
 use Rattle.asm_line.specs.Text.{is_name}
 use Rattle.asm_line.specs.Faults.{map_ok, ◌>>=◌}
-use Rattle.asm_line.specs.Numbers.{are_digits, number, within, number_within, at_least_one, count_within}
+use Rattle.asm_line.specs.Numbers.{are_digits, number_of_text, within, number_within, at_least_one, count_within}
 use Rattle.asm_line.specs.Numbers.{signed_within, has_minus}
-use Rattle.asm_line.specs.Operands.{numbered, is_register, register, is_target, target, Places, found, value_within}
+use Rattle.asm_line.specs.Operands.{number_behind_letter, is_register, register, is_target, target, Places, label_value, value_within}
 use Rattle.asm_line.specs.Operands.{distance, offset, displacement, source_of, source_number}
 use Rattle.asm_line.specs.Parts.{immediate}
 use Rattle.asm_line.specs.declared.fault.Fault.{Fault}
@@ -31,7 +31,7 @@ within_range most n = ⊎_elim (λ h. rw h.0 h.1) (λ h. rw h.0 tt) (leb_tells n
 pub number_within_range : (most : ℕ) (text : List ℕ) → IfOk (number_within most text) (λ n. n ≤ most)
 unfolding number_within
 number_within_range most text =
-    ok_then (within most) (λ _. ⊤) (λ n. n ≤ most) (number text) (λ n _. within_range most n) (ok_any (number text))
+    ok_then (within most) (λ _. ⊤) (λ n. n ≤ most) (number_of_text text) (λ n _. within_range most n) (ok_any (number_of_text text))
 
 pub count_within_range : (most : ℕ) (text : List ℕ) → IfOk (count_within most text) (λ n. (1 ≤ n) × (n ≤ most))
 unfolding count_within
@@ -42,9 +42,9 @@ count_within_range most text =
 
 pub register_range : (text : List ℕ) → IfOk (register text) (λ n. n < 32)
 unfolding register
-register_range text = ok_if (is_register text) (numbered text) fault.Operand (λ n. n < 32) (λ e.
+register_range text = ok_if (is_register text) (number_behind_letter text) fault.Operand (λ n. n < 32) (λ e.
     let rest = and_right (are_digits 10 (drop 1 text)) _ (and_right (slice_index text 0 == 114) _ e) in
-    below_bound (numbered text) 32 (and_left (nat_lt (numbered text) 32) _ rest))
+    below_bound (number_behind_letter text) 32 (and_left (nat_lt (number_behind_letter text) 32) _ rest))
 
 pub target_range : (text : List ℕ) → IfOk (target text) (λ n. n < 8)
 unfolding target
@@ -56,10 +56,10 @@ target_range text = ok_if (is_target text) (slice_index text 1 - 48) fault.Opera
 pub immediate_range : (places : Places) (text : List ℕ) → IfOk (immediate places text) (λ n. n < 2 ^ 32)
 unfolding immediate value_within
 immediate_range places text =
-    ok_either (is_name text) (found (places text) >>= within (2 ^ 32 - 1)) (number_within (2 ^ 32 - 1) text)
+    ok_either (is_name text) (label_value (places text) >>= within (2 ^ 32 - 1)) (number_within (2 ^ 32 - 1) text)
     (λ n. n < 2 ^ 32)
-    (ok_then (within (2 ^ 32 - 1)) (λ _. ⊤) (λ n. n < 2 ^ 32) (found (places text))
-    (λ n _. less (within (2 ^ 32 - 1) n) (within_range (2 ^ 32 - 1) n)) (ok_any (found (places text))))
+    (ok_then (within (2 ^ 32 - 1)) (λ _. ⊤) (λ n. n < 2 ^ 32) (label_value (places text))
+    (λ n _. less (within (2 ^ 32 - 1) n) (within_range (2 ^ 32 - 1) n)) (ok_any (label_value (places text))))
     (less (number_within (2 ^ 32 - 1) text) (number_within_range (2 ^ 32 - 1) text))
   where
     less : (r : Result ℕ Fault) → IfOk r (λ n. n ≤ 2 ^ 32 - 1) → IfOk r (λ n. n < 2 ^ 32)
@@ -79,25 +79,25 @@ signed_range least most text =
     (ok_map pos (λ n. n ≤ most) (λ z. (neg_ℤ (pos least) ≤ℤ z) × (z <ℤ pos (most + 1))) (number_within most text)
     (λ n h. (omega (arith, ints, h), omega (arith, ints, h))) (number_within_range most text))
 
-pub displacement_range : (text : List ℕ) → IfOk (displacement text) (λ z. IsInRange (signed 6 z))
+pub displacement_range : (text : List ℕ) → IfOk (displacement text) (λ z. IsFieldInRange (signed 6 z))
 displacement_range text = signed_range 32 31 text
 
-distance_range : (here v : ℕ) → IfOk (distance here v) (λ z. IsInRange (signed 8 z))
+distance_range : (here v : ℕ) → IfOk (distance here v) (λ z. IsFieldInRange (signed 8 z))
 unfolding distance
-distance_range here v = ok_either (nat_lt here v) _ _ (λ z. IsInRange (signed 8 z))
-    (ok_if (nat_lt (v - here) 129) (pos (v - here - 1)) fault.Range (λ z. IsInRange (signed 8 z)) (λ e.
+distance_range here v = ok_either (nat_lt here v) _ _ (λ z. IsFieldInRange (signed 8 z))
+    (ok_if (nat_lt (v - here) 129) (pos (v - here - 1)) fault.Range (λ z. IsFieldInRange (signed 8 z)) (λ e.
     let h = below_bound (v - here) 129 e in (omega (arith, ints, h), omega (arith, ints, h))))
-    (ok_if (nat_lt (here - v) 128) (neg_ℤ (pos (here + 1 - v))) fault.Range (λ z. IsInRange (signed 8 z)) (λ e.
+    (ok_if (nat_lt (here - v) 128) (neg_ℤ (pos (here + 1 - v))) fault.Range (λ z. IsFieldInRange (signed 8 z)) (λ e.
     let h = below_bound (here - v) 128 e in (omega (arith, ints, h), omega (arith, ints, h))))
 
 pub offset_range : (places : Places) (here : ℕ) (text : List ℕ)
-    → IfOk (offset places here text) (λ z. IsInRange (signed 8 z))
+    → IfOk (offset places here text) (λ z. IsFieldInRange (signed 8 z))
 unfolding offset
 offset_range places here text =
-    ok_either (is_name text) (found (places text) >>= distance here) (signed_within 128 127 text)
-    (λ z. IsInRange (signed 8 z))
-    (ok_then (distance here) (λ _. ⊤) (λ z. IsInRange (signed 8 z)) (found (places text))
-    (λ v _. distance_range here v) (ok_any (found (places text))))
+    ok_either (is_name text) (label_value (places text) >>= distance here) (signed_within 128 127 text)
+    (λ z. IsFieldInRange (signed 8 z))
+    (ok_then (distance here) (λ _. ⊤) (λ z. IsFieldInRange (signed 8 z)) (label_value (places text))
+    (λ v _. distance_range here v) (ok_any (label_value (places text))))
     (signed_range 128 127 text)
 
 pub source_range : (text : List ℕ) → IfOk (source_of text) (λ b. source_number b < 32)

@@ -3,7 +3,7 @@ use Rattle.std.proofs.Common.{◌≡◌, Bool, true, false, ◌&&◌, if◌then�
 use Rattle.std.proofs.Common.{[], ◌∷◌, ◌++◌, refl, cond}
 use Rattle.std.specs.Prelude.{IfOk, IfSome, ⊤}
 use Rattle.std.specs.List.{AllByRecursion, find}
-use Rattle.asm_line.specs.Faults.{map_ok, ◌>>=◌, both, known}
+use Rattle.asm_line.specs.Faults.{map_ok, ◌>>=◌, both, unless_unknown}
 use Rattle.asm_line.specs.declared.fault.Fault.{Fault}
 
 pub ok_both : {A B : Type 0} (P : A → Type 0) (Q : B → Type 0) (r : Result A Fault) (s : Result B Fault)
@@ -38,7 +38,7 @@ pub ok_either : {A : Type 0} (b : Bool) (r s : Result A Fault) (Q : A → Type 0
 ok_either true r s Q p q = p
 ok_either false r s Q p q = q
 
-pub ok_known : {A : Type 0} (o : Option A) (Q : A → Type 0) → IfSome o Q → IfOk (known o) Q
+pub ok_known : {A : Type 0} (o : Option A) (Q : A → Type 0) → IfSome o Q → IfOk (unless_unknown o) Q
 ok_known None Q h = tt
 ok_known (Some x) Q h = h
 

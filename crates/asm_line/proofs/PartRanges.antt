@@ -2,8 +2,8 @@
 use Rattle.std.proofs.Common.{◌≡◌, ℕ, ◌<◌, ◌^◌, Bool, true, false, if◌then◌else◌, List, [], ◌∷◌, refl, arith, ℤ}
 use Rattle.std.specs.Prelude.{IfOk}
 use Rattle.insn_word.specs.Operations.{memory_number, access_number, arithmetic_number, condition_number}
-use Rattle.insn_word.specs.Fields.{IsInRange, AreInRange, signed}
-use Rattle.insn_word.specs.Words.{memory_fields, used_memory, arithmetic_fields, used_arithmetic, no_arithmetic}
+use Rattle.insn_word.specs.Fields.{IsFieldInRange, AreInRange, signed}
+use Rattle.insn_word.specs.Words.{memory_fields, used_memory, arithmetic_fields, used_arithmetic, arithmetic_nop}
 use Rattle.insn_word.specs.Words.{control_fields, used_control}
 use Rattle.insn_word.specs.declared.operations.MemoryOp.{MemoryOp}
 use Rattle.insn_word.specs.declared.operations.MemoryOp.TheVariants as memory
@@ -104,13 +104,13 @@ pub memory_part_range : (op : MemoryOp) (acc : Access) (os : List (List ℕ)) �
     → IfOk (memory_part op acc os) IsGoodMemory
 memory_part_range op acc (x ∷ y ∷ z ∷ []) h =
     ok_map (λ v. record { op = op; acc = acc; rd = v.0.0; base = v.0.1; disp = v.1 })
-    (λ v. ((v.0.0 < 32) × (v.0.1 < 32)) × IsInRange (signed 6 v.1)) IsGoodMemory
+    (λ v. ((v.0.0 < 32) × (v.0.1 < 32)) × IsFieldInRange (signed 6 v.1)) IsGoodMemory
     (both (both (register x) (register y)) (displacement z))
     (λ v r. record {
       ranges = (memory_small op, (access_small acc, (r.0.0, (r.0.1, (r.1, tt)))));
       rest = used_access op acc v.0.0 v.0.1 v.1 h;
     })
-    (ok_both (λ w. (w.0 < 32) × (w.1 < 32)) (λ z. IsInRange (signed 6 z)) (both (register x) (register y))
+    (ok_both (λ w. (w.0 < 32) × (w.1 < 32)) (λ z. IsFieldInRange (signed 6 z)) (both (register x) (register y))
     (displacement z)
     (ok_both (λ n. n < 32) (λ n. n < 32) (register x) (register y) (register_range x) (register_range y))
     (displacement_range z))
@@ -123,7 +123,7 @@ memory_part_range op acc (x ∷ y ∷ z ∷ w ∷ os) h = tt
 
 tally_range : (test : Bool) (os : List (List ℕ)) → IfOk (tally test os) IsGoodArithmetic
 tally_range test (x ∷ y ∷ []) =
-    ok_map (λ v. record no_arithmetic { op = arithmetic.Tally; test = test; rd = v.0; ra = v.1 })
+    ok_map (λ v. record arithmetic_nop { op = arithmetic.Tally; test = test; rd = v.0; ra = v.1 })
     (λ v. (v.0 < 32) × (v.1 < 32)) IsGoodArithmetic
     (both (register x) (register y))
     (λ v r. record {

@@ -6,7 +6,7 @@ use Rattle.std.proofs.lemmas.Bool.{cases_lt}
 use Rattle.std.proofs.lemmas.List.{take_all, drop_all}
 use Rattle.std.proofs.lemmas.List.Sums.{fails_before_first}
 use Rattle.std.proofs.lemmas.List.Splits.{slice_split_first, slice_split_none}
-use Rattle.asm_line.specs.Text.{is_blank, trim, parts, before, after, behind_head, operands_of}
+use Rattle.asm_line.specs.Text.{is_blank, trim, parts, text_before, text_after, behind_head, operands_of}
 use Rattle.asm_line.specs.Cutting.{rest_parts}
 use Rattle.asm_line.specs.Seen.{AreMore}
 
@@ -16,8 +16,8 @@ split_whole p xs h =
     let none : All (λ x. p x ≡ false) xs = λ k d m. fails_before_first p xs k d (omega (arith, h, m)) in
     slice_split_none p xs none ∙ ap (λ t. t ∷ []) (sym (take_all (position_or_len p xs) xs h))
 
-pub parts_cut : (c : ℕ) (bytes : List ℕ) → parts c bytes ≡ before c bytes ∷ rest_parts c (after c bytes)
-unfolding after
+pub parts_cut : (c : ℕ) (bytes : List ℕ) → parts c bytes ≡ text_before c bytes ∷ rest_parts c (text_after c bytes)
+unfolding text_after
 parts_cut c bytes =
     let p : ℕ → Bool = λ b. eqb b c in
     ⊎_elim
@@ -73,13 +73,13 @@ more_operands text a b c r s t o p q h e f g i j k =
     let third : parts 44 s ≡ c ∷ parts 44 t = j ∙ ap (λ x. c ∷ rest_parts 44 x) k in
     let second : parts 44 r ≡ b ∷ parts 44 s = g ∙ ap (λ x. b ∷ rest_parts 44 x) i in
     let first : parts 44 text ≡ a ∷ parts 44 r = e ∙ ap (λ x. a ∷ rest_parts 44 x) f in
-    let all : parts 44 text ≡ a ∷ b ∷ c ∷ before 44 t ∷ rest_parts 44 (after 44 t) =
+    let all : parts 44 text ≡ a ∷ b ∷ c ∷ text_before 44 t ∷ rest_parts 44 (text_after 44 t) =
     first ∙ ap (λ x. a ∷ x) second ∙ ap (λ x. a ∷ b ∷ x) third ∙ ap (λ x. a ∷ b ∷ c ∷ x) (parts_cut 44 t) in
     rw h (record {
       first = trim a;
       second = trim b;
       third = trim c;
-      fourth = trim (before 44 t);
-      others = map trim (rest_parts 44 (after 44 t));
+      fourth = trim (text_before 44 t);
+      others = map trim (rest_parts 44 (text_after 44 t));
       is = ap (λ x. map trim x) all;
     })

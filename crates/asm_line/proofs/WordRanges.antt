@@ -5,9 +5,9 @@ use Rattle.std.specs.Prelude.{IfOk}
 use Rattle.std.proofs.lemmas.Bool.Decides.{eqb_tells}
 use Rattle.std.proofs.lemmas.Int.{ints}
 use Rattle.insn_word.specs.Operations.{wide_number}
-use Rattle.insn_word.specs.Fields.{IsInRange, AreInRange, zeros, unsigned}
-use Rattle.insn_word.specs.Words.{memory_fields, arithmetic_fields, control_fields, register_fields, no_memory}
-use Rattle.insn_word.specs.Words.{no_arithmetic}
+use Rattle.insn_word.specs.Fields.{IsFieldInRange, AreInRange, zeros, unsigned}
+use Rattle.insn_word.specs.Words.{memory_fields, arithmetic_fields, control_fields, register_fields, memory_nop}
+use Rattle.insn_word.specs.Words.{arithmetic_nop}
 use Rattle.insn_word.specs.Words.{memory_destination, arithmetic_destination, AreApart, WriteApart, IsValid}
 use Rattle.insn_word.specs.Reading.{are_apart}
 use Rattle.insn_word.specs.Laws.{IsValidByFields}
@@ -66,7 +66,7 @@ valid law (insn.Wide look op reg imm) h = (law (insn.Wide look op reg imm)).1 (
       h.look_range,
       (
         wide_small op,
-        all_append IsInRange (register_fields op reg) (zeros 20 ∷ unsigned 32 imm ∷ []) h.reg_range
+        all_append IsFieldInRange (register_fields op reg) (zeros 20 ∷ unsigned 32 imm ∷ []) h.reg_range
             (omega arith, (h.imm_range, tt)),
       ),
     ),
@@ -79,8 +79,8 @@ valid law (insn.Normal look m a c) h = (law (insn.Normal look m a c)).1 (
     omega arith,
     (
       h.look_range,
-      all_append IsInRange (memory_fields m) (arithmetic_fields a ++ control_fields c) h.memory.ranges
-          (all_append IsInRange (arithmetic_fields a) (control_fields c) h.arithmetic.ranges h.control.ranges),
+      all_append IsFieldInRange (memory_fields m) (arithmetic_fields a ++ control_fields c) h.memory.ranges
+          (all_append IsFieldInRange (arithmetic_fields a) (control_fields c) h.arithmetic.ranges h.control.ranges),
     ),
   ),
   (h.memory.rest, h.arithmetic.rest, h.control.rest),
@@ -95,7 +95,7 @@ is_zero x e = ⊎_elim (λ h. h.1) (λ h. let no = h.0 in cc) (eqb_tells x 0)
 apart : (x y : ℕ) → are_apart x y ≡ true → AreApart x y
 apart x y e same = ⊎_elim (λ h. is_zero x (rw h.0 at e)) (λ h. absurd (h.1 same)) (eqb_tells x y)
 
-good_nop_memory : IsGoodMemory no_memory
+good_nop_memory : IsGoodMemory memory_nop
 good_nop_memory = record {
   ranges = (
     omega arith,
@@ -104,7 +104,7 @@ good_nop_memory = record {
   rest = refl;
 }
 
-good_nop_arithmetic : IsGoodArithmetic no_arithmetic
+good_nop_arithmetic : IsGoodArithmetic arithmetic_nop
 good_nop_arithmetic = record {
   ranges = (omega arith, (omega arith, (omega arith, (omega arith, (omega arith, (omega arith, tt))))));
   rest = refl;
@@ -146,7 +146,7 @@ good_control c h = record {
 -- One operation.
 
 nop_range : (os : List (List ℕ)) → IfOk (nop_word os) IsGood
-nop_range [] = good_memory no_memory good_nop_memory
+nop_range [] = good_memory memory_nop good_nop_memory
 nop_range (x ∷ os) = tt
 
 register_field : (op : WideOp) (text : List ℕ) → IfOk (wide_register op text) (λ n. AreInRange (register_fields op n))
@@ -229,9 +229,9 @@ pub memory_control_word_range : (m : Result MPart Fault) (c : Result CPart Fault
     → IfOk (memory_control_word m c) IsGood
 unfolding memory_control_word
 memory_control_word_range m c h k =
-    ok_then (λ v. unless_two (memory_control_apart v.0 v.1) (insn.Normal 0 v.0 no_arithmetic v.1))
+    ok_then (λ v. unless_two (memory_control_apart v.0 v.1) (insn.Normal 0 v.0 arithmetic_nop v.1))
     (λ v. IsGoodMemory v.0 × IsGoodControl v.1) IsGood (both m c)
-    (λ v g. ok_if (memory_control_apart v.0 v.1) (insn.Normal 0 v.0 no_arithmetic v.1) fault.TwoWriters IsGood
+    (λ v g. ok_if (memory_control_apart v.0 v.1) (insn.Normal 0 v.0 arithmetic_nop v.1) fault.TwoWriters IsGood
     (λ e. record {
       look_range = small;
       memory = g.0;
@@ -247,9 +247,9 @@ pub arithmetic_control_word_range : (a : Result APart Fault) (c : Result CPart F
     → IfOk (arithmetic_control_word a c) IsGood
 unfolding arithmetic_control_word
 arithmetic_control_word_range a c h k =
-    ok_then (λ v. unless_two (arithmetic_control_apart v.0 v.1) (insn.Normal 0 no_memory v.0 v.1))
+    ok_then (λ v. unless_two (arithmetic_control_apart v.0 v.1) (insn.Normal 0 memory_nop v.0 v.1))
     (λ v. IsGoodArithmetic v.0 × IsGoodControl v.1) IsGood (both a c)
-    (λ v g. ok_if (arithmetic_control_apart v.0 v.1) (insn.Normal 0 no_memory v.0 v.1) fault.TwoWriters IsGood
+    (λ v g. ok_if (arithmetic_control_apart v.0 v.1) (insn.Normal 0 memory_nop v.0 v.1) fault.TwoWriters IsGood
     (λ e. record {
       look_range = small;
       memory = good_nop_memory;

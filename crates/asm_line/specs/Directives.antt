@@ -57,20 +57,20 @@ trap places (x ∷ []) = map_ok item.Trap (immediate places x)
 trap places _ = Err fault.Operand
 
 -- words: how many instruction lines the text has
-abbrev pub entry : Places → ℕ → List (List ℕ) → Result Item Fault
-entry places words (x ∷ []) = map_ok item.Entry (entry_number places words x)
-entry places words _ = Err fault.Operand
+abbrev pub entry_item : Places → ℕ → List (List ℕ) → Result Item Fault
+entry_item places words (x ∷ []) = map_ok item.Entry (entry_number places words x)
+entry_item places words _ = Err fault.Operand
 
 abbrev pub word : List (List ℕ) → Result Item Fault
 word (x ∷ []) = map_ok item.Word (word_number x)
 word _ = Err fault.Operand
 
-unfoldable pub directed : Places → ℕ → Directive → List (List ℕ) → Result Item Fault
-directed places words directive.Profile ops = profile ops
-directed places words directive.Slim ops = slim ops
-directed places words directive.Retry ops = retry ops
-directed places words directive.Trap ops = trap places ops
-directed places words directive.Entry ops = entry places words ops
-directed places words directive.Word ops = word ops
-directed places words directive.Data ops = data_cell ops
-directed places words directive.Fill ops = fill ops
+unfoldable pub item_of_directive : Places → ℕ → Directive → List (List ℕ) → Result Item Fault
+item_of_directive places words directive.Profile ops = profile ops
+item_of_directive places words directive.Slim ops = slim ops
+item_of_directive places words directive.Retry ops = retry ops
+item_of_directive places words directive.Trap ops = trap places ops
+item_of_directive places words directive.Entry ops = entry_item places words ops
+item_of_directive places words directive.Word ops = word ops
+item_of_directive places words directive.Data ops = data_cell ops
+item_of_directive places words directive.Fill ops = fill ops

@@ -17,8 +17,8 @@ kind_number fault.Limit = 9
 kind_number fault.NoMemory = 10
 
 -- of two kinds the one that is answered
-abbrev pub least : Fault → Fault → Fault
-least e f = if nat_le (kind_number e) (kind_number f) then e else f
+abbrev pub least_fault : Fault → Fault → Fault
+least_fault e f = if nat_le (kind_number e) (kind_number f) then e else f
 
 abbrev pub map_ok : {A B : Type 0} → (A → B) → Result A Fault → Result B Fault
 map_ok f (Ok x) = Ok (f x)
@@ -35,9 +35,9 @@ abbrev pub both : {A B : Type 0} → Result A Fault → Result B Fault → Resul
 both (Ok x) (Ok y) = Ok (x, y)
 both (Ok x) (Err f) = Err f
 both (Err e) (Ok y) = Err e
-both (Err e) (Err f) = Err (least e f)
+both (Err e) (Err f) = Err (least_fault e f)
 
 -- what a table has under a name
-abbrev pub known : {A : Type 0} → Option A → Result A Fault
-known None = Err fault.Unknown
-known (Some x) = Ok x
+abbrev pub unless_unknown : {A : Type 0} → Option A → Result A Fault
+unless_unknown None = Err fault.Unknown
+unless_unknown (Some x) = Ok x

@@ -11,8 +11,8 @@ use Rattle.insn_word.specs.declared.operations.Access.TheVariants as access
 use Rattle.insn_word.specs.declared.operations.ArithmeticOp.{ArithmeticOp}
 use Rattle.insn_word.specs.declared.operations.ControlOp.{ControlOp}
 use Rattle.insn_word.specs.declared.operations.Condition.{Condition}
-use Rattle.asm_line.specs.Text.{before, after}
-use Rattle.asm_line.specs.Faults.{known}
+use Rattle.asm_line.specs.Text.{text_before, text_after}
+use Rattle.asm_line.specs.Faults.{unless_unknown}
 use Rattle.asm_line.specs.Names.{wide_name, memory_name, arithmetic_name, control_name, condition_name}
 use Rattle.asm_line.specs.Names.{access_suffix, test_suffix, directive_name}
 use Rattle.asm_line.specs.Names.{wide_operations, memory_operations, arithmetic_operations, control_operations}
@@ -48,9 +48,9 @@ nop_named name = if bytes_eq name (codes "NOP") then Some operation.Nop else Non
 -- Suffixes.
 
 -- an operation that has none
-abbrev pub unsuffixed : Option (List ℕ) → Option Operation → Option Operation
-unsuffixed None o = o
-unsuffixed (Some _) o = None
+abbrev pub without_suffix : Option (List ℕ) → Option Operation → Option Operation
+without_suffix None o = o
+without_suffix (Some _) o = None
 
 -- the access of the letter behind the dot of its suffix
 abbrev pub letter_access : List ℕ → Option Access
@@ -88,7 +88,7 @@ plain_named name =
 
 abbrev pub memory_or_plain : List ℕ → Option (List ℕ) → Option MemoryOp → Option Operation
 memory_or_plain name suffix (Some op) = memory_suffixed suffix op
-memory_or_plain name suffix None = unsuffixed suffix (plain_named name)
+memory_or_plain name suffix None = without_suffix suffix (plain_named name)
 
 abbrev pub arithmetic_or_other : List ℕ → Option (List ℕ) → Option ArithmeticOp → Option Operation
 arithmetic_or_other name suffix (Some op) = arithmetic_suffixed suffix op
@@ -98,7 +98,7 @@ unfoldable pub operation_named : List ℕ → Option (List ℕ) → Option Opera
 operation_named name suffix = arithmetic_or_other name suffix (arithmetic_named name)
 
 unfoldable pub operation_of : List ℕ → Result Operation Fault
-operation_of head = known (operation_named (before 46 head) (after 46 head))
+operation_of head = unless_unknown (operation_named (text_before 46 head) (text_after 46 head))
 
 unfoldable pub directive_of : List ℕ → Result Directive Fault
-directive_of head = known (directive_named head)
+directive_of head = unless_unknown (directive_named head)

@@ -2,7 +2,7 @@
 use Rattle.std.specs.Prelude.{ℕ, ◌==◌, Bool, true, false, ◌&&◌, if◌then◌else◌}
 use Rattle.std.specs.Prelude.{List, [], ◌∷◌, map, drop, slice_index, Result, Ok, Err}
 use Rattle.std.specs.List.{list_all}
-use Rattle.insn_word.specs.Words.{no_memory, no_arithmetic, no_control}
+use Rattle.insn_word.specs.Words.{memory_nop, arithmetic_nop, only_control}
 use Rattle.insn_word.specs.Words.{memory_destination, arithmetic_destination, control_destination}
 use Rattle.insn_word.specs.Reading.{are_apart}
 use Rattle.insn_word.specs.declared.operations.ControlOp.TheVariants as control
@@ -23,20 +23,20 @@ use Rattle.asm_line.specs.declared.operation.Operation.{Operation}
 use Rattle.asm_line.specs.declared.operation.Operation.TheVariants as operation
 
 abbrev pub no_operation : CPart
-no_operation = no_control control.Nop
+no_operation = only_control control.Nop
 
 abbrev pub memory_word : MPart → Insn
-memory_word m = insn.Normal 0 m no_arithmetic no_operation
+memory_word m = insn.Normal 0 m arithmetic_nop no_operation
 
 abbrev pub arithmetic_word : APart → Insn
-arithmetic_word a = insn.Normal 0 no_memory a no_operation
+arithmetic_word a = insn.Normal 0 memory_nop a no_operation
 
 abbrev pub control_word : CPart → Insn
-control_word c = insn.Normal 0 no_memory no_arithmetic c
+control_word c = insn.Normal 0 memory_nop arithmetic_nop c
 
 -- NOP stands without operands
 abbrev pub nop_word : List (List ℕ) → Result Insn Fault
-nop_word [] = Ok (insn.Normal 0 no_memory no_arithmetic no_operation)
+nop_word [] = Ok (insn.Normal 0 memory_nop arithmetic_nop no_operation)
 nop_word _ = Err fault.Operand
 
 -- one operation
@@ -71,11 +71,11 @@ memory_arithmetic_word m a = map_ok (λ v. insn.Normal 0 v.0 v.1 no_operation) (
 
 unfoldable pub memory_control_word : Result MPart Fault → Result CPart Fault → Result Insn Fault
 memory_control_word m c =
-    both m c >>= λ v. unless_two (memory_control_apart v.0 v.1) (insn.Normal 0 v.0 no_arithmetic v.1)
+    both m c >>= λ v. unless_two (memory_control_apart v.0 v.1) (insn.Normal 0 v.0 arithmetic_nop v.1)
 
 unfoldable pub arithmetic_control_word : Result APart Fault → Result CPart Fault → Result Insn Fault
 arithmetic_control_word a c =
-    both a c >>= λ v. unless_two (arithmetic_control_apart v.0 v.1) (insn.Normal 0 no_memory v.0 v.1)
+    both a c >>= λ v. unless_two (arithmetic_control_apart v.0 v.1) (insn.Normal 0 memory_nop v.0 v.1)
 
 unfoldable pub full_word : Result MPart Fault → Result APart Fault → Result CPart Fault → Result Insn Fault
 full_word m a c =
@@ -139,8 +139,8 @@ looking n (insn.Wide look op reg imm) = insn.Wide n op reg imm
 looking n (insn.Normal look m a c) = insn.Normal n m a c
 
 -- @n, a blank and then the operations; with no @n the lookahead is 0
-unfoldable pub instruction : Places → ℕ → List ℕ → Result Insn Fault
-instruction places here text =
+unfoldable pub instruction_of_text : Places → ℕ → List ℕ → Result Insn Fault
+instruction_of_text places here text =
     if slice_index text 0 == 64
     then map_ok (λ v. looking v.0 v.1)
     (both (number_within 7 (drop 1 (head text))) (operations places here (behind_head text)))

@@ -4,12 +4,12 @@ use Rattle.std.specs.Prelude.{List, [], ◌∷◌, length, slice_index, map, cod
 use Rattle.std.specs.Option.{option_map}
 use Rattle.std.specs.List.{list_any}
 use Rattle.std.specs.Str.{bytes_eq}
-use Rattle.asm_line.specs.Text.{trim, parts, before, after, is_name, head, operands}
+use Rattle.asm_line.specs.Text.{trim, parts, text_before, text_after, is_name, head, operands}
 use Rattle.asm_line.specs.Faults.{map_ok, ◌>>=◌, both}
 use Rattle.asm_line.specs.Heads.{directive_of}
 use Rattle.asm_line.specs.Operands.{Places}
-use Rattle.asm_line.specs.Instructions.{instruction}
-use Rattle.asm_line.specs.Directives.{directed}
+use Rattle.asm_line.specs.Instructions.{instruction_of_text}
+use Rattle.asm_line.specs.Directives.{item_of_directive}
 use Rattle.asm_line.specs.declared.fault.Fault.{Fault}
 use Rattle.asm_line.specs.declared.fault.Fault.TheVariants as fault
 use Rattle.asm_line.specs.declared.item.Item.{Item}
@@ -21,13 +21,13 @@ pub record Line : Type 0 where
   pub label : Option (List ℕ)
   pub statement : List ℕ
 
-abbrev pub labelled : List ℕ → Option (List ℕ) → Line
-labelled text None = record { label = None; statement = text }
-labelled text (Some rest) = record { label = Some (before 58 text); statement = trim rest }
+abbrev pub line_with_label : List ℕ → Option (List ℕ) → Line
+line_with_label text None = record { label = None; statement = text }
+line_with_label text (Some rest) = record { label = Some (text_before 58 text); statement = trim rest }
 
 -- from the first semicolon on it is a comment
 unfoldable pub line : List ℕ → Line
-line bytes = let text = trim (before 59 bytes) in labelled text (after 58 text)
+line bytes = let text = trim (text_before 59 bytes) in line_with_label text (text_after 58 text)
 
 -- the lines of a text. A line end at the text's end leaves one more, which is empty and adds nothing.
 abbrev pub lines : List ℕ → List Line
@@ -77,14 +77,14 @@ labelling places k (Some name) statement =
     else Err fault.Unknown
 
 abbrev pub directive_item : Places → ℕ → List ℕ → Result Item Fault
-directive_item places words text = directive_of (head text) >>= λ d. directed places words d (operands text)
+directive_item places words text = directive_of (head text) >>= λ d. item_of_directive places words d (operands text)
 
 -- a statement at the place here of the program, where there are so many words
 unfoldable pub statement_item : Places → ℕ → ℕ → List ℕ → Result Item Fault
 statement_item places words here text =
     if length text == 0 then Ok item.Nothing
     else (if slice_index text 0 == 46 then directive_item places words text
-    else map_ok item.Instruction (instruction places here text))
+    else map_ok item.Instruction (instruction_of_text places here text))
 
 -- What line k (from 0) adds, behind so many words, or its least fault. The lines' labels stand at these places, and
 -- the lines have so many words in all.

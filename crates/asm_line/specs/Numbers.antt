@@ -16,15 +16,15 @@ abbrev pub number_in : ℕ → List ℕ → Result ℕ Fault
 number_in base text = if are_digits base text then Ok (digits_value base text) else Err fault.Operand
 
 -- decimal, or 0x and hexadecimal with digits of both cases
-unfoldable pub number : List ℕ → Result ℕ Fault
-number text = if starts_with nat_eq text (codes "0x") then number_in 16 (drop 2 text) else number_in 10 text
+unfoldable pub number_of_text : List ℕ → Result ℕ Fault
+number_of_text text = if starts_with nat_eq text (codes "0x") then number_in 16 (drop 2 text) else number_in 10 text
 
 abbrev pub within : ℕ → ℕ → Result ℕ Fault
 within most n = if nat_le n most then Ok n else Err fault.Range
 
 -- a number of at most so much
 unfoldable pub number_within : ℕ → List ℕ → Result ℕ Fault
-number_within most text = number text >>= within most
+number_within most text = number_of_text text >>= within most
 
 -- from 1 on
 abbrev pub at_least_one : ℕ → Result ℕ Fault

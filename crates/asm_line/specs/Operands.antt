@@ -16,17 +16,17 @@ use Rattle.asm_line.specs.declared.place.Place.{Place}
 -- Registers.
 
 -- the number behind the letter
-abbrev pub numbered : List ℕ → ℕ
-numbered text = digits_value 10 (drop 1 text)
+abbrev pub number_behind_letter : List ℕ → ℕ
+number_behind_letter text = digits_value 10 (drop 1 text)
 
 -- r0 to r31, without leading zeros
 abbrev pub is_register : List ℕ → Bool
 is_register text =
-    slice_index text 0 == 114 && (are_digits 10 (drop 1 text) && (nat_lt (numbered text) 32
+    slice_index text 0 == 114 && (are_digits 10 (drop 1 text) && (nat_lt (number_behind_letter text) 32
     && (length text == 2 || (length text == 3 && nat_lt 48 (slice_index text 1)))))
 
 unfoldable pub register : List ℕ → Result ℕ Fault
-register text = if is_register text then Ok (numbered text) else Err fault.Operand
+register text = if is_register text then Ok (number_behind_letter text) else Err fault.Operand
 
 -- t0 to t7
 abbrev pub is_target : List ℕ → Bool
@@ -44,14 +44,14 @@ abbrev pub Places : Type 0
 Places = List ℕ → Option Place
 
 -- a label's value, which is the number of instruction lines before it
-abbrev pub found : Option Place → Result ℕ Fault
-found None = Err fault.LabelMissing
-found (Some p) = Ok p.value
+abbrev pub label_value : Option Place → Result ℕ Fault
+label_value None = Err fault.LabelMissing
+label_value (Some p) = Ok p.value
 
 -- a number or the value of a label, of at most so much
 unfoldable pub value_within : Places → ℕ → List ℕ → Result ℕ Fault
 value_within places most text =
-    if is_name text then found (places text) >>= within most else number_within most text
+    if is_name text then label_value (places text) >>= within most else number_within most text
 
 -- how many words v is behind the place after here, -128 to 127
 unfoldable pub distance : ℕ → ℕ → Result ℤ Fault
@@ -63,7 +63,7 @@ distance here v =
 -- how far SKIP goes: a number from -128 to 127, or to a label
 unfoldable pub offset : Places → ℕ → List ℕ → Result ℤ Fault
 offset places here text =
-    if is_name text then found (places text) >>= distance here else signed_within 128 127 text
+    if is_name text then label_value (places text) >>= distance here else signed_within 128 127 text
 
 -- Others.
 

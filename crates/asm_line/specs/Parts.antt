@@ -1,6 +1,6 @@
 -- What an operation with its operands says: one definition for each form of operands.
 use Rattle.std.specs.Prelude.{ℕ, ◌-◌, ◌^◌, pos, Bool, List, [], ◌∷◌, Result, Ok, Err}
-use Rattle.insn_word.specs.Words.{no_arithmetic, no_control}
+use Rattle.insn_word.specs.Words.{arithmetic_nop, only_control}
 use Rattle.insn_word.specs.declared.operations.WideOp.{WideOp}
 use Rattle.insn_word.specs.declared.operations.WideOp.TheVariants as wide
 use Rattle.insn_word.specs.declared.operations.MemoryOp.{MemoryOp}
@@ -49,7 +49,7 @@ memory_part op acc _ = Err fault.Operand
 
 abbrev pub tally : Bool → List (List ℕ) → Result APart Fault
 tally test (x ∷ y ∷ []) =
-    map_ok (λ v. record no_arithmetic { op = arithmetic.Tally; test = test; rd = v.0; ra = v.1 })
+    map_ok (λ v. record arithmetic_nop { op = arithmetic.Tally; test = test; rd = v.0; ra = v.1 })
     (both (register x) (register y))
 tally test _ = Err fault.Operand
 
@@ -67,7 +67,7 @@ arithmetic_part op test ops = of_two op test ops
 
 abbrev pub jump_part : Result (Condition × ℕ) Fault → Result ℕ Fault → Result CPart Fault
 jump_part test t =
-    map_ok (λ v. record (no_control control.Jump) { cond = v.0.0; code = v.0.1; t = v.1 }) (both test t)
+    map_ok (λ v. record (only_control control.Jump) { cond = v.0.0; code = v.0.1; t = v.1 }) (both test t)
 
 abbrev pub jump : List (List ℕ) → Result CPart Fault
 jump (x ∷ y ∷ z ∷ []) = jump_part (both (condition x) (number_within 3 y)) (target z)
@@ -76,46 +76,46 @@ jump _ = Err fault.Operand
 -- here is the place of the word
 abbrev pub skip : Places → ℕ → List (List ℕ) → Result CPart Fault
 skip places here (x ∷ y ∷ z ∷ []) =
-    map_ok (λ v. record (no_control control.Skip) { cond = v.0.0; code = v.0.1; n = v.1 })
+    map_ok (λ v. record (only_control control.Skip) { cond = v.0.0; code = v.0.1; n = v.1 })
     (both (both (condition x) (number_within 3 y)) (offset places here z))
 skip places here _ = Err fault.Operand
 
 abbrev pub call : List (List ℕ) → Result CPart Fault
 call (x ∷ y ∷ []) =
-    map_ok (λ v. record (no_control control.Call) { t = v.0; u = v.1 }) (both (target x) (target y))
+    map_ok (λ v. record (only_control control.Call) { t = v.0; u = v.1 }) (both (target x) (target y))
 call _ = Err fault.Operand
 
 abbrev pub exchange : List (List ℕ) → Result CPart Fault
-exchange (x ∷ []) = map_ok (λ t. record (no_control control.Exchange) { t = t }) (target x)
+exchange (x ∷ []) = map_ok (λ t. record (only_control control.Exchange) { t = t }) (target x)
 exchange _ = Err fault.Operand
 
 -- TSET and CREATE
 abbrev pub to_target : ControlOp → List (List ℕ) → Result CPart Fault
 to_target op (x ∷ y ∷ []) =
-    map_ok (λ v. record (no_control op) { t = v.0; ra = v.1 }) (both (target x) (register y))
+    map_ok (λ v. record (only_control op) { t = v.0; ra = v.1 }) (both (target x) (register y))
 to_target op _ = Err fault.Operand
 
 abbrev pub from_target : List (List ℕ) → Result CPart Fault
 from_target (x ∷ y ∷ []) =
-    map_ok (λ v. record (no_control control.TargetGet) { rd = v.0; t = v.1 }) (both (register x) (target y))
+    map_ok (λ v. record (only_control control.TargetGet) { rd = v.0; t = v.1 }) (both (register x) (target y))
 from_target _ = Err fault.Operand
 
 abbrev pub trap_get : List (List ℕ) → Result CPart Fault
-trap_get (x ∷ []) = map_ok (λ rd. record (no_control control.TrapGet) { rd = rd }) (register x)
+trap_get (x ∷ []) = map_ok (λ rd. record (only_control control.TrapGet) { rd = rd }) (register x)
 trap_get _ = Err fault.Operand
 
 abbrev pub reserve : List (List ℕ) → Result CPart Fault
 reserve (x ∷ y ∷ []) =
-    map_ok (λ v. record (no_control control.Reserve) { rd = v.0; ra = v.1 }) (both (register x) (register y))
+    map_ok (λ v. record (only_control control.Reserve) { rd = v.0; ra = v.1 }) (both (register x) (register y))
 reserve _ = Err fault.Operand
 
 -- QUIT and QUITP
 abbrev pub bare : ControlOp → List (List ℕ) → Result CPart Fault
-bare op [] = Ok (no_control op)
+bare op [] = Ok (only_control op)
 bare op _ = Err fault.Operand
 
 abbrev pub mask : List (List ℕ) → Result CPart Fault
-mask (x ∷ []) = map_ok (λ m. record (no_control control.Mask) { n = pos m }) (number_within 7 x)
+mask (x ∷ []) = map_ok (λ m. record (only_control control.Mask) { n = pos m }) (number_within 7 x)
 mask _ = Err fault.Operand
 
 abbrev pub control_part : Places → ℕ → ControlOp → List (List ℕ) → Result CPart Fault

@@ -21,12 +21,12 @@ abbrev pub parts : ℕ → List ℕ → List (List ℕ)
 parts c bytes = slice_split (λ b. b == c) bytes
 
 -- what stands before the first c, or all
-abbrev pub before : ℕ → List ℕ → List ℕ
-before c bytes = before_first (λ b. b == c) bytes
+abbrev pub text_before : ℕ → List ℕ → List ℕ
+text_before c bytes = before_first (λ b. b == c) bytes
 
 -- what stands after the first c, if there is one
-unfoldable pub after : ℕ → List ℕ → Option (List ℕ)
-after c bytes =
+unfoldable pub text_after : ℕ → List ℕ → Option (List ℕ)
+text_after c bytes =
     if nat_lt (position_or_len (λ b. b == c) bytes) (length bytes) then Some (after_first (λ b. b == c) bytes)
     else None
 

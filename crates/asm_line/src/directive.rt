@@ -3,8 +3,8 @@
 ghost use Rattle.std.specs.Prelude.{◌≡◌, ◌^◌, ◌-◌, ℕ, List};
 ghost use Rattle.asm_line.specs.Labels.{places_of};
 ghost use Rattle.asm_line.specs.Seen.{AreOperands};
-ghost use Rattle.asm_line.specs.Directives.{profile, slim, retry, trap, entry, word, data_cell, fill, cells};
-ghost use Rattle.asm_line.specs.Directives.{directed};
+ghost use Rattle.asm_line.specs.Directives.{profile, slim, retry, trap, entry_item, word, data_cell, fill, cells};
+ghost use Rattle.asm_line.specs.Directives.{item_of_directive};
 ghost use Rattle.asm_line.specs.Directives.{entry_number, word_number, tags_number};
 
 use crate::arguments::Arguments;
@@ -16,7 +16,7 @@ use crate::operand::immediate;
 use crate::operation::Directive;
 
 /// What a directive adds, where the text has so many words.
-#[tactic(auto, unfolding(crate::specs::Directives::directed))]
+#[tactic(auto, unfolding(crate::specs::Directives::item_of_directive))]
 pub(crate) fn directed(
     labels: &Labels,
     words: usize,
@@ -24,7 +24,7 @@ pub(crate) fn directed(
     operands: &Arguments,
 ) -> Result<Item, Fault>
     ensures { (os : List (List ℕ)) → AreOperands operands.now os
-        → result ≡ directed (places_of labels.now) words directive os }
+        → result ≡ item_of_directive (places_of labels.now) words directive os }
 {
     match directive {
         Directive::Profile => profile(operands),
@@ -84,7 +84,7 @@ fn trap(labels: &Labels, operands: &Arguments) -> Result<Item, Fault>
 
 /// `.entry`: a number or label, below the number of words
 fn entry(labels: &Labels, words: usize, operands: &Arguments) -> Result<Item, Fault>
-    ensures { (os : List (List ℕ)) → AreOperands operands.now os → result ≡ entry (places_of labels.now) words os }
+    ensures { (os : List (List ℕ)) → AreOperands operands.now os → result ≡ entry_item (places_of labels.now) words os }
 {
     let Arguments::One(x) = *operands else {
         return Err(Fault::Operand);

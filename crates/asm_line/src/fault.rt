@@ -1,7 +1,7 @@
 //! What can be wrong with a line.
 
 ghost use Rattle.std.specs.Prelude.{◌≡◌};
-ghost use Rattle.asm_line.specs.Faults.{kind_number, least, both};
+ghost use Rattle.asm_line.specs.Faults.{kind_number, least_fault, both};
 
 /// The kinds of faults of a source text ("Source text", docs/FORMATS.md), in the order in which a line's are
 /// answered.
@@ -50,7 +50,7 @@ impl Fault {
 
     /// Of two kinds the one that is answered.
     fn least(self, other: Fault) -> Fault
-        ensures { result ≡ least self other }
+        ensures { result ≡ least_fault self other }
     {
         if self.number() <= other.number() {
             self

@@ -5,7 +5,7 @@ ghost use Rattle.asm_line.specs.Text.{head, trim, parts};
 ghost use Rattle.asm_line.specs.Heads.{operation_of};
 ghost use Rattle.asm_line.specs.Labels.{places_of};
 ghost use Rattle.asm_line.specs.Instructions.{one_part, two_parts, three_parts, too_many, operations};
-ghost use Rattle.asm_line.specs.Instructions.{looking, instruction, is_ok};
+ghost use Rattle.asm_line.specs.Instructions.{looking, instruction_of_text, is_ok};
 
 use crate::arguments::read_arguments;
 use crate::combination::{double, single, triple};
@@ -17,9 +17,9 @@ use crate::text::{begins, cut, split_head, tail, trim};
 use insn_word::Insn;
 
 /// The instruction at the place `here`.
-#[tactic(auto, unfolding(crate::specs::Instructions::instruction))]
+#[tactic(auto, unfolding(crate::specs::Instructions::instruction_of_text))]
 pub(crate) fn instruction(labels: &Labels, here: usize, text: &[u8]) -> Result<Insn, Fault>
-    ensures { result ≡ instruction (places_of labels.now) here text.now }
+    ensures { result ≡ instruction_of_text (places_of labels.now) here text.now }
 {
     if !begins(text, b'@') {
         return operations(labels, here, text);

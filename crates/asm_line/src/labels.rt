@@ -14,7 +14,7 @@ pub struct Labels<'t> {
 impl<'t> Labels<'t> {
     ghost use Rattle.std.specs.Prelude.{◌≡◌, ℕ, List, None, OnOk};
     ghost use Rattle.std.specs.Option.{option_copied, option_or};
-    ghost use Rattle.asm_line.specs.Operands.{found};
+    ghost use Rattle.asm_line.specs.Operands.{label_value};
     ghost use Rattle.asm_line.specs.Labels.{places_of, standing};
 
     /// No labels.
@@ -37,7 +37,7 @@ impl<'t> Labels<'t> {
 
     /// The value of the label.
     pub(crate) fn value(&self, name: &[u8]) -> Result<usize, Fault>
-        ensures { result ≡ found (places_of self.now name.now) }
+        ensures { result ≡ label_value (places_of self.now name.now) }
     {
         match self.find(name) {
             Some(place) => Ok(place.value),

@@ -3,12 +3,12 @@
 ghost use Rattle.std.specs.Prelude.{◌≡◌, ◌≤◌, ◌==◌, ◌∷◌, length, IfOk};
 ghost use Rattle.std.specs.Option.{option_copied};
 ghost use Rattle.std.specs.List.{list_any};
-ghost use Rattle.asm_line.specs.Text.{is_name, before, after};
+ghost use Rattle.asm_line.specs.Text.{is_name, text_before, text_after};
 ghost use Rattle.asm_line.specs.Lines.{line, lines, is_word, is_label, labelling, statement_item, directive_item};
 ghost use Rattle.asm_line.specs.Lines.{line_item};
 ghost use Rattle.asm_line.specs.Labels.{places_of};
 ghost use Rattle.asm_line.specs.Cutting.{rest_lines, rest_length};
-ghost use Rattle.asm_line.specs.Ranges.{IsInRange};
+ghost use Rattle.asm_line.specs.Ranges.{IsItemInRange};
 ghost use Rattle.asm_line.specs.Seen.{line_seen};
 
 use crate::arguments::read_arguments;
@@ -34,8 +34,8 @@ pub struct SourceLine<'t> {
 
 /// The bytes of the first line, without its end, and what follows that, if there is a line end.
 pub fn next_line(text: &[u8]) -> (&[u8], Option<&[u8]>)
-    ensures front { result.0.now ≡ before 10 text.now }
-    ensures back { option_copied result.1 ≡ after 10 text.now }
+    ensures front { result.0.now ≡ text_before 10 text.now }
+    ensures back { option_copied result.1 ≡ text_after 10 text.now }
     ensures lines { lines text.now ≡ line result.0.now ∷ rest_lines (option_copied result.1) }
     ensures shorter { rest_length (option_copied result.1) ≤ length text.now }
 {
@@ -86,7 +86,7 @@ pub fn read_line(
     line: &SourceLine,
 ) -> Result<Item, Fault>
     ensures item { result ≡ line_item (places_of labels.now) words number here (line_seen line.now) }
-    ensures range { IfOk result (IsInRange words) }
+    ensures range { IfOk result (IsItemInRange words) }
 {
     spelling_is_one_to_one();
     line_item(labels, words, number, here, line)

@@ -3,16 +3,16 @@
 ghost use Rattle.std.specs.Prelude.{◌≡◌, ◌≤◌, ◌-◌, ◌^◌, IfOk, pos, neg_ℤ};
 ghost use Rattle.number_text.specs.Numbers.{base_number, number_from};
 ghost use Rattle.asm_line.specs.Faults.{map_ok};
-ghost use Rattle.asm_line.specs.Numbers.{number_in, number, number_within, count_within, signed_within};
+ghost use Rattle.asm_line.specs.Numbers.{number_in, number_of_text, number_within, count_within, signed_within};
 
 use crate::fault::Fault;
 use crate::text::{begins, tail};
 use number_text::{Base, Number, read_digits};
 
 /// The number that a text says, decimal or after `0x` hexadecimal.
-#[tactic(auto, unfolding(crate::specs::Numbers::number))]
+#[tactic(auto, unfolding(crate::specs::Numbers::number_of_text))]
 fn number(text: &[u8]) -> Result<Number, Fault>
-    ensures { result ≡ map_ok number_from (number text.now) }
+    ensures { result ≡ map_ok number_from (number_of_text text.now) }
 {
     if text.starts_with(b"0x") {
         number_in(Base::Hexadecimal, &text[2..])

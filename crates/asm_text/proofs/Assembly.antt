@@ -6,15 +6,15 @@ use Rattle.asm_line.specs.Lines.{lines, place, count_words}
 use Rattle.asm_line.specs.declared.fault.Fault.TheVariants as fault
 use Rattle.asm_text.specs.declared.fault.AsmFault.{AsmFault}
 use Rattle.asm_text.specs.Drafts.{DraftValue, empty}
-use Rattle.asm_text.specs.Sources.{with_lines, not_ascii, completed, complete, assembled, assembled_lines}
-use Rattle.asm_text.specs.Sources.{assembled_unless}
+use Rattle.asm_text.specs.Sources.{with_lines, not_ascii, image_or_incomplete, complete, meaning_of, meaning_of_lines}
+use Rattle.asm_text.specs.Sources.{meaning_unless}
 use Rattle.asm_text.specs.Sources.{Means, HasFault}
 use Rattle.std.specs.Prelude.{◌≢◌, MatchResult, IfOk, IfErr}
 
 pub with_byte : (text : List ℕ) (k : ℕ) → not_ascii text ≡ Some k
-    → assembled text ≡ Err (record { line = k; kind = fault.NotAscii })
-unfolding assembled
-with_byte text k is = ap (λ o. assembled_unless o (lines text)) is
+    → meaning_of text ≡ Err (record { line = k; kind = fault.NotAscii })
+unfolding meaning_of
+with_byte text k is = ap (λ o. meaning_unless o (lines text)) is
 
 -- the places and the number of words that a first pass found
 pub record IsFound (text : List ℕ) (places : Places) (words : ℕ) : Type 0 where
@@ -23,30 +23,30 @@ pub record IsFound (text : List ℕ) (places : Places) (words : ℕ) : Type 0 wh
   pub words_are : words ≡ count_words (lines text)
 
 pub by_lines : (text : List ℕ) (places : Places) (words : ℕ) → IsFound text places words
-    → assembled text ≡ complete (with_lines places words 0 empty (lines text))
-unfolding assembled assembled_lines
+    → meaning_of text ≡ complete (with_lines places words 0 empty (lines text))
+unfolding meaning_of meaning_of_lines
 by_lines text places words f =
-    ap (λ o. assembled_unless o (lines text)) f.ascii
+    ap (λ o. meaning_unless o (lines text)) f.ascii
     ∙ sym (λ i. complete (with_lines (f.places_are i) (f.words_are i) 0 empty (lines text)))
 
 pub draft_refused : (text : List ℕ) (places : Places) (words : ℕ) (e : AsmFault) → IsFound text places words
-    → with_lines places words 0 empty (lines text) ≡ Err e → assembled text ≡ Err e
+    → with_lines places words 0 empty (lines text) ≡ Err e → meaning_of text ≡ Err e
 draft_refused text places words e f is = by_lines text places words f ∙ ap complete is
 
 pub draft_whole : (text : List ℕ) (places : Places) (words : ℕ) (d : DraftValue) (r : Result ImageValue AsmFault)
-    → IsFound text places words → with_lines places words 0 empty (lines text) ≡ Ok d → completed d ≡ r
-    → assembled text ≡ r
+    → IsFound text places words → with_lines places words 0 empty (lines text) ≡ Ok d → image_or_incomplete d ≡ r
+    → meaning_of text ≡ r
 draft_whole text places words d r f is end = by_lines text places words f ∙ ap complete is ∙ end
 
 pub finished_means : (text : List ℕ) (d : DraftValue) (r : Result ImageValue AsmFault)
-    → ((s : Result ImageValue AsmFault) → completed d ≡ s → assembled text ≡ s)
-    → MatchResult r (λ i. completed d ≡ Ok i) (λ e. completed d ≡ Err e) → IfOk r (Means text)
+    → ((s : Result ImageValue AsmFault) → image_or_incomplete d ≡ s → meaning_of text ≡ s)
+    → MatchResult r (λ i. image_or_incomplete d ≡ Ok i) (λ e. image_or_incomplete d ≡ Err e) → IfOk r (Means text)
 finished_means text d (Ok i) whole is = whole (Ok i) is
 finished_means text d (Err e) whole is = tt
 
 pub finished_fault : (text : List ℕ) (d : DraftValue) (r : Result ImageValue AsmFault)
-    → ((s : Result ImageValue AsmFault) → completed d ≡ s → assembled text ≡ s)
-    → MatchResult r (λ i. completed d ≡ Ok i) (λ e. completed d ≡ Err e)
+    → ((s : Result ImageValue AsmFault) → image_or_incomplete d ≡ s → meaning_of text ≡ s)
+    → MatchResult r (λ i. image_or_incomplete d ≡ Ok i) (λ e. image_or_incomplete d ≡ Err e)
     → IfErr r (λ e. e.kind ≢ fault.NoMemory → HasFault text e)
 finished_fault text d (Ok i) whole is = tt
 finished_fault text d (Err e) whole is = λ _. whole (Err e) is

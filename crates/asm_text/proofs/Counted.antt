@@ -9,16 +9,16 @@ use Rattle.std.proofs.lemmas.Bool.{cases_Bool}
 use Rattle.std.proofs.lemmas.Bool.Decides.{nat_tests}
 use Rattle.std.proofs.lemmas.Slice.Eq.{bytes_eq-Decides}
 use Rattle.tag_memory.specs.Cell.{Cell, cell_of}
-use Rattle.insn_word.specs.Fields.{number}
+use Rattle.insn_word.specs.Fields.{number_of_fields}
 use Rattle.insn_word.specs.Words.{fields}
 use Rattle.insn_word.specs.declared.insn.Insn.{Insn}
 use Rattle.asm_line.specs.Text.{head, operands}
-use Rattle.asm_line.specs.Faults.{map_ok, ◌>>=◌, both, known}
+use Rattle.asm_line.specs.Faults.{map_ok, ◌>>=◌, both, unless_unknown}
 use Rattle.asm_line.specs.Heads.{directive_of, directive_named}
 use Rattle.asm_line.specs.Operands.{Places}
-use Rattle.asm_line.specs.Instructions.{instruction}
+use Rattle.asm_line.specs.Instructions.{instruction_of_text}
 use Rattle.asm_line.specs.Numbers.{count_within}
-use Rattle.asm_line.specs.Directives.{directed, cells, word_number, tags_number}
+use Rattle.asm_line.specs.Directives.{item_of_directive, cells, word_number, tags_number}
 use Rattle.asm_line.specs.Lines.{Line, line_item, statement_item, directive_item, labelling, is_word, word_count}
 use Rattle.asm_line.specs.Lines.{count_words}
 use Rattle.asm_line.specs.declared.fault.Fault.{Fault}
@@ -56,7 +56,7 @@ second (Err d) (Ok y) v e = absurd cc
 second (Err d) (Err f) v e = absurd cc
 
 not_word : (profile slim retry trap entry datum fill : Bool) (d : Directive)
-    → known (cond profile (Some directive.Profile) (cond slim (Some directive.Slim) (cond retry (Some directive.Retry)
+    → unless_unknown (cond profile (Some directive.Profile) (cond slim (Some directive.Slim) (cond retry (Some directive.Retry)
     (cond trap (Some directive.Trap) (cond entry (Some directive.Entry) (cond false (Some directive.Word)
     (cond datum (Some directive.Data) (cond fill (Some directive.Fill) None)))))))) ≡ Ok d
     → is_word_directive d ≡ false
@@ -97,7 +97,7 @@ no_words : {A : Type 0} (f : A → Item) (r : Result A Fault) (i : Item) (n : �
 no_words f r i n h is = let m = mapped f r i is in sym (ap item_words m.2) ∙ h m.0
 
 abbrev Counts : Places → ℕ → Directive → List (List ℕ) → Type 0
-Counts places words d ops = (i : Item) → directed places words d ops ≡ Ok i
+Counts places words d ops = (i : Item) → item_of_directive places words d ops ≡ Ok i
     → item_words i ≡ cond (is_word_directive d) 1 0
 
 cells_count : (a b t : Result ℕ Fault) (i : Item) → cells a b t ≡ Ok i → item_words i ≡ 0
@@ -105,7 +105,7 @@ cells_count a b t i is =
     no_words (λ (v : (ℕ × ℕ) × ℕ). item.Cells v.0.0 v.0.1 v.1) (both (both a b) t) i 0 (λ v. refl) is
 
 directed_counts : (places : Places) (words : ℕ) (d : Directive) (o : List (List ℕ)) → Counts places words d o
-unfolding directed
+unfolding item_of_directive
 directed_counts places words directive.Profile [] i is = absurd cc
 directed_counts places words directive.Profile (x ∷ []) i is = no_words (λ (n : ℕ). item.Profile) _ i 0 (λ n. refl) is
 directed_counts places words directive.Profile (x ∷ y ∷ zs) i is = absurd cc
@@ -139,13 +139,13 @@ directed_counts places words directive.Fill (x ∷ y ∷ z ∷ a ∷ zs) i is = 
 directive_counts : (places : Places) (words : ℕ) (t : List ℕ) (i : Item) → directive_item places words t ≡ Ok i
     → item_words i ≡ cond (bytes_eq (head t) (codes ".word")) 1 0
 directive_counts places words t i is =
-    let b = bound (directive_of (head t)) (λ d. directed places words d (operands t)) i is in
+    let b = bound (directive_of (head t)) (λ d. item_of_directive places words d (operands t)) i is in
     directed_counts places words b.0 (operands t) i b.2 ∙ ap (λ w. cond w 1 0) (named (head t) b.0 b.1)
 
-by_form : (none some dot word : Bool) (directed : Result Item Fault) (insn : Result Insn Fault) (i : Item)
+by_form : (none some dot word : Bool) (item_of_directive : Result Item Fault) (insn : Result Insn Fault) (i : Item)
     → some ≡ not none
-    → (directed ≡ Ok i → item_words i ≡ cond word 1 0)
-    → cond none (Ok item.Nothing) (cond dot directed (map_ok (λ (j : Insn). item.Instruction j) insn)) ≡ Ok i
+    → (item_of_directive ≡ Ok i → item_words i ≡ cond word 1 0)
+    → cond none (Ok item.Nothing) (cond dot item_of_directive (map_ok (λ (j : Insn). item.Instruction j) insn)) ≡ Ok i
     → item_words i ≡ cond (some && (not dot || word)) 1 0
 by_form true some dot word r insn i e h is =
     let at : item.Nothing ≡ i = cc in
@@ -163,7 +163,7 @@ statement_counts : (places : Places) (words here : ℕ) (t : List ℕ) (i : Item
 unfolding statement_item is_word
 statement_counts places words here t i is =
     by_form (eqb (length t) 0) (ltb 0 (length t)) (eqb (slice_index t 0) 46) (bytes_eq (head t) (codes ".word"))
-    (directive_item places words t) (instruction places here t) i (some_bytes (length t))
+    (directive_item places words t) (instruction_of_text places here t) i (some_bytes (length t))
     (directive_counts places words t i) is
 
 line_counts : (places : Places) (words k here : ℕ) (l : Line) (i : Item) → line_item places words k here l ≡ Ok i
@@ -209,7 +209,7 @@ add_counts d e (item.Slim n) is = settings_count d e (slim_set d.settings n) is
 add_counts d e (item.Retry n) is = settings_count d e (retry_set d.settings n) is
 add_counts d e (item.Trap n) is = settings_count d e (trap_set d.settings n) is
 add_counts d e (item.Entry n) is = entry_count d e n is
-add_counts d e (item.Instruction i) is = word_added d e (number (fields i)) is
+add_counts d e (item.Instruction i) is = word_added d e (number_of_fields (fields i)) is
 add_counts d e (item.Word w) is = word_added d e w is
 add_counts d e (item.Cells count value tags) is = cells_kept d e count (cell_of value tags) is
 

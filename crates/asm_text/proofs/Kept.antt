@@ -9,7 +9,7 @@ use Rattle.std.proofs.lemmas.Bool.{ltb-true, leb-true, and_parts}
 use Rattle.std.proofs.lemmas.List.{length-replicate}
 use Rattle.std.proofs.lemmas.List.Elements.{All-push, All-nil}
 use Rattle.tag_memory.specs.Cell.{Cell, cell_of}
-use Rattle.insn_word.specs.Fields.{number}
+use Rattle.insn_word.specs.Fields.{number_of_fields}
 use Rattle.insn_word.specs.Words.{fields}
 use Rattle.image_file.specs.ImageValue.{IsWithin}
 use Rattle.asm_line.specs.Faults.{map_ok}
@@ -19,12 +19,12 @@ use Rattle.asm_line.specs.declared.item.Item.{Item}
 use Rattle.asm_line.specs.declared.item.Item.TheVariants as item
 use Rattle.asm_text.specs.declared.settings.Settings.{Settings}
 use Rattle.asm_text.specs.Settings.{set_once, profile_set, slim_set, retry_set, trap_set}
-use Rattle.asm_line.specs.Ranges.{IsInRange}
+use Rattle.asm_line.specs.Ranges.{IsItemInRange}
 use Rattle.asm_text.specs.Drafts.{DraftValue, empty, add, with_settings, with_entry, with_word, with_cells, has_all}
 use Rattle.asm_text.specs.Drafts.{image_of_draft}
 use Rattle.asm_text.specs.Limits.{IsKept, IsReady}
 
-pub ready : (words : ℕ) (i : Item) → IsInRange words i → IsReady i
+pub ready : (words : ℕ) (i : Item) → IsItemInRange words i → IsReady i
 ready words item.Nothing h = tt
 ready words item.Profile h = tt
 ready words (item.Slim n) h = tt
@@ -123,7 +123,7 @@ cells_kept words d e n c k is =
     })
 
 -- what a line adds keeps the limits
-pub add_kept : (words : ℕ) (d e : DraftValue) (i : Item) → IsKept words d → IsInRange words i → add d i ≡ Ok e
+pub add_kept : (words : ℕ) (d e : DraftValue) (i : Item) → IsKept words d → IsItemInRange words i → add d i ≡ Ok e
     → IsKept words e
 unfolding add
 add_kept words d e item.Nothing k h is = let at : d ≡ e = cc in subst (IsKept words) at k
@@ -136,7 +136,7 @@ add_kept words d e (item.Retry n) k h is =
 add_kept words d e (item.Trap n) k h is =
     settings_kept words d e (trap_set d.settings n) k (λ s. trap_kept d.settings s n k.slim) is
 add_kept words d e (item.Entry n) k h is = entry_kept words d e n k h is
-add_kept words d e (item.Instruction i) k h is = word_kept words d e (number (fields i)) k is
+add_kept words d e (item.Instruction i) k h is = word_kept words d e (number_of_fields (fields i)) k is
 add_kept words d e (item.Word w) k h is = word_kept words d e w k is
 add_kept words d e (item.Cells count value tags) k h is = cells_kept words d e count (cell_of value tags) k is
 
@@ -173,6 +173,6 @@ within words d k count all =
     }
 
 pub add_keeps : (words : ℕ) (d e : DraftValue) (i : Item) (r : Result (Unit {0}) Fault) (Refused : Fault → Type 0)
-    → IsInRange words i → MatchResult r (λ _. add d i ≡ Ok e) Refused → IsKept words d → OnOk r (IsKept words e)
+    → IsItemInRange words i → MatchResult r (λ _. add d i ≡ Ok e) Refused → IsKept words d → OnOk r (IsKept words e)
 add_keeps words d e i (Ok x) refused h is k = add_kept words d e i k h is
 add_keeps words d e i (Err f) refused h is k = tt

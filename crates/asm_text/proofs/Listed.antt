@@ -12,7 +12,7 @@ use Rattle.image_file.specs.ImageValue.{ImageValue}
 use Rattle.listing_line.specs.WordText.{word_line}
 use Rattle.listing_line.specs.DirectiveLines.{entry_line}
 use Rattle.asm_text.specs.Runs.{Run, runs}
-use Rattle.asm_text.specs.Listing.{setting_lines, word_lines, run_line, listing_lines, ended, text_of, listing}
+use Rattle.asm_text.specs.Listing.{setting_lines, word_lines, cell_run_line, listing_lines, with_line_end, text_of_lines, listing}
 
 -- one line more in the text is one less to come
 pushed : (before line rest whole now : List ℕ) → now ≡ before ++ line → before ++ (line ++ rest) ≡ whole
@@ -27,17 +27,17 @@ entries_at entries k entry here is =
     ∙ ap (λ n. entry ∷ drop n entries) (sym (add-one k))
 
 pub entry_pushed : (entries : List ℕ) (k entry : ℕ) (before whole now : List ℕ) → k < length entries
-    → slice_get entries k ≡ Some entry → now ≡ before ++ ended (entry_line entry)
-    → before ++ text_of (map entry_line (drop k entries)) ≡ whole
-    → now ++ text_of (map entry_line (drop (k + 1) entries)) ≡ whole
+    → slice_get entries k ≡ Some entry → now ≡ before ++ with_line_end (entry_line entry)
+    → before ++ text_of_lines (map entry_line (drop k entries)) ≡ whole
+    → now ++ text_of_lines (map entry_line (drop (k + 1) entries)) ≡ whole
 entry_pushed entries k entry before whole now here at is h =
-    pushed before (ended (entry_line entry)) (text_of (map entry_line (drop (k + 1) entries))) whole now is
-    (sym (ap (λ es. before ++ text_of (map entry_line es)) (entries_at entries k entry here at)) ∙ h)
+    pushed before (with_line_end (entry_line entry)) (text_of_lines (map entry_line (drop (k + 1) entries))) whole now is
+    (sym (ap (λ es. before ++ text_of_lines (map entry_line es)) (entries_at entries k entry here at)) ∙ h)
 
 pub entries_end : (entries : List ℕ) (k : ℕ) (now whole : List ℕ) → length entries ≤ k
-    → now ++ text_of (map entry_line (drop k entries)) ≡ whole → now ≡ whole
+    → now ++ text_of_lines (map entry_line (drop k entries)) ≡ whole → now ≡ whole
 entries_end entries k now whole past h =
-    sym (append-nil now) ∙ sym (ap (λ es. now ++ text_of (map entry_line es)) (drop_all k entries past)) ∙ h
+    sym (append-nil now) ∙ sym (ap (λ es. now ++ text_of_lines (map entry_line es)) (drop_all k entries past)) ∙ h
 
 words_at : (program : List ℕ) (k word : ℕ) → k < length program → word ≡ get_or program k word
     → drop k program ≡ word ∷ drop (k + 1) program
@@ -47,56 +47,56 @@ words_at program k word here is =
     ∙ ap (λ n. word ∷ drop n program) (sym (add-one k))
 
 pub word_pushed : (program : List ℕ) (k word : ℕ) (before whole now : List ℕ) → k < length program
-    → word ≡ get_or program k word → now ≡ before ++ ended (word_line k word)
-    → before ++ text_of (word_lines k (drop k program)) ≡ whole
-    → now ++ text_of (word_lines (k + 1) (drop (k + 1) program)) ≡ whole
+    → word ≡ get_or program k word → now ≡ before ++ with_line_end (word_line k word)
+    → before ++ text_of_lines (word_lines k (drop k program)) ≡ whole
+    → now ++ text_of_lines (word_lines (k + 1) (drop (k + 1) program)) ≡ whole
 word_pushed program k word before whole now here at is h =
-    pushed before (ended (word_line k word)) (text_of (word_lines (k + 1) (drop (k + 1) program))) whole now is
-    (sym (ap (λ ws. before ++ text_of (word_lines k ws)) (words_at program k word here at)) ∙ h)
+    pushed before (with_line_end (word_line k word)) (text_of_lines (word_lines (k + 1) (drop (k + 1) program))) whole now is
+    (sym (ap (λ ws. before ++ text_of_lines (word_lines k ws)) (words_at program k word here at)) ∙ h)
 
 pub words_end : (program : List ℕ) (k : ℕ) (now whole : List ℕ) → length program ≤ k
-    → now ++ text_of (word_lines k (drop k program)) ≡ whole → now ≡ whole
+    → now ++ text_of_lines (word_lines k (drop k program)) ≡ whole → now ≡ whole
 words_end program k now whole past h =
-    sym (append-nil now) ∙ sym (ap (λ ws. now ++ text_of (word_lines k ws)) (drop_all k program past)) ∙ h
+    sym (append-nil now) ∙ sym (ap (λ ws. now ++ text_of_lines (word_lines k ws)) (drop_all k program past)) ∙ h
 
 -- the four parts of a listing, one after another
 pub parts_joined : (i : ImageValue)
-    → ((text_of (setting_lines i) ++ text_of (map entry_line i.entries)) ++ text_of (word_lines 0 i.program))
-    ++ text_of (map run_line (runs i.cells)) ≡ listing i
+    → ((text_of_lines (setting_lines i) ++ text_of_lines (map entry_line i.entries)) ++ text_of_lines (word_lines 0 i.program))
+    ++ text_of_lines (map cell_run_line (runs i.cells)) ≡ listing i
 unfolding listing listing_lines
 parts_joined i =
     let s = setting_lines i in
     let e = map entry_line i.entries in
     let w = word_lines 0 i.program in
-    let c = map run_line (runs i.cells) in
-    append_assoc (text_of s ++ text_of e) (text_of w) (text_of c)
-    ∙ append_assoc (text_of s) (text_of e) (text_of w ++ text_of c)
-    ∙ sym (flat_map-append ended s (e ++ (w ++ c))
-    ∙ ap (λ t. text_of s ++ t) (flat_map-append ended e (w ++ c)
-    ∙ ap (λ t. text_of e ++ t) (flat_map-append ended w c)))
+    let c = map cell_run_line (runs i.cells) in
+    append_assoc (text_of_lines s ++ text_of_lines e) (text_of_lines w) (text_of_lines c)
+    ∙ append_assoc (text_of_lines s) (text_of_lines e) (text_of_lines w ++ text_of_lines c)
+    ∙ sym (flat_map-append with_line_end s (e ++ (w ++ c))
+    ∙ ap (λ t. text_of_lines s ++ t) (flat_map-append with_line_end e (w ++ c)
+    ∙ ap (λ t. text_of_lines e ++ t) (flat_map-append with_line_end w c)))
 
 pub all_parts : (i : ImageValue) (t0 t1 t2 t3 t4 : List ℕ) (cells : List Cell) → t0 ≡ []
-    → t1 ≡ t0 ++ text_of (setting_lines i) → t2 ≡ t1 ++ text_of (map entry_line i.entries)
-    → t3 ≡ t2 ++ text_of (word_lines 0 i.program) → cells ≡ i.cells
-    → t4 ≡ t3 ++ text_of (map run_line (runs cells)) → t4 ≡ listing i
+    → t1 ≡ t0 ++ text_of_lines (setting_lines i) → t2 ≡ t1 ++ text_of_lines (map entry_line i.entries)
+    → t3 ≡ t2 ++ text_of_lines (word_lines 0 i.program) → cells ≡ i.cells
+    → t4 ≡ t3 ++ text_of_lines (map cell_run_line (runs cells)) → t4 ≡ listing i
 all_parts i t0 t1 t2 t3 t4 cells e0 e1 e2 e3 ec e4 =
-    let s = text_of (setting_lines i) in
-    let e = text_of (map entry_line i.entries) in
-    let w = text_of (word_lines 0 i.program) in
-    let c = text_of (map run_line (runs i.cells)) in
-    e4 ∙ ap (λ cs. t3 ++ text_of (map run_line (runs cs))) ec
+    let s = text_of_lines (setting_lines i) in
+    let e = text_of_lines (map entry_line i.entries) in
+    let w = text_of_lines (word_lines 0 i.program) in
+    let c = text_of_lines (map cell_run_line (runs i.cells)) in
+    e4 ∙ ap (λ cs. t3 ++ text_of_lines (map cell_run_line (runs cs))) ec
     ∙ ap (λ t. t ++ c) (e3 ∙ ap (λ t. t ++ w) (e2 ∙ ap (λ t. t ++ e) (e1 ∙ ap (λ t. t ++ s) e0)))
     ∙ parts_joined i
 
 pub run_pushed : (rs following : List Run) (count : ℕ) (cell : Cell) (before whole now : List ℕ)
     → rs ≡ record { count = count; cell = cell } ∷ following
-    → now ≡ before ++ ended (run_line (record { count = count; cell = cell }))
-    → before ++ text_of (map run_line rs) ≡ whole → now ++ text_of (map run_line following) ≡ whole
+    → now ≡ before ++ with_line_end (cell_run_line (record { count = count; cell = cell }))
+    → before ++ text_of_lines (map cell_run_line rs) ≡ whole → now ++ text_of_lines (map cell_run_line following) ≡ whole
 run_pushed rs following count cell before whole now first is h =
-    pushed before (ended (run_line (record { count = count; cell = cell }))) (text_of (map run_line following))
+    pushed before (with_line_end (cell_run_line (record { count = count; cell = cell }))) (text_of_lines (map cell_run_line following))
     whole now is
-    (sym (ap (λ xs. before ++ text_of (map run_line xs)) first) ∙ h)
+    (sym (ap (λ xs. before ++ text_of_lines (map cell_run_line xs)) first) ∙ h)
 
-pub runs_end : (rs : List Run) (now whole : List ℕ) → rs ≡ [] → now ++ text_of (map run_line rs) ≡ whole → now ≡ whole
+pub runs_end : (rs : List Run) (now whole : List ℕ) → rs ≡ [] → now ++ text_of_lines (map cell_run_line rs) ≡ whole → now ≡ whole
 runs_end rs now whole none h =
-    sym (append-nil now) ∙ sym (ap (λ xs. now ++ text_of (map run_line xs)) none) ∙ h
+    sym (append-nil now) ∙ sym (ap (λ xs. now ++ text_of_lines (map cell_run_line xs)) none) ∙ h

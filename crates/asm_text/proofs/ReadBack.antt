@@ -16,9 +16,9 @@ use Rattle.listing_line.specs.Laws.{word_item}
 use Rattle.listing_line.specs.DirectiveLines.{entry_line}
 use Rattle.asm_text.specs.declared.fault.AsmFault.{AsmFault}
 use Rattle.asm_text.specs.Drafts.{DraftValue, empty, has_all, image_of_draft}
-use Rattle.asm_text.specs.Sources.{with_lines, completed}
+use Rattle.asm_text.specs.Sources.{with_lines, image_or_incomplete}
 use Rattle.asm_text.specs.Runs.{runs}
-use Rattle.asm_text.specs.Listing.{setting_lines, word_lines, run_line, listing_lines, text_of, listing}
+use Rattle.asm_text.specs.Listing.{setting_lines, word_lines, cell_run_line, listing_lines, text_of_lines, listing}
 use Rattle.asm_text.specs.Laws.{OneMeaning, ListingsReadBack, cells_of}
 use Rattle.asm_text.proofs.Assembly.{IsFound, draft_whole}
 use Rattle.asm_text.proofs.RunCells.{runs_are_cells, runs_fit}
@@ -39,13 +39,13 @@ unfolding listing_lines
 lines_read laws i w f =
     let words = length i.program in
     read_both words (setting_lines i)
-    (map entry_line i.entries ++ (word_lines 0 i.program ++ map run_line (runs i.cells)))
+    (map entry_line i.entries ++ (word_lines 0 i.program ++ map cell_run_line (runs i.cells)))
     (setting_items i) (entry_items i.entries ++ (map word_item i.program ++ map run_item (runs i.cells)))
     (settings_read laws words i w.some_slim w.few_slim f.retry_limit f.trap_entry)
-    (read_both words (map entry_line i.entries) (word_lines 0 i.program ++ map run_line (runs i.cells))
+    (read_both words (map entry_line i.entries) (word_lines 0 i.program ++ map cell_run_line (runs i.cells))
     (entry_items i.entries) (map word_item i.program ++ map run_item (runs i.cells))
     (entries_read laws words i.entries w.few_words w.entries_stand)
-    (read_both words (word_lines 0 i.program) (map run_line (runs i.cells)) (map word_item i.program)
+    (read_both words (word_lines 0 i.program) (map cell_run_line (runs i.cells)) (map word_item i.program)
     (map run_item (runs i.cells))
     (words_read laws words 0 i.program (omega (arith, w.few_words))
     (All-from_recursion (λ n. n < 2 ^ 64) i.program f.program))
@@ -123,7 +123,7 @@ passes : (b : Bool) (x y : ImageValue) (e : AsmFault) → b ≡ true → x ≡ y
 passes true x y e p q = ap (λ (j : ImageValue). Ok j) q
 passes false x y e p q = absurd (false≢true p)
 
-completes : (i : ImageValue) → IsWithin i → completed (draft_of i) ≡ Ok i
+completes : (i : ImageValue) → IsWithin i → image_or_incomplete (draft_of i) ≡ Ok i
 completes i w =
     passes (has_all (draft_of i)) (image_of_draft (draft_of i)) i (record { line = 0; kind = fault.Directive })
     (all_there i w) (image_is i)
@@ -135,13 +135,13 @@ reads_back laws i w f =
     let ls = listing_lines i in
     let read = lines_read laws i w f in
     let cut = text_cut words ls (items i) read in
-    let places = place (lines (text_of ls)) in
-    let found : IsFound (text_of ls) places words = record {
+    let places = place (lines (text_of_lines ls)) in
+    let found : IsFound (text_of_lines ls) places words = record {
       ascii = text_is_ascii words ls (items i) read;
       places_are = refl;
       words_are = sym (ap count_words cut ∙ lines_counted words ls (items i) read ∙ items_count i);
     } in
-    draft_whole (text_of ls) places words (draft_of i) (Ok i) found
+    draft_whole (text_of_lines ls) places words (draft_of i) (Ok i) found
     (ap (with_lines places words 0 empty) cut
     ∙ lines_added places words 0 empty (draft_of i) ls (items i) (line [] ∷ []) (Ok (draft_of i)) read
     (items_added i w)

@@ -9,7 +9,7 @@ use Rattle.std.proofs.lemmas.Bool.Decides.{nat_tests, Decides-by_and}
 use Rattle.std.proofs.lemmas.List.Elements.{All-append, All-nil, All-cons, All-weaker}
 use Rattle.std.proofs.lemmas.List.Splits.{slice_split_at}
 use Rattle.std.proofs.lemmas.List.Sums.{position_or_len_is}
-use Rattle.asm_line.specs.Text.{trim, after, parts}
+use Rattle.asm_line.specs.Text.{trim, text_after, parts}
 use Rattle.asm_line.specs.Faults.{◌>>=◌}
 use Rattle.asm_line.specs.Operands.{Places}
 use Rattle.asm_line.specs.Lines.{Line, line, lines, line_item, labelling, statement_item, is_word}
@@ -21,7 +21,7 @@ use Rattle.listing_line.specs.Laws.{IsReadAs, is_line_byte}
 use Rattle.asm_text.specs.declared.fault.AsmFault.{AsmFault}
 use Rattle.asm_text.specs.Drafts.{DraftValue, add}
 use Rattle.asm_text.specs.Sources.{with_line, with_lines, going, not_ascii, line_of}
-use Rattle.asm_text.specs.Listing.{ended, text_of}
+use Rattle.asm_text.specs.Listing.{with_line_end, text_of_lines}
 use Rattle.asm_text.proofs.Counted.{bound}
 
 abbrev pub counts : Item → Bool
@@ -70,7 +70,7 @@ lines_added places words k d e (l ∷ ls) (i ∷ is) tail whole h all rest =
     ∙ lines_added places words (k + 1) b.0 e ls is tail whole h.1 b.2 rest
 
 empty_adds : (places : Places) (words k here : ℕ) → line_item places words k here (line []) ≡ Ok item.Nothing
-unfolding line_item labelling statement_item line trim after
+unfolding line_item labelling statement_item line trim text_after
 empty_adds places words k here = refl
 
 empty_added : (places : Places) (words k : ℕ) (d : DraftValue) → with_line places words k d (line []) ≡ Ok d
@@ -84,7 +84,7 @@ last_line places words d n =
     ap (λ r. going r n (λ f. with_lines places words (n + 1) f [])) (empty_added places words n d)
 
 empty_counts : is_word (line []).statement ≡ false
-unfolding is_word line trim after
+unfolding is_word line trim text_after
 empty_counts = refl
 
 abbrev pub count_items : List Item → ℕ
@@ -112,25 +112,25 @@ is_ascii : (b : ℕ) → is_line_byte b ≡ true → leb 128 b ≡ false
 is_ascii b e = grind (arith, nat_tests)
 
 pub text_cut : (words : ℕ) (ls : List (List ℕ)) (is : List Item) → AreRead words ls is
-    → lines (text_of ls) ≡ map line ls ++ line [] ∷ []
+    → lines (text_of_lines ls) ≡ map line ls ++ line [] ∷ []
 text_cut words [] [] h = refl
 text_cut words [] (i ∷ is) h = absurd h
 text_cut words (l ∷ ls) [] h = absurd h
 text_cut words (l ∷ ls) (i ∷ is) h =
     let whole =
     All-weaker (λ b. is_line_byte b ≡ true) (λ b. eqb b 10 ≡ false) no_end l (all_true is_line_byte l h.0.one_line) in
-    ap (λ t. map line (parts 10 t)) (append_assoc l (codes "\n") (text_of ls))
-    ∙ ap (λ ps. map line ps) (slice_split_at (λ b. eqb b 10) l 10 (text_of ls) whole refl)
+    ap (λ t. map line (parts 10 t)) (append_assoc l (codes "\n") (text_of_lines ls))
+    ∙ ap (λ ps. map line ps) (slice_split_at (λ b. eqb b 10) l 10 (text_of_lines ls) whole refl)
     ∙ ap (λ rest. line l ∷ rest) (text_cut words ls is h.1)
 
 text_ascii : (words : ℕ) (ls : List (List ℕ)) (is : List Item) → AreRead words ls is
-    → All (λ b. leb 128 b ≡ false) (text_of ls)
+    → All (λ b. leb 128 b ≡ false) (text_of_lines ls)
 text_ascii words [] [] h = All-nil (λ b. leb 128 b ≡ false)
 text_ascii words [] (i ∷ is) h = absurd h
 text_ascii words (l ∷ ls) [] h = absurd h
 text_ascii words (l ∷ ls) (i ∷ is) h =
     let Ascii : ℕ → Type 0 = λ b. leb 128 b ≡ false in
-    All-append Ascii (ended l) (text_of ls)
+    All-append Ascii (with_line_end l) (text_of_lines ls)
     (All-append Ascii l (codes "\n")
     (All-weaker (λ b. is_line_byte b ≡ true) Ascii is_ascii l (all_true is_line_byte l h.0.one_line))
     (All-cons Ascii 10 [] refl (All-nil Ascii)))
@@ -145,7 +145,7 @@ none_passes p xs h =
     ap (λ b. cond b (Some (position_or_len p xs)) None) test
 
 pub text_is_ascii : (words : ℕ) (ls : List (List ℕ)) (is : List Item) → AreRead words ls is
-    → not_ascii (text_of ls) ≡ None
+    → not_ascii (text_of_lines ls) ≡ None
 unfolding not_ascii
 text_is_ascii words ls is h =
-    ap (line_of (text_of ls)) (none_passes (λ b. leb 128 b) (text_of ls) (text_ascii words ls is h))
+    ap (line_of (text_of_lines ls)) (none_passes (λ b. leb 128 b) (text_of_lines ls) (text_ascii words ls is h))

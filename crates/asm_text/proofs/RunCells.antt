@@ -8,7 +8,7 @@ use Rattle.std.proofs.lemmas.Bool.{false≢true}
 use Rattle.std.proofs.lemmas.List.Elements.{All-head, All-tail, All-append, All-nil, All-replicate}
 use Rattle.tag_memory.specs.Cell.{Cell}
 use Rattle.image_file.specs.Same.{same_cell}
-use Rattle.asm_text.specs.Runs.{Run, joined, runs}
+use Rattle.asm_text.specs.Runs.{Run, cell_before_runs, runs}
 use Rattle.asm_text.specs.Laws.{cells_of, NeighboursDiffer, RunsAreCells, RunsHaveCells, RunsAreMaximal}
 use Rattle.asm_text.proofs.RunFronts.{same_is, same_self}
 
@@ -21,12 +21,12 @@ by_test false xs ys P p q = q refl
 by_cell : (c : Cell) (r : Run) (rs : List Run) (P : List Run → Type 0)
     → (same_cell c r.cell ≡ true → P (record r { count = r.count + 1 } ∷ rs))
     → (same_cell c r.cell ≡ false → P (record { count = 1; cell = c } ∷ r ∷ rs))
-    → P (joined c (r ∷ rs))
+    → P (cell_before_runs c (r ∷ rs))
 by_cell c r rs P p q =
     by_test (same_cell c r.cell) (record r { count = r.count + 1 } ∷ rs)
     (record { count = 1; cell = c } ∷ r ∷ rs) P p q
 
-joined_cells : (c : Cell) (rs : List Run) → flat_map cells_of (joined c rs) ≡ c ∷ flat_map cells_of rs
+joined_cells : (c : Cell) (rs : List Run) → flat_map cells_of (cell_before_runs c rs) ≡ c ∷ flat_map cells_of rs
 joined_cells c [] = refl
 joined_cells c (r ∷ rs) =
     by_cell c r rs (λ ss. flat_map cells_of ss ≡ c ∷ flat_map cells_of (r ∷ rs))
@@ -48,7 +48,7 @@ weaker n [] h = tt
 weaker n (r ∷ rs) h = ((h.0.0, omega arith, h.0.2), weaker n rs h.1)
 
 joined_runs : (n : ℕ) (c : Cell) (rs : List Run) → c.value < 2 ^ 64 → AllByRecursion (IsRunOf n) rs
-    → AllByRecursion (IsRunOf (n + 1)) (joined c rs)
+    → AllByRecursion (IsRunOf (n + 1)) (cell_before_runs c rs)
 joined_runs n c [] v h = ((omega arith, omega arith, v), tt)
 joined_runs n c (r ∷ rs) v h =
     by_cell c r rs (AllByRecursion (IsRunOf (n + 1)))
@@ -61,12 +61,12 @@ unfolding runs
 runs_fit [] h = tt
 runs_fit (c ∷ cs) h =
     let more : suc (length cs) ≡ length cs + 1 = omega arith in
-    subst (λ n. AllByRecursion (IsRunOf n) (joined c (runs cs))) (sym more)
+    subst (λ n. AllByRecursion (IsRunOf n) (cell_before_runs c (runs cs))) (sym more)
     (joined_runs (length cs) c (runs cs) (All-head (λ (d : Cell). d.value < 2 ^ 64) c cs h)
     (runs_fit cs (All-tail (λ (d : Cell). d.value < 2 ^ 64) c cs h)))
 
 some_joined : (c : Cell) (rs : List Run) → AllByRecursion (λ (r : Run). 1 ≤ r.count) rs
-    → AllByRecursion (λ (r : Run). 1 ≤ r.count) (joined c rs)
+    → AllByRecursion (λ (r : Run). 1 ≤ r.count) (cell_before_runs c rs)
 some_joined c [] h = (omega arith, tt)
 some_joined c (r ∷ rs) h =
     by_cell c r rs (AllByRecursion (λ (s : Run). 1 ≤ s.count)) (λ e. (omega arith, h.1)) (λ e. (omega arith, h))
@@ -79,7 +79,7 @@ runs_have_cells (c ∷ cs) = some_joined c (runs cs) (runs_have_cells cs)
 differ : (c d : Cell) → same_cell c d ≡ false → c ≢ d
 differ c d e is = false≢true (sym e ∙ ap (λ x. same_cell x d) is ∙ same_self d)
 
-joined_differ : (c : Cell) (rs : List Run) → NeighboursDiffer rs → NeighboursDiffer (joined c rs)
+joined_differ : (c : Cell) (rs : List Run) → NeighboursDiffer rs → NeighboursDiffer (cell_before_runs c rs)
 joined_differ c [] h = tt
 joined_differ c (r ∷ []) h =
     by_cell c r [] NeighboursDiffer (λ e. tt) (λ e. (differ c r.cell e, tt))

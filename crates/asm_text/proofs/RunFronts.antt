@@ -12,7 +12,7 @@ use Rattle.std.proofs.lemmas.List.Sums.{prefix_len-le-length}
 use Rattle.tag_memory.specs.Cell.{Cell, cell_of, tag_number}
 use Rattle.image_file.specs.Same.{same_cell}
 use Rattle.image_file.specs.Tags.{cell_of-tag_number}
-use Rattle.asm_text.specs.Runs.{Run, joined, runs, front}
+use Rattle.asm_text.specs.Runs.{Run, cell_before_runs, runs, front}
 
 pub same_is : (c d : Cell) → same_cell c d ≡ true → c ≡ d
 same_is c d e =
@@ -72,7 +72,7 @@ runs_more : (c d : Cell) (ds : List Cell) → runs (d ∷ ds) ≡ then_runs d (d
     (record { count = front d (d ∷ ds) + 1; cell = d } ∷ runs (drop (front d (d ∷ ds)) (d ∷ ds)))
     (record { count = 1; cell = c } ∷ then_runs d (d ∷ ds))
 unfolding runs
-runs_more c d ds e = ap (joined c) e
+runs_more c d ds e = ap (cell_before_runs c) e
 
 -- the first run is as long as its cell comes from the first on
 pub first_run_is : (c : Cell) (cs : List Cell) → runs (c ∷ cs) ≡ then_runs c (c ∷ cs)

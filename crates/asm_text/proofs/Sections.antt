@@ -25,7 +25,7 @@ use Rattle.listing_line.specs.Laws.{WordLinesReadBack, ProfileLinesReadBack, Sli
 use Rattle.listing_line.specs.Laws.{TrapLinesReadBack, EntryLinesReadBack, FillLinesReadBack}
 use Rattle.asm_text.specs.Drafts.{DraftValue, empty, add, with_word, with_cells}
 use Rattle.asm_text.specs.Runs.{Run}
-use Rattle.asm_text.specs.Listing.{setting_lines, word_lines, run_line}
+use Rattle.asm_text.specs.Listing.{setting_lines, word_lines, cell_run_line}
 use Rattle.asm_text.specs.Laws.{cells_of}
 use Rattle.asm_text.proofs.WordOfFields.{number_of_spelt}
 use Rattle.asm_text.proofs.Counted.{bound}
@@ -227,7 +227,7 @@ few_tags c = four c.full c.forward c.trap0 c.trap1
 
 pub runs_read : (laws : Laws) (words n : ℕ) (rs : List Run) → n ≤ 262144
     → AllByRecursion (λ (r : Run). (1 ≤ r.count) × (r.count ≤ n) × (r.cell.value < 2 ^ 64)) rs
-    → AreRead words (map run_line rs) (map run_item rs)
+    → AreRead words (map cell_run_line rs) (map run_item rs)
 runs_read laws words n [] few h = tt
 runs_read laws words n (r ∷ rs) few h = (
   laws.fill r.count r.cell.value (tag_number r.cell) words h.0.0 (omega arith) h.0.2 (few_tags r.cell),

@@ -2,7 +2,7 @@
 use Rattle.std.proofs.Common.{◌≡◌, ℕ, Bool, true, false, Some, sym, ◌∙◌, ap, refl, arith}
 use Rattle.std.specs.Prelude.{◌==◌, ◌&&◌}
 use Rattle.std.proofs.lemmas.Bool.Decides.{nat_tests}
-use Rattle.insn_word.specs.Fields.{number}
+use Rattle.insn_word.specs.Fields.{number_of_fields}
 use Rattle.insn_word.specs.Words.{fields}
 use Rattle.insn_word.specs.Reading.{instruction, candidate, kept_if, has_one_writer}
 use Rattle.insn_word.specs.declared.insn.Insn.{Insn}
@@ -14,9 +14,9 @@ kept false c i e = absurd cc
 same_number : (n w : ℕ) (one : Bool) → (n == w && one) ≡ true → n ≡ w
 same_number n w one e = grind (arith, nat_tests)
 
-pub number_of_spelt : (w : ℕ) (i : Insn) → instruction w ≡ Some i → number (fields i) ≡ w
+pub number_of_spelt : (w : ℕ) (i : Insn) → instruction w ≡ Some i → number_of_fields (fields i) ≡ w
 unfolding instruction
 number_of_spelt w i e =
-    let k = kept (number (fields (candidate w)) == w && has_one_writer (candidate w)) (candidate w) i e in
-    ap (λ (j : Insn). number (fields j)) (sym k.1)
-    ∙ same_number (number (fields (candidate w))) w (has_one_writer (candidate w)) k.0
+    let k = kept (number_of_fields (fields (candidate w)) == w && has_one_writer (candidate w)) (candidate w) i e in
+    ap (λ (j : Insn). number_of_fields (fields j)) (sym k.1)
+    ∙ same_number (number_of_fields (fields (candidate w))) w (has_one_writer (candidate w)) k.0

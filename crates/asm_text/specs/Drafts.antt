@@ -1,7 +1,7 @@
 -- An image in the making: what the first lines of a text give.
 use Rattle.std.specs.Prelude.{ℕ, ◌+◌, Bool, nat_lt, nat_le, ◌&&◌, if◌then◌else◌}
 use Rattle.std.specs.Prelude.{List, [], ◌∷◌, ◌++◌, length, replicate, Result, Ok, Err, unwrap_or}
-use Rattle.insn_word.specs.Fields.{number}
+use Rattle.insn_word.specs.Fields.{number_of_fields}
 use Rattle.insn_word.specs.Words.{fields}
 use Rattle.tag_memory.specs.Cell.{Cell, cell_of}
 use Rattle.image_file.specs.ImageValue.{ImageValue}
@@ -47,7 +47,7 @@ add d (item.Slim n) = with_settings d (slim_set d.settings n)
 add d (item.Retry n) = with_settings d (retry_set d.settings n)
 add d (item.Trap n) = with_settings d (trap_set d.settings n)
 add d (item.Entry n) = with_entry d n
-add d (item.Instruction i) = with_word d (number (fields i))
+add d (item.Instruction i) = with_word d (number_of_fields (fields i))
 add d (item.Word w) = with_word d w
 add d (item.Cells count value tags) = with_cells d count (cell_of value tags)
 

@@ -4,8 +4,8 @@ use Rattle.asm_line.specs.declared.fault.Fault.{Fault}
 use Rattle.asm_line.specs.declared.fault.Fault.TheVariants as fault
 use Rattle.asm_text.specs.declared.fault.AsmFault.{AsmFault}
 
-abbrev pub no_memory : AsmFault
-no_memory = record { line = 0; kind = fault.NoMemory }
+abbrev pub asm_no_memory : AsmFault
+asm_no_memory = record { line = 0; kind = fault.NoMemory }
 
 -- e is the fault, unless memory ran out
 abbrev pub Told : {A : Type 0} → Fault → Result A Fault → Type 0

@@ -19,19 +19,19 @@ abbrev pub word_lines : ℕ → List ℕ → List (List ℕ)
 word_lines place [] = []
 word_lines place (w ∷ ws) = word_line place w ∷ word_lines (place + 1) ws
 
-abbrev pub run_line : Run → List ℕ
-run_line r = fill_line r.count r.cell.value (tag_number r.cell)
+abbrev pub cell_run_line : Run → List ℕ
+cell_run_line r = fill_line r.count r.cell.value (tag_number r.cell)
 
 -- the lines, without their ends
 unfoldable pub listing_lines : ImageValue → List (List ℕ)
 listing_lines i =
-    setting_lines i ++ (map entry_line i.entries ++ (word_lines 0 i.program ++ map run_line (runs i.cells)))
+    setting_lines i ++ (map entry_line i.entries ++ (word_lines 0 i.program ++ map cell_run_line (runs i.cells)))
 
-abbrev pub ended : List ℕ → List ℕ
-ended line = line ++ codes "\n"
+abbrev pub with_line_end : List ℕ → List ℕ
+with_line_end line = line ++ codes "\n"
 
-abbrev pub text_of : List (List ℕ) → List ℕ
-text_of lines = flat_map ended lines
+abbrev pub text_of_lines : List (List ℕ) → List ℕ
+text_of_lines lines = flat_map with_line_end lines
 
 unfoldable pub listing : ImageValue → List ℕ
-listing i = text_of (listing_lines i)
+listing i = text_of_lines (listing_lines i)

@@ -10,14 +10,14 @@ pub record Run : Type 0 where
   pub cell : Cell
 
 -- a cell before the runs of the others
-abbrev pub joined : Cell → List Run → List Run
-joined c [] = record { count = 1; cell = c } ∷ []
-joined c (r ∷ rs) =
+abbrev pub cell_before_runs : Cell → List Run → List Run
+cell_before_runs c [] = record { count = 1; cell = c } ∷ []
+cell_before_runs c (r ∷ rs) =
     if same_cell c r.cell then record r { count = r.count + 1 } ∷ rs else record { count = 1; cell = c } ∷ r ∷ rs
 
 unfoldable pub runs : List Cell → List Run
 runs [] = []
-runs (c ∷ cs) = joined c (runs cs)
+runs (c ∷ cs) = cell_before_runs c (runs cs)
 
 -- how many cells from the first on are this one
 abbrev pub front : Cell → List Cell → ℕ

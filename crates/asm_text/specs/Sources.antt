@@ -36,27 +36,27 @@ unfoldable pub not_ascii : List ℕ → Option ℕ
 not_ascii text = line_of text (position (λ b. nat_le 128 b) text)
 
 -- a text without an entry, a program word or a cell has a fault of no line
-abbrev pub completed : DraftValue → Result ImageValue AsmFault
-completed d = if has_all d then Ok (image_of_draft d) else Err (record { line = 0; kind = fault.Directive })
+abbrev pub image_or_incomplete : DraftValue → Result ImageValue AsmFault
+image_or_incomplete d = if has_all d then Ok (image_of_draft d) else Err (record { line = 0; kind = fault.Directive })
 
 abbrev pub complete : Result DraftValue AsmFault → Result ImageValue AsmFault
-complete (Ok d) = completed d
+complete (Ok d) = image_or_incomplete d
 complete (Err e) = Err e
 
 -- A label's value is known on every line, whether it stands before or behind that line.
-unfoldable pub assembled_lines : List Line → Result ImageValue AsmFault
-assembled_lines ls = complete (with_lines (place ls) (count_words ls) 0 empty ls)
+unfoldable pub meaning_of_lines : List Line → Result ImageValue AsmFault
+meaning_of_lines ls = complete (with_lines (place ls) (count_words ls) 0 empty ls)
 
-abbrev pub assembled_unless : Option ℕ → List Line → Result ImageValue AsmFault
-assembled_unless (Some k) ls = Err (record { line = k; kind = fault.NotAscii })
-assembled_unless None ls = assembled_lines ls
+abbrev pub meaning_unless : Option ℕ → List Line → Result ImageValue AsmFault
+meaning_unless (Some k) ls = Err (record { line = k; kind = fault.NotAscii })
+meaning_unless None ls = meaning_of_lines ls
 
 -- the image that a text means, or its fault
-unfoldable pub assembled : List ℕ → Result ImageValue AsmFault
-assembled text = assembled_unless (not_ascii text) (lines text)
+unfoldable pub meaning_of : List ℕ → Result ImageValue AsmFault
+meaning_of text = meaning_unless (not_ascii text) (lines text)
 
 abbrev pub Means : List ℕ → ImageValue → Type 0
-Means text i = assembled text ≡ Ok i
+Means text i = meaning_of text ≡ Ok i
 
 abbrev pub HasFault : List ℕ → AsmFault → Type 0
-HasFault text e = assembled text ≡ Err e
+HasFault text e = meaning_of text ≡ Err e

@@ -4,7 +4,7 @@ ghost use Rattle.std.specs.Prelude.{◌≡◌, ◌<◌, MatchResult, length, Ok,
 ghost use Rattle.std.specs.Bool.{IsTrue};
 ghost use Rattle.tag_memory.specs.Cell.{cell_of};
 ghost use Rattle.asm_text.specs.Drafts.{empty, add, with_entry, with_word, with_cells, has_all, image_of_draft};
-ghost use Rattle.asm_text.specs.Sources.{completed};
+ghost use Rattle.asm_text.specs.Sources.{image_or_incomplete};
 ghost use Rattle.asm_text.specs.Limits.{IsReady};
 ghost use Rattle.image_file.specs.ImageValue.{IsWithin};
 ghost use Rattle.asm_text.specs.Faults.{Told};
@@ -23,7 +23,7 @@ const DEFAULT_SLIM: u8 = 8;
 
 const MAX_ENTRIES: usize = 16;
 
-const MAX_WORDS: usize = 65_536;
+const MAX_PROGRAM_WORDS: usize = 65_536;
 
 const MAX_CELLS: usize = 262_144;
 
@@ -98,7 +98,7 @@ impl Draft {
         ensures { MatchResult result (λ _. with_word self.old word ≡ Ok self.new)
             (λ e. Told e (with_word self.old word)) }
     {
-        if self.words.len() >= MAX_WORDS {
+        if self.words.len() >= MAX_PROGRAM_WORDS {
             return Err(Fault::Limit);
         }
         self.words.push(word).map_err(|_| Fault::NoMemory)
@@ -125,7 +125,7 @@ impl Draft {
     #[tactic(auto, unfolding(crate::specs::Drafts::image_of_draft))]
     pub(crate) fn finish(mut self) -> Result<Image, AsmFault>
         requires { IsTrue (has_all self) → IsWithin (image_of_draft self) }
-        ensures { MatchResult result (λ i. completed self ≡ Ok i) (λ e. completed self ≡ Err e) }
+        ensures { MatchResult result (λ i. image_or_incomplete self ≡ Ok i) (λ e. image_or_incomplete self ≡ Err e) }
     {
         if self.entries.is_empty() || self.words.is_empty() || self.cells.is_empty() {
             return Err(AsmFault::INCOMPLETE);

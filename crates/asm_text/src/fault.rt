@@ -2,7 +2,7 @@
 
 ghost use Rattle.std.specs.Prelude.{◌≡◌, ◌≢◌};
 ghost use Rattle.asm_line.specs.declared.fault.Fault.TheVariants as fault;
-ghost use Rattle.asm_text.specs.Faults.{no_memory};
+ghost use Rattle.asm_text.specs.Faults.{asm_no_memory};
 
 use asm_line::Fault;
 use std::alloc::AllocError;
@@ -32,7 +32,7 @@ impl AsmFault {
     /// A fault on a line; a refusal of memory is of no line.
     pub(crate) fn on_line(line: usize, kind: Fault) -> AsmFault
         ensures told { kind ≢ fault.NoMemory → result ≡ record { line = line; kind = kind } }
-        ensures no_memory { kind ≡ fault.NoMemory → result ≡ no_memory }
+        ensures no_memory { kind ≡ fault.NoMemory → result ≡ asm_no_memory }
         ensures kind { result.kind ≡ kind }
     {
         if kind == Fault::NoMemory {
@@ -43,7 +43,7 @@ impl AsmFault {
 }
 
 impl From<AllocError> for AsmFault {
-    ghost from_gives = { λ _ fault. fault ≡ no_memory };
+    ghost from_gives = { λ _ fault. fault ≡ asm_no_memory };
 
     fn from(_error: AllocError) -> AsmFault {
         AsmFault::NO_MEMORY

@@ -8,7 +8,7 @@ ghost use Rattle.listing_line.specs.DirectiveLines.{profile_line, slim_line, ret
 ghost use Rattle.listing_line.specs.DirectiveLines.{entry_line, fill_line};
 ghost use Rattle.asm_text.specs.Sources.{Means};
 ghost use Rattle.asm_text.specs.Runs.{runs};
-ghost use Rattle.asm_text.specs.Listing.{setting_lines, trap_lines, word_lines, run_line, text_of, ended, listing};
+ghost use Rattle.asm_text.specs.Listing.{setting_lines, trap_lines, word_lines, cell_run_line, text_of_lines, with_line_end, listing};
 
 use crate::laws::listings_are_read_back;
 use crate::runs::first_run;
@@ -42,7 +42,7 @@ pub fn listing(alloc: Global, image: &Image) -> Result<String, AllocError>
 
 /// Appends the directives that stand once.
 fn push_settings(text: &mut String, image: &Image) -> Result<(), AllocError>
-    ensures is { OnOk result (string_bytes text.new ≡ string_bytes text.old ++ text_of (setting_lines image.now)) }
+    ensures is { OnOk result (string_bytes text.new ≡ string_bytes text.old ++ text_of_lines (setting_lines image.now)) }
     ensures fit { OnOk result ((image.now.retry_limit < 2 ^ 32) × (image.now.trap_entry < 2 ^ 32)) }
 {
     push_profile(text)?;
@@ -53,28 +53,28 @@ fn push_settings(text: &mut String, image: &Image) -> Result<(), AllocError>
 
 #[tactic(auto, unfolding(listing_line::specs::DirectiveLines::profile_line))]
 fn push_profile(text: &mut String) -> Result<(), AllocError>
-    ensures { OnOk result (string_bytes text.new ≡ string_bytes text.old ++ ended profile_line) }
+    ensures { OnOk result (string_bytes text.new ≡ string_bytes text.old ++ with_line_end profile_line) }
 {
     push_number(text, Directive::Profile, PROFILE)
 }
 
 #[tactic(auto, unfolding(listing_line::specs::DirectiveLines::slim_line))]
 fn push_slim(text: &mut String, slim: u16) -> Result<(), AllocError>
-    ensures { OnOk result (string_bytes text.new ≡ string_bytes text.old ++ ended (slim_line slim)) }
+    ensures { OnOk result (string_bytes text.new ≡ string_bytes text.old ++ with_line_end (slim_line slim)) }
 {
     push_number(text, Directive::Slim, u32::from(slim))
 }
 
 #[tactic(auto, unfolding(listing_line::specs::DirectiveLines::retry_line))]
 fn push_retry(text: &mut String, retry: u32) -> Result<(), AllocError>
-    ensures { OnOk result (string_bytes text.new ≡ string_bytes text.old ++ ended (retry_line retry)) }
+    ensures { OnOk result (string_bytes text.new ≡ string_bytes text.old ++ with_line_end (retry_line retry)) }
 {
     push_number(text, Directive::Retry, retry)
 }
 
 #[tactic(auto, unfolding(listing_line::specs::DirectiveLines::trap_line))]
 fn push_trap(text: &mut String, trap: u32) -> Result<(), AllocError>
-    ensures { OnOk result (string_bytes text.new ≡ string_bytes text.old ++ text_of (trap_lines trap)) }
+    ensures { OnOk result (string_bytes text.new ≡ string_bytes text.old ++ text_of_lines (trap_lines trap)) }
 {
     if trap == u32::MAX {
         return Ok(());
@@ -84,7 +84,7 @@ fn push_trap(text: &mut String, trap: u32) -> Result<(), AllocError>
 
 /// Appends a directive that has one number.
 fn push_number(text: &mut String, directive: Directive, number: u32) -> Result<(), AllocError>
-    ensures { OnOk result (string_bytes text.new ≡ string_bytes text.old ++ ended (number_line directive number)) }
+    ensures { OnOk result (string_bytes text.new ≡ string_bytes text.old ++ with_line_end (number_line directive number)) }
 {
     let name = names::directive(directive);
     writeln!(text, "{name} {number}")
@@ -93,7 +93,7 @@ fn push_number(text: &mut String, directive: Directive, number: u32) -> Result<(
 /// Appends the entries.
 fn push_entries(text: &mut String, image: &Image) -> Result<(), AllocError>
     ensures is { OnOk result (string_bytes text.new ≡ string_bytes text.old
-        ++ text_of (map entry_line image.now.entries)) }
+        ++ text_of_lines (map entry_line image.now.entries)) }
     ensures kept { IsWithin image.now }
 {
     for processor in 0..image.processors() {
@@ -107,7 +107,7 @@ fn push_entries(text: &mut String, image: &Image) -> Result<(), AllocError>
 
 #[tactic(auto, unfolding(listing_line::specs::DirectiveLines::entry_line))]
 fn push_entry(text: &mut String, entry: u32) -> Result<(), AllocError>
-    ensures { OnOk result (string_bytes text.new ≡ string_bytes text.old ++ ended (entry_line entry)) }
+    ensures { OnOk result (string_bytes text.new ≡ string_bytes text.old ++ with_line_end (entry_line entry)) }
 {
     push_number(text, Directive::Entry, entry)
 }
@@ -115,7 +115,7 @@ fn push_entry(text: &mut String, entry: u32) -> Result<(), AllocError>
 /// Appends the program words.
 fn push_program(text: &mut String, image: &Image) -> Result<(), AllocError>
     ensures is { OnOk result (string_bytes text.new ≡ string_bytes text.old
-        ++ text_of (word_lines 0 image.now.program)) }
+        ++ text_of_lines (word_lines 0 image.now.program)) }
     ensures fit { All (λ w. w < 2 ^ 64) image.now.program }
 {
     words_fit(image.program());
@@ -133,7 +133,7 @@ fn words_fit(words: &[u64])
 /// Appends the runs of equal cells.
 fn push_cells(text: &mut String, cells: &[Word]) -> Result<(), AllocError>
     ensures is { OnOk result (string_bytes text.new ≡ string_bytes text.old
-        ++ text_of (map run_line (runs cells.now))) }
+        ++ text_of_lines (map cell_run_line (runs cells.now))) }
     ensures fit { OnOk result (All (λ c. c.value < 2 ^ 64) cells.now) }
 {
     let mut rest = cells;
@@ -147,7 +147,7 @@ fn push_cells(text: &mut String, cells: &[Word]) -> Result<(), AllocError>
 #[tactic(auto, unfolding(listing_line::specs::DirectiveLines::fill_line))]
 fn push_run(text: &mut String, count: usize, cell: &Word) -> Result<(), AllocError>
     ensures is { OnOk result (string_bytes text.new ≡ string_bytes text.old
-        ++ ended (fill_line count cell.now.value (tag_number cell.now))) }
+        ++ with_line_end (fill_line count cell.now.value (tag_number cell.now))) }
     ensures fits { cell.now.value < 2 ^ 64 }
 {
     let name = names::directive(Directive::Fill);

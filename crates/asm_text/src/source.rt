@@ -7,7 +7,7 @@ ghost use Rattle.asm_line.specs.Labels.{places_of};
 ghost use Rattle.asm_line.specs.declared.fault.Fault.TheVariants.{NoMemory};
 ghost use Rattle.asm_text.specs.Drafts.{empty};
 ghost use Rattle.asm_text.specs.Limits.{IsKept};
-ghost use Rattle.asm_text.specs.Faults.{no_memory, Told, ToldAt};
+ghost use Rattle.asm_text.specs.Faults.{asm_no_memory, Told, ToldAt};
 ghost use Rattle.asm_text.specs.Sources.{with_line, with_lines, not_ascii, Means, HasFault};
 
 use crate::draft::Draft;
@@ -90,7 +90,7 @@ fn all_lines(alloc: Global, labels: &Labels, words: usize, text: &[u8]) -> Resul
         (λ d. with_lines (places_of labels.now) words 0 empty (lines text.now) ≡ Ok d)
         (λ e. ToldAt e (with_lines (places_of labels.now) words 0 empty (lines text.now))) }
     ensures kept { IfOk result (IsKept words) }
-    ensures no_memory { IfErr result (λ e. e.kind ≡ NoMemory → e ≡ no_memory) }
+    ensures no_memory { IfErr result (λ e. e.kind ≡ NoMemory → e ≡ asm_no_memory) }
 {
     let mut draft = Draft::new(alloc);
     let mut number = 0;
@@ -115,7 +115,7 @@ fn all_lines(alloc: Global, labels: &Labels, words: usize, text: &[u8]) -> Resul
 pub fn assemble(alloc: Global, text: &[u8]) -> Result<Image, AsmFault>
     ensures means { IfOk result (Means text.now) }
     ensures fault { IfErr result (λ e. e.kind ≢ NoMemory → HasFault text.now e) }
-    ensures no_memory { IfErr result (λ e. e.kind ≡ NoMemory → e ≡ no_memory) }
+    ensures no_memory { IfErr result (λ e. e.kind ≡ NoMemory → e ≡ asm_no_memory) }
 {
     if let Some(line) = not_ascii(text) {
         return Err(AsmFault::on_line(line, Fault::NotAscii));

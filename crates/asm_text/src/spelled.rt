@@ -1,7 +1,7 @@
 //! The word that spells an instruction.
 
 ghost use Rattle.std.specs.Prelude.{◌≡◌};
-ghost use Rattle.insn_word.specs.Fields.{number};
+ghost use Rattle.insn_word.specs.Fields.{number_of_fields};
 ghost use Rattle.insn_word.specs.Words.{fields, IsValid};
 
 use insn_word::{Insn, encode, spelling_is_one_to_one};
@@ -9,7 +9,7 @@ use insn_word::{Insn, encode, spelling_is_one_to_one};
 /// The word that the instruction's fields make, which spells it.
 pub(crate) fn spelled(insn: &Insn) -> u64
     requires { IsValid insn.now }
-    ensures { result ≡ number (fields insn.now) }
+    ensures { result ≡ number_of_fields (fields insn.now) }
 {
     spelling_is_one_to_one();
     encode(insn)

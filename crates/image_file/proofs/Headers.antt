@@ -2,7 +2,7 @@
 use Rattle.std.proofs.Common.{◌≡◌, ℕ, ◌+◌, ◌^◌, ◌<◌, ◌≤◌, List, [], ◌++◌, length, drop}
 use Rattle.std.proofs.Common.{refl, sym, ap, ◌∙◌, append_assoc, append-nil, arith, length-append}
 use Rattle.std.proofs.lemmas.List.{take-append-drop, drop-drop, drop_at, length-drop}
-use Rattle.image_file.specs.Fields.{IsBytes, number_bytes, number_of}
+use Rattle.image_file.specs.Fields.{IsBytes, number_bytes, number_of_bytes}
 use Rattle.image_file.specs.Spelling.{header_bytes}
 use Rattle.image_file.specs.Reading.{processors_at, slim_at, retry_limit_at, trap_entry_at, words_at, cells_at}
 use Rattle.image_file.proofs.Numbers.{length-number_bytes, number_again, number_back}
@@ -10,7 +10,7 @@ use Rattle.image_file.proofs.Sequences.{IsBytes-drop}
 
 -- the number at a place, and the rest
 pub number_cut : (place size : ℕ) (bytes : List ℕ) → IsBytes bytes → place + size ≤ length bytes
-    → drop place bytes ≡ number_bytes size (number_of size (drop place bytes)) ++ drop (place + size) bytes
+    → drop place bytes ≡ number_bytes size (number_of_bytes size (drop place bytes)) ++ drop (place + size) bytes
 number_cut place size bytes are_bytes long =
     let here = drop place bytes in
     let room : size ≤ length here = omega (arith, length-drop place bytes) in
@@ -19,13 +19,13 @@ number_cut place size bytes are_bytes long =
 
 -- a number that was written is read, and what stands behind it
 pub record IsNext (place size n : ℕ) (bytes rest : List ℕ) : Type 0 where
-  pub value : number_of size (drop place bytes) ≡ n
+  pub value : number_of_bytes size (drop place bytes) ≡ n
   pub after : drop (place + size) bytes ≡ rest
 
 pub number_next : (place size n : ℕ) (bytes rest : List ℕ) → n < 256 ^ size
     → drop place bytes ≡ number_bytes size n ++ rest → IsNext place size n bytes rest
 number_next place size n bytes rest fits stands = record {
-  value = ap (number_of size) stands ∙ number_again size n rest fits;
+  value = ap (number_of_bytes size) stands ∙ number_again size n rest fits;
   after = sym (drop-drop size place bytes) ∙ ap (drop size) stands
       ∙ drop_at (number_bytes size n) rest size (length-number_bytes size n);
 }
@@ -35,7 +35,7 @@ joined bytes x rest y tail first second =
     first ∙ ap (λ r. x ++ r) second ∙ sym (append_assoc x y tail)
 
 pub header_back : (b : List ℕ) → IsBytes b → 26 ≤ length b
-    → b ≡ header_bytes (number_of 4 b) (number_of 2 (drop 4 b)) (processors_at b) (slim_at b) (retry_limit_at b)
+    → b ≡ header_bytes (number_of_bytes 4 b) (number_of_bytes 2 (drop 4 b)) (processors_at b) (slim_at b) (retry_limit_at b)
     (trap_entry_at b) (words_at b) (cells_at b) ++ drop 26 b
 unfolding header_bytes
 header_back b are_bytes long =
@@ -50,8 +50,8 @@ header_back b are_bytes long =
 
 -- the numbers that bytes with this header say
 pub record HasHeader (b : List ℕ) (m v p s r t w c : ℕ) (tail : List ℕ) : Type 0 where
-  pub magic : number_of 4 b ≡ m
-  pub version : number_of 2 (drop 4 b) ≡ v
+  pub magic : number_of_bytes 4 b ≡ m
+  pub version : number_of_bytes 2 (drop 4 b) ≡ v
   pub processors : processors_at b ≡ p
   pub slim : slim_at b ≡ s
   pub retry_limit : retry_limit_at b ≡ r

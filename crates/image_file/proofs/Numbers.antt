@@ -5,7 +5,7 @@ use Rattle.std.proofs.Math.Nat.{div-eq_of_lt, div-one, mul_assoc, mul-add-div_ri
 use Rattle.std.specs.Int.{byte_at, bytes_high_first}
 use Rattle.byteorder.specs.Endian.{big_number, big_bytes}
 use Rattle.byteorder.specs.Numbers.{big_from-cons, big_from-lt, big_number-reads_back, length-bytes_high_first}
-use Rattle.image_file.specs.Fields.{IsBytes, number_bytes, number_of}
+use Rattle.image_file.specs.Fields.{IsBytes, number_bytes, number_of_bytes}
 
 -- a byte of a number, by its place
 byte_at-pow : (k x : ℕ) → byte_at k x ≡ x / 256 ^ k % 256
@@ -59,16 +59,16 @@ unfolding number_bytes
 length-number_bytes size n = length-bytes_high_first size n
 
 -- what is written is read back
-pub number_again : (size n : ℕ) (rest : List ℕ) → n < 256 ^ size → number_of size (number_bytes size n ++ rest) ≡ n
-unfolding number_bytes number_of
+pub number_again : (size n : ℕ) (rest : List ℕ) → n < 256 ^ size → number_of_bytes size (number_bytes size n ++ rest) ≡ n
+unfolding number_bytes number_of_bytes
 number_again size n rest below = big_number-reads_back size n rest below
 
 -- what is read is written back
 pub number_back : (size : ℕ) (bytes : List ℕ) → IsBytes bytes → size ≤ length bytes
-    → number_bytes size (number_of size bytes) ≡ take size bytes
-unfolding number_bytes number_of
+    → number_bytes size (number_of_bytes size bytes) ≡ take size bytes
+unfolding number_bytes number_of_bytes
 number_back size bytes are_bytes long = bytes_back size bytes are_bytes long
 
-pub number_below : (size : ℕ) (bytes : List ℕ) → IsBytes bytes → number_of size bytes < 256 ^ size
-unfolding number_of
+pub number_below : (size : ℕ) (bytes : List ℕ) → IsBytes bytes → number_of_bytes size bytes < 256 ^ size
+unfolding number_of_bytes
 number_below size bytes are_bytes = big_from-lt 0 size bytes are_bytes

@@ -9,9 +9,9 @@ use Rattle.std.proofs.lemmas.List.Elements.{recursion_from_All}
 use Rattle.tag_memory.specs.Cell.{Cell, cell_of, tag_number}
 use Rattle.image_file.specs.ImageValue.{ImageValue, IsWithin}
 use Rattle.image_file.specs.Tags.{cell_of-tag_number, tag_number-below}
-use Rattle.image_file.specs.Fields.{number_bytes, number_of}
+use Rattle.image_file.specs.Fields.{number_bytes, number_of_bytes}
 use Rattle.image_file.specs.Parts.{count_fault, entry_fault}
-use Rattle.image_file.specs.Spelling.{magic, version, entry_bytes, word_bytes, cell_bytes, header_bytes, spelling}
+use Rattle.image_file.specs.Spelling.{magic, version, entry_bytes, word_bytes, cell_bytes, header_bytes, bytes_of_image}
 use Rattle.image_file.specs.Spelling.{Stands}
 use Rattle.image_file.specs.Reading.{processors_at, words_at, cells_at}
 use Rattle.image_file.specs.Reading.{program_place, cells_place, asked_length}
@@ -25,7 +25,7 @@ use Rattle.image_file.proofs.Headers.{HasHeader, header_again, length-header_byt
 use Rattle.image_file.proofs.Sound.{IsSound}
 
 numbers_written : (size limit : ℕ) → limit ≤ 256 ^ size
-    → IsWritten (λ n. n < limit) size (number_of size) (number_bytes size) (λ n. n)
+    → IsWritten (λ n. n < limit) size (number_of_bytes size) (number_bytes size) (λ n. n)
 numbers_written size limit wide = record {
   sized = length-number_bytes size;
   again = λ n rest below. number_again size n rest (omega arith);
@@ -45,14 +45,14 @@ tag_again c rest =
     let regrouped = append_assoc (number_bytes 8 c.value) (number_bytes 1 (tag_number c)) rest in
     let below = tag_number-below c in
     ap tag_byte regrouped
-    ∙ ap (number_of 1)
+    ∙ ap (number_of_bytes 1)
     (drop_at (number_bytes 8 c.value) (number_bytes 1 (tag_number c) ++ rest) 8 (length-number_bytes 8 c.value))
     ∙ number_again 1 (tag_number c) rest (omega arith)
 
 cell_again : (c : Cell) (rest : List ℕ) → c.value < 2 ^ 64 → cell_from (cell_bytes c ++ rest) ≡ c
 cell_again c rest below =
     let regrouped = append_assoc (number_bytes 8 c.value) (number_bytes 1 (tag_number c)) rest in
-    let value = ap (number_of 8) regrouped ∙ number_again 8 c.value (number_bytes 1 (tag_number c) ++ rest) below in
+    let value = ap (number_of_bytes 8) regrouped ∙ number_again 8 c.value (number_bytes 1 (tag_number c) ++ rest) below in
     (λ i. cell_of (value i) (tag_again c rest i)) ∙ cell_of-tag_number c
 
 cells_written : IsWritten (λ (c : Cell). c.value < 2 ^ 64) 9 cell_from cell_bytes (λ c. c)
@@ -78,7 +78,7 @@ Says b i =
     (entries_text i ++ (program_text i ++ cells_text i))
 
 says : (b : List ℕ) (i : ImageValue) → Stands b i → Says b i
-unfolding spelling
+unfolding bytes_of_image
 says b i stands =
     let w = stands.within in
     let f = stands.fits in
@@ -96,7 +96,7 @@ pub record HasLists (b : List ℕ) (i : ImageValue) : Type 0 where
   pub whole : length b ≡ asked_length b
 
 lists : (b : List ℕ) (i : ImageValue) → Stands b i → Says b i → HasLists b i
-unfolding spelling
+unfolding bytes_of_image
 lists b i stands h =
     let entries = length-written 4 entry_bytes (length-number_bytes 4) i.entries in
     let words = length-written 8 word_bytes (length-number_bytes 8) i.program in
@@ -134,14 +134,14 @@ entries_again b i stands h =
     let w = stands.within in
     let below : All (λ e. e < 2 ^ 32) i.entries = λ k d here. let e = w.entries_stand k d here in omega arith in
     (λ j. entries_from (h.processors j) (h.after j))
-    ∙ parts_again (λ e. e < 2 ^ 32) 4 (number_of 4) entry_bytes (numbers_written 4 (2 ^ 32) (omega arith)) i.entries
+    ∙ parts_again (λ e. e < 2 ^ 32) 4 (number_of_bytes 4) entry_bytes (numbers_written 4 (2 ^ 32) (omega arith)) i.entries
     (program_text i ++ cells_text i) (recursion_from_All (λ e. e < 2 ^ 32) i.entries below)
 
 program_again : (b : List ℕ) (i : ImageValue) → Stands b i → Says b i → HasLists b i
     → program_from (words_at b) (drop (program_place b) b) ≡ i.program
 program_again b i stands h l =
     (λ j. program_from (h.words j) (l.program j))
-    ∙ parts_again (λ w. w < 2 ^ 64) 8 (number_of 8) word_bytes (numbers_written 8 (2 ^ 64) (omega arith)) i.program
+    ∙ parts_again (λ w. w < 2 ^ 64) 8 (number_of_bytes 8) word_bytes (numbers_written 8 (2 ^ 64) (omega arith)) i.program
     (cells_text i)
     stands.fits.program
 

@@ -8,7 +8,7 @@ use Rattle.image_file.specs.declared.fault.ImageFault.{ImageFault}
 use Rattle.image_file.specs.declared.fault.ImageFault.TheVariants.{Short, Magic, Version, Trailing, Entry, TagByte}
 use Rattle.image_file.specs.declared.fault.ImageFault.TheVariants.{Count}
 use Rattle.image_file.specs.Fault.{first_of}
-use Rattle.image_file.specs.Fields.{number_of}
+use Rattle.image_file.specs.Fields.{number_of_bytes}
 use Rattle.image_file.specs.Parts.{count_fault, entry_fault}
 use Rattle.image_file.specs.Spelling.{magic, version}
 use Rattle.image_file.specs.Reading.{header_length, front_fault, header_fault, body_fault, image_fault, tag_fault}
@@ -18,8 +18,8 @@ use Rattle.image_file.specs.Reading.{entries_from, tags_from}
 
 pub record IsSound (b : List ℕ) : Type 0 where
   pub long : header_length ≤ length b
-  pub magic_stands : number_of 4 b ≡ magic
-  pub version_stands : number_of 2 (drop 4 b) ≡ version
+  pub magic_stands : number_of_bytes 4 b ≡ magic
+  pub version_stands : number_of_bytes 2 (drop 4 b) ≡ version
   pub counts : count_fault (processors_at b) (slim_at b) (words_at b) (cells_at b) ≡ None
   pub entries : entry_fault (words_at b) (entries_from (processors_at b) (drop header_length b)) ≡ None
   pub tags : tag_fault (tags_from (cells_at b) (drop (cells_place b) b)) ≡ None
@@ -52,8 +52,8 @@ sound b header body =
     let counts = count_fault (processors_at b) (slim_at b) (words_at b) (cells_at b) in
     let front = first_of-none (front_fault b) (option_map Count counts) header in
     let long = guard-none (nat_lt (length b) header_length) Short _ front.0 in
-    let starts = guard-none (not (number_of 4 b == magic)) Magic _ long.1 in
-    let versioned = guard-none (not (number_of 2 (drop 4 b) == version)) Version _ starts.1 in
+    let starts = guard-none (not (number_of_bytes 4 b == magic)) Magic _ long.1 in
+    let versioned = guard-none (not (number_of_bytes 2 (drop 4 b) == version)) Version _ starts.1 in
     let entries = entry_fault (words_at b) (entries_from (processors_at b) (drop header_length b)) in
     let tags = tag_fault (tags_from (cells_at b) (drop (cells_place b) b)) in
     let asked = guard-none (nat_lt (length b) (asked_length b)) Short _ body in
@@ -75,8 +75,8 @@ pub no_fault : (b : List ℕ) → IsSound b → image_fault b ≡ None
 unfolding front_fault body_fault
 no_fault b s =
     let long : nat_lt (length b) header_length ≡ false = let h = s.long in grind (arith, nat_tests) in
-    let starts : (number_of 4 b == magic) ≡ true = let h = s.magic_stands in grind (arith, nat_tests) in
-    let versioned : (number_of 2 (drop 4 b) == version) ≡ true = let h = s.version_stands in
+    let starts : (number_of_bytes 4 b == magic) ≡ true = let h = s.magic_stands in grind (arith, nat_tests) in
+    let versioned : (number_of_bytes 2 (drop 4 b) == version) ≡ true = let h = s.version_stands in
     grind (arith, nat_tests) in
     let asked : nat_lt (length b) (asked_length b) ≡ false = let h = s.whole in grind (arith, nat_tests) in
     let ended : nat_lt (asked_length b) (length b) ≡ false = let h = s.whole in grind (arith, nat_tests) in

@@ -9,8 +9,8 @@ use Rattle.std.proofs.lemmas.List.{drop-drop, length-drop, nil_from_length}
 use Rattle.tag_memory.specs.Cell.{tag_number}
 use Rattle.tag_memory.specs.TagNumber.{tag_number-cell_of}
 use Rattle.image_file.specs.ImageValue.{IsWithin}
-use Rattle.image_file.specs.Fields.{IsBytes, number_bytes, number_of}
-use Rattle.image_file.specs.Spelling.{entry_bytes, word_bytes, cell_bytes, header_bytes, spelling, Fits, Stands}
+use Rattle.image_file.specs.Fields.{IsBytes, number_bytes, number_of_bytes}
+use Rattle.image_file.specs.Spelling.{entry_bytes, word_bytes, cell_bytes, header_bytes, bytes_of_image, Fits, Stands}
 use Rattle.image_file.specs.Reading.{processors_at, slim_at, retry_limit_at, trap_entry_at, words_at, cells_at}
 use Rattle.image_file.specs.Reading.{program_place, cells_place, header_length}
 use Rattle.image_file.specs.Reading.{entries_from, program_from, tag_byte, tags_from, cell_from, cells_from, image_at}
@@ -24,8 +24,8 @@ use Rattle.image_file.proofs.Sound.{IsSound}
 pub image_within : (b : List ℕ) → IsSound b → IsWithin (image_at b)
 unfolding image_at
 image_within b s =
-    let processors = length-parts_of 4 (number_of 4) (processors_at b) (drop header_length b) in
-    let words = length-parts_of 8 (number_of 8) (words_at b) (drop (program_place b) b) in
+    let processors = length-parts_of 4 (number_of_bytes 4) (processors_at b) (drop header_length b) in
+    let words = length-parts_of 8 (number_of_bytes 8) (words_at b) (drop (program_place b) b) in
     let cells = length-parts_of 9 cell_from (cells_at b) (drop (cells_place b) b) in
     within (image_at b) (rw (processors, words, cells) s.counts) (rw words s.entries)
 
@@ -37,7 +37,7 @@ image_fits b are_bytes =
     record {
       retry_limit = number_below 4 (drop 10 b) (IsBytes-drop 10 b are_bytes);
       trap_entry = number_below 4 (drop 14 b) (IsBytes-drop 14 b are_bytes);
-      program = parts_all (λ w. w < 2 ^ 64) 8 (number_of 8) (number_below 8) (words_at b)
+      program = parts_all (λ w. w < 2 ^ 64) 8 (number_of_bytes 8) (number_below 8) (words_at b)
           (drop (program_place b) b) program;
       cells = parts_all (λ c. c.value < 2 ^ 64) 9 cell_from (number_below 8) (cells_at b)
           (drop (cells_place b) b) cells;
@@ -46,9 +46,9 @@ image_fits b are_bytes =
 cell_back : (b : List ℕ) → IsBytes b × (tag_byte b < 16) → 9 ≤ length b → cell_bytes (cell_from b) ≡ take 9 b
 cell_back b fits long =
     let tags : number_bytes 1 (tag_number (cell_from b)) ≡ take 1 (drop 8 b) =
-    ap (number_bytes 1) (tag_number-cell_of (number_of 8 b) (tag_byte b) fits.1)
+    ap (number_bytes 1) (tag_number-cell_of (number_of_bytes 8 b) (tag_byte b) fits.1)
     ∙ number_back 1 (drop 8 b) (IsBytes-drop 8 b fits.0) (omega (arith, length-drop 8 b)) in
-    let value : number_bytes 8 (number_of 8 b) ≡ take 8 b = number_back 8 b fits.0 (omega arith) in
+    let value : number_bytes 8 (number_of_bytes 8 b) ≡ take 8 b = number_back 8 b fits.0 (omega arith) in
     (λ i. value i ++ tags i) ∙ sym (take-add 8 1 b)
 
 tag_below : (b : List ℕ) → IsSound b → (k : ℕ) → k < cells_at b
@@ -70,7 +70,7 @@ entries_back b are_bytes s =
     let bytes = IsBytes-drop 26 b are_bytes in
     let whole = s.whole in
     let room : 4 * p ≤ length rest = omega (arith, length-drop 26 b) in
-    parts_back IsBytes 4 (number_of 4) entry_bytes (number_back 4) p rest room
+    parts_back IsBytes 4 (number_of_bytes 4) entry_bytes (number_back 4) p rest room
     (λ k below. IsBytes-drop (4 * k) rest bytes)
     ∙ ap (λ r. flat_map entry_bytes (entries_from p rest) ++ r) (drop-drop (4 * p) 26 b)
 
@@ -84,7 +84,7 @@ program_back b are_bytes s =
     let bytes = IsBytes-drop place b are_bytes in
     let whole = s.whole in
     let room : 8 * w ≤ length rest = omega (arith, length-drop place b) in
-    parts_back IsBytes 8 (number_of 8) word_bytes (number_back 8) w rest room
+    parts_back IsBytes 8 (number_of_bytes 8) word_bytes (number_back 8) w rest room
     (λ k below. IsBytes-drop (8 * k) rest bytes)
     ∙ ap (λ r. flat_map word_bytes (program_from w rest) ++ r) (drop-drop (8 * w) place b)
 
@@ -104,11 +104,11 @@ cells_back b are_bytes s =
     ∙ ap (λ r. flat_map cell_bytes (cells_from c rest) ++ r) none
     ∙ append-nil (flat_map cell_bytes (cells_from c rest))
 
-image_back : (b : List ℕ) → IsBytes b → IsSound b → b ≡ spelling (image_at b)
-unfolding image_at spelling
+image_back : (b : List ℕ) → IsBytes b → IsSound b → b ≡ bytes_of_image (image_at b)
+unfolding image_at bytes_of_image
 image_back b are_bytes s =
-    let processors = length-parts_of 4 (number_of 4) (processors_at b) (drop 26 b) in
-    let words = length-parts_of 8 (number_of 8) (words_at b) (drop (program_place b) b) in
+    let processors = length-parts_of 4 (number_of_bytes 4) (processors_at b) (drop 26 b) in
+    let words = length-parts_of 8 (number_of_bytes 8) (words_at b) (drop (program_place b) b) in
     let cells = length-parts_of 9 cell_from (cells_at b) (drop (cells_place b) b) in
     let last = program_back b are_bytes s
     ∙ ap (λ r. flat_map word_bytes (program_from (words_at b) (drop (program_place b) b)) ++ r)

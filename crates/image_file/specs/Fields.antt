@@ -11,8 +11,8 @@ unfoldable pub number_bytes : (size n : ℕ) → List ℕ
 number_bytes size n = big_bytes size n
 
 -- the number whose bytes stand in front
-unfoldable pub number_of : (size : ℕ) → List ℕ → ℕ
-number_of size bytes = big_number size bytes
+unfoldable pub number_of_bytes : (size : ℕ) → List ℕ → ℕ
+number_of_bytes size bytes = big_number size bytes
 
 -- count parts of this size, one after another, as value reads each in front
 unfoldable pub parts_of : {X : Type 0} → (size : ℕ) → (value : List ℕ → X) → (count : ℕ) → List ℕ → List X

@@ -9,7 +9,7 @@ use Rattle.image_file.specs.declared.fault.ImageFault.TheVariants.{Short, Magic,
 use Rattle.image_file.specs.declared.fault.ImageFault.TheVariants.{Trailing}
 use Rattle.image_file.specs.ImageValue.{ImageValue, image_of}
 use Rattle.image_file.specs.Fault.{first_of}
-use Rattle.image_file.specs.Fields.{number_of, parts_of}
+use Rattle.image_file.specs.Fields.{number_of_bytes, parts_of}
 use Rattle.image_file.specs.Parts.{count_fault, entry_fault}
 use Rattle.image_file.specs.Spelling.{magic, version}
 
@@ -19,22 +19,22 @@ header_length = 26
 -- ---- the numbers of the header
 
 abbrev pub processors_at : List ℕ → ℕ
-processors_at bytes = number_of 2 (drop 6 bytes)
+processors_at bytes = number_of_bytes 2 (drop 6 bytes)
 
 abbrev pub slim_at : List ℕ → ℕ
-slim_at bytes = number_of 2 (drop 8 bytes)
+slim_at bytes = number_of_bytes 2 (drop 8 bytes)
 
 abbrev pub retry_limit_at : List ℕ → ℕ
-retry_limit_at bytes = number_of 4 (drop 10 bytes)
+retry_limit_at bytes = number_of_bytes 4 (drop 10 bytes)
 
 abbrev pub trap_entry_at : List ℕ → ℕ
-trap_entry_at bytes = number_of 4 (drop 14 bytes)
+trap_entry_at bytes = number_of_bytes 4 (drop 14 bytes)
 
 abbrev pub words_at : List ℕ → ℕ
-words_at bytes = number_of 4 (drop 18 bytes)
+words_at bytes = number_of_bytes 4 (drop 18 bytes)
 
 abbrev pub cells_at : List ℕ → ℕ
-cells_at bytes = number_of 4 (drop 22 bytes)
+cells_at bytes = number_of_bytes 4 (drop 22 bytes)
 
 -- ---- the lists behind it
 
@@ -49,20 +49,20 @@ abbrev pub asked_length : List ℕ → ℕ
 asked_length bytes = cells_place bytes + 9 * cells_at bytes
 
 abbrev pub entries_from : (count : ℕ) → List ℕ → List ℕ
-entries_from count bytes = parts_of 4 (number_of 4) count bytes
+entries_from count bytes = parts_of 4 (number_of_bytes 4) count bytes
 
 abbrev pub program_from : (count : ℕ) → List ℕ → List ℕ
-program_from count bytes = parts_of 8 (number_of 8) count bytes
+program_from count bytes = parts_of 8 (number_of_bytes 8) count bytes
 
 -- the tag byte of the cell in front
 abbrev pub tag_byte : List ℕ → ℕ
-tag_byte bytes = number_of 1 (drop 8 bytes)
+tag_byte bytes = number_of_bytes 1 (drop 8 bytes)
 
 abbrev pub tags_from : (count : ℕ) → List ℕ → List ℕ
 tags_from count bytes = parts_of 9 tag_byte count bytes
 
 abbrev pub cell_from : List ℕ → Cell
-cell_from bytes = cell_of (number_of 8 bytes) (tag_byte bytes)
+cell_from bytes = cell_of (number_of_bytes 8 bytes) (tag_byte bytes)
 
 abbrev pub cells_from : (count : ℕ) → List ℕ → List Cell
 cells_from count bytes = parts_of 9 cell_from count bytes
@@ -83,8 +83,8 @@ image_at bytes =
 unfoldable pub front_fault : List ℕ → Option ImageFault
 front_fault bytes =
     if nat_lt (length bytes) header_length then Some Short
-    else if not (number_of 4 bytes == magic) then Some Magic
-    else if not (number_of 2 (drop 4 bytes) == version) then Some Version
+    else if not (number_of_bytes 4 bytes == magic) then Some Magic
+    else if not (number_of_bytes 2 (drop 4 bytes) == version) then Some Version
     else None
 
 abbrev pub header_fault : List ℕ → Option ImageFault

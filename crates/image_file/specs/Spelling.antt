@@ -41,8 +41,8 @@ header_of i =
     header_bytes magic version (length i.entries) i.slim i.retry_limit i.trap_entry (length i.program)
     (length i.cells)
 
-unfoldable pub spelling : ImageValue → List ℕ
-spelling i =
+unfoldable pub bytes_of_image : ImageValue → List ℕ
+bytes_of_image i =
     header_of i ++ (flat_map entry_bytes i.entries ++ (flat_map word_bytes i.program ++ flat_map cell_bytes i.cells))
 
 -- each number fits its field
@@ -55,4 +55,4 @@ pub record Fits (i : ImageValue) : Type 0 where
 pub record Stands (bytes : List ℕ) (i : ImageValue) : Type 0 where
   pub within : IsWithin i
   pub fits : Fits i
-  pub spelled : bytes ≡ spelling i
+  pub spelled : bytes ≡ bytes_of_image i

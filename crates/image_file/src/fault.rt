@@ -2,7 +2,7 @@
 
 ghost use Rattle.std.specs.Prelude.{◌≡◌};
 ghost use Rattle.image_file.specs.declared.fault.ImageFault.TheVariants.{NoMemory};
-ghost use Rattle.image_file.specs.Fault.{fault_number};
+ghost use Rattle.image_file.specs.Fault.{image_fault_number};
 
 use std::alloc::{AllocError, AllocFailed};
 
@@ -43,7 +43,7 @@ pub enum ImageFault {
 impl ImageFault {
     /// The fault's number, 1 to 8 in the order of the variants.
     pub fn number(self) -> u8
-        ensures { result ≡ fault_number self }
+        ensures { result ≡ image_fault_number self }
     {
         match self {
             ImageFault::Short => 1,

@@ -1,7 +1,7 @@
 //! The numbers of an image file, each with its highest byte first.
 
 ghost use Rattle.std.specs.Prelude.{◌≡◌, ◌≤◌, ◌++◌, length, drop, OnOk};
-ghost use Rattle.image_file.specs.Fields.{number_bytes, number_of};
+ghost use Rattle.image_file.specs.Fields.{number_bytes, number_of_bytes};
 
 use byteorder::{BigEndian, ByteOrder};
 use std::alloc::AllocError;
@@ -15,37 +15,37 @@ pub(crate) fn from_place(bytes: &[u8], place: usize) -> &[u8]
 }
 
 /// The number in the first byte.
-#[tactic(auto, unfolding(crate::specs::Fields::number_of))]
+#[tactic(auto, unfolding(crate::specs::Fields::number_of_bytes))]
 pub(crate) fn u8_of(bytes: &[u8]) -> u8
     requires { 1 ≤ length bytes.now }
-    ensures { result ≡ number_of 1 bytes.now }
+    ensures { result ≡ number_of_bytes 1 bytes.now }
 {
     bytes[0]
 }
 
 /// The number in the first two bytes.
-#[tactic(auto, unfolding(crate::specs::Fields::number_of))]
+#[tactic(auto, unfolding(crate::specs::Fields::number_of_bytes))]
 pub(crate) fn u16_of(bytes: &[u8]) -> u16
     requires { 2 ≤ length bytes.now }
-    ensures { result ≡ number_of 2 bytes.now }
+    ensures { result ≡ number_of_bytes 2 bytes.now }
 {
     BigEndian::read_u16(bytes)
 }
 
 /// The number in the first four bytes.
-#[tactic(auto, unfolding(crate::specs::Fields::number_of))]
+#[tactic(auto, unfolding(crate::specs::Fields::number_of_bytes))]
 pub(crate) fn u32_of(bytes: &[u8]) -> u32
     requires { 4 ≤ length bytes.now }
-    ensures { result ≡ number_of 4 bytes.now }
+    ensures { result ≡ number_of_bytes 4 bytes.now }
 {
     BigEndian::read_u32(bytes)
 }
 
 /// The number in the first eight bytes.
-#[tactic(auto, unfolding(crate::specs::Fields::number_of))]
+#[tactic(auto, unfolding(crate::specs::Fields::number_of_bytes))]
 pub(crate) fn u64_of(bytes: &[u8]) -> u64
     requires { 8 ≤ length bytes.now }
-    ensures { result ≡ number_of 8 bytes.now }
+    ensures { result ≡ number_of_bytes 8 bytes.now }
 {
     BigEndian::read_u64(bytes)
 }

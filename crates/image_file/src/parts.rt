@@ -12,7 +12,7 @@ const MAX_PROCESSORS: usize = 16;
 
 const MAX_SLIM: usize = 128;
 
-const MAX_WORDS: usize = 65_536;
+const MAX_PROGRAM_WORDS: usize = 65_536;
 
 const MAX_CELLS: usize = 262_144;
 
@@ -29,7 +29,7 @@ pub(crate) fn count_fault(
         Some(CountField::Processors)
     } else if slim < 1 || slim > MAX_SLIM {
         Some(CountField::Slim)
-    } else if words < 1 || words > MAX_WORDS {
+    } else if words < 1 || words > MAX_PROGRAM_WORDS {
         Some(CountField::Program)
     } else if cells < 1 || cells > MAX_CELLS {
         Some(CountField::Cells)

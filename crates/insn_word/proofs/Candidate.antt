@@ -8,11 +8,11 @@ use Rattle.std.proofs.lemmas.Bool.{cases_lt, lt-ltb, le-ltb}
 use Rattle.std.proofs.lemmas.Int.{ints}
 use Rattle.insn_word.specs.Operations.{memory_number, access_number, arithmetic_number, control_number}
 use Rattle.insn_word.specs.Operations.{condition_number}
-use Rattle.insn_word.specs.Fields.{AreInRange, number}
+use Rattle.insn_word.specs.Fields.{AreInRange, number_of_fields}
 use Rattle.insn_word.specs.Words.{memory_fields, arithmetic_fields, control_fields, fields, used_memory}
 use Rattle.insn_word.specs.Words.{used_arithmetic, used_control, RestIsZero, AreApart, HasOneWriter, Spells}
 use Rattle.insn_word.specs.Words.{memory_destination, arithmetic_destination, control_destination}
-use Rattle.insn_word.specs.Reading.{signed_read, memory_raw, arithmetic_raw, control_from, memory_at, arithmetic_at}
+use Rattle.insn_word.specs.Reading.{signed_read, memory_raw, arithmetic_raw, control_part_from, memory_part_at, arithmetic_part_at}
 use Rattle.insn_word.specs.Reading.{control_read, wide_read, wide_from, wide_at, normal_at, candidate, are_apart}
 use Rattle.insn_word.specs.Reading.{has_one_writer, kept_if, instruction, InstructionIsSpelt}
 use Rattle.insn_word.proofs.WordParts.{normal_in_range, Holds-from_spells, Spells-number, Spells-from_number}
@@ -85,8 +85,8 @@ memory_rest memory.TagGet m e = ap (λ x. used_memory x (used_memory memory.TagG
 memory_rest memory.TagSet m e = ap (λ x. used_memory x (used_memory memory.TagSet m)) e
 
 memory_whole : (bits : ℕ)
-    → AreInRange (memory_fields (memory_at bits))
-    × (used_memory (memory_at bits).op (memory_at bits) ≡ memory_at bits)
+    → AreInRange (memory_fields (memory_part_at bits))
+    × (used_memory (memory_part_at bits).op (memory_part_at bits) ≡ memory_part_at bits)
 memory_whole bits =
     let last = signed_6_small (bits % 2 ^ 6) (omega arith) in (
       memory_in_range (memory_raw bits).op (memory_raw bits)
@@ -113,15 +113,15 @@ flag_small true = omega arith
 flag_small false = omega arith
 
 arithmetic_whole : (bits : ℕ)
-    → AreInRange (arithmetic_fields (arithmetic_at bits))
-    × (used_arithmetic (arithmetic_at bits).op (arithmetic_at bits) ≡ arithmetic_at bits)
+    → AreInRange (arithmetic_fields (arithmetic_part_at bits))
+    × (used_arithmetic (arithmetic_part_at bits).op (arithmetic_part_at bits) ≡ arithmetic_part_at bits)
 arithmetic_whole bits = (
   arithmetic_in_range (arithmetic_raw bits).op (arithmetic_raw bits)
       (arithmetic_small _, (flag_small _, (flag_small _, (omega arith, (omega arith, (omega arith, tt)))))),
   arithmetic_rest (arithmetic_raw bits).op (arithmetic_raw bits) refl,
 )
 
-control_in_range : (op : ControlOp) (bits : ℕ) → AreInRange (control_fields (control_from op bits))
+control_in_range : (op : ControlOp) (bits : ℕ) → AreInRange (control_fields (control_part_from op bits))
 control_in_range control.Nop bits = (control_small control.Nop, (omega arith, tt))
 control_in_range control.Jump bits =
     (control_small control.Jump, (condition_small _, (omega arith, (omega arith, (omega arith, tt)))))
@@ -144,7 +144,7 @@ control_in_range control.QuitKeep bits = (control_small control.QuitKeep, (omega
 control_in_range control.Mask bits = (control_small control.Mask, (omega arith, (omega arith, tt)))
 
 control_rest : (op : ControlOp) (bits : ℕ)
-    → used_control (control_from op bits).op (control_from op bits) ≡ control_from op bits
+    → used_control (control_part_from op bits).op (control_part_from op bits) ≡ control_part_from op bits
 control_rest control.Nop bits = refl
 control_rest control.Jump bits = refl
 control_rest control.Skip bits = refl
@@ -207,9 +207,9 @@ kept false x i e = cc
 pub instruction-spelt : InstructionIsSpelt
 unfolding instruction
 instruction-spelt word i =
-    let test = number (fields (candidate word)) == word && has_one_writer (candidate word) in
+    let test = number_of_fields (fields (candidate word)) == word && has_one_writer (candidate word) in
     let tested =
-    Decides-and _ _ (Decides-eqb (number (fields (candidate word))) word) (Decides-one_writer (candidate word)) in
+    Decides-and _ _ (Decides-eqb (number_of_fields (fields (candidate word))) word) (Decides-one_writer (candidate word)) in
     let whole = candidate_whole word in (
       λ e.
           let found = kept test (candidate word) i e in
@@ -218,7 +218,7 @@ instruction-spelt word i =
           (Spells-from_number word (candidate word) whole.in_range holds.0 whole.rest holds.1),
       λ spelt.
           let same = candidate-holds word i (Holds-from_spells word i spelt) in
-          let number_is = ap (λ j. number (fields j)) same ∙ Spells-number word i spelt in
+          let number_is = ap (λ j. number_of_fields (fields j)) same ∙ Spells-number word i spelt in
           let holds : test ≡ true = tested.1 (number_is, subst HasOneWriter (sym same) spelt.one_writer) in
           ap (λ keep. kept_if keep (candidate word)) holds ∙ ap Some same,
     )

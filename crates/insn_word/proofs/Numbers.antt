@@ -8,23 +8,23 @@ use Rattle.std.proofs.Math.Pow.{pow_mono}
 use Rattle.std.proofs.lemmas.Int.{ints}
 use Rattle.std.proofs.lemmas.Nat.{pow-add, pow_pos, mul-add-lt, div-mul-add, shr-shr, mod-pow-add}
 use Rattle.std.proofs.lemmas.Nat.Bits.{bit_at_cat_low}
-use Rattle.insn_word.specs.Fields.{Field, unsigned, signed, digits, IsInRange, AreInRange, width, value, spelling}
-use Rattle.insn_word.specs.Fields.{total_width, number}
+use Rattle.insn_word.specs.Fields.{Field, unsigned, signed, digits, IsFieldInRange, AreInRange, width, value, spelling}
+use Rattle.insn_word.specs.Fields.{total_width, number_of_fields}
 
 -- the number of a field in its range has its digits
-pub value-lt : (f : Field) → IsInRange f → value f < 2 ^ width f
+pub value-lt : (f : Field) → IsFieldInRange f → value f < 2 ^ width f
 value-lt (unsigned k n) h = h
 value-lt (signed k (pos n)) h =
     let half : 2 ^ (k - 1) ≤ 2 ^ k = pow_mono {i = k - 1} {j = k} (omega arith) in
     let below : n < 2 ^ (k - 1) = omega (arith, ints, h.1) in omega arith
 value-lt (signed k (negsuc n)) h = let some : 0 < 2 ^ k = pow_pos k in omega arith
 
-pub number-lt : (fs : List Field) → AreInRange fs → number fs < 2 ^ total_width fs
+pub number-lt : (fs : List Field) → AreInRange fs → number_of_fields fs < 2 ^ total_width fs
 number-lt [] h = omega arith
 number-lt (f ∷ fs) h =
     rw (pow-add 2 (width f) (total_width fs))
-    (let below : value f * 2 ^ total_width fs + number fs < 2 ^ total_width fs * 2 ^ width f =
-    mul-add-lt (value f) (2 ^ total_width fs) (number fs) (2 ^ width f) (value-lt f h.0) (number-lt fs h.1) in
+    (let below : value f * 2 ^ total_width fs + number_of_fields fs < 2 ^ total_width fs * 2 ^ width f =
+    mul-add-lt (value f) (2 ^ total_width fs) (number_of_fields fs) (2 ^ width f) (value-lt f h.0) (number-lt fs h.1) in
     omega arith)
 
 pub digits-add : (j k n : ℕ) → digits (j + k) n ≡ digits j (n / 2 ^ k) ++ digits k n
@@ -42,14 +42,14 @@ digits-low (suc m) k a b h =
     let others : digits m (a * 2 ^ k + b) ≡ digits m b = digits-low m k a b (omega arith) in cc
 
 -- fields in their ranges are spelt by the digits of their number
-pub digits-number : (fs : List Field) → AreInRange fs → digits (total_width fs) (number fs) ≡ spelling fs
+pub digits-number : (fs : List Field) → AreInRange fs → digits (total_width fs) (number_of_fields fs) ≡ spelling fs
 unfolding digits spelling
 digits-number [] h = refl
 digits-number (f ∷ fs) h =
-    digits-add (width f) (total_width fs) (number (f ∷ fs))
+    digits-add (width f) (total_width fs) (number_of_fields (f ∷ fs))
     ∙ rw (
-      div-mul-add (value f) (2 ^ total_width fs) (number fs) (number-lt fs h.1),
-      digits-low (total_width fs) (total_width fs) (value f) (number fs) (omega arith),
+      div-mul-add (value f) (2 ^ total_width fs) (number_of_fields fs) (number-lt fs h.1),
+      digits-low (total_width fs) (total_width fs) (value f) (number_of_fields fs) (omega arith),
     )
     (ap (λ ds. digits (width f) (value f) ++ ds) (digits-number fs h.1))
 
@@ -64,16 +64,16 @@ same_below (suc k) m n e =
     rw (← one-add k, mod-pow-add m 1 k, mod-pow-add n 1 k) (cc)
 
 pub number-from_digits : (fs : List Field) (n : ℕ) → AreInRange fs → n < 2 ^ total_width fs
-    → digits (total_width fs) n ≡ spelling fs → number fs ≡ n
+    → digits (total_width fs) n ≡ spelling fs → number_of_fields fs ≡ n
 number-from_digits fs n h fits e =
-    let same = same_below (total_width fs) (number fs) n (digits-number fs h ∙ sym e) in
+    let same = same_below (total_width fs) (number_of_fields fs) n (digits-number fs h ∙ sym e) in
     sym (mod-eq_of_lt (number-lt fs h)) ∙ same ∙ mod-eq_of_lt fits
 
 pub total_width-append : (xs ys : List Field) → total_width (xs ++ ys) ≡ total_width xs + total_width ys
 total_width-append [] ys = sym (zero-add (total_width ys))
 total_width-append (x ∷ xs) ys = omega (arith, total_width-append xs ys)
 
-pub number-append : (xs ys : List Field) → number (xs ++ ys) ≡ number xs * 2 ^ total_width ys + number ys
+pub number-append : (xs ys : List Field) → number_of_fields (xs ++ ys) ≡ number_of_fields xs * 2 ^ total_width ys + number_of_fields ys
 number-append [] ys = omega arith
 number-append (x ∷ xs) ys =
     rw (total_width-append xs ys, pow-add 2 (total_width xs) (total_width ys), number-append xs ys) (grind arith)
@@ -98,12 +98,12 @@ same_parts w a b c d small small' e =
     let product : a * w ≡ c * w = ap (λ n. n * w) quotient in
     (quotient, omega arith)
 
-pub reads : (n : ℕ) (fs : List Field) → AreInRange fs → n % 2 ^ total_width fs ≡ number fs → Reads n fs
+pub reads : (n : ℕ) (fs : List Field) → AreInRange fs → n % 2 ^ total_width fs ≡ number_of_fields fs → Reads n fs
 reads n [] h e = tt
 reads n (f ∷ fs) h e =
     let cut = mod-pow-add n (width f) (total_width fs) in
     let small : n % 2 ^ total_width fs < 2 ^ total_width fs = mod-lt n (pow_pos (total_width fs)) in
     let same =
     same_parts (2 ^ total_width fs) (n / 2 ^ total_width fs % 2 ^ width f) (n % 2 ^ total_width fs) (value f)
-    (number fs) small (number-lt fs h.1) (sym cut ∙ e) in
+    (number_of_fields fs) small (number-lt fs h.1) (sym cut ∙ e) in
     (same.0, reads n fs h.1 same.1)

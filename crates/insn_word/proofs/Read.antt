@@ -6,13 +6,13 @@ use Rattle.std.proofs.lemmas.Int.{ints}
 use Rattle.std.proofs.Math.Nat.{mod-eq_of_lt}
 use Rattle.insn_word.specs.Operations.{wide_number, memory_number, access_number, arithmetic_number, control_number}
 use Rattle.insn_word.specs.Operations.{condition_number}
-use Rattle.insn_word.specs.Fields.{Field, AreInRange, complement, number, total_width}
+use Rattle.insn_word.specs.Fields.{Field, AreInRange, twos_complement, number_of_fields, total_width}
 use Rattle.insn_word.specs.Words.{memory_fields, arithmetic_fields, argument_fields, control_fields, fields}
-use Rattle.insn_word.specs.Words.{used_memory, used_arithmetic, used_control, no_control}
+use Rattle.insn_word.specs.Words.{used_memory, used_arithmetic, used_control, only_control}
 use Rattle.insn_word.specs.Parts.{IsMemoryPart, IsArithmeticPart, IsControlPart, Holds}
 use Rattle.insn_word.specs.Reading.{wide_read, memory_read, access_read, arithmetic_read, control_read}
-use Rattle.insn_word.specs.Reading.{condition_read, signed_read, memory_raw, arithmetic_raw, control_from, memory_at}
-use Rattle.insn_word.specs.Reading.{arithmetic_at, control_at, register_from, wide_from, candidate}
+use Rattle.insn_word.specs.Reading.{condition_read, signed_read, memory_raw, arithmetic_raw, control_part_from, memory_part_at}
+use Rattle.insn_word.specs.Reading.{arithmetic_part_at, control_part_at, register_from, wide_from, candidate}
 use Rattle.insn_word.proofs.Numbers.{Reads, reads, number-lt}
 use Rattle.insn_word.proofs.WordParts.{argument_width}
 use Rattle.insn_word.specs.declared.operations.WideOp.{WideOp}
@@ -103,7 +103,7 @@ condition_back condition.Positive = refl
 condition_back condition.Overflow = refl
 condition_back condition.NoOverflow = refl
 
-signed_6_back : (z : ℤ) → neg_ℤ (pos 32) ≤ℤ z → z <ℤ pos 32 → signed_read 6 (complement 6 z) ≡ z
+signed_6_back : (z : ℤ) → neg_ℤ (pos 32) ≤ℤ z → z <ℤ pos 32 → signed_read 6 (twos_complement 6 z) ≡ z
 signed_6_back (pos n) low high = let below : n < 32 = omega (arith, ints, high) in rw (lt-ltb n 32 below) refl
 signed_6_back (negsuc n) low high =
     let above : n < 32 = omega (arith, ints, low) in
@@ -111,7 +111,7 @@ signed_6_back (negsuc n) low high =
     let same : 64 - 1 - (64 - suc n) ≡ n = omega arith in
     rw (le-ltb (64 - suc n) 32 far) (ap negsuc same)
 
-signed_8_back : (z : ℤ) → neg_ℤ (pos 128) ≤ℤ z → z <ℤ pos 128 → signed_read 8 (complement 8 z) ≡ z
+signed_8_back : (z : ℤ) → neg_ℤ (pos 128) ≤ℤ z → z <ℤ pos 128 → signed_read 8 (twos_complement 8 z) ≡ z
 signed_8_back (pos n) low high = let below : n < 128 = omega (arith, ints, high) in rw (lt-ltb n 128 below) refl
 signed_8_back (negsuc n) low high =
     let above : n < 128 = omega (arith, ints, low) in
@@ -124,13 +124,13 @@ flag_back true n e = ap (λ m. m == 1) e
 flag_back false n e = ap (λ m. m == 1) e
 
 -- fields' digits are all the digits of their number
-fits : (n : ℕ) (fs : List Field) → AreInRange fs → number fs ≡ n → n % 2 ^ total_width fs ≡ number fs
+fits : (n : ℕ) (fs : List Field) → AreInRange fs → number_of_fields fs ≡ n → n % 2 ^ total_width fs ≡ number_of_fields fs
 fits n fs h e = mod-eq_of_lt (subst (λ m. m < 2 ^ total_width fs) e (number-lt fs h)) ∙ sym e
 
-memory_reads : (bits : ℕ) (m : MPart) → IsMemoryPart bits m → memory_at bits ≡ m
+memory_reads : (bits : ℕ) (m : MPart) → IsMemoryPart bits m → memory_part_at bits ≡ m
 memory_reads bits m p =
     let r = reads bits (memory_fields m) p.in_range (fits bits (memory_fields m) p.in_range p.number_is) in
-    let last : bits % 2 ^ 6 ≡ complement 6 m.disp = omega (arith, r.1.1.1.1.0) in
+    let last : bits % 2 ^ 6 ≡ twos_complement 6 m.disp = omega (arith, r.1.1.1.1.0) in
     let range = p.in_range.1.1.1.1.0 in
     let raw : memory_raw bits ≡ m = λ i. record {
       op = (ap memory_read r.0 ∙ memory_back m.op) i;
@@ -141,7 +141,7 @@ memory_reads bits m p =
     } in
     ap (λ part. used_memory part.op part) raw ∙ p.rest
 
-arithmetic_reads : (bits : ℕ) (a : APart) → IsArithmeticPart bits a → arithmetic_at bits ≡ a
+arithmetic_reads : (bits : ℕ) (a : APart) → IsArithmeticPart bits a → arithmetic_part_at bits ≡ a
 arithmetic_reads bits a p =
     let r = reads bits (arithmetic_fields a) p.in_range (fits bits (arithmetic_fields a) p.in_range p.number_is) in
     let last : bits % 2 ^ 5 ≡ a.rb = omega (arith, r.1.1.1.1.1.0) in
@@ -157,44 +157,44 @@ arithmetic_reads bits a p =
 
 -- A row for each control operation: what its argument fields say is what is read.
 arguments_read : (op : ControlOp) (bits : ℕ) (c : CPart) → AreInRange (argument_fields op c)
-    → Reads bits (argument_fields op c) → used_control op c ≡ c → control_from op bits ≡ c
+    → Reads bits (argument_fields op c) → used_control op c ≡ c → control_part_from op bits ≡ c
 arguments_read control.Nop bits c h r rest = rest
 arguments_read control.Jump bits c h r rest =
-    (λ i. record (no_control control.Jump) {
+    (λ i. record (only_control control.Jump) {
       cond = (ap condition_read r.0 ∙ condition_back c.cond) i;
       code = r.1.0 i;
       t = r.1.1.0 i;
     }) ∙ rest
 arguments_read control.Skip bits c h r rest =
-    let last : bits % 2 ^ 8 ≡ complement 8 c.n = omega (arith, r.1.1.0) in
-    (λ i. record (no_control control.Skip) {
+    let last : bits % 2 ^ 8 ≡ twos_complement 8 c.n = omega (arith, r.1.1.0) in
+    (λ i. record (only_control control.Skip) {
       cond = (ap condition_read r.0 ∙ condition_back c.cond) i;
       code = r.1.0 i;
       n = (ap (signed_read 8) last ∙ signed_8_back c.n h.1.1.0.0 h.1.1.0.1) i;
     }) ∙ rest
 arguments_read control.Call bits c h r rest =
-    (λ i. record (no_control control.Call) { t = r.0 i; u = r.1.0 i }) ∙ rest
-arguments_read control.Exchange bits c h r rest = (λ i. record (no_control control.Exchange) { t = r.0 i }) ∙ rest
+    (λ i. record (only_control control.Call) { t = r.0 i; u = r.1.0 i }) ∙ rest
+arguments_read control.Exchange bits c h r rest = (λ i. record (only_control control.Exchange) { t = r.0 i }) ∙ rest
 arguments_read control.TargetSet bits c h r rest =
-    (λ i. record (no_control control.TargetSet) { t = r.0 i; ra = r.1.0 i }) ∙ rest
+    (λ i. record (only_control control.TargetSet) { t = r.0 i; ra = r.1.0 i }) ∙ rest
 arguments_read control.TargetGet bits c h r rest =
-    (λ i. record (no_control control.TargetGet) { t = r.0 i; rd = r.1.0 i }) ∙ rest
-arguments_read control.TrapGet bits c h r rest = (λ i. record (no_control control.TrapGet) { rd = r.1.0 i }) ∙ rest
+    (λ i. record (only_control control.TargetGet) { t = r.0 i; rd = r.1.0 i }) ∙ rest
+arguments_read control.TrapGet bits c h r rest = (λ i. record (only_control control.TrapGet) { rd = r.1.0 i }) ∙ rest
 arguments_read control.Reserve bits c h r rest =
-    (λ i. record (no_control control.Reserve) { rd = r.1.0 i; ra = r.1.1.0 i }) ∙ rest
+    (λ i. record (only_control control.Reserve) { rd = r.1.0 i; ra = r.1.1.0 i }) ∙ rest
 arguments_read control.Create bits c h r rest =
-    (λ i. record (no_control control.Create) { t = r.0 i; ra = r.1.0 i }) ∙ rest
+    (λ i. record (only_control control.Create) { t = r.0 i; ra = r.1.0 i }) ∙ rest
 arguments_read control.Quit bits c h r rest = rest
 arguments_read control.QuitKeep bits c h r rest = rest
-arguments_read control.Mask bits c h r rest = (λ i. record (no_control control.Mask) { n = pos (r.0 i) }) ∙ rest
+arguments_read control.Mask bits c h r rest = (λ i. record (only_control control.Mask) { n = pos (r.0 i) }) ∙ rest
 
-control_reads : (bits : ℕ) (c : CPart) → IsControlPart bits c → control_at bits ≡ c
+control_reads : (bits : ℕ) (c : CPart) → IsControlPart bits c → control_part_at bits ≡ c
 control_reads bits c p =
     let r = reads bits (control_fields c) p.in_range (fits bits (control_fields c) p.in_range p.number_is) in
     let number_is : bits / 2 ^ 14 % 2 ^ 4 ≡ control_number c.op =
     subst (λ (k : ℕ). bits / 2 ^ k % 2 ^ 4 ≡ control_number c.op) (argument_width c.op c) r.0 in
     let op : control_read (bits / 2 ^ 14 % 2 ^ 4) ≡ c.op = ap control_read number_is ∙ control_back c.op in
-    ap (λ x. control_from x bits) op ∙ arguments_read c.op bits c p.in_range.1 r.1 p.rest
+    ap (λ x. control_part_from x bits) op ∙ arguments_read c.op bits c p.in_range.1 r.1 p.rest
 
 pub candidate-holds : (word : ℕ) (i : Insn) → Holds word i → candidate word ≡ i
 unfolding candidate

@@ -2,7 +2,7 @@
 use Rattle.std.proofs.Common.{◌≡◌, ℕ, ◌+◌, ◌*◌, ◌/◌, ◌%◌, ◌^◌, ◌<◌, ◌↔◌, List, ◌∷◌, ◌++◌, Option, Some, None, IfSome}
 use Rattle.std.proofs.Common.{IsNone, refl, sym, ◌∙◌, subst, arith}
 use Rattle.insn_word.specs.Operations.{control_number}
-use Rattle.insn_word.specs.Fields.{Field, unsigned, digits, spelling, AreInRange, number, total_width}
+use Rattle.insn_word.specs.Fields.{Field, unsigned, digits, spelling, AreInRange, number_of_fields, total_width}
 use Rattle.insn_word.specs.Words.{memory_fields, arithmetic_fields, argument_fields, control_fields, fields, Spells}
 use Rattle.insn_word.specs.Words.{IsValid, RestIsZero, HasOneWriter}
 use Rattle.insn_word.specs.Parts.{IsControlPart, Holds}
@@ -37,9 +37,9 @@ argument_width control.Mask c = refl
 pub control_width : (c : CPart) → total_width (control_fields c) ≡ 18
 control_width c = omega (arith, argument_width c.op c)
 
-pub control_number-lt : (c : CPart) → AreInRange (control_fields c) → number (control_fields c) < 2 ^ 18
+pub control_number-lt : (c : CPart) → AreInRange (control_fields c) → number_of_fields (control_fields c) < 2 ^ 18
 control_number-lt c h =
-    subst (λ k. number (control_fields c) < 2 ^ k) (control_width c) (number-lt (control_fields c) h)
+    subst (λ k. number_of_fields (control_fields c) < 2 ^ k) (control_width c) (number-lt (control_fields c) h)
 
 -- the fields of a normal word but those of the control part
 abbrev front : ℕ → MPart → APart → List Field
@@ -53,9 +53,9 @@ fields_width (insn.Normal look m a c) =
     omega (arith, total_width-append (front look m a) (control_fields c), control_width c)
 
 pub number-normal : (look : ℕ) (m : MPart) (a : APart) (c : CPart)
-    → number (fields (insn.Normal look m a c))
-    ≡ look * 2 ^ 60 + number (memory_fields m) * 2 ^ 39 + number (arithmetic_fields a) * 2 ^ 18
-    + number (control_fields c)
+    → number_of_fields (fields (insn.Normal look m a c))
+    ≡ look * 2 ^ 60 + number_of_fields (memory_fields m) * 2 ^ 39 + number_of_fields (arithmetic_fields a) * 2 ^ 18
+    + number_of_fields (control_fields c)
 number-normal look m a c =
     number-append (front look m a) (control_fields c) ∙ rw (control_width c) (grind arith)
 
@@ -88,21 +88,21 @@ joined_word : (word look m a c : ℕ) → word < 2 ^ 63 → word / 2 ^ 60 ≡ lo
 joined_word word look m a c h hl hm ha hc = omega arith
 
 -- the number of a spelt instruction is its word
-pub Spells-number : (word : ℕ) (i : Insn) → Spells word i → number (fields i) ≡ word
+pub Spells-number : (word : ℕ) (i : Insn) → Spells word i → number_of_fields (fields i) ≡ word
 Spells-number word i s =
     number-from_digits (fields i) word s.in_range (rw (fields_width i) s.in_word) (rw (fields_width i) s.digits_are)
 
 -- and an instruction in its ranges is spelt by its number
-pub Spells-from_number : (word : ℕ) (i : Insn) → AreInRange (fields i) → number (fields i) ≡ word → RestIsZero i
+pub Spells-from_number : (word : ℕ) (i : Insn) → AreInRange (fields i) → number_of_fields (fields i) ≡ word → RestIsZero i
     → HasOneWriter i → Spells word i
 Spells-from_number word i h e rest one = record {
   in_word =
       let below = number-lt (fields i) h in
       let same = fields_width i in
-      subst (λ n. n < 2 ^ 64) e (subst (λ k. number (fields i) < 2 ^ k) same below);
+      subst (λ n. n < 2 ^ 64) e (subst (λ k. number_of_fields (fields i) < 2 ^ k) same below);
   digits_are =
       let made = digits-number (fields i) h in
-      let same = subst (λ k. digits k (number (fields i)) ≡ spelling (fields i)) (fields_width i) made in
+      let same = subst (λ k. digits k (number_of_fields (fields i)) ≡ spelling (fields i)) (fields_width i) made in
       subst (λ n. digits 64 n ≡ spelling (fields i)) e same;
   in_range = h;
   rest = rest;
@@ -117,7 +117,7 @@ Holds-from_spells word (insn.Normal look m a c) s =
     let joined = sym (number-normal look m a c) ∙ Spells-number word (insn.Normal look m a c) s in
     let below = control_number-lt c parts.3 in
     let cut =
-    cut_word word look (number (memory_fields m)) (number (arithmetic_fields a)) (number (control_fields c)) parts.0
+    cut_word word look (number_of_fields (memory_fields m)) (number_of_fields (arithmetic_fields a)) (number_of_fields (control_fields c)) parts.0
     (number-lt (memory_fields m) parts.1) (number-lt (arithmetic_fields a) parts.2) below joined in
     record {
       in_word = cut.0;
@@ -149,11 +149,11 @@ same_control x y e = grind arith
 pub control_is : (bits : ℕ) (op : ControlOp) (c : CPart) → IsControlPart bits c
     → control_number op ≡ bits / 2 ^ 14 % 2 ^ 4 → c.op ≡ op
 control_is bits op c p e =
-    let below : number (argument_fields c.op c) < 2 ^ 14 =
-    subst (λ k. number (argument_fields c.op c) < 2 ^ k) (argument_width c.op c)
+    let below : number_of_fields (argument_fields c.op c) < 2 ^ 14 =
+    subst (λ k. number_of_fields (argument_fields c.op c) < 2 ^ k) (argument_width c.op c)
     (number-lt (argument_fields c.op c) p.in_range.1) in
-    let joined : control_number c.op * 2 ^ 14 + number (argument_fields c.op c) ≡ bits =
-    subst (λ k. control_number c.op * 2 ^ k + number (argument_fields c.op c) ≡ bits) (argument_width c.op c)
+    let joined : control_number c.op * 2 ^ 14 + number_of_fields (argument_fields c.op c) ≡ bits =
+    subst (λ k. control_number c.op * 2 ^ k + number_of_fields (argument_fields c.op c) ≡ bits) (argument_width c.op c)
     p.number_is in
     let small : control_number c.op < 2 ^ 4 = p.in_range.0 in
     same_control c.op op (omega arith)
@@ -178,7 +178,7 @@ none_iff word None h = (λ none i s. let e = (h i).1 s in cc, λ none. refl)
 none_iff word (Some i) h = (λ none. cc, λ none. absurd (none i ((h i).0 refl)))
 
 -- a valid instruction is spelt by the number that its fields make
-pub Spells-bits : (bits : ℕ) (i : Insn) → (AreInRange (fields i) → bits ≡ number (fields i)) → IsValid i
+pub Spells-bits : (bits : ℕ) (i : Insn) → (AreInRange (fields i) → bits ≡ number_of_fields (fields i)) → IsValid i
     → Spells bits i
 Spells-bits bits i made valid =
     let spelt = valid.1 in

@@ -20,17 +20,17 @@ abbrev pub flag : Bool → Field
 flag b = unsigned 1 (if b then 1 else 0)
 
 -- what its digits can say
-abbrev pub IsInRange : Field → Type 0
-IsInRange (unsigned k n) = n < 2 ^ k
-IsInRange (signed k z) = (neg_ℤ (pos (2 ^ (k - 1))) ≤ℤ z) × (z <ℤ pos (2 ^ (k - 1)))
+abbrev pub IsFieldInRange : Field → Type 0
+IsFieldInRange (unsigned k n) = n < 2 ^ k
+IsFieldInRange (signed k z) = (neg_ℤ (pos (2 ^ (k - 1))) ≤ℤ z) × (z <ℤ pos (2 ^ (k - 1)))
 
 abbrev pub AreInRange : List Field → Type 0
-AreInRange fs = AllByRecursion IsInRange fs
+AreInRange fs = AllByRecursion IsFieldInRange fs
 
 -- two's complement: a negative number, here -(n + 1), stands as 2 ^ k more
-abbrev pub complement : ℕ → ℤ → ℕ
-complement k (pos n) = n
-complement k (negsuc n) = 2 ^ k - suc n
+abbrev pub twos_complement : ℕ → ℤ → ℕ
+twos_complement k (pos n) = n
+twos_complement k (negsuc n) = 2 ^ k - suc n
 
 abbrev pub width : Field → ℕ
 width (unsigned k n) = k
@@ -38,7 +38,7 @@ width (signed k z) = k
 
 abbrev pub value : Field → ℕ
 value (unsigned k n) = n
-value (signed k z) = complement k z
+value (signed k z) = twos_complement k z
 
 -- the fields' digits, one after another
 unfoldable pub spelling : List Field → List ℕ
@@ -50,6 +50,6 @@ abbrev pub total_width : List Field → ℕ
 total_width [] = 0
 total_width (f ∷ fs) = width f + total_width fs
 
-abbrev pub number : List Field → ℕ
-number [] = 0
-number (f ∷ fs) = value f * 2 ^ total_width fs + number fs
+abbrev pub number_of_fields : List Field → ℕ
+number_of_fields [] = 0
+number_of_fields (f ∷ fs) = value f * 2 ^ total_width fs + number_of_fields fs

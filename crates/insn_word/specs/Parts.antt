@@ -1,6 +1,6 @@
 -- A word seen a part at a time, by numbers, as the code reads it. Only private contracts cite this.
 use Rattle.std.specs.Prelude.{◌≡◌, ℕ, ◌<◌, ◌/◌, ◌%◌, ◌^◌}
-use Rattle.insn_word.specs.Fields.{number, AreInRange}
+use Rattle.insn_word.specs.Fields.{number_of_fields, AreInRange}
 use Rattle.insn_word.specs.Words.{memory_fields, arithmetic_fields, control_fields, fields}
 use Rattle.insn_word.specs.Words.{used_memory, used_arithmetic, used_control, WriteApart}
 use Rattle.insn_word.specs.declared.operations.WideOp.{WideOp}
@@ -14,24 +14,24 @@ use Rattle.insn_word.specs.declared.insn.Insn.TheVariants as insn
 
 pub record IsMemoryPart (bits : ℕ) (m : MPart) : Type 0 where
   pub in_range : AreInRange (memory_fields m)
-  pub number_is : number (memory_fields m) ≡ bits
+  pub number_is : number_of_fields (memory_fields m) ≡ bits
   pub rest : used_memory m.op m ≡ m
 
 pub record IsArithmeticPart (bits : ℕ) (a : APart) : Type 0 where
   pub in_range : AreInRange (arithmetic_fields a)
-  pub number_is : number (arithmetic_fields a) ≡ bits
+  pub number_is : number_of_fields (arithmetic_fields a) ≡ bits
   pub rest : used_arithmetic a.op a ≡ a
 
 pub record IsControlPart (bits : ℕ) (c : CPart) : Type 0 where
   pub in_range : AreInRange (control_fields c)
-  pub number_is : number (control_fields c) ≡ bits
+  pub number_is : number_of_fields (control_fields c) ≡ bits
   pub rest : used_control c.op c ≡ c
 
 -- The word spells this instruction.
 
 pub record IsWide (word look : ℕ) (op : WideOp) (reg imm : ℕ) : Type 0 where
   pub in_range : AreInRange (fields (insn.Wide look op reg imm))
-  pub number_is : number (fields (insn.Wide look op reg imm)) ≡ word
+  pub number_is : number_of_fields (fields (insn.Wide look op reg imm)) ≡ word
 
 pub record IsNormal (word look : ℕ) (m : MPart) (a : APart) (c : CPart) : Type 0 where
   pub in_word : word < 2 ^ 63

@@ -3,8 +3,8 @@
 use Rattle.std.specs.Prelude.{◌≡◌, ◌↔◌, ℕ, ◌-◌, ◌/◌, ◌%◌, ◌^◌, ◌==◌, ℤ, pos, negsuc}
 use Rattle.std.specs.Prelude.{Bool, true, not, ◌&&◌, ◌||◌, nat_lt, if◌then◌else◌}
 use Rattle.std.specs.Prelude.{List, [], ◌∷◌, Option, Some, None, slice_index_or}
-use Rattle.insn_word.specs.Fields.{number}
-use Rattle.insn_word.specs.Words.{fields, used_memory, used_arithmetic, no_control, Spells}
+use Rattle.insn_word.specs.Fields.{number_of_fields}
+use Rattle.insn_word.specs.Words.{fields, used_memory, used_arithmetic, only_control, Spells}
 use Rattle.insn_word.specs.Words.{memory_destination, arithmetic_destination, control_destination}
 use Rattle.insn_word.specs.declared.operations.WideOp.{WideOp}
 use Rattle.insn_word.specs.declared.operations.WideOp.TheVariants as wide
@@ -99,52 +99,52 @@ arithmetic_raw bits = record {
 }
 
 -- the control operation with its arguments
-abbrev pub control_from : ControlOp → ℕ → CPart
-control_from control.Nop bits = no_control control.Nop
-control_from control.Jump bits = record (no_control control.Jump) {
+abbrev pub control_part_from : ControlOp → ℕ → CPart
+control_part_from control.Nop bits = only_control control.Nop
+control_part_from control.Jump bits = record (only_control control.Jump) {
   cond = condition_read (bits / 2 ^ 10 % 2 ^ 4);
   code = bits / 2 ^ 8 % 2 ^ 2;
   t = bits / 2 ^ 5 % 2 ^ 3;
 }
-control_from control.Skip bits = record (no_control control.Skip) {
+control_part_from control.Skip bits = record (only_control control.Skip) {
   cond = condition_read (bits / 2 ^ 10 % 2 ^ 4);
   code = bits / 2 ^ 8 % 2 ^ 2;
   n = signed_read 8 (bits % 2 ^ 8);
 }
-control_from control.Call bits = record (no_control control.Call) {
+control_part_from control.Call bits = record (only_control control.Call) {
   t = bits / 2 ^ 11 % 2 ^ 3;
   u = bits / 2 ^ 8 % 2 ^ 3;
 }
-control_from control.Exchange bits = record (no_control control.Exchange) { t = bits / 2 ^ 11 % 2 ^ 3 }
-control_from control.TargetSet bits = record (no_control control.TargetSet) {
+control_part_from control.Exchange bits = record (only_control control.Exchange) { t = bits / 2 ^ 11 % 2 ^ 3 }
+control_part_from control.TargetSet bits = record (only_control control.TargetSet) {
   t = bits / 2 ^ 11 % 2 ^ 3;
   ra = bits / 2 ^ 6 % 2 ^ 5;
 }
-control_from control.TargetGet bits = record (no_control control.TargetGet) {
+control_part_from control.TargetGet bits = record (only_control control.TargetGet) {
   t = bits / 2 ^ 11 % 2 ^ 3;
   rd = bits / 2 ^ 6 % 2 ^ 5;
 }
-control_from control.TrapGet bits = record (no_control control.TrapGet) { rd = bits / 2 ^ 6 % 2 ^ 5 }
-control_from control.Reserve bits = record (no_control control.Reserve) {
+control_part_from control.TrapGet bits = record (only_control control.TrapGet) { rd = bits / 2 ^ 6 % 2 ^ 5 }
+control_part_from control.Reserve bits = record (only_control control.Reserve) {
   rd = bits / 2 ^ 6 % 2 ^ 5;
   ra = bits / 2 ^ 1 % 2 ^ 5;
 }
-control_from control.Create bits = record (no_control control.Create) {
+control_part_from control.Create bits = record (only_control control.Create) {
   t = bits / 2 ^ 11 % 2 ^ 3;
   ra = bits / 2 ^ 6 % 2 ^ 5;
 }
-control_from control.Quit bits = no_control control.Quit
-control_from control.QuitKeep bits = no_control control.QuitKeep
-control_from control.Mask bits = record (no_control control.Mask) { n = pos (bits / 2 ^ 11 % 2 ^ 3) }
+control_part_from control.Quit bits = only_control control.Quit
+control_part_from control.QuitKeep bits = only_control control.QuitKeep
+control_part_from control.Mask bits = record (only_control control.Mask) { n = pos (bits / 2 ^ 11 % 2 ^ 3) }
 
-abbrev pub memory_at : ℕ → MPart
-memory_at bits = used_memory (memory_raw bits).op (memory_raw bits)
+abbrev pub memory_part_at : ℕ → MPart
+memory_part_at bits = used_memory (memory_raw bits).op (memory_raw bits)
 
-abbrev pub arithmetic_at : ℕ → APart
-arithmetic_at bits = used_arithmetic (arithmetic_raw bits).op (arithmetic_raw bits)
+abbrev pub arithmetic_part_at : ℕ → APart
+arithmetic_part_at bits = used_arithmetic (arithmetic_raw bits).op (arithmetic_raw bits)
 
-abbrev pub control_at : ℕ → CPart
-control_at bits = control_from (control_read (bits / 2 ^ 14 % 2 ^ 4)) bits
+abbrev pub control_part_at : ℕ → CPart
+control_part_at bits = control_part_from (control_read (bits / 2 ^ 14 % 2 ^ 4)) bits
 
 -- there are 8 target registers
 abbrev pub register_from : WideOp → ℕ → ℕ
@@ -161,9 +161,9 @@ wide_at word = wide_from (wide_read (word / 2 ^ 57 % 2 ^ 3)) word
 abbrev pub normal_at : ℕ → Insn
 normal_at word =
     insn.Normal (word / 2 ^ 60 % 2 ^ 3)
-    (memory_at (word / 2 ^ 39 % 2 ^ 21))
-    (arithmetic_at (word / 2 ^ 18 % 2 ^ 21))
-    (control_at (word % 2 ^ 18))
+    (memory_part_at (word / 2 ^ 39 % 2 ^ 21))
+    (arithmetic_part_at (word / 2 ^ 18 % 2 ^ 21))
+    (control_part_at (word % 2 ^ 18))
 
 -- all fields read, whether or not the word spells an instruction
 unfoldable pub candidate : ℕ → Insn
@@ -185,7 +185,7 @@ kept_if keep i = if keep then Some i else None
 -- the instruction that the word spells, if any
 unfoldable pub instruction : ℕ → Option Insn
 instruction word =
-    kept_if (number (fields (candidate word)) == word && has_one_writer (candidate word)) (candidate word)
+    kept_if (number_of_fields (fields (candidate word)) == word && has_one_writer (candidate word)) (candidate word)
 
 -- It is the instruction that the word's digits spell.
 abbrev pub InstructionIsSpelt : Type 0

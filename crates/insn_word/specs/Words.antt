@@ -63,41 +63,41 @@ fields (insn.Normal look m a c) =
 
 -- Each part with nothing but what its operation uses.
 
-abbrev pub no_memory : MPart
-no_memory = record { op = memory.Nop; acc = access.FromPointer; rd = 0; base = 0; disp = pos 0 }
+abbrev pub memory_nop : MPart
+memory_nop = record { op = memory.Nop; acc = access.FromPointer; rd = 0; base = 0; disp = pos 0 }
 
 abbrev pub used_memory : MemoryOp → MPart → MPart
-used_memory memory.Nop m = no_memory
+used_memory memory.Nop m = memory_nop
 used_memory memory.TagGet m = record m { acc = access.FromPointer }
 used_memory memory.TagSet m = record m { acc = access.FromPointer }
 used_memory _ m = m
 
-abbrev pub no_arithmetic : APart
-no_arithmetic = record { op = arithmetic.Nop; test = false; imm = false; rd = 0; ra = 0; rb = 0 }
+abbrev pub arithmetic_nop : APart
+arithmetic_nop = record { op = arithmetic.Nop; test = false; imm = false; rd = 0; ra = 0; rb = 0 }
 
 abbrev pub used_arithmetic : ArithmeticOp → APart → APart
-used_arithmetic arithmetic.Nop a = no_arithmetic
+used_arithmetic arithmetic.Nop a = arithmetic_nop
 used_arithmetic arithmetic.Tally a = record a { imm = false; rb = 0 }
 used_arithmetic _ a = a
 
-abbrev pub no_control : ControlOp → CPart
-no_control op = record { op = op; cond = condition.Always; code = 0; t = 0; u = 0; rd = 0; ra = 0; n = pos 0 }
+abbrev pub only_control : ControlOp → CPart
+only_control op = record { op = op; cond = condition.Always; code = 0; t = 0; u = 0; rd = 0; ra = 0; n = pos 0 }
 
 abbrev pub used_control : ControlOp → CPart → CPart
-used_control control.Nop c = no_control control.Nop
-used_control control.Jump c = record (no_control control.Jump) { cond = c.cond; code = c.code; t = c.t }
-used_control control.Skip c = record (no_control control.Skip) { cond = c.cond; code = c.code; n = c.n }
-used_control control.Call c = record (no_control control.Call) { t = c.t; u = c.u }
-used_control control.Exchange c = record (no_control control.Exchange) { t = c.t }
-used_control control.TargetSet c = record (no_control control.TargetSet) { t = c.t; ra = c.ra }
-used_control control.TargetGet c = record (no_control control.TargetGet) { t = c.t; rd = c.rd }
-used_control control.TrapGet c = record (no_control control.TrapGet) { rd = c.rd }
-used_control control.Reserve c = record (no_control control.Reserve) { rd = c.rd; ra = c.ra }
-used_control control.Create c = record (no_control control.Create) { t = c.t; ra = c.ra }
-used_control control.Quit c = no_control control.Quit
-used_control control.QuitKeep c = no_control control.QuitKeep
+used_control control.Nop c = only_control control.Nop
+used_control control.Jump c = record (only_control control.Jump) { cond = c.cond; code = c.code; t = c.t }
+used_control control.Skip c = record (only_control control.Skip) { cond = c.cond; code = c.code; n = c.n }
+used_control control.Call c = record (only_control control.Call) { t = c.t; u = c.u }
+used_control control.Exchange c = record (only_control control.Exchange) { t = c.t }
+used_control control.TargetSet c = record (only_control control.TargetSet) { t = c.t; ra = c.ra }
+used_control control.TargetGet c = record (only_control control.TargetGet) { t = c.t; rd = c.rd }
+used_control control.TrapGet c = record (only_control control.TrapGet) { rd = c.rd }
+used_control control.Reserve c = record (only_control control.Reserve) { rd = c.rd; ra = c.ra }
+used_control control.Create c = record (only_control control.Create) { t = c.t; ra = c.ra }
+used_control control.Quit c = only_control control.Quit
+used_control control.QuitKeep c = only_control control.QuitKeep
 -- a mask isn't negative
-used_control control.Mask c = record (no_control control.Mask) { n = pos (unsigned_abs c.n) }
+used_control control.Mask c = record (only_control control.Mask) { n = pos (unsigned_abs c.n) }
 
 -- A field that an operation doesn't use is zero.
 abbrev pub RestIsZero : Insn → Type 0

@@ -1,7 +1,7 @@
 //! The digits of a word, read and written a field at a time. All masks and shifts of the crate are here.
 
 ghost use Rattle.std.specs.Prelude.{◌≡◌, ◌+◌, ◌*◌, ◌/◌, ◌%◌, ◌^◌, ◌<◌, ◌≤◌, ℤ, pos, neg_ℤ, ◌≤ℤ◌, ◌<ℤ◌};
-ghost use Rattle.insn_word.specs.Fields.{complement};
+ghost use Rattle.insn_word.specs.Fields.{twos_complement};
 
 /// The field of `width` digits above the `low` lowest ones.
 pub(crate) fn field(bits: u64, low: u32, width: u32) -> u64
@@ -24,10 +24,10 @@ pub(crate) fn small_field(bits: u64, low: u32, width: u32) -> u8
 /// The number that 6 digits say in two's complement.
 pub(crate) fn signed_6(digits: u8) -> i8
     requires { digits < 2 ^ 6 }
-    ensures digits { complement 6 result ≡ digits }
+    ensures digits { twos_complement 6 result ≡ digits }
     ensures low { neg_ℤ (pos 32) ≤ℤ result }
     ensures high { result <ℤ pos 32 }
-    ensures only { (z : ℤ) → neg_ℤ (pos 32) ≤ℤ z → z <ℤ pos 32 → complement 6 z ≡ digits → result ≡ z }
+    ensures only { (z : ℤ) → neg_ℤ (pos 32) ≤ℤ z → z <ℤ pos 32 → twos_complement 6 z ≡ digits → result ≡ z }
 {
     let number = digits.cast_signed();
     if digits < 32 { number } else { number - 64 }
@@ -35,22 +35,22 @@ pub(crate) fn signed_6(digits: u8) -> i8
 
 /// The number that 8 digits say in two's complement.
 pub(crate) fn signed_8(digits: u8) -> i8
-    ensures digits { complement 8 result ≡ digits }
-    ensures only { (z : ℤ) → neg_ℤ (pos 128) ≤ℤ z → z <ℤ pos 128 → complement 8 z ≡ digits → result ≡ z }
+    ensures digits { twos_complement 8 result ≡ digits }
+    ensures only { (z : ℤ) → neg_ℤ (pos 128) ≤ℤ z → z <ℤ pos 128 → twos_complement 8 z ≡ digits → result ≡ z }
 {
     digits.cast_signed()
 }
 
 /// The 6 digits of a number in two's complement.
 pub(crate) fn digits_6(number: i8) -> u64
-    ensures { neg_ℤ (pos 32) ≤ℤ number → number <ℤ pos 32 → result ≡ complement 6 number }
+    ensures { neg_ℤ (pos 32) ≤ℤ number → number <ℤ pos 32 → result ≡ twos_complement 6 number }
 {
     u64::from(number.cast_unsigned() % 64)
 }
 
 /// The 8 digits of a number in two's complement.
 pub(crate) fn digits_8(number: i8) -> u64
-    ensures { result ≡ complement 8 number }
+    ensures { result ≡ twos_complement 8 number }
 {
     u64::from(number.cast_unsigned())
 }

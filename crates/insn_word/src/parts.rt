@@ -2,7 +2,7 @@
 
 ghost use Rattle.std.specs.Prelude.{◌≡◌, ◌+◌, ◌*◌, ◌/◌, ◌%◌, ◌<◌, ◌^◌, ◌↔◌, IsTrue, IfSome};
 ghost use Rattle.insn_word.specs.Operations.{condition_number};
-ghost use Rattle.insn_word.specs.Fields.{number, AreInRange};
+ghost use Rattle.insn_word.specs.Fields.{number_of_fields, AreInRange};
 ghost use Rattle.insn_word.specs.Words.{memory_fields, arithmetic_fields, argument_fields, control_fields};
 ghost use Rattle.insn_word.specs.Words.{used_memory, used_arithmetic, used_control};
 ghost use Rattle.insn_word.specs.Words.{memory_destination, arithmetic_destination, control_destination};
@@ -33,8 +33,8 @@ impl MPart {
     fn read(bits: u64) -> Option<MPart>
         requires { bits < 2 ^ 21 }
         ensures in_range { IfSome result (λ m. AreInRange (memory_fields m)) }
-        ensures number { IfSome result (λ m. number (memory_fields m) ≡ bits) }
-        ensures only { (m : MPart) → AreInRange (memory_fields m) → number (memory_fields m) ≡ bits
+        ensures number { IfSome result (λ m. number_of_fields (memory_fields m) ≡ bits) }
+        ensures only { (m : MPart) → AreInRange (memory_fields m) → number_of_fields (memory_fields m) ≡ bits
             → result ≡ Some m }
     {
         Some(MPart {
@@ -48,7 +48,7 @@ impl MPart {
 
     /// The 21 digits of the part.
     pub(crate) fn bits(&self) -> u64
-        ensures { AreInRange (memory_fields self.now) → result ≡ number (memory_fields self.now) }
+        ensures { AreInRange (memory_fields self.now) → result ≡ number_of_fields (memory_fields self.now) }
     {
         let bits = with_field(self.op.number(), 2, self.acc.number());
         let bits = with_field(bits, 5, u64::from(self.rd));
@@ -101,7 +101,7 @@ impl APart {
 
     /// The 21 digits of the part.
     pub(crate) fn bits(&self) -> u64
-        ensures { AreInRange (arithmetic_fields self.now) → result ≡ number (arithmetic_fields self.now) }
+        ensures { AreInRange (arithmetic_fields self.now) → result ≡ number_of_fields (arithmetic_fields self.now) }
     {
         let bits = with_field(self.op.number(), 1, u64::from(self.test));
         let bits = with_field(bits, 1, u64::from(self.imm));
@@ -217,7 +217,7 @@ impl CPart {
 
     /// The 18 digits of the part.
     pub(crate) fn bits(&self) -> u64
-        ensures { AreInRange (control_fields self.now) → result ≡ number (control_fields self.now) }
+        ensures { AreInRange (control_fields self.now) → result ≡ number_of_fields (control_fields self.now) }
     {
         with_field(self.op.number(), 14, self.argument_bits())
     }
@@ -225,7 +225,7 @@ impl CPart {
     /// The 14 digits of the arguments.
     fn argument_bits(&self) -> u64
         ensures { AreInRange (argument_fields self.now.op self.now)
-            → result ≡ number (argument_fields self.now.op self.now) }
+            → result ≡ number_of_fields (argument_fields self.now.op self.now) }
     {
         let t = u64::from(self.t);
         let rd = u64::from(self.rd);

@@ -1,7 +1,7 @@
 //! Which word spells which instruction, in both directions.
 
 ghost use Rattle.std.specs.Prelude.{◌≡◌, ◌<◌, ◌≤◌, ◌^◌, ◌↔◌, ℕ, IsTrue, IfSome, IsNone};
-ghost use Rattle.insn_word.specs.Fields.{number, AreInRange};
+ghost use Rattle.insn_word.specs.Fields.{number_of_fields, AreInRange};
 ghost use Rattle.insn_word.specs.Words.{fields, AreApart, WriteApart, Spells, IsValid};
 ghost use Rattle.insn_word.specs.Reading.{instruction};
 ghost use Rattle.insn_word.specs.Parts.{Holds};
@@ -25,7 +25,7 @@ impl Insn {
 
     /// The word that the fields make, where each is in its range.
     fn bits(&self) -> u64
-        ensures { AreInRange (fields self.now) → result ≡ number (fields self.now) }
+        ensures { AreInRange (fields self.now) → result ≡ number_of_fields (fields self.now) }
     {
         match self {
             Insn::Wide { look, op, reg, imm } => {

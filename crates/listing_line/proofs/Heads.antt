@@ -13,7 +13,7 @@ use Rattle.insn_word.specs.declared.operations.ControlOp.{ControlOp}
 use Rattle.insn_word.specs.declared.operations.ControlOp.TheVariants as control
 use Rattle.insn_word.specs.Words.{used_memory}
 use Rattle.insn_word.specs.declared.insn.MPart.{MPart}
-use Rattle.asm_line.specs.Text.{after}
+use Rattle.asm_line.specs.Text.{text_after}
 use Rattle.asm_line.specs.Names.{operation_name}
 use Rattle.asm_line.specs.Heads.{operation_of, operation_named, plain_named, wide_named, memory_named}
 use Rattle.asm_line.specs.Heads.{arithmetic_named, control_named}
@@ -31,35 +31,35 @@ pub record IsHead (o : Operation) : Type 0 where
   pub no_dot : (get_or (operation_name o) 0 0 == 46) ≡ false
 
 pub wide-head : (op : WideOp) → IsHead (operation.Wide op)
-unfolding operation_of operation_named plain_named wide_named memory_named arithmetic_named control_named after
+unfolding operation_of operation_named plain_named wide_named memory_named arithmetic_named control_named text_after
 wide-head wide.Literal = record { term = refl; names = refl; no_at = refl; no_dot = refl }
 wide-head _ = record { term = refl; names = refl; no_at = refl; no_dot = refl }
 
 tag_get : IsHead (operation.Memory memory.TagGet access.FromPointer)
 unfolding operation_of operation_named plain_named wide_named memory_named arithmetic_named control_named
-    access_named after
+    access_named text_after
 tag_get = record { term = refl; names = refl; no_at = refl; no_dot = refl }
 
 tag_set : IsHead (operation.Memory memory.TagSet access.FromPointer)
 unfolding operation_of operation_named plain_named wide_named memory_named arithmetic_named control_named
-    access_named after
+    access_named text_after
 tag_set = record { term = refl; names = refl; no_at = refl; no_dot = refl }
 
 load : (acc : Access) → IsHead (operation.Memory memory.Load acc)
 unfolding operation_of operation_named plain_named wide_named memory_named arithmetic_named control_named
-    access_named after
+    access_named text_after
 load access.FromPointer = record { term = refl; names = refl; no_at = refl; no_dot = refl }
 load _ = record { term = refl; names = refl; no_at = refl; no_dot = refl }
 
 store : (acc : Access) → IsHead (operation.Memory memory.Store acc)
 unfolding operation_of operation_named plain_named wide_named memory_named arithmetic_named control_named
-    access_named after
+    access_named text_after
 store access.FromPointer = record { term = refl; names = refl; no_at = refl; no_dot = refl }
 store _ = record { term = refl; names = refl; no_at = refl; no_dot = refl }
 
 fetch_add : (acc : Access) → IsHead (operation.Memory memory.FetchAdd acc)
 unfolding operation_of operation_named plain_named wide_named memory_named arithmetic_named control_named
-    access_named after
+    access_named text_after
 fetch_add access.FromPointer = record { term = refl; names = refl; no_at = refl; no_dot = refl }
 fetch_add _ = record { term = refl; names = refl; no_at = refl; no_dot = refl }
 
@@ -78,12 +78,12 @@ memory-head memory.FetchAdd m h e = fetch_add m.acc
 pub arithmetic-head : (op : ArithmeticOp) (test : Bool) → is_no_arithmetic op ≡ false
     → IsHead (operation.Arithmetic op test)
 unfolding operation_of operation_named plain_named wide_named memory_named arithmetic_named control_named
-    test_named after
+    test_named text_after
 arithmetic-head arithmetic.Nop test h = absurd (true≢false h)
 arithmetic-head _ true h = record { term = refl; names = refl; no_at = refl; no_dot = refl }
 arithmetic-head _ false h = record { term = refl; names = refl; no_at = refl; no_dot = refl }
 
 pub control-head : (op : ControlOp) → is_no_control op ≡ false → IsHead (operation.Control op)
-unfolding operation_of operation_named plain_named wide_named memory_named arithmetic_named control_named after
+unfolding operation_of operation_named plain_named wide_named memory_named arithmetic_named control_named text_after
 control-head control.Nop h = absurd (true≢false h)
 control-head _ h = record { term = refl; names = refl; no_at = refl; no_dot = refl }

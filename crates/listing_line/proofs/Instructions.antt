@@ -9,7 +9,7 @@ use Rattle.std.proofs.lemmas.Bool.Decides.{eqb_tells}
 use Rattle.insn_word.specs.Fields.{AreInRange, unsigned, zeros}
 use Rattle.insn_word.specs.Words.{memory_fields, arithmetic_fields, control_fields, WriteApart, AreApart, Spells}
 use Rattle.insn_word.specs.Words.{register_fields}
-use Rattle.insn_word.specs.Words.{used_memory, used_arithmetic, used_control, no_memory, no_arithmetic}
+use Rattle.insn_word.specs.Words.{used_memory, used_arithmetic, used_control, memory_nop, arithmetic_nop}
 use Rattle.insn_word.specs.Words.{memory_destination, arithmetic_destination, control_destination}
 use Rattle.insn_word.specs.Reading.{are_apart}
 use Rattle.insn_word.specs.declared.operations.WideOp.{WideOp}
@@ -25,16 +25,16 @@ use Rattle.insn_word.specs.declared.insn.APart.{APart}
 use Rattle.insn_word.specs.declared.insn.CPart.{CPart}
 use Rattle.insn_word.specs.declared.insn.Insn.{Insn}
 use Rattle.insn_word.specs.declared.insn.Insn.TheVariants as insn
-use Rattle.asm_line.specs.Text.{trim, head, behind_head, operands_of, is_blank, after}
+use Rattle.asm_line.specs.Text.{trim, head, behind_head, operands_of, is_blank, text_after}
 use Rattle.asm_line.specs.Names.{wide_name}
 use Rattle.asm_line.specs.Heads.{operation_of, operation_named, plain_named, wide_named, memory_named}
 use Rattle.asm_line.specs.Heads.{arithmetic_named, control_named}
 use Rattle.asm_line.specs.Operands.{Places}
-use Rattle.asm_line.specs.Instructions.{instruction, operations, single, double, triple, looking, no_operation}
+use Rattle.asm_line.specs.Instructions.{instruction_of_text, operations, single, double, triple, looking, no_operation}
 use Rattle.asm_line.specs.Instructions.{memory_arithmetic_word, memory_control_word, arithmetic_control_word}
 use Rattle.asm_line.specs.Instructions.{full_word}
 use Rattle.asm_line.specs.declared.operation.Operation.TheVariants as operation
-use Rattle.listing_line.specs.WordText.{statement_text, joined, operation_texts, unless, lookahead_text, insn_text}
+use Rattle.listing_line.specs.WordText.{statement_text, bar_separated, operation_texts, unless, lookahead_text, insn_text}
 use Rattle.listing_line.specs.WordText.{wide_text, wide_operands}
 use Rattle.listing_line.specs.WordText.{memory_text, arithmetic_text, control_text, is_no_memory, is_no_arithmetic}
 use Rattle.listing_line.specs.WordText.{is_no_control}
@@ -58,12 +58,12 @@ apart x y h = ⊎_elim
 
 -- A part that is NOP.
 
-nop_memory : (op : MemoryOp) (m : MPart) → is_no_memory op ≡ true → used_memory op m ≡ m → no_memory ≡ m
+nop_memory : (op : MemoryOp) (m : MPart) → is_no_memory op ≡ true → used_memory op m ≡ m → memory_nop ≡ m
 nop_memory memory.Nop m h u = u
 nop_memory _ m h u = absurd (true≢false (sym h))
 
 nop_arithmetic : (op : ArithmeticOp) (a : APart) → is_no_arithmetic op ≡ true → used_arithmetic op a ≡ a
-    → no_arithmetic ≡ a
+    → arithmetic_nop ≡ a
 nop_arithmetic arithmetic.Nop a h u = u
 nop_arithmetic _ a h u = absurd (true≢false (sym h))
 
@@ -87,8 +87,8 @@ pub record IsOperations (places : Places) (here : ℕ) (text : List ℕ) (i : In
   pub reads : operations places here text ≡ Ok i
 
 no_operations : (places : Places) (here : ℕ)
-    → IsOperations places here (codes "NOP") (insn.Normal 0 no_memory no_arithmetic no_operation)
-unfolding operations trim head behind_head operands_of after operation_of operation_named plain_named wide_named
+    → IsOperations places here (codes "NOP") (insn.Normal 0 memory_nop arithmetic_nop no_operation)
+unfolding operations trim head behind_head operands_of text_after operation_of operation_named plain_named wide_named
     memory_named arithmetic_named control_named single
 no_operations places here = record {
   plain = record {
@@ -102,7 +102,7 @@ no_operations places here = record {
 -- One operation.
 
 memory_alone : (places : Places) (here : ℕ) (m : MPart) → IsMemoryText m
-    → IsOperations places here (memory_text m) (insn.Normal 0 m no_arithmetic no_operation)
+    → IsOperations places here (memory_text m) (insn.Normal 0 m arithmetic_nop no_operation)
 unfolding operations single
 memory_alone places here m t =
     let texts : AreTexts (memory_text m ∷ []) = (t.operation.is_text, tt) in record {
@@ -111,7 +111,7 @@ memory_alone places here m t =
     }
 
 arithmetic_alone : (places : Places) (here : ℕ) (a : APart) → IsArithmeticText a
-    → IsOperations places here (arithmetic_text a) (insn.Normal 0 no_memory a no_operation)
+    → IsOperations places here (arithmetic_text a) (insn.Normal 0 memory_nop a no_operation)
 unfolding operations single
 arithmetic_alone places here a t =
     let texts : AreTexts (arithmetic_text a ∷ []) = (t.operation.is_text, tt) in record {
@@ -121,7 +121,7 @@ arithmetic_alone places here a t =
     }
 
 control_alone : (places : Places) (here : ℕ) (c : CPart) → IsControlText places here c
-    → IsOperations places here (control_text c) (insn.Normal 0 no_memory no_arithmetic c)
+    → IsOperations places here (control_text c) (insn.Normal 0 memory_nop arithmetic_nop c)
 unfolding operations single
 control_alone places here c t =
     let texts : AreTexts (control_text c ∷ []) = (t.operation.is_text, tt) in record {
@@ -133,7 +133,7 @@ control_alone places here c t =
 
 memory_and_arithmetic : (places : Places) (here : ℕ) (m : MPart) (a : APart) → IsMemoryText m → IsArithmeticText a
     → AreApart (memory_destination m.op m.rd) (arithmetic_destination a.op a.rd)
-    → IsOperations places here (joined (memory_text m ∷ arithmetic_text a ∷ [])) (insn.Normal 0 m a no_operation)
+    → IsOperations places here (bar_separated (memory_text m ∷ arithmetic_text a ∷ [])) (insn.Normal 0 m a no_operation)
 unfolding operations double memory_arithmetic_word
 memory_and_arithmetic places here m a t v h =
     let texts : AreTexts (memory_text m ∷ arithmetic_text a ∷ []) =
@@ -155,7 +155,7 @@ memory_and_arithmetic places here m a t v h =
 memory_and_control : (places : Places) (here : ℕ) (m : MPart) (c : CPart) → IsMemoryText m
     → IsControlText places here c
     → AreApart (memory_destination m.op m.rd) (control_destination c.op c.rd)
-    → IsOperations places here (joined (memory_text m ∷ control_text c ∷ [])) (insn.Normal 0 m no_arithmetic c)
+    → IsOperations places here (bar_separated (memory_text m ∷ control_text c ∷ [])) (insn.Normal 0 m arithmetic_nop c)
 unfolding operations double memory_control_word
 memory_and_control places here m c t v h =
     let texts : AreTexts (memory_text m ∷ control_text c ∷ []) = (t.operation.is_text, (v.operation.is_text, tt)) in
@@ -176,7 +176,7 @@ memory_and_control places here m c t v h =
 arithmetic_and_control : (places : Places) (here : ℕ) (a : APart) (c : CPart) → IsArithmeticText a
     → IsControlText places here c
     → AreApart (arithmetic_destination a.op a.rd) (control_destination c.op c.rd)
-    → IsOperations places here (joined (arithmetic_text a ∷ control_text c ∷ [])) (insn.Normal 0 no_memory a c)
+    → IsOperations places here (bar_separated (arithmetic_text a ∷ control_text c ∷ [])) (insn.Normal 0 memory_nop a c)
 unfolding operations double arithmetic_control_word
 arithmetic_and_control places here a c t v h =
     let texts : AreTexts (arithmetic_text a ∷ control_text c ∷ []) =
@@ -199,7 +199,7 @@ arithmetic_and_control places here a c t v h =
 
 all_operations : (places : Places) (here : ℕ) (m : MPart) (a : APart) (c : CPart)
     → IsMemoryText m → IsArithmeticText a → IsControlText places here c → WriteApart m a c
-    → IsOperations places here (joined (memory_text m ∷ arithmetic_text a ∷ control_text c ∷ []))
+    → IsOperations places here (bar_separated (memory_text m ∷ arithmetic_text a ∷ control_text c ∷ []))
     (insn.Normal 0 m a c)
 unfolding operations triple full_word
 all_operations places here m a c t v w h =
@@ -238,7 +238,7 @@ along places here text m n a b c d e f g o = record {
 }
 
 normal-operations : (places : Places) (here : ℕ) (m : MPart) (a : APart) (c : CPart) → AreParts m a c
-    → IsOperations places here (joined (operation_texts m a c)) (insn.Normal 0 m a c)
+    → IsOperations places here (bar_separated (operation_texts m a c)) (insn.Normal 0 m a c)
 normal-operations places here m a c p =
     go (is_no_memory m.op) (is_no_arithmetic a.op) (is_no_control c.op) refl refl refl
   where
@@ -251,10 +251,10 @@ normal-operations places here m a c p =
     ct : is_no_control c.op ≡ false → IsControlText places here c
     ct h = control-text places here c h p.control p.bare_control
 
-    mn : is_no_memory m.op ≡ true → no_memory ≡ m
+    mn : is_no_memory m.op ≡ true → memory_nop ≡ m
     mn h = nop_memory m.op m h p.bare_memory
 
-    an : is_no_arithmetic a.op ≡ true → no_arithmetic ≡ a
+    an : is_no_arithmetic a.op ≡ true → arithmetic_nop ≡ a
     an h = nop_arithmetic a.op a h p.bare_arithmetic
 
     cn : is_no_control c.op ≡ true → no_operation ≡ c
@@ -262,28 +262,28 @@ normal-operations places here m a c p =
 
     go : (x y z : Bool) → is_no_memory m.op ≡ x → is_no_arithmetic a.op ≡ y → is_no_control c.op ≡ z
         → IsOperations places here
-        (joined (unless x (memory_text m) ++ (unless y (arithmetic_text a) ++ unless z (control_text c))))
+        (bar_separated (unless x (memory_text m) ++ (unless y (arithmetic_text a) ++ unless z (control_text c))))
         (insn.Normal 0 m a c)
     go true true true e f g =
-        along places here (codes "NOP") no_memory m no_arithmetic a no_operation c (mn e) (an f) (cn g)
+        along places here (codes "NOP") memory_nop m arithmetic_nop a no_operation c (mn e) (an f) (cn g)
         (no_operations places here)
     go true true false e f g =
-        along places here (control_text c) no_memory m no_arithmetic a c c (mn e) (an f) refl
+        along places here (control_text c) memory_nop m arithmetic_nop a c c (mn e) (an f) refl
         (control_alone places here c (ct g))
     go true false true e f g =
-        along places here (arithmetic_text a) no_memory m a a no_operation c (mn e) refl (cn g)
+        along places here (arithmetic_text a) memory_nop m a a no_operation c (mn e) refl (cn g)
         (arithmetic_alone places here a (at f))
     go true false false e f g =
-        along places here (joined (arithmetic_text a ∷ control_text c ∷ [])) no_memory m a a c c (mn e) refl refl
+        along places here (bar_separated (arithmetic_text a ∷ control_text c ∷ [])) memory_nop m a a c c (mn e) refl refl
         (arithmetic_and_control places here a c (at f) (ct g) p.apart.arithmetic_control)
     go false true true e f g =
-        along places here (memory_text m) m m no_arithmetic a no_operation c refl (an f) (cn g)
+        along places here (memory_text m) m m arithmetic_nop a no_operation c refl (an f) (cn g)
         (memory_alone places here m (mt e))
     go false true false e f g =
-        along places here (joined (memory_text m ∷ control_text c ∷ [])) m m no_arithmetic a c c refl (an f) refl
+        along places here (bar_separated (memory_text m ∷ control_text c ∷ [])) m m arithmetic_nop a c c refl (an f) refl
         (memory_and_control places here m c (mt e) (ct g) p.apart.memory_control)
     go false false true e f g =
-        along places here (joined (memory_text m ∷ arithmetic_text a ∷ [])) m m a a no_operation c refl refl (cn g)
+        along places here (bar_separated (memory_text m ∷ arithmetic_text a ∷ [])) m m a a no_operation c refl refl (cn g)
         (memory_and_arithmetic places here m a (mt e) (at f) p.apart.memory_arithmetic)
     go false false false e f g = all_operations places here m a c (mt e) (at f) (ct g) p.apart
 
@@ -306,12 +306,12 @@ wide-operations places here op reg imm h low k =
 
 pub record IsInstruction (places : Places) (here : ℕ) (text : List ℕ) (i : Insn) : Type 0 where
   pub printed : IsPrinted text
-  pub reads : instruction places here text ≡ Ok i
+  pub reads : instruction_of_text places here text ≡ Ok i
 
 looked : (places : Places) (here look : ℕ) (text : List ℕ) (i : Insn) → look < 8 → looking 0 i ≡ i
     → IsOperations places here text i
     → IsInstruction places here (lookahead_text look ++ text) (looking look i)
-unfolding instruction head behind_head
+unfolding instruction_of_text head behind_head
 looked places here look text i h none o = ⊎_elim
     (λ e.
     let same : i ≡ looking look i = sym none ∙ ap (λ (n : ℕ). looking n i) (sym e.1) in
@@ -373,5 +373,5 @@ spelt-instruction places here word (insn.Normal look m a c) s =
       bare_control = s.rest.2;
       apart = s.one_writer;
     } in
-    looked places here look (joined (operation_texts m a c)) (insn.Normal 0 m a c) s.in_range.1.0 refl
+    looked places here look (bar_separated (operation_texts m a c)) (insn.Normal 0 m a c) s.in_range.1.0 refl
     (normal-operations places here m a c parts)

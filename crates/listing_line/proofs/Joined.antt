@@ -4,7 +4,7 @@ use Rattle.std.proofs.Common.{get_or, map, refl, sym, append_assoc, true≢false
 use Rattle.std.specs.Prelude.{◌==◌}
 use Rattle.std.specs.List.{list_all}
 use Rattle.asm_line.specs.Text.{trim, parts}
-use Rattle.listing_line.specs.WordText.{joined}
+use Rattle.listing_line.specs.WordText.{bar_separated}
 use Rattle.listing_line.proofs.Bytes.{list_all-imp, list_all-both, lacks, split-at, split-lacks, Starts, IsTrimmed}
 use Rattle.listing_line.proofs.Bytes.{Ends-append, IsTrimmed-append}
 use Rattle.listing_line.proofs.Bytes.{trim-trimmed, trim-blank_before, trim-blank_behind, trim-blank_both}
@@ -30,12 +30,12 @@ AreTexts (x ∷ xs) = IsText x × AreTexts xs
 
 -- cut at the bars and trimmed, also behind a blank
 pub joined-parts : (x : List ℕ) (xs : List (List ℕ)) → AreTexts (x ∷ xs)
-    → (map trim (parts 124 (joined (x ∷ xs))) ≡ x ∷ xs) × (map trim (parts 124 (32 ∷ joined (x ∷ xs))) ≡ x ∷ xs)
+    → (map trim (parts 124 (bar_separated (x ∷ xs))) ≡ x ∷ xs) × (map trim (parts 124 (32 ∷ bar_separated (x ∷ xs))) ≡ x ∷ xs)
 joined-parts x [] e =
     let lone = split-lacks (λ b. b == 124) x (ink-lacks_bar x e.0.ink) in
     (rw (lone, trim-trimmed x e.0.trimmed), rw (lone, trim-blank_before x e.0.trimmed))
 joined-parts x (y ∷ ys) e =
-    let rest = 32 ∷ joined (y ∷ ys) in
+    let rest = 32 ∷ bar_separated (y ∷ ys) in
     let clear = list_all-both (λ b. not (b == 124)) x (32 ∷ []) (ink-lacks_bar x e.0.ink) refl in
     let first = split-at (λ b. b == 124) (x ++ 32 ∷ []) 124 rest clear refl in
     let grouped : x ++ (32 ∷ 124 ∷ rest) ≡ (x ++ 32 ∷ []) ++ 124 ∷ rest =
@@ -66,10 +66,10 @@ text-plain x t = record {
   no_at = t.no_at;
 }
 
-pub joined-plain : (x : List ℕ) (xs : List (List ℕ)) → AreTexts (x ∷ xs) → IsPlain (joined (x ∷ xs))
+pub joined-plain : (x : List ℕ) (xs : List (List ℕ)) → AreTexts (x ∷ xs) → IsPlain (bar_separated (x ∷ xs))
 joined-plain x [] e = text-plain x e.0
 joined-plain x (y ∷ ys) e =
-    let rest = joined (y ∷ ys) in
+    let rest = bar_separated (y ∷ ys) in
     let r = joined-plain y ys e.1 in
     let behind = 32 ∷ 124 ∷ 32 ∷ rest in
     let same = first-append x behind e.0.trimmed.front in record {

@@ -13,18 +13,18 @@ use Rattle.insn_word.specs.Reading as reading
 use Rattle.insn_word.specs.declared.insn.Insn.{Insn}
 use Rattle.number_text.specs.Columns.{five_digits}
 use Rattle.number_text.specs.Digits.{hexadecimal_16}
-use Rattle.number_text.specs.Laws.{ReadsBack}
-use Rattle.asm_line.specs.Text.{after}
+use Rattle.number_text.specs.Laws.{HexadecimalReadsBack}
+use Rattle.asm_line.specs.Text.{text_after}
 use Rattle.asm_line.specs.Names.{directive_name}
 use Rattle.asm_line.specs.Heads.{directive_of, directive_named}
 use Rattle.asm_line.specs.Operands.{Places}
-use Rattle.asm_line.specs.Directives.{directed}
+use Rattle.asm_line.specs.Directives.{item_of_directive}
 use Rattle.asm_line.specs.Lines.{Line, line, line_item, is_word, statement_item, labelling}
 use Rattle.asm_line.specs.declared.operation.Directive.{Directive}
 use Rattle.asm_line.specs.declared.operation.Directive.TheVariants as directive
 use Rattle.asm_line.specs.declared.item.Item.{Item}
 use Rattle.asm_line.specs.declared.item.Item.TheVariants as item
-use Rattle.listing_line.specs.WordText.{statement_text, digits_text, insn_text, raw_text, text_of, word_text}
+use Rattle.listing_line.specs.WordText.{statement_text, digits_text, insn_text, raw_text, instruction_or_raw_text, word_text}
 use Rattle.listing_line.specs.WordText.{place_comment, word_line}
 use Rattle.listing_line.specs.Laws.{is_line_byte, IsReadAs, item_of, word_item, WordLinesReadBack}
 use Rattle.listing_line.proofs.Bytes.{list_all-imp, list_all-both, position-lacks, before-at, before-lacks, IsTrimmed}
@@ -57,8 +57,8 @@ pub record IsShown (text : List ℕ) : Type 0 where
   pub trimmed : IsTrimmed text
   pub print : list_all is_print text ≡ true
 
-no_label : (text : List ℕ) → IsShown text → after 58 text ≡ None
-unfolding after
+no_label : (text : List ℕ) → IsShown text → text_after 58 text ≡ None
+unfolding text_after
 no_label text s =
     let lack = list_all-imp is_print (λ b. not (b == 58)) print-no_colon text s.print in
     rw (position-lacks (λ b. b == 58) text lack, le-ltb (length text) (length text) (omega arith))
@@ -117,7 +117,7 @@ pub record IsDirective (text : List ℕ) (d : Directive) (words : ℕ) (added : 
   pub adds : (places : Places) (here : ℕ) → statement_item places words here text ≡ Ok added
 
 directive-statement : (d : Directive) (ops : List (List ℕ)) (words : ℕ) (added : Item) → all_terms ops ≡ true
-    → ((places : Places) → directed places words d ops ≡ Ok added)
+    → ((places : Places) → item_of_directive places words d ops ≡ Ok added)
     → IsDirective (statement_text (directive_name d) ops) d words added
 unfolding is_word statement_item
 directive-statement d ops words added e reads =
@@ -132,7 +132,7 @@ directive-statement d ops words added e reads =
     }
 
 pub directive-line : (d : Directive) (ops : List (List ℕ)) (words : ℕ) (added : Item) → all_terms ops ≡ true
-    → ((places : Places) → directed places words d ops ≡ Ok added)
+    → ((places : Places) → item_of_directive places words d ops ≡ Ok added)
     → IsReadAs (statement_text (directive_name d) ops) (is_program_word d) words added
 directive-line d ops words added e reads =
     let s = directive-statement d ops words added e reads in
@@ -146,7 +146,7 @@ replicated : (p : ℕ → Bool) (k byte : ℕ) → p byte ≡ true → list_all 
 replicated p zero byte h = refl
 replicated p (suc k) byte h = and_from (p byte) (list_all p (replicate k byte)) h (replicated p k byte h)
 
-comment-one_line : ReadsBack → (place word : ℕ) → place < 2 ^ 16 → word < 2 ^ 64
+comment-one_line : HexadecimalReadsBack → (place word : ℕ) → place < 2 ^ 16 → word < 2 ^ 64
     → list_all is_line_byte (place_comment place word) ≡ true
 unfolding place_comment
 comment-one_line law place word h k =
@@ -166,7 +166,7 @@ comment-cut : (text : List ℕ) (place word : ℕ) → IsShown text
 unfolding place_comment
 comment-cut text place word s = line-commented text (32 ∷ (five_digits place ++ (32 ∷ hexadecimal_16 word))) s
 
-commented-line : ReadsBack → (text : List ℕ) (place word words : ℕ) (added : Item) → place < 2 ^ 16 → word < 2 ^ 64
+commented-line : HexadecimalReadsBack → (text : List ℕ) (place word words : ℕ) (added : Item) → place < 2 ^ 16 → word < 2 ^ 64
     → IsShown text → is_word text ≡ true
     → ((places : Places) (here : ℕ) → statement_item places words here text ≡ Ok added)
     → IsReadAs (text ++ place_comment place word) true words added
@@ -175,9 +175,9 @@ commented-line law text place word words added h k s counted adds =
     (comment-one_line law place word h k) in
     read_as (text ++ place_comment place word) text true words added one (comment-cut text place word s) counted adds
 
-raw-statement : ReadsBack → (word words : ℕ) → word < 2 ^ 64
+raw-statement : HexadecimalReadsBack → (word words : ℕ) → word < 2 ^ 64
     → IsDirective (raw_text word) directive.Word words (item.Word word)
-unfolding raw_text directed
+unfolding raw_text item_of_directive
 raw-statement law word words h =
     directive-statement directive.Word (digits_text word ∷ []) words (item.Word word)
     (and_from (is_term (digits_text word)) true (digits_text-term law word h) refl)
@@ -199,12 +199,12 @@ instruction-statement word words i s =
           (not_empty text p.trimmed.front, p.no_dot, (spelt-instruction places here word i s).reads);
     }
 
-pub word-lines : InstructionIsSpelt → ReadsBack → WordLinesReadBack
+pub word-lines : InstructionIsSpelt → HexadecimalReadsBack → WordLinesReadBack
 unfolding word_line word_text word_item
 word-lines spelt law place word words h k = go (reading.instruction word) refl
   where
     go : (o : Option Insn) → reading.instruction word ≡ o
-        → IsReadAs (text_of word o ++ place_comment place word) true words (item_of word o)
+        → IsReadAs (instruction_or_raw_text word o ++ place_comment place word) true words (item_of word o)
     go None e =
         let s = raw-statement law word words k in
         commented-line law (raw_text word) place word words (item.Word word) h k s.shown s.counted s.adds

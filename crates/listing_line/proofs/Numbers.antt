@@ -11,9 +11,9 @@ use Rattle.std.proofs.lemmas.Bool.Decides.{nat_tests}
 use Rattle.std.proofs.lemmas.Fmt.{decimal_by_steps, decimal_nonempty, decimal_is_IsNumeral}
 use Rattle.number_text.specs.Digits.{hexadecimal_16}
 use Rattle.number_text.specs.Reading.{hexadecimal_word, number_of_digits}
-use Rattle.number_text.specs.Laws.{ReadsBack}
+use Rattle.number_text.specs.Laws.{HexadecimalReadsBack}
 use Rattle.asm_line.specs.Text.{is_name, is_first, is_further}
-use Rattle.asm_line.specs.Numbers.{are_digits, number, number_within, count_within}
+use Rattle.asm_line.specs.Numbers.{are_digits, number_of_text, number_within, count_within}
 use Rattle.asm_line.specs.Operands.{Places, value_within}
 use Rattle.asm_line.specs.Parts.{immediate}
 use Rattle.asm_line.specs.Directives.{word_number}
@@ -72,14 +72,14 @@ Digits-no_prefix (x ∷ y ∷ ys) d =
     let other = digit-no_x y (and_parts (is_decimal y) (list_all is_decimal ys) two.1).0 in
     and_right (nat_eq 48 x) (nat_eq 120 y && true) (and_left (nat_eq 120 y) true other)
 
-Digits-number : (xs : List ℕ) → Digits xs → number xs ≡ Ok (digits_value 10 xs)
-unfolding number
+Digits-number : (xs : List ℕ) → Digits xs → number_of_text xs ≡ Ok (digits_value 10 xs)
+unfolding number_of_text
 Digits-number xs d = rw (Digits-no_prefix xs d, Digits-are_digits xs d)
 
 decimal-value : (n : ℕ) → n < 2 ^ 64 → digits_value 10 (decimal n) ≡ n
 decimal-value n h = (decimal_is_IsNumeral n h).1
 
-pub number-decimal : (n : ℕ) → n < 2 ^ 64 → number (decimal n) ≡ Ok n
+pub number-decimal : (n : ℕ) → n < 2 ^ 64 → number_of_text (decimal n) ≡ Ok n
 number-decimal n h = Digits-number (decimal n) (decimal-Digits n h) ∙ ap Ok (decimal-value n h)
 
 pub number_within-decimal : (most n : ℕ) → n < 2 ^ 64 → n ≤ most → number_within most (decimal n) ≡ Ok n
@@ -132,7 +132,7 @@ word_digits ds n e = ⊎_elim
         (λ h. let bad : None ≡ Some n = rw h at f in absurd (cc))
         (cases_Bool (are_digits 16 ds))
 
-pub hexadecimal-digits : ReadsBack → (n : ℕ) → n < 2 ^ 64 → IsWordDigits (hexadecimal_16 n) n
+pub hexadecimal-digits : HexadecimalReadsBack → (n : ℕ) → n < 2 ^ 64 → IsWordDigits (hexadecimal_16 n) n
 hexadecimal-digits law n h = word_digits (hexadecimal_16 n) n (law n h)
 
 pub hexadecimal-atoms : (ds : List ℕ) (n : ℕ) → IsWordDigits ds n → list_all is_atom ds ≡ true
@@ -140,10 +140,10 @@ hexadecimal-atoms ds n w =
     list_all-imp is_hexadecimal is_atom hexadecimal-atom ds
     (and_parts (nat_lt 0 (length ds)) (list_all is_hexadecimal ds) w.digits).1
 
-pub digits_text-term : ReadsBack → (n : ℕ) → n < 2 ^ 64 → is_term (digits_text n) ≡ true
+pub digits_text-term : HexadecimalReadsBack → (n : ℕ) → n < 2 ^ 64 → is_term (digits_text n) ≡ true
 digits_text-term law n h = hexadecimal-atoms (hexadecimal_16 n) n (hexadecimal-digits law n h)
 
-pub word_number-digits : ReadsBack → (n : ℕ) → n < 2 ^ 64 → word_number (digits_text n) ≡ Ok n
-unfolding word_number number_within number
+pub word_number-digits : HexadecimalReadsBack → (n : ℕ) → n < 2 ^ 64 → word_number (digits_text n) ≡ Ok n
+unfolding word_number number_within number_of_text
 word_number-digits law n h =
     let w = hexadecimal-digits law n h in rw (w.digits, w.value, le-leb n (2 ^ 64 - 1) (omega arith))

@@ -7,7 +7,7 @@ use Rattle.std.proofs.lemmas.Bool.{and_parts, not-true, lt-ltb, ne_eqb}
 use Rattle.std.proofs.lemmas.Bool.Decides.{nat_tests}
 use Rattle.std.proofs.lemmas.List.{length-reverse}
 use Rattle.asm_line.specs.Text.{is_blank, trim, parts, head, behind_head, operands, operands_of}
-use Rattle.listing_line.specs.WordText.{listed, statement_text}
+use Rattle.listing_line.specs.WordText.{comma_separated, statement_text}
 use Rattle.listing_line.proofs.Bytes.{list_all-imp, list_all-both, list_all-reverse, lacks, before-at, before-lacks}
 use Rattle.listing_line.proofs.Bytes.{after-at, after-lacks}
 use Rattle.listing_line.proofs.Bytes.{split-at, split-lacks, Starts, IsTrimmed, Ends-append, IsTrimmed-append}
@@ -95,25 +95,25 @@ term-atoms (x ∷ xs) e = e
 abbrev pub all_terms : List (List ℕ) → Bool
 all_terms ops = list_all is_term ops
 
-listed-trimmed : (x : List ℕ) (xs : List (List ℕ)) → all_terms (x ∷ xs) ≡ true → IsTrimmed (listed (x ∷ xs))
+listed-trimmed : (x : List ℕ) (xs : List (List ℕ)) → all_terms (x ∷ xs) ≡ true → IsTrimmed (comma_separated (x ∷ xs))
 listed-trimmed x [] e = term-trimmed x (and_parts (is_term x) true e).0
 listed-trimmed x (y ∷ ys) e =
     let both = and_parts (is_term x) (all_terms (y ∷ ys)) e in
     let rest = listed-trimmed y ys both.1 in
-    IsTrimmed-append x (44 ∷ 32 ∷ listed (y ∷ ys)) (term-starts x both.0)
-    (Ends-append (44 ∷ 32 ∷ []) (listed (y ∷ ys)) rest.back)
+    IsTrimmed-append x (44 ∷ 32 ∷ comma_separated (y ∷ ys)) (term-starts x both.0)
+    (Ends-append (44 ∷ 32 ∷ []) (comma_separated (y ∷ ys)) rest.back)
 
-listed-ink : (ops : List (List ℕ)) → all_terms ops ≡ true → list_all is_ink (listed ops) ≡ true
+listed-ink : (ops : List (List ℕ)) → all_terms ops ≡ true → list_all is_ink (comma_separated ops) ≡ true
 listed-ink [] e = refl
 listed-ink (x ∷ []) e = atoms-ink x (term-atoms x (and_parts (is_term x) true e).0)
 listed-ink (x ∷ y ∷ ys) e =
     let both = and_parts (is_term x) (all_terms (y ∷ ys)) e in
-    list_all-both is_ink x (44 ∷ 32 ∷ listed (y ∷ ys)) (atoms-ink x (term-atoms x both.0))
+    list_all-both is_ink x (44 ∷ 32 ∷ comma_separated (y ∷ ys)) (atoms-ink x (term-atoms x both.0))
     (listed-ink (y ∷ ys) both.1)
 
 -- cut at the commas and trimmed, also behind a blank
 cut : (x : List ℕ) (xs : List (List ℕ)) → all_terms (x ∷ xs) ≡ true
-    → (map trim (parts 44 (listed (x ∷ xs))) ≡ x ∷ xs) × (map trim (parts 44 (32 ∷ listed (x ∷ xs))) ≡ x ∷ xs)
+    → (map trim (parts 44 (comma_separated (x ∷ xs))) ≡ x ∷ xs) × (map trim (parts 44 (32 ∷ comma_separated (x ∷ xs))) ≡ x ∷ xs)
 cut x [] e =
     let term = (and_parts (is_term x) true e).0 in
     let lone = split-lacks (λ b. b == 44) x (atoms-lack_comma x (term-atoms x term)) in
@@ -121,7 +121,7 @@ cut x [] e =
     (rw (lone, trim-trimmed x t), rw (lone, trim-blank_before x t))
 cut x (y ∷ ys) e =
     let both = and_parts (is_term x) (all_terms (y ∷ ys)) e in
-    let first = split-at (λ b. b == 44) x 44 (32 ∷ listed (y ∷ ys)) (atoms-lack_comma x (term-atoms x both.0)) refl in
+    let first = split-at (λ b. b == 44) x 44 (32 ∷ comma_separated (y ∷ ys)) (atoms-lack_comma x (term-atoms x both.0)) refl in
     let t = term-trimmed x both.0 in
     let rest = (cut y ys both.1).1 in
     (rw (first, trim-trimmed x t, rest), rw (first, trim-blank_before x t, rest))
@@ -139,7 +139,7 @@ statement name [] e es =
     }
 statement name (x ∷ xs) e es =
     let lack = atoms-lack_blank name (term-atoms name e) in
-    let ops = listed (x ∷ xs) in
+    let ops = comma_separated (x ∷ xs) in
     let t = listed-trimmed x xs es in record {
       trimmed = IsTrimmed-append name (32 ∷ ops) (term-starts name e) (Ends-append (32 ∷ []) ops t.back);
       ink = list_all-both is_ink name (32 ∷ ops) (atoms-ink name (term-atoms name e)) (listed-ink (x ∷ xs) es);

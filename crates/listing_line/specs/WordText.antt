@@ -25,15 +25,15 @@ use Rattle.asm_line.specs.declared.operation.Directive.TheVariants as directive
 -- Statements.
 
 -- operands, with a comma and a blank between two
-abbrev pub listed : List (List ℕ) → List ℕ
-listed [] = []
-listed (x ∷ []) = x
-listed (x ∷ y ∷ ys) = x ++ (codes ", " ++ listed (y ∷ ys))
+abbrev pub comma_separated : List (List ℕ) → List ℕ
+comma_separated [] = []
+comma_separated (x ∷ []) = x
+comma_separated (x ∷ y ∷ ys) = x ++ (codes ", " ++ comma_separated (y ∷ ys))
 
 -- a head, and behind a blank its operands, if it has any
 abbrev pub statement_text : List ℕ → List (List ℕ) → List ℕ
 statement_text head [] = head
-statement_text head (x ∷ xs) = head ++ (codes " " ++ listed (x ∷ xs))
+statement_text head (x ∷ xs) = head ++ (codes " " ++ comma_separated (x ∷ xs))
 
 -- Operands.
 
@@ -126,10 +126,10 @@ abbrev pub operation_texts : MPart → APart → CPart → List (List ℕ)
 operation_texts m a c = memory_texts m ++ (arithmetic_texts a ++ control_texts c)
 
 -- with a bar between two; no operation at all is NOP
-abbrev pub joined : List (List ℕ) → List ℕ
-joined [] = codes "NOP"
-joined (x ∷ []) = x
-joined (x ∷ y ∷ ys) = x ++ (codes " | " ++ joined (y ∷ ys))
+abbrev pub bar_separated : List (List ℕ) → List ℕ
+bar_separated [] = codes "NOP"
+bar_separated (x ∷ []) = x
+bar_separated (x ∷ y ∷ ys) = x ++ (codes " | " ++ bar_separated (y ∷ ys))
 
 -- the lookahead, with a blank behind it; one of 0 is not printed
 abbrev pub lookahead_text : ℕ → List ℕ
@@ -137,7 +137,7 @@ lookahead_text look = if look == 0 then [] else codes "@" ++ (decimal look ++ co
 
 unfoldable pub insn_text : Insn → List ℕ
 insn_text (insn.Wide look op reg imm) = lookahead_text look ++ wide_text op reg imm
-insn_text (insn.Normal look m a c) = lookahead_text look ++ joined (operation_texts m a c)
+insn_text (insn.Normal look m a c) = lookahead_text look ++ bar_separated (operation_texts m a c)
 
 -- Words.
 
@@ -145,12 +145,12 @@ insn_text (insn.Normal look m a c) = lookahead_text look ++ joined (operation_te
 unfoldable pub raw_text : ℕ → List ℕ
 raw_text word = statement_text (directive_name directive.Word) (digits_text word ∷ [])
 
-abbrev pub text_of : ℕ → Option Insn → List ℕ
-text_of word None = raw_text word
-text_of word (Some i) = insn_text i
+abbrev pub instruction_or_raw_text : ℕ → Option Insn → List ℕ
+instruction_or_raw_text word None = raw_text word
+instruction_or_raw_text word (Some i) = insn_text i
 
 unfoldable pub word_text : ℕ → List ℕ
-word_text word = text_of word (instruction word)
+word_text word = instruction_or_raw_text word (instruction word)
 
 -- the comment behind a word: its place in five digits, and the word
 unfoldable pub place_comment : ℕ → ℕ → List ℕ

@@ -3,7 +3,7 @@
 ghost use Rattle.std.specs.Prelude.{◌≡◌, ◌++◌, OnOk, string_bytes, codes};
 ghost use Rattle.listing_line.specs.WordText.{is_no_memory, is_no_arithmetic, is_no_control, lookahead_text};
 ghost use Rattle.listing_line.specs.WordText.{insn_text};
-ghost use Rattle.listing_line.specs.WordText.{joined, memory_texts, arithmetic_texts, control_texts};
+ghost use Rattle.listing_line.specs.WordText.{bar_separated, memory_texts, arithmetic_texts, control_texts};
 ghost use Rattle.listing_line.specs.WordText.{word_text, word_line};
 
 use crate::operations::{push_arithmetic, push_control, push_memory, push_wide};
@@ -68,7 +68,7 @@ fn push_lookahead(text: &mut String, look: u8) -> Result<(), AllocError>
 /// Appends the operations that are not NOP, with bars between them, or NOP where there is none.
 fn push_operations(text: &mut String, m: &MPart, a: &APart, c: &CPart) -> Result<(), AllocError>
     ensures { OnOk result (string_bytes text.new ≡ string_bytes text.old
-        ++ joined (memory_texts m.now ++ (arithmetic_texts a.now ++ control_texts c.now))) }
+        ++ bar_separated (memory_texts m.now ++ (arithmetic_texts a.now ++ control_texts c.now))) }
 {
     if m.op == MemoryOp::Nop {
         return push_without_memory(text, a, c);
@@ -83,7 +83,7 @@ fn push_operations(text: &mut String, m: &MPart, a: &APart, c: &CPart) -> Result
 
 fn push_without_memory(text: &mut String, a: &APart, c: &CPart) -> Result<(), AllocError>
     ensures { OnOk result (string_bytes text.new ≡ string_bytes text.old
-        ++ joined (arithmetic_texts a.now ++ control_texts c.now)) }
+        ++ bar_separated (arithmetic_texts a.now ++ control_texts c.now)) }
 {
     if a.op == ArithmeticOp::Nop {
         return push_only_control(text, c);
@@ -97,7 +97,7 @@ fn push_without_memory(text: &mut String, a: &APart, c: &CPart) -> Result<(), Al
 }
 
 fn push_only_control(text: &mut String, c: &CPart) -> Result<(), AllocError>
-    ensures { OnOk result (string_bytes text.new ≡ string_bytes text.old ++ joined (control_texts c.now)) }
+    ensures { OnOk result (string_bytes text.new ≡ string_bytes text.old ++ bar_separated (control_texts c.now)) }
 {
     if c.op == ControlOp::Nop {
         return text.push_str("NOP");

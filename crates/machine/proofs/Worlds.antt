@@ -8,34 +8,34 @@ use Rattle.image_file.specs.ImageValue.{ImageValue}
 use Rattle.stream_core.specs.declared.steps.Outcome.{Outcome}
 use Rattle.stream_core.specs.declared.steps.Outcome.TheVariants.{Skipped}
 use Rattle.processor.specs.Processors.{ProcessorValue}
-use Rattle.processor.specs.Row.{served}
-use Rattle.processor.specs.World.{World, taken, stepped_at, stepped, after, steps}
+use Rattle.processor.specs.Row.{row_over_memory}
+use Rattle.processor.specs.World.{World, world_with, world_step_at, world_step, after, steps}
 use Rattle.processor.specs.declared.steps.Step.{Step}
 use Rattle.machine.specs.MachineValue.{MachineValue, machine_of}
 
 -- One step.
 
 pub absent : (now : MachineValue) (image : ImageValue) (ps : List ProcessorValue) (m : TaggedMemory) (t : Step)
-    → machine_of image ps m ≡ now → length ps ≤ t.p → (now.world, Skipped) ≡ stepped now.image now.world t
-unfolding stepped
+    → machine_of image ps m ≡ now → length ps ≤ t.p → (now.world, Skipped) ≡ world_step now.image now.world t
+unfolding world_step
 absent now image ps m t same past =
     let none = ap (λ (v : MachineValue). slice_get v.world.processors t.p) (sym same) ∙ slice_get_past ps t.p past in
-    sym (ap (stepped_at now.image now.world t) none)
+    sym (ap (world_step_at now.image now.world t) none)
 
 there_taken : (image : ImageValue) (w : World) (t : Step) (proc next : ProcessorValue) (m : TaggedMemory)
-    (o : Outcome) → slice_get w.processors t.p ≡ Some proc → ((next, o), m) ≡ served image proc t.s w.memory
-    → (record { processors = set w.processors t.p next; memory = m }, o) ≡ stepped image w t
-unfolding stepped
-there_taken image w t proc next m o there is = ap (taken w t.p) is ∙ sym (ap (stepped_at image w t) there)
+    (o : Outcome) → slice_get w.processors t.p ≡ Some proc → ((next, o), m) ≡ row_over_memory image proc t.s w.memory
+    → (record { processors = set w.processors t.p next; memory = m }, o) ≡ world_step image w t
+unfolding world_step
+there_taken image w t proc next m o there is = ap (world_with w t.p) is ∙ sym (ap (world_step_at image w t) there)
 
 pub present : (now : MachineValue) (image : ImageValue) (ps : List ProcessorValue) (m mem : TaggedMemory) (t : Step)
     (count : ℕ) (proc next : ProcessorValue) (o : Outcome) → machine_of image ps m ≡ now → count ≡ length ps
-    → t.p < count → proc ≡ get_or ps t.p proc → ((next, o), mem) ≡ served image proc t.s m
-    → (record { processors = set ps t.p next; memory = mem }, o) ≡ stepped now.image now.world t
+    → t.p < count → proc ≡ get_or ps t.p proc → ((next, o), mem) ≡ row_over_memory image proc t.s m
+    → (record { processors = set ps t.p next; memory = mem }, o) ≡ world_step now.image now.world t
 present now image ps m mem t count proc next o same all below read is =
     let there = slice_get_read ps count t.p proc all below read in
     there_taken image (record { processors = ps; memory = m }) t proc next mem o there is
-    ∙ ap (λ (v : MachineValue). stepped v.image v.world t) same
+    ∙ ap (λ (v : MachineValue). world_step v.image v.world t) same
 
 -- A schedule.
 
@@ -44,13 +44,13 @@ abbrev pub ran : MachineValue → List Step → MachineValue
 ran m ts = record m { world = steps m.image m.world ts }
 
 ran_first : (old new : MachineValue) (o : Outcome) (t : Step) (ts : List Step)
-    → (new.world, o) ≡ stepped old.image old.world t → new.image ≡ old.image → ran new ts ≡ ran old (t ∷ ts)
+    → (new.world, o) ≡ world_step old.image old.world t → new.image ≡ old.image → ran new ts ≡ ran old (t ∷ ts)
 ran_first old new o t ts is same =
     let world : new.world ≡ after old.image old.world t = ap (λ (x : World × Outcome). x.0) is in
     λ i. record { image = same i; world = steps (same i) (world i) ts }
 
 pub ran_step : (old new : MachineValue) (o : Outcome) (t : Step) (ts : List Step) (i : ℕ) → i < length ts
-    → t ≡ get_or ts i t → (new.world, o) ≡ stepped old.image old.world t → new.image ≡ old.image
+    → t ≡ get_or ts i t → (new.world, o) ≡ world_step old.image old.world t → new.image ≡ old.image
     → ran new (drop (i + 1) ts) ≡ ran old (drop i ts)
 ran_step old new o t ts i below read is same =
     let rest : drop (i + 1) ts ≡ drop (suc i) ts = ap (λ k. drop k ts) (add-one i) in

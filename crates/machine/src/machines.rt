@@ -4,7 +4,7 @@ ghost use Rattle.std.specs.Prelude.{◌≡◌, ◌<◌, ◌≤◌, ◌↔◌, �
 ghost use Rattle.std.specs.Option.{option_copied};
 ghost use Rattle.tag_memory.specs.Storage.{cell_at};
 ghost use Rattle.processor.specs.Processors.{ProcessorValue, IsCounted};
-ghost use Rattle.processor.specs.World.{start, stepped, steps};
+ghost use Rattle.processor.specs.World.{start, world_step, steps};
 ghost use Rattle.machine.specs.MachineValue.{IsMachine, stream_of, counts_of};
 
 use crate::load_fault::LoadFault;
@@ -64,7 +64,7 @@ impl<'i, const S: usize> Machine<'i, S> {
     /// One step of stream `s` of processor `p`: what the operation table says of it, and its outcome. `Skipped`, with
     /// nothing changed, where there is no such processor or no such stream runs.
     pub fn step(&mut self, p: u8, s: u8) -> Outcome
-        ensures world { (self.new.world, result) ≡ stepped self.old.image self.old.world (record { p = p; s = s }) }
+        ensures world { (self.new.world, result) ≡ world_step self.old.image self.old.world (record { p = p; s = s }) }
         ensures image { self.new.image ≡ self.old.image }
     {
         let place = p as usize;

@@ -8,7 +8,7 @@ use Rattle.std.specs.List.{filter_map, cons_option, before_first, after_first}
 use Rattle.number_text.specs.Reading.{hexadecimal_word}
 use Rattle.trace_text.specs.Lines.{is_line_end, lines_of}
 use Rattle.trace_text.proofs.FirstLine.{lines-first}
-use Rattle.mta_engines.specs.ProgramLines.{most_words, program_of, least, empty_fault, too_many_fault, malformed_from}
+use Rattle.mta_engines.specs.ProgramLines.{most_program_words, program_of, least_line, empty_fault, too_many_fault, malformed_from}
 use Rattle.mta_engines.specs.ProgramLines.{words_unless}
 use Rattle.mta_engines.specs.declared.tool_fault.ToolFault.{ToolFault}
 use Rattle.mta_engines.specs.declared.tool_fault.ToolFault.TheVariants.{Words}
@@ -21,7 +21,7 @@ ended (word ∷ words) = Ok (word ∷ words)
 
 abbrev pub line_read : ℕ → Option ℕ → (ℕ → Result (List ℕ) ToolFault) → Result (List ℕ) ToolFault
 line_read count None rest = Err (Words (count + 1))
-line_read count (Some word) rest = if count == most_words then Err (Words (count + 1)) else rest word
+line_read count (Some word) rest = if count == most_program_words then Err (Words (count + 1)) else rest word
 
 unfoldable pub read_on : List ℕ → List (List ℕ) → Result (List ℕ) ToolFault
 read_on words [] = ended words
@@ -31,24 +31,24 @@ read_on words (line ∷ lines) = line_read (length words) (hexadecimal_word line
 -- The least fault of those.
 
 abbrev count_fault : ℕ → Option ℕ
-count_fault count = least (empty_fault count) (too_many_fault count)
+count_fault count = least_line (empty_fault count) (too_many_fault count)
 
 abbrev fault_from : ℕ → List (List ℕ) → Option ℕ
-fault_from count lines = least (malformed_from (count + 1) lines) (count_fault (count + length lines))
+fault_from count lines = least_line (malformed_from (count + 1) lines) (count_fault (count + length lines))
 
-no_count_fault : (count : ℕ) → 0 < count → count ≤ most_words → count_fault count ≡ None
+no_count_fault : (count : ℕ) → 0 < count → count ≤ most_program_words → count_fault count ≡ None
 no_count_fault count some few =
     let not_empty = ne_eqb count 0 (λ e. omega arith) in
-    let not_many = le-leb count most_words few in
+    let not_many = le-leb count most_program_words few in
     rw (not_empty, not_many) refl
 
 -- a malformed line is before the first line too many
-least-malformed : (count all : ℕ) → count ≤ most_words → 0 < all
-    → least (Some (count + 1)) (count_fault all) ≡ Some (count + 1)
+least-malformed : (count all : ℕ) → count ≤ most_program_words → 0 < all
+    → least_line (Some (count + 1)) (count_fault all) ≡ Some (count + 1)
 least-malformed count all few some =
     let not_empty = ne_eqb all 0 (λ e. omega arith) in
-    let same : min (count + 1) (most_words + 1) ≡ count + 1 = omega arith in
-    elim (cases_Bool (nat_le all most_words)) [
+    let same : min (count + 1) (most_program_words + 1) ≡ count + 1 = omega arith in
+    elim (cases_Bool (nat_le all most_program_words)) [
       | inl h ↦ rw (not_empty, h) refl
       | inr h ↦ rw (not_empty, h) (ap (λ n. Some n) same)
     ]
@@ -65,16 +65,16 @@ malformed-at_least n m (line ∷ lines) le =
     (λ e. malformed-at_least n (m + 1) lines (omega arith))
     (λ e. le)
 
-least-at_most : (line : Option ℕ) (n : ℕ) → AtLeast n line → least line (Some n) ≡ Some n
+least-at_most : (line : Option ℕ) (n : ℕ) → AtLeast n line → least_line line (Some n) ≡ Some n
 least-at_most None n le = refl
 least-at_most (Some line) n le = let same : min line n ≡ n = omega arith in ap (λ m. Some m) same
 
-least-too_many : (line : Option ℕ) (all : ℕ) → AtLeast (most_words + 1) line → most_words < all
-    → least line (count_fault all) ≡ Some (most_words + 1)
+least-too_many : (line : Option ℕ) (all : ℕ) → AtLeast (most_program_words + 1) line → most_program_words < all
+    → least_line line (count_fault all) ≡ Some (most_program_words + 1)
 least-too_many line all le many =
     let not_empty = ne_eqb all 0 (λ e. omega arith) in
-    let too_many = lt-leb all most_words many in
-    rw (not_empty, too_many) (least-at_most line (most_words + 1) le)
+    let too_many = lt-leb all most_program_words many in
+    rw (not_empty, too_many) (least-at_most line (most_program_words + 1) le)
 
 -- Reading on gives the words, or the least fault.
 
@@ -82,17 +82,17 @@ abbrev IsRead : List ℕ → List (List ℕ) → Type 0
 IsRead words lines = read_on words lines ≡ words_unless (fault_from (length words) lines)
     (words ++ filter_map hexadecimal_word lines)
 
-IsRead-nil : (words : List ℕ) → length words ≤ most_words → IsRead words []
+IsRead-nil : (words : List ℕ) → length words ≤ most_program_words → IsRead words []
 unfolding read_on
 IsRead-nil [] few = refl
 IsRead-nil (word ∷ words) few =
     let none = no_count_fault (length (word ∷ words) + 0) (omega arith) (omega arith) in
     rw (none, append-nil) refl
 
-IsRead-cons : (o : Option ℕ) (words : List ℕ) (lines : List (List ℕ)) → length words ≤ most_words
-    → ((word : ℕ) → length (words ++ word ∷ []) ≤ most_words → IsRead (words ++ word ∷ []) lines)
+IsRead-cons : (o : Option ℕ) (words : List ℕ) (lines : List (List ℕ)) → length words ≤ most_program_words
+    → ((word : ℕ) → length (words ++ word ∷ []) ≤ most_program_words → IsRead (words ++ word ∷ []) lines)
     → line_read (length words) o (λ word. read_on (words ++ word ∷ []) lines)
-    ≡ words_unless (least (if is_some o then malformed_from (length words + 1 + 1) lines else Some (length words + 1))
+    ≡ words_unless (least_line (if is_some o then malformed_from (length words + 1 + 1) lines else Some (length words + 1))
     (count_fault (length words + suc (length lines))))
     (words ++ cons_option o (filter_map hexadecimal_word lines))
 IsRead-cons None words lines few rest =
@@ -100,10 +100,10 @@ IsRead-cons None words lines few rest =
     (least-malformed (length words) (length words + suc (length lines)) few (omega arith)))
 IsRead-cons (Some word) words lines few rest =
     let found = filter_map hexadecimal_word lines in
-    elim (cases_eq (length words) most_words) [
+    elim (cases_eq (length words) most_program_words) [
       | inl full ↦
-          let later = malformed-at_least (most_words + 1) (length words + 1 + 1) lines (omega arith) in
-          cond-true _ _ _ (eq-eqb (length words) most_words full) ∙ ap (λ n. Err (Words (n + 1))) full
+          let later = malformed-at_least (most_program_words + 1) (length words + 1 + 1) lines (omega arith) in
+          cond-true _ _ _ (eq-eqb (length words) most_program_words full) ∙ ap (λ n. Err (Words (n + 1))) full
           ∙ sym (ap (λ f. words_unless f (words ++ word ∷ found))
           (least-too_many (malformed_from (length words + 1 + 1) lines) (length words + suc (length lines)) later
           (omega arith)))
@@ -111,16 +111,16 @@ IsRead-cons (Some word) words lines few rest =
           let one_more : length (words ++ word ∷ []) ≡ length words + 1 =
           omega (arith, length-append words (word ∷ [])) in
           let all : length words + 1 + length lines ≡ length words + suc (length lines) = omega arith in
-          cond-false _ _ _ (ne_eqb (length words) most_words room) ∙ rest word (omega arith)
-          ∙ ap (λ n. words_unless (least (malformed_from (n + 1) lines) (count_fault (n + length lines)))
+          cond-false _ _ _ (ne_eqb (length words) most_program_words room) ∙ rest word (omega arith)
+          ∙ ap (λ n. words_unless (least_line (malformed_from (n + 1) lines) (count_fault (n + length lines)))
           ((words ++ word ∷ []) ++ found)) one_more
-          ∙ ap (λ n. words_unless (least (malformed_from (length words + 1 + 1) lines) (count_fault n))
+          ∙ ap (λ n. words_unless (least_line (malformed_from (length words + 1 + 1) lines) (count_fault n))
           ((words ++ word ∷ []) ++ found)) all
-          ∙ ap (λ ws. words_unless (least (malformed_from (length words + 1 + 1) lines)
+          ∙ ap (λ ws. words_unless (least_line (malformed_from (length words + 1 + 1) lines)
           (count_fault (length words + suc (length lines)))) ws) (append_assoc words (word ∷ []) found)
     ]
 
-pub read_is : (words : List ℕ) (lines : List (List ℕ)) → length words ≤ most_words → IsRead words lines
+pub read_is : (words : List ℕ) (lines : List (List ℕ)) → length words ≤ most_program_words → IsRead words lines
 unfolding read_on
 read_is words [] few = IsRead-nil words few
 read_is words (line ∷ lines) few = IsRead-cons (hexadecimal_word line) words lines few
@@ -130,7 +130,7 @@ pub program-read : (text : List ℕ) → program_of text ≡ read_on [] (lines_o
 unfolding program_of
 program-read text =
     let lines = lines_of text in
-    ap (λ n. words_unless (least (malformed_from 1 lines) (count_fault n)) (filter_map hexadecimal_word lines))
+    ap (λ n. words_unless (least_line (malformed_from 1 lines) (count_fault n)) (filter_map hexadecimal_word lines))
     (sym (zero-add (length lines)))
     ∙ sym (read_is [] lines (omega arith))
 
@@ -161,21 +161,21 @@ module _ (text words rest : List ℕ) (left : program_of text ≡ read_on words 
       (lines_of (after_first is_line_end rest)))) none
 
   at_word : (word : ℕ) → (length rest == 0) ≡ false → hexadecimal_word (before_first is_line_end rest) ≡ Some word
-      → program_of text ≡ (if length words == most_words then Err (Words (length words + 1)) else read_on
+      → program_of text ≡ (if length words == most_program_words then Err (Words (length words + 1)) else read_on
       (words ++ word ∷ []) (lines_of (after_first is_line_end rest)))
   at_word word some is = left ∙ read-line words rest some
       ∙ ap (λ o. line_read (length words) o (λ w. read_on (words ++ w ∷ [])
       (lines_of (after_first is_line_end rest)))) is
 
   pub at_too_many : (word : ℕ) → (length rest == 0) ≡ false
-      → hexadecimal_word (before_first is_line_end rest) ≡ Some word → length words ≡ most_words
+      → hexadecimal_word (before_first is_line_end rest) ≡ Some word → length words ≡ most_program_words
       → program_of text ≡ Err (Words (length words + 1))
-  at_too_many word some is full = at_word word some is ∙ cond-true _ _ _ (eq-eqb (length words) most_words full)
+  at_too_many word some is full = at_word word some is ∙ cond-true _ _ _ (eq-eqb (length words) most_program_words full)
 
   pub at_next : (word : ℕ) → (length rest == 0) ≡ false → hexadecimal_word (before_first is_line_end rest) ≡ Some word
-      → (length words ≡ most_words → ⊥)
+      → (length words ≡ most_program_words → ⊥)
       → program_of text ≡ read_on (words ++ word ∷ []) (lines_of (after_first is_line_end rest))
-  at_next word some is room = at_word word some is ∙ cond-false _ _ _ (ne_eqb (length words) most_words room)
+  at_next word some is room = at_word word some is ∙ cond-false _ _ _ (ne_eqb (length words) most_program_words room)
 
   at_end : (length rest == 0) ≡ true → program_of text ≡ ended words
   unfolding read_on lines_of

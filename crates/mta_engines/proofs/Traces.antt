@@ -13,7 +13,7 @@ use Rattle.processor.specs.declared.steps.Step.{Step}
 use Rattle.machine.specs.MachineValue.{MachineValue, IsMachine, stream_of, stream_seen_at}
 use Rattle.image_file.specs.ImageValue.{ImageValue}
 use Rattle.stream_core.specs.declared.steps.Outcome.{Outcome}
-use Rattle.processor.specs.World.{World, stepped, after, outcome_of}
+use Rattle.processor.specs.World.{World, world_step, after, outcome_of}
 use Rattle.trace_text.specs.TraceLines.{trace_line_of}
 use Rattle.mta_engines.specs.RunOutput.{pc_in, pc_of, trace_from}
 
@@ -60,7 +60,7 @@ pc_seen size m t x kept e = ap pc_at e ∙ seen_at size m t (slice_get m.world.p
 -- The text so far and the lines to come are the whole trace.
 
 trace_first : (old new : MachineValue) (o : Outcome) (t : Step) (ts : List Step) (n pc : ℕ)
-    → (new.world, o) ≡ stepped old.image old.world t → new.image ≡ old.image → pc ≡ pc_of old.world t
+    → (new.world, o) ≡ world_step old.image old.world t → new.image ≡ old.image → pc ≡ pc_of old.world t
     → trace_line_of n t pc o ++ trace_from new.image new.world (n + 1) ts ≡ trace_from old.image old.world n (t ∷ ts)
 trace_first old new o t ts n pc is same at =
     let world : new.world ≡ after old.image old.world t = ap (λ (x : World × Outcome). x.0) is in
@@ -69,7 +69,7 @@ trace_first old new o t ts n pc is same at =
 
 pub trace_step : (old new : MachineValue) (o : Outcome) (t : Step) (ts : List Step) (i pc : ℕ)
     (text more all : List ℕ)
-    → i < length ts → t ≡ get_or ts i t → (new.world, o) ≡ stepped old.image old.world t → new.image ≡ old.image
+    → i < length ts → t ≡ get_or ts i t → (new.world, o) ≡ world_step old.image old.world t → new.image ≡ old.image
     → pc ≡ pc_of old.world t → more ≡ text ++ trace_line_of (i + 1) t pc o
     → text ++ trace_from old.image old.world (i + 1) (drop i ts) ≡ all
     → more ++ trace_from new.image new.world (i + 1 + 1) (drop (i + 1) ts) ≡ all

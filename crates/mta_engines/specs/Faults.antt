@@ -43,10 +43,10 @@ abbrev pub IsTold : {A : Type 0} → A → A → ToolFault → ToolFault → Typ
 IsTold kind no_memory as_it_is fault = (kind ≡ no_memory → fault ≡ NoMemory) × (kind ≢ no_memory → fault ≡ as_it_is)
 
 abbrev pub IsOfSource : AsmFault → ToolFault → Type 0
-IsOfSource found = IsTold found.kind source.no_memory.kind (Asm found)
+IsOfSource found = IsTold found.kind source.asm_no_memory.kind (Asm found)
 
 abbrev pub IsOfImage : ImageFault → ToolFault → Type 0
 IsOfImage found = IsTold found image.NoMemory (Image found)
 
 abbrev pub IsOfSchedule : ScheduleFault → ToolFault → Type 0
-IsOfSchedule found = IsTold found.kind schedule.no_memory.kind (Schedule found)
+IsOfSchedule found = IsTold found.kind schedule.schedule_no_memory.kind (Schedule found)

@@ -8,8 +8,8 @@ use Rattle.mta_engines.specs.declared.tool_fault.ToolFault.{ToolFault}
 use Rattle.mta_engines.specs.declared.tool_fault.ToolFault.TheVariants.{Words}
 
 -- the most words of a program
-abbrev pub most_words : ℕ
-most_words = 65536
+abbrev pub most_program_words : ℕ
+most_program_words = 65536
 
 -- the first line that is not 16 hexadecimal digits, where the lines are numbered from n on
 abbrev pub malformed_from : ℕ → List (List ℕ) → Option ℕ
@@ -22,16 +22,16 @@ empty_fault count = if count == 0 then Some 1 else None
 
 -- the first line past the most words that a program has
 abbrev pub too_many_fault : ℕ → Option ℕ
-too_many_fault count = if nat_le count most_words then None else Some (most_words + 1)
+too_many_fault count = if nat_le count most_program_words then None else Some (most_program_words + 1)
 
-abbrev pub least : Option ℕ → Option ℕ → Option ℕ
-least None other = other
-least (Some line) None = Some line
-least (Some line) (Some other) = Some (min line other)
+abbrev pub least_line : Option ℕ → Option ℕ → Option ℕ
+least_line None other = other
+least_line (Some line) None = Some line
+least_line (Some line) (Some other) = Some (min line other)
 
 -- the least line with a fault, if there is one
-abbrev pub line_fault : List (List ℕ) → Option ℕ
-line_fault lines = least (malformed_from 1 lines) (least (empty_fault (length lines)) (too_many_fault (length lines)))
+abbrev pub program_line_fault : List (List ℕ) → Option ℕ
+program_line_fault lines = least_line (malformed_from 1 lines) (least_line (empty_fault (length lines)) (too_many_fault (length lines)))
 
 abbrev pub words_unless : Option ℕ → List ℕ → Result (List ℕ) ToolFault
 words_unless None words = Ok words
@@ -39,4 +39,4 @@ words_unless (Some line) words = Err (Words line)
 
 -- the words that the text's lines spell, one a line, or the fault
 unfoldable pub program_of : List ℕ → Result (List ℕ) ToolFault
-program_of text = words_unless (line_fault (lines_of text)) (filter_map hexadecimal_word (lines_of text))
+program_of text = words_unless (program_line_fault (lines_of text)) (filter_map hexadecimal_word (lines_of text))

@@ -32,8 +32,8 @@ trace_from image w n (t ∷ ts) =
     trace_line_of n t (pc_of w t) (outcome_of image w t) ++ trace_from image (after image w t) (n + 1) ts
 
 -- the trace from the start on, then what the machine came to
-unfoldable pub run_text : ImageValue → List Step → List ℕ
-run_text image ts = trace_from image (start image) 1 ts ++ world_text_of image (run image ts)
+unfoldable pub run_output : ImageValue → List Step → List ℕ
+run_output image ts = trace_from image (start image) 1 ts ++ world_text_of image (run image ts)
 
 -- The inputs.
 
@@ -48,7 +48,7 @@ pub record IsRunOutput (image_bytes schedule_bytes output : List ℕ) : Type 0 w
   pub schedule : List Step
   pub image_is : IsImageOf image_bytes image
   pub schedule_is : IsScheduleOf schedule_bytes schedule
-  pub text : output ≡ run_text image schedule
+  pub text : output ≡ run_output image schedule
 
 abbrev pub HasScheduleFault : List ℕ → ToolFault → Type 0
 HasScheduleFault bytes TooLarge = input_limit < length bytes

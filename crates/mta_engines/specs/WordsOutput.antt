@@ -18,10 +18,10 @@ text_at (Some stream) = stream_text_of stream
 unfoldable pub program_text : List ℕ → List ℕ
 program_text program = text_at (stream_of 1 (words_world program) 0 0)
 
-abbrev pub text_of : Result (List ℕ) ToolFault → Result (List ℕ) ToolFault
-text_of (Ok program) = Ok (program_text program)
-text_of (Err fault) = Err fault
+abbrev pub text_or_fault : Result (List ℕ) ToolFault → Result (List ℕ) ToolFault
+text_or_fault (Ok program) = Ok (program_text program)
+text_or_fault (Err fault) = Err fault
 
 -- the text for an input, or the fault
 abbrev pub words_output : List ℕ → Result (List ℕ) ToolFault
-words_output input = if nat_le (length input) input_limit then text_of (program_of input) else Err TooLarge
+words_output input = if nat_le (length input) input_limit then text_or_fault (program_of input) else Err TooLarge

@@ -17,7 +17,7 @@ mod words_image;
 pub use asm::asm_engine;
 pub use input::INPUT_LIMIT;
 pub use list::list_engine;
-pub use program_lines::MAX_WORDS;
+pub use program_lines::MAX_PROGRAM_WORDS;
 pub use run::run_engine;
 pub use tool_fault::ToolFault;
 pub use words::words_engine;

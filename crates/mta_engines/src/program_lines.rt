@@ -8,13 +8,13 @@ use std::alloc::Global;
 use trace_text::split_line;
 
 /// The most words of a program.
-pub const MAX_WORDS: usize = 65_536;
+pub const MAX_PROGRAM_WORDS: usize = 65_536;
 
 /// The words that a text spells, one a line as 16 hexadecimal digits of either case ("Lines of `words`",
 /// docs/FORMATS.md).
 ///
 /// `Words` names the least line with a fault: one that is anything else, line 1 where there is no line, and the line
-/// after the first [`MAX_WORDS`].
+/// after the first [`MAX_PROGRAM_WORDS`].
 pub(crate) fn read_program(alloc: Global, text: &[u8]) -> Result<Vec<u64>, ToolFault>
     ensures words { IfOk result (λ words. program_of text.now ≡ Ok words.items) }
     ensures some { IfOk result (λ words. 1 ≤ length words.items) }
@@ -30,7 +30,7 @@ pub(crate) fn read_program(alloc: Global, text: &[u8]) -> Result<Vec<u64>, ToolF
         let Some(word) = read_hexadecimal(line) else {
             return Err(ToolFault::Words(number));
         };
-        if words.len() == MAX_WORDS {
+        if words.len() == MAX_PROGRAM_WORDS {
             return Err(ToolFault::Words(number));
         }
         words.push(word)?;

@@ -5,7 +5,7 @@ ghost use Rattle.std.specs.Io.KnownBytes.{Appends, Keeps};
 ghost use Rattle.processor.specs.World.{steps};
 ghost use Rattle.mta_engines.specs.Faults.{IsFaultBy};
 ghost use Rattle.mta_engines.specs.Images.{HasImageFault};
-ghost use Rattle.mta_engines.specs.RunOutput.{run_text, trace_from, pc_of, IsRunOutput, HasRunFault};
+ghost use Rattle.mta_engines.specs.RunOutput.{run_output, trace_from, pc_of, IsRunOutput, HasRunFault};
 
 use crate::inputs::{read_image_input, read_schedule_input};
 use crate::output::write_output;
@@ -51,7 +51,7 @@ pub fn run_engine<I: Read, R: Read, W: Write>(
 
 /// The text of a run. Machines with room for 8 streams a processor take less memory.
 fn compose_text(alloc: Global, image: &Image, steps: &[Step]) -> Result<String, AllocError>
-    ensures { IfOk result (λ text. string_bytes text ≡ run_text image.now steps.now) }
+    ensures { IfOk result (λ text. string_bytes text ≡ run_output image.now steps.now) }
 {
     if image.slim() <= 8 {
         run_machine::<8>(alloc, image, steps)
@@ -61,14 +61,14 @@ fn compose_text(alloc: Global, image: &Image, steps: &[Step]) -> Result<String, 
 }
 
 /// The text of a run on a machine with room for `S` streams a processor.
-#[tactic(auto, unfolding(crate::specs::RunOutput::run_text))]
+#[tactic(auto, unfolding(crate::specs::RunOutput::run_output))]
 fn run_machine<const S: usize>(
     alloc: Global,
     image: &Image,
     steps: &[Step],
 ) -> Result<String, AllocError>
     requires room { image.now.slim ≤ S }
-    ensures { IfOk result (λ text. string_bytes text ≡ run_text image.now steps.now) }
+    ensures { IfOk result (λ text. string_bytes text ≡ run_output image.now steps.now) }
 {
     let mut machine = match Machine::<S>::load(alloc, image) {
         Ok(machine) => machine,

@@ -3,7 +3,7 @@ ghost use Rattle.std.specs.Prelude.{◌≡◌, ◌≢◌, ◌≤◌, length, OnO
 ghost use Rattle.std.specs.Io.KnownBytes.{Appends, Keeps};
 ghost use Rattle.mta_engines.specs.Faults.{IsFaultOf};
 ghost use Rattle.mta_engines.specs.ProgramLines.{program_of};
-ghost use Rattle.mta_engines.specs.WordsOutput.{program_text, text_of, words_output};
+ghost use Rattle.mta_engines.specs.WordsOutput.{program_text, text_or_fault, words_output};
 
 use crate::input::read_input;
 use crate::output::write_output;
@@ -42,9 +42,9 @@ pub fn words_engine<R: Read, W: Write>(
 
 /// The text that the words of an input come to.
 fn compose_text(alloc: Global, input: &[u8]) -> Result<String, ToolFault>
-    ensures text { IfOk result (λ text. text_of (program_of input.now) ≡ Ok (string_bytes text)) }
+    ensures text { IfOk result (λ text. text_or_fault (program_of input.now) ≡ Ok (string_bytes text)) }
     ensures fault { IfErr result (λ fault. fault ≢ ToolFault.NoMemory
-        → text_of (program_of input.now) ≡ Err fault) }
+        → text_or_fault (program_of input.now) ≡ Err fault) }
 {
     let program = read_program(alloc, input)?;
     run_program(alloc, program)

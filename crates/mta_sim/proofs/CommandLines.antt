@@ -6,7 +6,7 @@ use Rattle.clap.specs.declared.error.ErrorKind.TheVariants.{DisplayHelp, Display
 use Rattle.clap.specs.declared.error.ErrorKind.TheVariants.{MissingRequiredArgument, MissingSubcommand}
 use Rattle.clap.specs.declared.error.ErrorKind.TheVariants.{UnknownArgument}
 use Rattle.clap.proofs.OnLiterals.{clap_on_literals}
-use Rattle.mta_sim.specs.CommandLine.{Asked, IsCommand, asked, assemble, list_image, run_image, run_words, tool_app}
+use Rattle.mta_sim.specs.CommandLine.{ToolCommand, IsCommand, command_of_line, assemble, list_image, run_image, run_words, tool_app}
 
 -- the program's name, and the words after it
 abbrev line : List Text → List Text
@@ -14,8 +14,8 @@ line rest = codes "mta_sim" ∷ rest
 
 -- ---- commands, with what they ask for
 
-abbrev Asks : List Text → Asked → Type 0
-Asks rest wanted = IsCommand (line rest) × (asked (line rest) ≡ Some wanted)
+abbrev Asks : List Text → ToolCommand → Type 0
+Asks rest wanted = IsCommand (line rest) × (command_of_line (line rest) ≡ Some wanted)
 
 words : Asks (codes "words" ∷ []) run_words
 unfolding clap_on_literals

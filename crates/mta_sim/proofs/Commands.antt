@@ -15,7 +15,7 @@ use Rattle.clap.specs.Faults.{walk_fault}
 use Rattle.clap.specs.Takes.{is_given}
 use Rattle.clap.specs.declared.parser.matches.ValueSource.TheVariants.{CommandLine}
 use Rattle.clap.specs.declared.builder.value_parser.Reading.TheVariants.{AsWritten}
-use Rattle.mta_sim.specs.CommandLine.{Asked, IsCommand, asked, asked_by, asked_in, assemble, file_rule, list_image}
+use Rattle.mta_sim.specs.CommandLine.{ToolCommand, IsCommand, command_of_line, command_by_name, command_in, assemble, file_rule, list_image}
 use Rattle.mta_sim.specs.CommandLine.{run_image, tool_app, with_paths}
 use Rattle.mta_sim.proofs.Filled.{AreFilled, Each, Fills, given_value, with_values_filled, without_filled}
 use Rattle.mta_sim.proofs.FilledWalks.{level_filled}
@@ -111,13 +111,13 @@ fills_file name i again (v ∷ vs) rows e fine =
 fills_help : (i : ℕ) → Fills (with_index i (filled help_rule))
 fills_help i again values rows e fine = e
 
-paths_there : (request : Text → Text → Asked) (o p : Option Text) → is_some o ≡ true → is_some p ≡ true
+paths_there : (request : Text → Text → ToolCommand) (o p : Option Text) → is_some o ≡ true → is_some p ≡ true
     → is_some (with_paths request o p) ≡ true
 paths_there request None p first second = first
 paths_there request (Some x) None first second = second
 paths_there request (Some x) (Some y) first second = refl
 
-path_there : (request : Text → Asked) (o : Option Text) → is_some o ≡ true → is_some (option_map request o) ≡ true
+path_there : (request : Text → ToolCommand) (o : Option Text) → is_some o ≡ true → is_some (option_map request o) ≡ true
 path_there request None first = first
 path_there request (Some x) first = refl
 
@@ -128,7 +128,7 @@ module _ (words : List Text) where
   abbrev fault : ℕ → Kinds
   fault i = level_fault (sub i) [] nothing_held words false []
 
-  asm_asks : fault 1 ≡ [] → is_some (asked_by (codes "asm") (level 1)) ≡ true
+  asm_asks : fault 1 ≡ [] → is_some (command_by_name (codes "asm") (level 1)) ≡ true
   asm_asks e =
       let passes = level_passes (sub 1) words
       (fills_file (codes "SOURCE") 1, (fills_file (codes "IMAGE") 2, (fills_help 3, tt))) e in
@@ -136,13 +136,13 @@ module _ (words : List Text) where
       paths_there assemble _ _ (given_value (codes "SOURCE") (level 1) passes.0 given.0)
       (given_value (codes "IMAGE") (level 1) passes.0 given.1)
 
-  list_asks : fault 2 ≡ [] → is_some (asked_by (codes "list") (level 2)) ≡ true
+  list_asks : fault 2 ≡ [] → is_some (command_by_name (codes "list") (level 2)) ≡ true
   list_asks e =
       let passes = level_passes (sub 2) words (fills_file (codes "IMAGE") 1, (fills_help 2, tt)) e in
       let given = one_given (is_given (codes "IMAGE") (level 2)) passes.1 in
       path_there list_image _ (given_value (codes "IMAGE") (level 2) passes.0 given)
 
-  run_asks : fault 3 ≡ [] → is_some (asked_by (codes "run") (level 3)) ≡ true
+  run_asks : fault 3 ≡ [] → is_some (command_by_name (codes "run") (level 3)) ≡ true
   run_asks e =
       let passes = level_passes (sub 3) words
       (fills_file (codes "IMAGE") 1, (fills_file (codes "SCHEDULE") 2, (fills_help 3, tt))) e in
@@ -162,7 +162,7 @@ module _ (words : List Text) where
 
   each_asks : (a b c d e : Bool) → (e ≡ true → ⊥) → faults (chosen a b c d e) ≡ []
       → is_some (rows (chosen a b c d e)) ≡ true
-      → is_some (asked_in (rows (chosen a b c d e))) ≡ true
+      → is_some (command_in (rows (chosen a b c d e))) ≡ true
   each_asks true b c d e other fine some = refl
   each_asks false true c d e other fine some = asm_asks fine
   each_asks false false true d e other fine some = list_asks fine
@@ -177,7 +177,7 @@ help_apart name other is =
     cc
 
 stop_asks : (o : Option (Text × List Text)) → is_no_help o ≡ true → entered_fault tool_built o ≡ []
-    → is_some (entered tool_built o) ≡ true → is_some (asked_in (entered tool_built o)) ≡ true
+    → is_some (entered tool_built o) ≡ true → is_some (command_in (entered tool_built o)) ≡ true
 stop_asks None other fine some = some
 stop_asks (Some p) other fine some =
     each_asks p.1 (answers_to p.0 (label_of (sub 0))) (answers_to p.0 (label_of (sub 1)))
@@ -185,7 +185,7 @@ stop_asks (Some p) other fine some =
     (answers_to p.0 (label_of (sub 3))) (answers_to p.0 (label_of (sub 4)))
     (λ is. help_apart p.0 other (rw or-false at is)) fine some
 
-pub command_asks : (words : List Text) → IsCommand words → is_some (asked words) ≡ true
+pub command_asks : (words : List Text) → IsCommand words → is_some (command_of_line words) ≡ true
 command_asks words e =
     let at = stops tool_built (drop 1 words) refl refl e in
     stop_asks (stop tool_built (drop 1 words) refl refl) at.0 at.1 at.2

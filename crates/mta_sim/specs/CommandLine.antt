@@ -46,19 +46,19 @@ IsCommand words = fault_of tool_app words ≡ []
 
 -- ---- what a command asks for, with the paths of its files
 
-pub data Asked : Type 0 where
-  run_words : Asked
-  assemble : Text → Text → Asked
-  list_image : Text → Asked
-  run_image : Text → Text → Asked
+pub data ToolCommand : Type 0 where
+  run_words : ToolCommand
+  assemble : Text → Text → ToolCommand
+  list_image : Text → ToolCommand
+  run_image : Text → Text → ToolCommand
 
 -- with two paths, where both are given
-abbrev pub with_paths : (Text → Text → Asked) → Option Text → Option Text → Option Asked
+abbrev pub with_paths : (Text → Text → ToolCommand) → Option Text → Option Text → Option ToolCommand
 with_paths request first second = option_and_then (λ path. option_map (request path) second) first
 
 -- what the command of this name asks for, with these values of its arguments
-abbrev pub asked_by : Text → List Row → Option Asked
-asked_by name rows =
+abbrev pub command_by_name : Text → List Row → Option ToolCommand
+command_by_name name rows =
     if bytes_eq name (codes "words") then Some run_words
     else (if bytes_eq name (codes "asm")
     then with_paths assemble (first_of (codes "SOURCE") rows) (first_of (codes "IMAGE") rows)
@@ -67,17 +67,17 @@ asked_by name rows =
     then with_paths run_image (first_of (codes "IMAGE") rows) (first_of (codes "SCHEDULE") rows)
     else None)))
 
-abbrev pub asked_in : Option (Text × List Row) → Option Asked
-asked_in = option_and_then (λ entered. asked_by entered.0 entered.1)
+abbrev pub command_in : Option (Text × List Row) → Option ToolCommand
+command_in = option_and_then (λ entered. command_by_name entered.0 entered.1)
 
 -- what a line asks for, where it is a command
-abbrev pub asked : List Text → Option Asked
-asked words = asked_in (subcommand_of tool_app words)
+abbrev pub command_of_line : List Text → Option ToolCommand
+command_of_line words = command_in (subcommand_of tool_app words)
 
 -- ---- a request, as the code has it
 
-abbrev pub meaning : Request → Asked
-meaning request.Words = run_words
-meaning (request.Assemble source image) = assemble source.now image.now
-meaning (request.List image) = list_image image.now
-meaning (request.Run image schedule) = run_image image.now schedule.now
+abbrev pub command_of_request : Request → ToolCommand
+command_of_request request.Words = run_words
+command_of_request (request.Assemble source image) = assemble source.now image.now
+command_of_request (request.List image) = list_image image.now
+command_of_request (request.Run image schedule) = run_image image.now schedule.now

@@ -3,7 +3,7 @@ ghost use Rattle.std.specs.Prelude.{◌≡◌, List, [], ◌∷◌, Some, codes,
 ghost use Rattle.clap.specs.Words.{FailsBy, app_of, fault_of, first_value, found_of, rule_of};
 ghost use Rattle.clap.specs.Words.{subcommand_rows_of};
 ghost use Rattle.clap.specs.declared.builder.command.Command.TheViews.{out-Command as fields_of};
-ghost use Rattle.mta_sim.specs.CommandLine.{asked, asked_in, command_app, file_rule, meaning, tool_app};
+ghost use Rattle.mta_sim.specs.CommandLine.{command_of_line, command_in, command_app, file_rule, command_of_request, tool_app};
 
 use clap::{Arg, ArgAction, ArgMatches, Command, Error};
 use std::alloc::{AllocError, Global};
@@ -30,7 +30,7 @@ pub(crate) fn read_command_line<'a, S: AsStr>(
     alloc: Global,
     words: &'a [S],
 ) -> Result<Request<'a>, Error>
-    ensures request { IfOk result (λ request. asked (map S.text words.entry.now) ≡ Some (meaning request)) }
+    ensures request { IfOk result (λ request. command_of_line (map S.text words.entry.now) ≡ Some (command_of_request request)) }
     ensures fault { FailsBy (fault_of tool_app (map S.text words.entry.now)) result }
 {
     let matches = tool_command(alloc)?.try_get_matches_from(words)?;
@@ -39,7 +39,7 @@ pub(crate) fn read_command_line<'a, S: AsStr>(
 
 /// The request of the subcommand that stood on the command line, which has all its arguments.
 fn requested<'a>(matches: &ArgMatches<'a>) -> Request<'a>
-    ensures { IfSome (asked_in (subcommand_rows_of matches.now)) (λ wanted. meaning result ≡ wanted) }
+    ensures { IfSome (command_in (subcommand_rows_of matches.now)) (λ wanted. command_of_request result ≡ wanted) }
 {
     match matches.subcommand() {
         Some(("asm", files)) => Request::Assemble {

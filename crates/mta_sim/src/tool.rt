@@ -4,7 +4,7 @@ ghost use Rattle.std.specs.Io.KnownBytes.{Appends, Keeps};
 ghost use Rattle.clap.specs.Words.{Text};
 ghost use Rattle.mta_engines.specs.Faults.{IsFaultOf};
 ghost use Rattle.mta_engines.specs.WordsOutput.{words_output};
-ghost use Rattle.mta_sim.specs.CommandLine.{IsCommand, asked, assemble, meaning, run_words};
+ghost use Rattle.mta_sim.specs.CommandLine.{IsCommand, command_of_line, assemble, command_of_request, run_words};
 
 use crate::command_line::{Request, read_command_line};
 use crate::files::{create_output, open_input};
@@ -43,10 +43,10 @@ pub fn run_tool<S: AsStr, F: Files, R: Read, W: Write, E: Write>(
     ensures no_command { result ≡ Status.NoCommand
         → Keeps (W.contents output.old) (W.contents output.new) }
     ensures command { result ≢ Status.NoCommand → IsCommand (map S.text words.now) }
-    ensures program { asked (map S.text words.now) ≡ Some run_words → result ≡ Status.Done
+    ensures program { command_of_line (map S.text words.now) ≡ Some run_words → result ≡ Status.Done
         → IfSome (R.remaining input.old) (λ bytes.
         IsOkAnd (words_output bytes) (Appends (W.contents output.old) (W.contents output.new))) }
-    ensures assembly { (source image : Text) → asked (map S.text words.now) ≡ Some (assemble source image)
+    ensures assembly { (source image : Text) → command_of_line (map S.text words.now) ≡ Some (assemble source image)
         → Keeps (W.contents output.old) (W.contents output.new) }
 {
     match read_command_line(alloc, words) {
@@ -67,11 +67,11 @@ fn run_command<F: Files, R: Read, W: Write>(
     input: &mut R,
     output: &mut W,
 ) -> Result<(), ToolFault>
-    ensures program { meaning request.entry ≡ run_words → OnOk result (IfSome (R.remaining input.old) (λ bytes.
+    ensures program { command_of_request request.entry ≡ run_words → OnOk result (IfSome (R.remaining input.old) (λ bytes.
         IsOkAnd (words_output bytes) (Appends (W.contents output.old) (W.contents output.new)))) }
-    ensures fault { meaning request.entry ≡ run_words → IfErr result (λ fault.
+    ensures fault { command_of_request request.entry ≡ run_words → IfErr result (λ fault.
         IfSome (R.remaining input.old) (λ bytes. IsFaultOf (words_output bytes) fault)) }
-    ensures assembly { (source image : Text) → meaning request.entry ≡ assemble source image
+    ensures assembly { (source image : Text) → command_of_request request.entry ≡ assemble source image
         → Keeps (W.contents output.old) (W.contents output.new) }
     ensures kept { IfErr result (λ fault. fault ≢ ToolFault.Write
         → Keeps (W.contents output.old) (W.contents output.new)) }

@@ -13,7 +13,7 @@ use Rattle.std.specs.Char.{encode_utf8}
 use Rattle.std.specs.Fmt.{digit_glyph, digits, digits_onto, padded_integral, format_spec, char_count, decimal}
 use Rattle.std.specs.Fmt.{styled_decimal}
 use Rattle.std.specs.List.{repeat}
-use Rattle.number_text.specs.Columns.{zero_filled, five_digits, right_aligned}
+use Rattle.number_text.specs.Columns.{zero_padded_decimal, five_digits, right_aligned}
 use Rattle.number_text.specs.Digits.{fixed_digits, hexadecimal_16, hexadecimal_12, hexadecimal_8, hexadecimal_digit}
 use Rattle.number_text.specs.Digits.{two_digits}
 
@@ -115,7 +115,7 @@ one_digit n small = let same : n % 16 ≡ n = omega arith in rw (same, hex_one_d
 digit_glyph-decimal : (d : ℕ) → d < 10 → digit_glyph true d ≡ 48 + d
 digit_glyph-decimal d small = rw (lt-ltb d 10 small)
 
-one_decimal_digit : (k n : ℕ) → n < 10 → zero_filled (suc k) n ≡ fixed_digits 10 (suc k) n
+one_decimal_digit : (k n : ℕ) → n < 10 → zero_padded_decimal (suc k) n ≡ fixed_digits 10 (suc k) n
 unfolding fixed_digits
 one_decimal_digit k n small =
     let front : n / 10 ≡ 0 = omega arith in
@@ -132,7 +132,7 @@ one_decimal_digit k n small =
 
 -- a number of no more digits than the width, with zeros in front
 pub zero_filled-fixed_digits : (k n : ℕ) → n < 10 ^ suc k → n < 2 ^ 64
-    → zero_filled (suc k) n ≡ fixed_digits 10 (suc k) n
+    → zero_padded_decimal (suc k) n ≡ fixed_digits 10 (suc k) n
 unfolding fixed_digits
 zero_filled-fixed_digits zero n small fits = one_decimal_digit zero n (omega arith)
 zero_filled-fixed_digits (suc k) n small fits = ⊎_elim

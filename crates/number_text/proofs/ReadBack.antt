@@ -13,7 +13,7 @@ use Rattle.std.specs.Fmt.{digit_glyph, decimal}
 use Rattle.std.specs.Str.Parse.{digits_value, AllDigits}
 use Rattle.number_text.specs.Columns.{five_digits}
 use Rattle.number_text.specs.Digits.{fixed_digits, hexadecimal_16}
-use Rattle.number_text.specs.Laws.{ReadsBack, FixedWidth, ReadsBack8, ReadsBack12, ReadsBackDigit, ReadsBackTwo}
+use Rattle.number_text.specs.Laws.{HexadecimalReadsBack, FixedWidth, ReadsBack8, ReadsBack12, ReadsBackDigit, ReadsBackTwo}
 use Rattle.number_text.specs.Laws.{ReadsBackDecimal, ReadsBackFive, FiveDigitsAre, without_blanks, ReadsBackAligned}
 use Rattle.number_text.specs.Laws.{AlignedWidth}
 use Rattle.number_text.specs.Reading.{all_in_base, number_of_digits}
@@ -62,7 +62,7 @@ reads_fixed_small : (base count n : ℕ) → 0 < base → base ≤ 16 → 0 < co
     → number_of_digits base (fixed_digits base count n) ≡ Some n
 reads_fixed_small base count n some le long same = reads_fixed base count n some le long ∙ ap Some same
 
-pub reads_back : ReadsBack
+pub reads_back : HexadecimalReadsBack
 reads_back n small =
     let same : n % 16 ^ 16 ≡ n = omega arith in
     word_from_digits (hexadecimal_16 n) (length-fixed_digits 16 16 n)

@@ -7,8 +7,8 @@ use Rattle.number_text.specs.Digits.{two_digits}
 use Rattle.number_text.specs.Reading.{number_of_digits, hexadecimal_word}
 
 -- what is printed of a word is read as that word
-abbrev pub ReadsBack : Type 0
-ReadsBack = (number : ℕ) → number < 2 ^ 64 → hexadecimal_word (hexadecimal_16 number) ≡ Some number
+abbrev pub HexadecimalReadsBack : Type 0
+HexadecimalReadsBack = (number : ℕ) → number < 2 ^ 64 → hexadecimal_word (hexadecimal_16 number) ≡ Some number
 
 -- no text is read as more than 64 bits
 abbrev pub FitsWord : Type 0

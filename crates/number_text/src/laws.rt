@@ -1,13 +1,13 @@
 //! What is printed is read back. The functions are laws: there is nothing to run.
 
-ghost use Rattle.number_text.specs.Laws.{ReadsBack, FitsWord, FixedWidth, ReadsBack8, ReadsBack12, ReadsBackDigit};
+ghost use Rattle.number_text.specs.Laws.{HexadecimalReadsBack, FitsWord, FixedWidth, ReadsBack8, ReadsBack12, ReadsBackDigit};
 ghost use Rattle.number_text.specs.Laws.{ReadsBackTwo, ReadsBackDecimal, ReadsBackFive, FiveDigitsAre};
 ghost use Rattle.number_text.specs.Laws.{ReadsBackAligned, AlignedWidth};
 
 /// The law of printing and reading: every word is read back from its printed digits,
 /// and no text is read as more than 64 bits. There is nothing to run.
 pub fn printed_digits_read_back()
-    ensures reads_back { ReadsBack }
+    ensures reads_back { HexadecimalReadsBack }
     ensures fits { FitsWord }
 {}
 

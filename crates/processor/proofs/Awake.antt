@@ -8,9 +8,9 @@ use Rattle.tag_memory.specs.declared.requests.Request.{Request}
 use Rattle.tag_memory.specs.declared.requests.Reply.{Reply}
 use Rattle.tag_memory.specs.declared.requests.Reply.TheVariants as reply
 use Rattle.stream_core.specs.Traps.{trap_number, memory_trap}
-use Rattle.stream_core.specs.Streams.{StreamValue, cannot_trap, trapped_if, trapped}
-use Rattle.stream_core.specs.Effects.{executed}
-use Rattle.stream_core.specs.StreamRow.{blocked, replied, row_asking}
+use Rattle.stream_core.specs.Streams.{StreamValue, cannot_trap, after_trap_if, after_trap}
+use Rattle.stream_core.specs.Effects.{after_instruction}
+use Rattle.stream_core.specs.StreamRow.{after_blocked_reply, after_reply, row_asking}
 use Rattle.stream_core.specs.declared.traps.TrapKind.{TrapKind}
 use Rattle.stream_core.specs.declared.traps.TrapKind.TheVariants as kind
 use Rattle.stream_core.specs.declared.steps.Outcome.{Outcome}
@@ -18,17 +18,17 @@ use Rattle.stream_core.specs.declared.steps.Outcome.TheVariants as outcome
 use Rattle.processor.specs.Processors.{is_idle}
 
 awake-trapped_if : (b : Bool) (k : TrapKind) (s : StreamValue) → is_idle s ≡ false
-    → is_idle (trapped_if b k s).0 ≡ false
+    → is_idle (after_trap_if b k s).0 ≡ false
 awake-trapped_if true k s h = refl
 awake-trapped_if false k s h = h
 
-pub awake-trapped : (k : TrapKind) (a : ℕ) (s : StreamValue) → is_idle s ≡ false → is_idle (trapped k a s).0 ≡ false
+pub awake-trapped : (k : TrapKind) (a : ℕ) (s : StreamValue) → is_idle s ≡ false → is_idle (after_trap k a s).0 ≡ false
 awake-trapped k a s h =
     awake-trapped_if (cannot_trap s) k (record s { xr = trap_number k + a % 2 ^ 48 * 256; retries = 0 }) h
 
 awake-executed : (s : StreamValue) (i : Insn) (value grant : ℕ) → is_idle s ≡ false
-    → is_idle (executed s i value grant) ≡ false
-unfolding executed
+    → is_idle (after_instruction s i value grant) ≡ false
+unfolding after_instruction
 awake-executed s (Wide look wide.Literal reg imm) value grant h = h
 awake-executed s (Wide look wide.LiteralHigh reg imm) value grant h = h
 awake-executed s (Wide look wide.TargetLiteral reg imm) value grant h = h
@@ -39,18 +39,18 @@ awake_either : (b : Bool) (x y : StreamValue × Outcome) → is_idle x.0 ≡ fal
 awake_either true x y first second = first
 awake_either false x y first second = second
 
-awake-blocked : (limit : ℕ) (s : StreamValue) (a : ℕ) → is_idle s ≡ false → is_idle (blocked limit s a).0 ≡ false
+awake-blocked : (limit : ℕ) (s : StreamValue) (a : ℕ) → is_idle s ≡ false → is_idle (after_blocked_reply limit s a).0 ≡ false
 awake-blocked limit s a h =
     let waits : StreamValue × Outcome = (s, outcome.Blocked) in
     let counts : StreamValue × Outcome = (record s { retries = s.retries + 1 }, outcome.Blocked) in
-    let stays : StreamValue × Outcome = if s.ssw.mask.blocked then waits else trapped kind.Blocked a s in
+    let stays : StreamValue × Outcome = if s.ssw.mask.blocked then waits else after_trap kind.Blocked a s in
     let more : StreamValue × Outcome = if nat_lt s.retries limit then counts else stays in
     awake_either (limit == 0) waits more h
     (awake_either (nat_lt s.retries limit) counts stays h
-    (awake_either s.ssw.mask.blocked waits (trapped kind.Blocked a s) h (awake-trapped kind.Blocked a s h)))
+    (awake_either s.ssw.mask.blocked waits (after_trap kind.Blocked a s) h (awake-trapped kind.Blocked a s h)))
 
 awake-replied : (limit : ℕ) (s : StreamValue) (i : Insn) (grant : ℕ) (r : Reply) → is_idle s ≡ false
-    → is_idle (replied limit s i grant r).0 ≡ false
+    → is_idle (after_reply limit s i grant r).0 ≡ false
 awake-replied limit s i grant (reply.Done value) h = awake-executed s i value grant h
 awake-replied limit s i grant (reply.Blocked a) h = awake-blocked limit s a h
 awake-replied limit s i grant (reply.Trap k a) h = awake-trapped (memory_trap k) a s h

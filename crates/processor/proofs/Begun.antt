@@ -9,53 +9,53 @@ use Rattle.tag_memory.specs.Storage.{TaggedMemory}
 use Rattle.image_file.specs.ImageValue.{ImageValue}
 use Rattle.stream_core.specs.Streams.{StreamValue, idle}
 use Rattle.stream_core.specs.Effects.{request_of}
-use Rattle.stream_core.specs.StreamRow.{fetched, fetched_if, control_of}
+use Rattle.stream_core.specs.StreamRow.{fetch_of, fetch_if, control_of}
 use Rattle.stream_core.specs.declared.traps.TrapKind.TheVariants as kind
 use Rattle.stream_core.specs.declared.steps.Status.{Status}
 use Rattle.stream_core.specs.declared.steps.Status.TheVariants.{Idle, Running, Stopped}
 use Rattle.stream_core.specs.declared.steps.Fetched.{Fetched}
 use Rattle.stream_core.specs.declared.steps.Fetched.TheVariants as fetch
 use Rattle.processor.specs.Processors.{ProcessorValue, is_idle, is_idle_status, stream_at}
-use Rattle.processor.specs.Row.{lacks_stream, begun_from, begun, begun_at, begun_of, asked_by, request_at}
+use Rattle.processor.specs.Row.{lacks_stream, step_fetch_from, step_fetch, step_fetch_at, step_fetch_of, request_on_fetch, request_at}
 use Rattle.processor.specs.Row.{request, next_asking, next_by, next_at, next_of}
-use Rattle.processor.specs.Row.{row_by, row_at, row, replied, served_replied, served}
+use Rattle.processor.specs.Row.{row_by, row_at, row, memory_reply, row_with_reply, row_over_memory}
 use Rattle.processor.specs.declared.steps.Next.TheVariants as next
 
 -- The table by the stream and what its step begins with.
 
 row_seen : (image : ImageValue) (proc : ProcessorValue) (n : ℕ) (r : Option Reply) (o : Option StreamValue)
     (s : StreamValue) → unwrap_or o idle ≡ s
-    → row_at image proc n r o ≡ row_by image proc n r s (begun_at image proc o)
+    → row_at image proc n r o ≡ row_by image proc n r s (step_fetch_at image proc o)
 row_seen image proc n r None s e = refl
-row_seen image proc n r (Some t) s e = ap (λ x. row_by image proc n r x (begun image proc t)) e
+row_seen image proc n r (Some t) s e = ap (λ x. row_by image proc n r x (step_fetch image proc t)) e
 
 pub row_is : (image : ImageValue) (proc : ProcessorValue) (n : ℕ) (r : Option Reply)
-    → row image proc n r ≡ row_by image proc n r (stream_at proc.streams n) (begun_of image proc n)
-unfolding row begun_of
+    → row image proc n r ≡ row_by image proc n r (stream_at proc.streams n) (step_fetch_of image proc n)
+unfolding row step_fetch_of
 row_is image proc n r =
     row_seen image proc n r (slice_get proc.streams n) (stream_at proc.streams n)
     (unwrap_or-slice_get proc.streams n idle)
 
 request_seen : (image : ImageValue) (proc : ProcessorValue) (o : Option StreamValue) (s : StreamValue)
-    → unwrap_or o idle ≡ s → request_at image proc o ≡ asked_by s (begun_at image proc o)
+    → unwrap_or o idle ≡ s → request_at image proc o ≡ request_on_fetch s (step_fetch_at image proc o)
 request_seen image proc None s e = refl
-request_seen image proc (Some t) s e = ap (λ x. asked_by x (begun image proc t)) e
+request_seen image proc (Some t) s e = ap (λ x. request_on_fetch x (step_fetch image proc t)) e
 
 request_is : (image : ImageValue) (proc : ProcessorValue) (n : ℕ)
-    → request image proc n ≡ asked_by (stream_at proc.streams n) (begun_of image proc n)
-unfolding request begun_of
+    → request image proc n ≡ request_on_fetch (stream_at proc.streams n) (step_fetch_of image proc n)
+unfolding request step_fetch_of
 request_is image proc n =
     request_seen image proc (slice_get proc.streams n) (stream_at proc.streams n)
     (unwrap_or-slice_get proc.streams n idle)
 
 next_seen : (image : ImageValue) (proc : ProcessorValue) (o : Option StreamValue) (s : StreamValue)
-    → unwrap_or o idle ≡ s → next_at image proc o ≡ next_by s (begun_at image proc o)
+    → unwrap_or o idle ≡ s → next_at image proc o ≡ next_by s (step_fetch_at image proc o)
 next_seen image proc None s e = refl
-next_seen image proc (Some t) s e = ap (λ x. next_by x (begun image proc t)) e
+next_seen image proc (Some t) s e = ap (λ x. next_by x (step_fetch image proc t)) e
 
 next_is : (image : ImageValue) (proc : ProcessorValue) (n : ℕ)
-    → next_of image proc n ≡ next_by (stream_at proc.streams n) (begun_of image proc n)
-unfolding next_of begun_of
+    → next_of image proc n ≡ next_by (stream_at proc.streams n) (step_fetch_of image proc n)
+unfolding next_of step_fetch_of
 next_is image proc n =
     next_seen image proc (slice_get proc.streams n) (stream_at proc.streams n)
     (unwrap_or-slice_get proc.streams n idle)
@@ -63,15 +63,15 @@ next_is image proc n =
 -- Where it is known what the step begins with.
 
 pub row_begun : (image : ImageValue) (proc : ProcessorValue) (n : ℕ) (r : Option Reply) (f : Fetched)
-    → begun_of image proc n ≡ f → row_by image proc n r (stream_at proc.streams n) f ≡ row image proc n r
+    → step_fetch_of image proc n ≡ f → row_by image proc n r (stream_at proc.streams n) f ≡ row image proc n r
 row_begun image proc n r f e = sym (row_is image proc n r ∙ ap (row_by image proc n r (stream_at proc.streams n)) e)
 
 pub request_begun : (image : ImageValue) (proc : ProcessorValue) (n : ℕ) (f : Fetched)
-    → begun_of image proc n ≡ f → request image proc n ≡ asked_by (stream_at proc.streams n) f
-request_begun image proc n f e = request_is image proc n ∙ ap (asked_by (stream_at proc.streams n)) e
+    → step_fetch_of image proc n ≡ f → request image proc n ≡ request_on_fetch (stream_at proc.streams n) f
+request_begun image proc n f e = request_is image proc n ∙ ap (request_on_fetch (stream_at proc.streams n)) e
 
 pub next_begun : (image : ImageValue) (proc : ProcessorValue) (n : ℕ) (f : Fetched)
-    → begun_of image proc n ≡ f → next_by (stream_at proc.streams n) f ≡ next_of image proc n
+    → step_fetch_of image proc n ≡ f → next_by (stream_at proc.streams n) f ≡ next_of image proc n
 next_begun image proc n f e = sym (next_is image proc n ∙ ap (next_by (stream_at proc.streams n)) e)
 
 -- what the stream that was read asks
@@ -80,20 +80,20 @@ pub asked_there : (proc : ProcessorValue) (n : ℕ) (i : Insn) (s : StreamValue)
 asked_there proc n i s o is asks = asks ∙ ap (λ x. request_of x i) is
 
 pub next_needed : (image : ImageValue) (proc : ProcessorValue) (n : ℕ) (i : Insn) (s : StreamValue)
-    (o : Option Request) → begun_of image proc n ≡ fetch.Runs i → s ≡ stream_at proc.streams n
+    (o : Option Request) → step_fetch_of image proc n ≡ fetch.Runs i → s ≡ stream_at proc.streams n
     → o ≡ request_of s i → next_asking o ≡ next_of image proc n
 next_needed image proc n i s o e is asks =
     ap next_asking (asked_there proc n i s o is asks) ∙ next_begun image proc n (fetch.Runs i) e
 
 pub served_begun : (image : ImageValue) (proc : ProcessorValue) (n : ℕ) (m after : TaggedMemory) (f : Fetched)
-    (r : Option Reply) → begun_of image proc n ≡ f → (after, r) ≡ replied m (asked_by (stream_at proc.streams n) f)
-    → (row_by image proc n r (stream_at proc.streams n) f, after) ≡ served image proc n m
-unfolding served
+    (r : Option Reply) → step_fetch_of image proc n ≡ f → (after, r) ≡ memory_reply m (request_on_fetch (stream_at proc.streams n) f)
+    → (row_by image proc n r (stream_at proc.streams n) f, after) ≡ row_over_memory image proc n m
+unfolding row_over_memory
 served_begun image proc n m after f r e answers =
     ap (λ x. (x, after)) (row_begun image proc n r f e)
-    ∙ ap (served_replied image proc n) (answers ∙ sym (ap (replied m) (request_begun image proc n f e)))
+    ∙ ap (row_with_reply image proc n) (answers ∙ sym (ap (memory_reply m) (request_begun image proc n f e)))
 
-pub is_replied : (m after : TaggedMemory) (o : Option Request) (r : Option Reply) → (after, r) ≡ replied m o
+pub is_replied : (m after : TaggedMemory) (o : Option Request) (r : Option Reply) → (after, r) ≡ memory_reply m o
     → is_some r ≡ is_some o
 is_replied m after None r e = ap (λ (x : TaggedMemory × Option Reply). is_some x.1) e
 is_replied m after (Some q) r e = ap (λ (x : TaggedMemory × Option Reply). is_some x.1) e
@@ -105,35 +105,35 @@ rests fetch.Rest = true
 rests (fetch.Trap k) = false
 rests (fetch.Runs i) = false
 
-awake_status : (st : Status) (program : List ℕ) (pc : ℕ) → rests (fetched_if st program pc) ≡ false
+awake_status : (st : Status) (program : List ℕ) (pc : ℕ) → rests (fetch_if st program pc) ≡ false
     → is_idle_status st ≡ false
 awake_status Idle program pc e = cc
 awake_status Running program pc e = refl
 awake_status (Stopped k) program pc e = refl
 
-awake_from : (proc : ProcessorValue) (s : StreamValue) (f : Fetched) → rests (begun_from proc s f) ≡ false
+awake_from : (proc : ProcessorValue) (s : StreamValue) (f : Fetched) → rests (step_fetch_from proc s f) ≡ false
     → rests f ≡ false
 awake_from proc s fetch.Rest e = e
 awake_from proc s (fetch.Trap k) e = refl
 awake_from proc s (fetch.Runs i) e = refl
 
-awake_begun : (image : ImageValue) (proc : ProcessorValue) (s : StreamValue) → rests (begun image proc s) ≡ false
+awake_begun : (image : ImageValue) (proc : ProcessorValue) (s : StreamValue) → rests (step_fetch image proc s) ≡ false
     → is_idle s ≡ false
-unfolding begun fetched
+unfolding step_fetch fetch_of
 awake_begun image proc s e =
-    awake_status s.status image.program s.ssw.pc (awake_from proc s (fetched image.program s) e)
+    awake_status s.status image.program s.ssw.pc (awake_from proc s (fetch_of image.program s) e)
 
 awake_seen : (image : ImageValue) (proc : ProcessorValue) (n : ℕ) (o : Option StreamValue) (s : StreamValue)
-    → slice_get proc.streams n ≡ o → unwrap_or o idle ≡ s → rests (begun_at image proc o) ≡ false
+    → slice_get proc.streams n ≡ o → unwrap_or o idle ≡ s → rests (step_fetch_at image proc o) ≡ false
     → (n < length proc.streams) × (is_idle s ≡ false)
 awake_seen image proc n None s got e there = cc
 awake_seen image proc n (Some t) s got e there =
     (slice_get_within proc.streams n t got, ap is_idle (sym e) ∙ awake_begun image proc t there)
 
 -- it is there, and is not idle
-pub awake : (image : ImageValue) (proc : ProcessorValue) (n : ℕ) → rests (begun_of image proc n) ≡ false
+pub awake : (image : ImageValue) (proc : ProcessorValue) (n : ℕ) → rests (step_fetch_of image proc n) ≡ false
     → (n < length proc.streams) × (is_idle (stream_at proc.streams n) ≡ false)
-unfolding begun_of
+unfolding step_fetch_of
 awake image proc n there =
     awake_seen image proc n (slice_get proc.streams n) (stream_at proc.streams n) refl
     (unwrap_or-slice_get proc.streams n idle) there
@@ -143,7 +143,7 @@ free_if : (b : Bool) (j i : Insn) → (if b then fetch.Trap kind.Create else fet
 free_if true j i e = cc
 free_if false j i e = (refl, cc)
 
-free_from : (proc : ProcessorValue) (s : StreamValue) (f : Fetched) (i : Insn) → begun_from proc s f ≡ fetch.Runs i
+free_from : (proc : ProcessorValue) (s : StreamValue) (f : Fetched) (i : Insn) → step_fetch_from proc s f ≡ fetch.Runs i
     → lacks_stream proc (control_of s i) ≡ false
 free_from proc s fetch.Rest i e = cc
 free_from proc s (fetch.Trap k) i e = cc
@@ -152,16 +152,16 @@ free_from proc s (fetch.Runs j) i e =
     ap (λ x. lacks_stream proc (control_of s x)) (sym found.1) ∙ found.0
 
 free_seen : (image : ImageValue) (proc : ProcessorValue) (o : Option StreamValue) (s : StreamValue) (i : Insn)
-    → unwrap_or o idle ≡ s → begun_at image proc o ≡ fetch.Runs i → lacks_stream proc (control_of s i) ≡ false
-unfolding begun
+    → unwrap_or o idle ≡ s → step_fetch_at image proc o ≡ fetch.Runs i → lacks_stream proc (control_of s i) ≡ false
+unfolding step_fetch
 free_seen image proc None s i e runs = cc
 free_seen image proc (Some t) s i e runs =
-    ap (λ x. lacks_stream proc (control_of x i)) (sym e) ∙ free_from proc t (fetched image.program t) i runs
+    ap (λ x. lacks_stream proc (control_of x i)) (sym e) ∙ free_from proc t (fetch_of image.program t) i runs
 
 -- an instruction that runs lacks no stream
-pub free : (image : ImageValue) (proc : ProcessorValue) (n : ℕ) (i : Insn) → begun_of image proc n ≡ fetch.Runs i
+pub free : (image : ImageValue) (proc : ProcessorValue) (n : ℕ) (i : Insn) → step_fetch_of image proc n ≡ fetch.Runs i
     → lacks_stream proc (control_of (stream_at proc.streams n) i) ≡ false
-unfolding begun_of
+unfolding step_fetch_of
 free image proc n i runs =
     free_seen image proc (slice_get proc.streams n) (stream_at proc.streams n) i
     (unwrap_or-slice_get proc.streams n idle) runs
@@ -172,7 +172,7 @@ local_asks : (o : Option Request) → next_asking o ≡ next.Local → o ≡ Non
 local_asks None e = refl
 local_asks (Some q) e = cc
 
-local_by : (s : StreamValue) (f : Fetched) → next_by s f ≡ next.Local → asked_by s f ≡ None
+local_by : (s : StreamValue) (f : Fetched) → next_by s f ≡ next.Local → request_on_fetch s f ≡ None
 local_by s fetch.Rest e = cc
 local_by s (fetch.Trap k) e = refl
 local_by s (fetch.Runs i) e = local_asks (request_of s i) e
@@ -181,13 +181,13 @@ pub local_request : (image : ImageValue) (proc : ProcessorValue) (n : ℕ) → n
     → request image proc n ≡ None
 local_request image proc n e =
     request_is image proc n
-    ∙ local_by (stream_at proc.streams n) (begun_of image proc n) (sym (next_is image proc n) ∙ e)
+    ∙ local_by (stream_at proc.streams n) (step_fetch_of image proc n) (sym (next_is image proc n) ∙ e)
 
 ask_asks : (o : Option Request) (q : Request) → next_asking o ≡ next.Ask q → o ≡ Some q
 ask_asks None q e = cc
 ask_asks (Some p) q e = cc
 
-ask_by : (s : StreamValue) (f : Fetched) (q : Request) → next_by s f ≡ next.Ask q → asked_by s f ≡ Some q
+ask_by : (s : StreamValue) (f : Fetched) (q : Request) → next_by s f ≡ next.Ask q → request_on_fetch s f ≡ Some q
 ask_by s fetch.Rest q e = cc
 ask_by s (fetch.Trap k) q e = cc
 ask_by s (fetch.Runs i) q e = ask_asks (request_of s i) q e
@@ -196,7 +196,7 @@ pub ask_request : (image : ImageValue) (proc : ProcessorValue) (n : ℕ) (q : Re
     → next_of image proc n ≡ next.Ask q → request image proc n ≡ Some q
 ask_request image proc n q e =
     request_is image proc n
-    ∙ ask_by (stream_at proc.streams n) (begun_of image proc n) q (sym (next_is image proc n) ∙ e)
+    ∙ ask_by (stream_at proc.streams n) (step_fetch_of image proc n) q (sym (next_is image proc n) ∙ e)
 
 -- The same of the parts of a processor.
 

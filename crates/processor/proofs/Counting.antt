@@ -11,8 +11,8 @@ use Rattle.std.proofs.lemmas.Bool.{eqb-false}
 use Rattle.tag_memory.specs.declared.requests.Reply.{Reply}
 use Rattle.tag_memory.specs.Storage.{TaggedMemory}
 use Rattle.image_file.specs.ImageValue.{ImageValue}
-use Rattle.stream_core.specs.Streams.{StreamValue, idle, trapped}
-use Rattle.stream_core.specs.Children.{born}
+use Rattle.stream_core.specs.Streams.{StreamValue, idle, after_trap}
+use Rattle.stream_core.specs.Children.{child_stream}
 use Rattle.stream_core.specs.Effects.{request_of}
 use Rattle.stream_core.specs.StreamRow.{control_of, row_asking}
 use Rattle.stream_core.specs.declared.steps.Outcome.{Outcome}
@@ -23,8 +23,8 @@ use Rattle.stream_core.specs.declared.steps.Control.{Control}
 use Rattle.stream_core.specs.declared.steps.Control.TheVariants as asks
 use Rattle.processor.specs.Processors.{ProcessorValue, is_idle, count_current, IsCounted, stream_at}
 use Rattle.processor.specs.Processors.{first_stream, opening}
-use Rattle.processor.specs.Row.{lacks_stream, begun_of, granted, with_stream, lowest_idle, controlled, settled}
-use Rattle.processor.specs.Row.{row_by, row, request, replied, served}
+use Rattle.processor.specs.Row.{lacks_stream, step_fetch_of, grant_of, with_stream, lowest_idle, after_control, after_control_if_done}
+use Rattle.processor.specs.Row.{row_by, row, request, memory_reply, row_over_memory}
 use Rattle.processor.proofs.Begun.{rests, awake, free, row_is}
 use Rattle.processor.proofs.Awake.{awake-trapped, awake-row_asking}
 
@@ -59,7 +59,7 @@ some_counted ss n below e =
 
 -- a processor whose stream takes a step has a current one
 pub some_current : (image : ImageValue) (proc : ProcessorValue) (n : ℕ) → IsCounted proc
-    → rests (begun_of image proc n) ≡ false → 1 ≤ proc.current
+    → rests (step_fetch_of image proc n) ≡ false → 1 ≤ proc.current
 some_current image proc n counted there =
     let found = awake image proc n there in
     let some = some_counted proc.streams n found.0 found.1 in
@@ -120,7 +120,7 @@ created proc s counted apart is =
 
 counted_controlled : (proc : ProcessorValue) (n grant : ℕ) (c : Control) → IsCounted proc → n < length proc.streams
     → is_idle (stream_at proc.streams n) ≡ false → lacks_stream proc c ≡ false
-    → proc.reserved + grant ≤ length proc.streams → IsCounted (controlled proc n grant c)
+    → proc.reserved + grant ≤ length proc.streams → IsCounted (after_control proc n grant c)
 counted_controlled proc n grant asks.Plain counted there was free fits = counted
 counted_controlled proc n grant (asks.Reserve asked) counted there was free fits = record {
   counts = counted.counts;
@@ -128,7 +128,7 @@ counted_controlled proc n grant (asks.Reserve asked) counted there was free fits
   within_slim = fits;
 }
 counted_controlled proc n grant (asks.Create child) counted there was free fits =
-    created proc (born child) counted free refl
+    created proc (child_stream child) counted free refl
 counted_controlled proc n grant asks.Quit counted there was free fits =
     let without = counted_without proc n counted there was in
     record {
@@ -146,7 +146,7 @@ counted_controlled proc n grant asks.QuitKeep counted there was free fits =
 
 counted_settled : (proc : ProcessorValue) (n grant : ℕ) (c : Control) (o : Outcome) → IsCounted proc
     → n < length proc.streams → is_idle (stream_at proc.streams n) ≡ false → lacks_stream proc c ≡ false
-    → proc.reserved + grant ≤ length proc.streams → IsCounted (settled proc n grant c o)
+    → proc.reserved + grant ≤ length proc.streams → IsCounted (after_control_if_done proc n grant c o)
 counted_settled proc n grant c outcome.Skipped counted there was free fits = counted
 counted_settled proc n grant c outcome.Done counted there was free fits =
     counted_controlled proc n grant c counted there was free fits
@@ -155,7 +155,7 @@ counted_settled proc n grant c (outcome.Trapped k) counted there was free fits =
 counted_settled proc n grant c (outcome.Stopped k) counted there was free fits = counted
 
 granted_fits : (image : ImageValue) (proc : ProcessorValue) (c : Control) → image.slim ≡ length proc.streams
-    → proc.reserved ≤ length proc.streams → proc.reserved + granted image proc c ≤ length proc.streams
+    → proc.reserved ≤ length proc.streams → proc.reserved + grant_of image proc c ≤ length proc.streams
 granted_fits image proc asks.Plain slim within = omega arith
 granted_fits image proc (asks.Reserve n) slim within = omega arith
 granted_fits image proc (asks.Create child) slim within = omega arith
@@ -173,30 +173,30 @@ lacks-with_stream proc n s asks.QuitKeep = refl
 counted_done : (image : ImageValue) (proc : ProcessorValue) (n : ℕ) (s : StreamValue) (c : Control) (o : Outcome)
     → image.slim ≡ length proc.streams → IsCounted proc → n < length proc.streams
     → is_idle (stream_at proc.streams n) ≡ false → is_idle s ≡ false → lacks_stream proc c ≡ false
-    → IsCounted (settled (with_stream proc n s) n (granted image proc c) c o)
+    → IsCounted (after_control_if_done (with_stream proc n s) n (grant_of image proc c) c o)
 counted_done image proc n s c o slim counted there was is free =
     let same = length-set proc.streams n s in
     let fits = granted_fits image proc c slim counted.within_slim in
     let here : is_idle (stream_at (set proc.streams n s) n) ≡ false =
     ap is_idle (get_or-set_same proc.streams n s idle there) ∙ is in
-    counted_settled (with_stream proc n s) n (granted image proc c) c o (counted_with proc n s counted there was is)
+    counted_settled (with_stream proc n s) n (grant_of image proc c) c o (counted_with proc n s counted there was is)
     (omega (arith, there, same)) here (lacks-with_stream proc n s c ∙ free) (omega (arith, fits, same))
 
 counted_by : (image : ImageValue) (proc : ProcessorValue) (n : ℕ) (r : Option Reply) (f : Fetched)
-    → image.slim ≡ length proc.streams → IsCounted proc → begun_of image proc n ≡ f
+    → image.slim ≡ length proc.streams → IsCounted proc → step_fetch_of image proc n ≡ f
     → IsCounted (row_by image proc n r (stream_at proc.streams n) f).0
 counted_by image proc n r fetch.Rest slim counted e = counted
 counted_by image proc n r (fetch.Trap k) slim counted e =
     let found = awake image proc n (ap rests e) in
-    counted_with proc n (trapped k 0 (stream_at proc.streams n)).0 counted found.0 found.1
+    counted_with proc n (after_trap k 0 (stream_at proc.streams n)).0 counted found.0 found.1
     (awake-trapped k 0 (stream_at proc.streams n) found.1)
 counted_by image proc n r (fetch.Runs i) slim counted e =
     let s = stream_at proc.streams n in
     let c = control_of s i in
     let found = awake image proc n (ap rests e) in
-    let after = row_asking image.retry_limit s i (granted image proc c) r (request_of s i) in
+    let after = row_asking image.retry_limit s i (grant_of image proc c) r (request_of s i) in
     counted_done image proc n after.0 c after.1 slim counted found.0 found.1
-    (awake-row_asking image.retry_limit s i (granted image proc c) r (request_of s i) found.1)
+    (awake-row_asking image.retry_limit s i (grant_of image proc c) r (request_of s i) found.1)
     (free image proc n i e)
 
 -- a step keeps the counts
@@ -204,13 +204,13 @@ pub counted_row : (image : ImageValue) (proc : ProcessorValue) (n : ℕ) (r : Op
     → image.slim ≡ length proc.streams → IsCounted proc → IsCounted (row image proc n r).0
 counted_row image proc n r slim counted =
     let P : ProcessorValue × Outcome → Type 0 = λ x. IsCounted x.0 in
-    subst P (sym (row_is image proc n r)) (counted_by image proc n r (begun_of image proc n) slim counted refl)
+    subst P (sym (row_is image proc n r)) (counted_by image proc n r (step_fetch_of image proc n) slim counted refl)
 
 pub counted_served : (image : ImageValue) (proc : ProcessorValue) (n : ℕ) (m : TaggedMemory)
-    → image.slim ≡ length proc.streams → IsCounted proc → IsCounted (served image proc n m).0.0
-unfolding served
+    → image.slim ≡ length proc.streams → IsCounted proc → IsCounted (row_over_memory image proc n m).0.0
+unfolding row_over_memory
 counted_served image proc n m slim counted =
-    counted_row image proc n (replied m (request image proc n)).1 slim counted
+    counted_row image proc n (memory_reply m (request image proc n)).1 slim counted
 
 -- The counts at the start.
 
@@ -244,7 +244,7 @@ counted_new image now old new n r o same slim counted stepped =
     subst P (sym stepped) (counted_row image old n r as_many counted)
 
 pub counted_over : (image : ImageValue) (now old new : ProcessorValue) (n : ℕ) (m after : TaggedMemory) (o : Outcome)
-    → old ≡ now → image.slim ≡ length now.streams → IsCounted old → ((new, o), after) ≡ served image old n m
+    → old ≡ now → image.slim ≡ length now.streams → IsCounted old → ((new, o), after) ≡ row_over_memory image old n m
     → IsCounted new
 counted_over image now old new n m after o same slim counted stepped =
     let P : (ProcessorValue × Outcome) × TaggedMemory → Type 0 = λ x. IsCounted x.0.0 in
@@ -257,9 +257,9 @@ pub opened : (image : ImageValue) (number entry slim : ℕ) (first : StreamValue
     → ss ≡ set (replicate slim idle) 0 first
     → record { streams = ss; current = 1; reserved = 1 } ≡ opening image (slice_index image.entries number)
 unfolding opening
-opened image number entry slim first ss stands same born all =
+opened image number entry slim first ss stands same child_stream all =
     let there = get_or_from_slice_get image.entries number entry 0 (sym stands) in
-    let filled = all ∙ ap (λ f. set (replicate slim idle) 0 f) (born ∙ ap (first_stream image) (sym there))
+    let filled = all ∙ ap (λ f. set (replicate slim idle) 0 f) (child_stream ∙ ap (first_stream image) (sym there))
     ∙ ap (λ k. set (replicate k idle) 0 (first_stream image (slice_index image.entries number))) same in
     λ i. record { streams = filled i; current = 1; reserved = 1 }
 

@@ -11,12 +11,12 @@ use Rattle.insn_word.specs.declared.insn.Insn.{Insn}
 use Rattle.tag_memory.specs.declared.requests.Request.{Request}
 use Rattle.tag_memory.specs.declared.requests.Reply.{Reply}
 use Rattle.stream_core.specs.Streams.{StreamValue, idle}
-use Rattle.stream_core.specs.Effects.{executed, request_of}
-use Rattle.stream_core.specs.StreamRow.{replied, row_asking}
+use Rattle.stream_core.specs.Effects.{after_instruction, request_of}
+use Rattle.stream_core.specs.StreamRow.{after_reply, row_asking}
 use Rattle.stream_core.specs.declared.steps.Outcome.{Outcome}
 use Rattle.stream_core.specs.declared.steps.Outcome.TheVariants as outcome
 use Rattle.processor.specs.Processors.{is_idle, stream_at, stream_seen, IsRoom}
-use Rattle.processor.specs.Table.{placed}
+use Rattle.processor.specs.Table.{put_in_streams}
 
 -- a used place is one below slim
 pub below_slim : (size slim n : ℕ) (ss now : List StreamValue) → IsRoom size slim ss → take slim ss ≡ now
@@ -39,21 +39,21 @@ read_seen size slim n ss now x room seen below e =
 -- a stream that takes its step in its place
 pub step_seen : (size slim n : ℕ) (ss now : List StreamValue) (x y : StreamValue) (o : Outcome)
     (f : StreamValue → StreamValue × Outcome) → IsRoom size slim ss → take slim ss ≡ now → n < length now
-    → x ≡ get_or ss n x → (y, o) ≡ f x → (take slim (set ss n y), o) ≡ placed now n (f (stream_at now n))
+    → x ≡ get_or ss n x → (y, o) ≡ f x → (take slim (set ss n y), o) ≡ put_in_streams now n (f (stream_at now n))
 step_seen size slim n ss now x y o f room seen used e stepped =
     let below = below_slim size slim n ss now room seen used in
     ap (λ v. (v, o)) (put_seen slim n ss now y seen below)
-    ∙ ap (placed now n) (stepped ∙ ap f (read_seen size slim n ss now x room seen below e))
+    ∙ ap (put_in_streams now n) (stepped ∙ ap f (read_seen size slim n ss now x room seen below e))
 
 -- the completion of an instruction without and with a reply
 pub unasked : (limit : ℕ) (s : StreamValue) (i : Insn) (grant : ℕ) (r : Option Reply) (o : Option Request)
-    → is_some r ≡ is_some o → r ≡ None → (executed s i 0 grant, outcome.Done) ≡ row_asking limit s i grant r o
+    → is_some r ≡ is_some o → r ≡ None → (after_instruction s i 0 grant, outcome.Done) ≡ row_asking limit s i grant r o
 unasked limit s i grant r None same none = refl
 unasked limit s i grant None (Some q) same none = cc
 unasked limit s i grant (Some a) (Some q) same none = cc
 
 pub answered : (limit : ℕ) (s : StreamValue) (i : Insn) (grant : ℕ) (r : Option Reply) (o : Option Request)
-    (a : Reply) → is_some r ≡ is_some o → r ≡ Some a → replied limit s i grant a ≡ row_asking limit s i grant r o
+    (a : Reply) → is_some r ≡ is_some o → r ≡ Some a → after_reply limit s i grant a ≡ row_asking limit s i grant r o
 answered limit s i grant None o a same some = cc
 answered limit s i grant (Some b) None a same some = cc
 answered limit s i grant (Some b) (Some q) a same some = ap (λ v. row_asking limit s i grant v (Some q)) (sym some)
@@ -77,9 +77,9 @@ at_any size slim n ss now x room seen below e = elim (cases_lt n slim) [
 -- an instruction that is completed in its place
 pub complete_unasked : (size slim n : ℕ) (ss now : List StreamValue) (x y : StreamValue) (limit : ℕ) (i : Insn)
     (grant : ℕ) (r : Option Reply) → IsRoom size slim ss → take slim ss ≡ now → n < length now → x ≡ get_or ss n x
-    → is_some r ≡ is_some (request_of (stream_at now n) i) → r ≡ None → y ≡ executed x i 0 grant
+    → is_some r ≡ is_some (request_of (stream_at now n) i) → r ≡ None → y ≡ after_instruction x i 0 grant
     → (take slim (set ss n y), outcome.Done)
-    ≡ placed now n (row_asking limit (stream_at now n) i grant r (request_of (stream_at now n) i))
+    ≡ put_in_streams now n (row_asking limit (stream_at now n) i grant r (request_of (stream_at now n) i))
 complete_unasked size slim n ss now x y limit i grant r room seen used e same none done =
     let there = read_seen size slim n ss now x room seen (below_slim size slim n ss now room seen used) e in
     let asks = same ∙ ap (λ s. is_some (request_of s i)) (sym there) in
@@ -90,9 +90,9 @@ complete_unasked size slim n ss now x y limit i grant r room seen used e same no
 pub complete_answered : (size slim n : ℕ) (ss now : List StreamValue) (x y : StreamValue) (o : Outcome) (limit : ℕ)
     (i : Insn) (grant : ℕ) (r : Option Reply) (a : Reply) → IsRoom size slim ss → take slim ss ≡ now → n < length now
     → x ≡ get_or ss n x → is_some r ≡ is_some (request_of (stream_at now n) i) → r ≡ Some a
-    → (y, o) ≡ replied limit x i grant a
+    → (y, o) ≡ after_reply limit x i grant a
     → (take slim (set ss n y), o)
-    ≡ placed now n (row_asking limit (stream_at now n) i grant r (request_of (stream_at now n) i))
+    ≡ put_in_streams now n (row_asking limit (stream_at now n) i grant r (request_of (stream_at now n) i))
 complete_answered size slim n ss now x y o limit i grant r a room seen used e same some done =
     let there = read_seen size slim n ss now x room seen (below_slim size slim n ss now room seen used) e in
     let asks = same ∙ ap (λ s. is_some (request_of s i)) (sym there) in

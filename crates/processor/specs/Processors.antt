@@ -6,7 +6,7 @@ use Rattle.std.specs.Prelude.{Option, Some, None, nat_lt, slice_index_or}
 use Rattle.image_file.specs.ImageValue.{ImageValue}
 use Rattle.stream_core.specs.StatusWords.{status_at, no_mask}
 use Rattle.stream_core.specs.Streams.{StreamValue, idle}
-use Rattle.stream_core.specs.Children.{born}
+use Rattle.stream_core.specs.Children.{child_stream}
 use Rattle.stream_core.specs.declared.steps.Status.{Status}
 use Rattle.stream_core.specs.declared.steps.Status.TheVariants.{Idle, Running, Stopped}
 
@@ -37,7 +37,7 @@ pub record IsCounted (proc : ProcessorValue) : Type 0 where
 
 -- the stream that a processor begins with: its t0 is the image's trap entry
 abbrev pub first_stream : ImageValue → ℕ → StreamValue
-first_stream image entry = born (record { pc = entry; value = 0; t0 = status_at image.trap_entry; mask = no_mask })
+first_stream image entry = child_stream (record { pc = entry; value = 0; t0 = status_at image.trap_entry; mask = no_mask })
 
 -- the stream of this number; idle where there is none
 abbrev pub stream_at : List StreamValue → ℕ → StreamValue

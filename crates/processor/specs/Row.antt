@@ -8,10 +8,10 @@ use Rattle.tag_memory.specs.declared.requests.Reply.{Reply}
 use Rattle.tag_memory.specs.Storage.{TaggedMemory}
 use Rattle.tag_memory.specs.Answer.{answer}
 use Rattle.image_file.specs.ImageValue.{ImageValue}
-use Rattle.stream_core.specs.Streams.{StreamValue, idle, trapped}
-use Rattle.stream_core.specs.Children.{born}
+use Rattle.stream_core.specs.Streams.{StreamValue, idle, after_trap}
+use Rattle.stream_core.specs.Children.{child_stream}
 use Rattle.stream_core.specs.Effects.{request_of}
-use Rattle.stream_core.specs.StreamRow.{fetched, control_of, row_asking}
+use Rattle.stream_core.specs.StreamRow.{fetch_of, control_of, row_asking}
 use Rattle.stream_core.specs.declared.traps.TrapKind.TheVariants as kind
 use Rattle.stream_core.specs.declared.steps.Outcome.{Outcome}
 use Rattle.stream_core.specs.declared.steps.Outcome.TheVariants as outcome
@@ -33,34 +33,34 @@ lacks_stream proc (asks.Create child) = proc.current == proc.reserved
 lacks_stream proc asks.Quit = false
 lacks_stream proc asks.QuitKeep = false
 
-abbrev pub begun_from : ProcessorValue → StreamValue → Fetched → Fetched
-begun_from proc s fetch.Rest = fetch.Rest
-begun_from proc s (fetch.Trap k) = fetch.Trap k
-begun_from proc s (fetch.Runs i) = if lacks_stream proc (control_of s i) then fetch.Trap kind.Create else fetch.Runs i
+abbrev pub step_fetch_from : ProcessorValue → StreamValue → Fetched → Fetched
+step_fetch_from proc s fetch.Rest = fetch.Rest
+step_fetch_from proc s (fetch.Trap k) = fetch.Trap k
+step_fetch_from proc s (fetch.Runs i) = if lacks_stream proc (control_of s i) then fetch.Trap kind.Create else fetch.Runs i
 
 -- rest where the stream does not run; a trap where there is no word, no instruction or no stream for a CREATE, in
 -- this order; else the instruction at the pc
-unfoldable pub begun : ImageValue → ProcessorValue → StreamValue → Fetched
-begun image proc s = begun_from proc s (fetched image.program s)
+unfoldable pub step_fetch : ImageValue → ProcessorValue → StreamValue → Fetched
+step_fetch image proc s = step_fetch_from proc s (fetch_of image.program s)
 
-abbrev pub begun_at : ImageValue → ProcessorValue → Option StreamValue → Fetched
-begun_at image proc None = fetch.Rest
-begun_at image proc (Some s) = begun image proc s
+abbrev pub step_fetch_at : ImageValue → ProcessorValue → Option StreamValue → Fetched
+step_fetch_at image proc None = fetch.Rest
+step_fetch_at image proc (Some s) = step_fetch image proc s
 
 -- the same of the stream of this number; rest where there is none
-unfoldable pub begun_of : ImageValue → ProcessorValue → ℕ → Fetched
-begun_of image proc n = begun_at image proc (slice_get proc.streams n)
+unfoldable pub step_fetch_of : ImageValue → ProcessorValue → ℕ → Fetched
+step_fetch_of image proc n = step_fetch_at image proc (slice_get proc.streams n)
 
 -- What it asks.
 
-abbrev pub asked_by : StreamValue → Fetched → Option Request
-asked_by s fetch.Rest = None
-asked_by s (fetch.Trap k) = None
-asked_by s (fetch.Runs i) = request_of s i
+abbrev pub request_on_fetch : StreamValue → Fetched → Option Request
+request_on_fetch s fetch.Rest = None
+request_on_fetch s (fetch.Trap k) = None
+request_on_fetch s (fetch.Runs i) = request_of s i
 
 abbrev pub request_at : ImageValue → ProcessorValue → Option StreamValue → Option Request
 request_at image proc None = None
-request_at image proc (Some s) = asked_by s (begun image proc s)
+request_at image proc (Some s) = request_on_fetch s (step_fetch image proc s)
 
 -- the request that a step of stream n makes of the memory, if any
 unfoldable pub request : ImageValue → ProcessorValue → ℕ → Option Request
@@ -77,7 +77,7 @@ next_by s (fetch.Runs i) = next_asking (request_of s i)
 
 abbrev pub next_at : ImageValue → ProcessorValue → Option StreamValue → Next
 next_at image proc None = next.Skip
-next_at image proc (Some s) = next_by s (begun image proc s)
+next_at image proc (Some s) = next_by s (step_fetch image proc s)
 
 -- what a step of stream n needs
 unfoldable pub next_of : ImageValue → ProcessorValue → ℕ → Next
@@ -86,12 +86,12 @@ next_of image proc n = next_at image proc (slice_get proc.streams n)
 -- What it leaves.
 
 -- the number of streams that RESERVE is granted
-abbrev pub granted : ImageValue → ProcessorValue → Control → ℕ
-granted image proc asks.Plain = 0
-granted image proc (asks.Reserve n) = min n (image.slim - proc.reserved)
-granted image proc (asks.Create child) = 0
-granted image proc asks.Quit = 0
-granted image proc asks.QuitKeep = 0
+abbrev pub grant_of : ImageValue → ProcessorValue → Control → ℕ
+grant_of image proc asks.Plain = 0
+grant_of image proc (asks.Reserve n) = min n (image.slim - proc.reserved)
+grant_of image proc (asks.Create child) = 0
+grant_of image proc asks.Quit = 0
+grant_of image proc asks.QuitKeep = 0
 
 abbrev pub with_stream : ProcessorValue → ℕ → StreamValue → ProcessorValue
 with_stream proc n s = record proc { streams = slice_set proc.streams n s }
@@ -101,47 +101,47 @@ abbrev pub lowest_idle : ProcessorValue → ℕ
 lowest_idle proc = position_or_len is_idle proc.streams
 
 -- what the instruction of stream n, granted so many streams, then does to its processor
-abbrev pub controlled : ProcessorValue → ℕ → ℕ → Control → ProcessorValue
-controlled proc n grant asks.Plain = proc
-controlled proc n grant (asks.Reserve asked) = record proc { reserved = proc.reserved + grant }
-controlled proc n grant (asks.Create child) =
-    record (with_stream proc (lowest_idle proc) (born child)) { current = proc.current + 1 }
-controlled proc n grant asks.Quit =
+abbrev pub after_control : ProcessorValue → ℕ → ℕ → Control → ProcessorValue
+after_control proc n grant asks.Plain = proc
+after_control proc n grant (asks.Reserve asked) = record proc { reserved = proc.reserved + grant }
+after_control proc n grant (asks.Create child) =
+    record (with_stream proc (lowest_idle proc) (child_stream child)) { current = proc.current + 1 }
+after_control proc n grant asks.Quit =
     record (with_stream proc n idle) { current = proc.current - 1; reserved = proc.reserved - 1 }
-controlled proc n grant asks.QuitKeep = record (with_stream proc n idle) { current = proc.current - 1 }
+after_control proc n grant asks.QuitKeep = record (with_stream proc n idle) { current = proc.current - 1 }
 
 -- it happens where the instruction is done
-abbrev pub settled : ProcessorValue → ℕ → ℕ → Control → Outcome → ProcessorValue
-settled proc n grant asking outcome.Skipped = proc
-settled proc n grant asking outcome.Done = controlled proc n grant asking
-settled proc n grant asking outcome.Blocked = proc
-settled proc n grant asking (outcome.Trapped k) = proc
-settled proc n grant asking (outcome.Stopped k) = proc
+abbrev pub after_control_if_done : ProcessorValue → ℕ → ℕ → Control → Outcome → ProcessorValue
+after_control_if_done proc n grant asking outcome.Skipped = proc
+after_control_if_done proc n grant asking outcome.Done = after_control proc n grant asking
+after_control_if_done proc n grant asking outcome.Blocked = proc
+after_control_if_done proc n grant asking (outcome.Trapped k) = proc
+after_control_if_done proc n grant asking (outcome.Stopped k) = proc
 
 abbrev pub put_back : ProcessorValue → ℕ → StreamValue × Outcome → ProcessorValue × Outcome
 put_back proc n e = (with_stream proc n e.0, e.1)
 
 -- the instruction left its stream so, with this outcome
-abbrev pub put_settled : ProcessorValue → ℕ → ℕ → Control → StreamValue × Outcome → ProcessorValue × Outcome
-put_settled proc n grant asking e = (settled (with_stream proc n e.0) n grant asking e.1, e.1)
+abbrev pub put_after_control : ProcessorValue → ℕ → ℕ → Control → StreamValue × Outcome → ProcessorValue × Outcome
+put_after_control proc n grant asking e = (after_control_if_done (with_stream proc n e.0) n grant asking e.1, e.1)
 
 abbrev pub row_granting : ImageValue → ProcessorValue → ℕ → Option Reply → StreamValue → Insn → Control → ℕ
     → ProcessorValue × Outcome
 row_granting image proc n reply s i asking grant =
-    put_settled proc n grant asking (row_asking image.retry_limit s i grant reply (request_of s i))
+    put_after_control proc n grant asking (row_asking image.retry_limit s i grant reply (request_of s i))
 
 abbrev pub row_controlling : ImageValue → ProcessorValue → ℕ → Option Reply → StreamValue → Insn → Control
     → ProcessorValue × Outcome
-row_controlling image proc n reply s i asking = row_granting image proc n reply s i asking (granted image proc asking)
+row_controlling image proc n reply s i asking = row_granting image proc n reply s i asking (grant_of image proc asking)
 
 abbrev pub row_by : ImageValue → ProcessorValue → ℕ → Option Reply → StreamValue → Fetched → ProcessorValue × Outcome
 row_by image proc n reply s fetch.Rest = (proc, outcome.Skipped)
-row_by image proc n reply s (fetch.Trap k) = put_back proc n (trapped k 0 s)
+row_by image proc n reply s (fetch.Trap k) = put_back proc n (after_trap k 0 s)
 row_by image proc n reply s (fetch.Runs i) = row_controlling image proc n reply s i (control_of s i)
 
 abbrev pub row_at : ImageValue → ProcessorValue → ℕ → Option Reply → Option StreamValue → ProcessorValue × Outcome
 row_at image proc n reply None = (proc, outcome.Skipped)
-row_at image proc n reply (Some s) = row_by image proc n reply s (begun image proc s)
+row_at image proc n reply (Some s) = row_by image proc n reply s (step_fetch image proc s)
 
 -- the processor after a step of stream n with this reply, none where it asks nothing; and the outcome
 unfoldable pub row : ImageValue → ProcessorValue → ℕ → Option Reply → ProcessorValue × Outcome
@@ -150,14 +150,14 @@ row image proc n reply = row_at image proc n reply (slice_get proc.streams n)
 -- Over a memory.
 
 -- the memory after it answers what a step asks, and its reply
-abbrev pub replied : TaggedMemory → Option Request → TaggedMemory × Option Reply
-replied m None = (m, None)
-replied m (Some q) = ((answer m q).0, Some (answer m q).1)
+abbrev pub memory_reply : TaggedMemory → Option Request → TaggedMemory × Option Reply
+memory_reply m None = (m, None)
+memory_reply m (Some q) = ((answer m q).0, Some (answer m q).1)
 
-abbrev pub served_replied : ImageValue → ProcessorValue → ℕ → TaggedMemory × Option Reply
+abbrev pub row_with_reply : ImageValue → ProcessorValue → ℕ → TaggedMemory × Option Reply
     → (ProcessorValue × Outcome) × TaggedMemory
-served_replied image proc n e = (row image proc n e.1, e.0)
+row_with_reply image proc n e = (row image proc n e.1, e.0)
 
 -- the processor after a step of stream n whose request this memory answers, the outcome, and the memory
-unfoldable pub served : ImageValue → ProcessorValue → ℕ → TaggedMemory → (ProcessorValue × Outcome) × TaggedMemory
-served image proc n m = served_replied image proc n (replied m (request image proc n))
+unfoldable pub row_over_memory : ImageValue → ProcessorValue → ℕ → TaggedMemory → (ProcessorValue × Outcome) × TaggedMemory
+row_over_memory image proc n m = row_with_reply image proc n (memory_reply m (request image proc n))

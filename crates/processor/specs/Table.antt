@@ -4,5 +4,5 @@ use Rattle.stream_core.specs.Streams.{StreamValue}
 use Rattle.stream_core.specs.declared.steps.Outcome.{Outcome}
 
 -- the streams, with one put back as its step left it, and the step's outcome
-abbrev pub placed : List StreamValue → ℕ → StreamValue × Outcome → List StreamValue × Outcome
-placed ss n e = (slice_set ss n e.0, e.1)
+abbrev pub put_in_streams : List StreamValue → ℕ → StreamValue × Outcome → List StreamValue × Outcome
+put_in_streams ss n e = (slice_set ss n e.0, e.1)

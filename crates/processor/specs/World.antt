@@ -7,7 +7,7 @@ use Rattle.image_file.specs.ImageValue.{ImageValue}
 use Rattle.stream_core.specs.declared.steps.Outcome.{Outcome}
 use Rattle.stream_core.specs.declared.steps.Outcome.TheVariants as outcome
 use Rattle.processor.specs.Processors.{ProcessorValue, opening}
-use Rattle.processor.specs.Row.{request, served}
+use Rattle.processor.specs.Row.{request, row_over_memory}
 use Rattle.processor.specs.declared.steps.Step.{Step}
 use Rattle.processor.specs.declared.steps.Entry.{Entry}
 
@@ -22,22 +22,22 @@ start image = record { processors = map (opening image) image.entries; memory = 
 
 -- One step.
 
-abbrev pub taken : World → ℕ → (ProcessorValue × Outcome) × TaggedMemory → World × Outcome
-taken w p e = (record { processors = slice_set w.processors p e.0.0; memory = e.1 }, e.0.1)
+abbrev pub world_with : World → ℕ → (ProcessorValue × Outcome) × TaggedMemory → World × Outcome
+world_with w p e = (record { processors = slice_set w.processors p e.0.0; memory = e.1 }, e.0.1)
 
-abbrev pub stepped_at : ImageValue → World → Step → Option ProcessorValue → World × Outcome
-stepped_at image w t None = (w, outcome.Skipped)
-stepped_at image w t (Some proc) = taken w t.p (served image proc t.s w.memory)
+abbrev pub world_step_at : ImageValue → World → Step → Option ProcessorValue → World × Outcome
+world_step_at image w t None = (w, outcome.Skipped)
+world_step_at image w t (Some proc) = world_with w t.p (row_over_memory image proc t.s w.memory)
 
 -- the world after a step, and the outcome
-unfoldable pub stepped : ImageValue → World → Step → World × Outcome
-stepped image w t = stepped_at image w t (slice_get w.processors t.p)
+unfoldable pub world_step : ImageValue → World → Step → World × Outcome
+world_step image w t = world_step_at image w t (slice_get w.processors t.p)
 
 abbrev pub after : ImageValue → World → Step → World
-after image w t = (stepped image w t).0
+after image w t = (world_step image w t).0
 
 abbrev pub outcome_of : ImageValue → World → Step → Outcome
-outcome_of image w t = (stepped image w t).1
+outcome_of image w t = (world_step image w t).1
 
 -- A schedule.
 
@@ -52,23 +52,23 @@ run image ts = steps image (start image) ts
 
 -- What it asks of the memory.
 
-abbrev pub entry_asking : World → Step → Option Request → List Entry
-entry_asking w t None = []
-entry_asking w t (Some q) = record { p = t.p; s = t.s; request = q; reply = (answer w.memory q).1 } ∷ []
+abbrev pub step_entries_asking : World → Step → Option Request → List Entry
+step_entries_asking w t None = []
+step_entries_asking w t (Some q) = record { p = t.p; s = t.s; request = q; reply = (answer w.memory q).1 } ∷ []
 
-abbrev pub entry_at : ImageValue → World → Step → Option ProcessorValue → List Entry
-entry_at image w t None = []
-entry_at image w t (Some proc) = entry_asking w t (request image proc t.s)
+abbrev pub step_entries_at : ImageValue → World → Step → Option ProcessorValue → List Entry
+step_entries_at image w t None = []
+step_entries_at image w t (Some proc) = step_entries_asking w t (request image proc t.s)
 
 -- the entry that a step makes, if it asks; blocked and trapped requests are entries too
-unfoldable pub entry : ImageValue → World → Step → List Entry
-entry image w t = entry_at image w t (slice_get w.processors t.p)
+unfoldable pub step_entries : ImageValue → World → Step → List Entry
+step_entries image w t = step_entries_at image w t (slice_get w.processors t.p)
 
 -- the entries that steps make, in order
-abbrev pub made : ImageValue → World → List Step → List Entry
-made image w [] = []
-made image w (t ∷ ts) = entry image w t ++ made image (after image w t) ts
+abbrev pub history_from : ImageValue → World → List Step → List Entry
+history_from image w [] = []
+history_from image w (t ∷ ts) = step_entries image w t ++ history_from image (after image w t) ts
 
 -- the entries that a schedule makes, from the image's start
-abbrev pub asked : ImageValue → List Step → List Entry
-asked image ts = made image (start image) ts
+abbrev pub history_of : ImageValue → List Step → List Entry
+history_of image ts = history_from image (start image) ts

@@ -4,10 +4,10 @@
 ghost use Rattle.std.specs.Prelude.{◌≡◌, ◌<◌, ◌≤◌, ◌+◌, length, true, false, is_some, IfOk};
 ghost use Rattle.stream_core.specs.StreamRow.{control_of};
 ghost use Rattle.stream_core.specs.Effects.{request_of};
-ghost use Rattle.stream_core.specs.Streams.{StreamValue, idle, trapped};
+ghost use Rattle.stream_core.specs.Streams.{StreamValue, idle, after_trap};
 ghost use Rattle.processor.specs.Processors.{stream_at, IsCounted};
-ghost use Rattle.processor.specs.Row.{lacks_stream, granted, begun_of, controlled, put_back, row_controlling};
-ghost use Rattle.processor.specs.Row.{request, next_of, row, replied, served};
+ghost use Rattle.processor.specs.Row.{lacks_stream, grant_of, step_fetch_of, after_control, put_back, row_controlling};
+ghost use Rattle.processor.specs.Row.{request, next_of, row, memory_reply, row_over_memory};
 
 use crate::steps::Next;
 use crate::stream_table::StreamTable;
@@ -51,7 +51,7 @@ impl<const S: usize> CountedStreams<S> {
 
     /// The number of streams that a RESERVE is granted.
     fn granted(&self, image: &Image, control: &Control) -> u64
-        ensures is { result ≡ granted image.now self.now control.now }
+        ensures is { result ≡ grant_of image.now self.now control.now }
         ensures fits { self.now.reserved + result < 65536 }
     {
         let room = image.slim().saturating_sub(self.sres);
@@ -62,9 +62,9 @@ impl<const S: usize> CountedStreams<S> {
     }
 
     /// What a step of the stream at this place begins with.
-    #[tactic(auto, unfolding(crate::specs::Row::begun_of, crate::specs::Row::begun))]
+    #[tactic(auto, unfolding(crate::specs::Row::step_fetch_of, crate::specs::Row::step_fetch))]
     fn begun(&self, image: &Image, place: usize) -> Fetched
-        ensures { result ≡ begun_of image.now self.now place }
+        ensures { result ≡ step_fetch_of image.now self.now place }
     {
         let Some(stream) = self.table.used(place) else {
             return Fetched::Rest;
@@ -88,7 +88,7 @@ impl<const S: usize> CountedStreams<S> {
         requires within { self.old.current ≤ self.old.reserved }
         requires free { lacks_stream self.old control ≡ false }
         requires fits { self.old.reserved + grant < 65536 }
-        ensures { self.new ≡ controlled self.old place grant control }
+        ensures { self.new ≡ after_control self.old place grant control }
     {
         match control {
             Control::Plain => {}
@@ -121,7 +121,7 @@ impl<const S: usize> CountedStreams<S> {
     /// A stream takes a trap that has no address.
     fn trap(&mut self, place: usize, kind: TrapKind) -> Outcome
         requires used { place < length self.old.streams }
-        ensures { (self.new, result) ≡ put_back self.old place (trapped kind 0 (stream_at self.old.streams place)) }
+        ensures { (self.new, result) ≡ put_back self.old place (after_trap kind 0 (stream_at self.old.streams place)) }
     {
         self.table.trap(place, kind)
     }
@@ -189,7 +189,7 @@ impl<const S: usize> CountedStreams<S> {
     /// One step of the stream of this number over a memory. It decodes one word and takes no memory.
     pub(crate) fn served(&mut self, image: &Image, place: usize, memory: &mut Memory) -> Outcome
         requires counted { IsCounted self.old }
-        ensures { ((self.new, result), memory.new) ≡ served image.now self.old place memory.old }
+        ensures { ((self.new, result), memory.new) ≡ row_over_memory image.now self.old place memory.old }
     {
         match self.begun(image, place) {
             Fetched::Rest => Outcome::Skipped,
@@ -218,7 +218,7 @@ impl<const S: usize> CountedStreams<S> {
 /// The memory's reply to what a step asks, if it asks anything.
 #[inline(always)]
 fn reply_of(memory: &mut Memory, request: Option<Request>) -> Option<Reply>
-    ensures { (memory.new, result) ≡ replied memory.old request }
+    ensures { (memory.new, result) ≡ memory_reply memory.old request }
 {
     match request {
         None => None,

@@ -3,7 +3,7 @@
 ghost use Rattle.std.specs.Prelude.{◌≡◌, ◌<◌, ◌≤◌, None, Some, length, slice_index, IfOk};
 ghost use Rattle.std.specs.Option.{option_copied};
 ghost use Rattle.processor.specs.Processors.{IsCounted, stream_seen, opening};
-ghost use Rattle.processor.specs.Row.{next_of, row, served};
+ghost use Rattle.processor.specs.Row.{next_of, row, row_over_memory};
 ghost use Rattle.processor.specs.Kept.{KeepsOthers};
 
 use crate::counted_streams::CountedStreams;
@@ -91,7 +91,7 @@ impl<const S: usize> Processor<S> {
     /// A step of stream `s` over a memory, which answers its request. It decodes one word and takes no memory.
     pub fn step(&mut self, image: &Image, s: u8, memory: &mut Memory) -> Outcome
         requires slim { image.now.slim ≡ length self.old.streams }
-        ensures served { ((self.new, result), memory.new) ≡ served image.now self.old s memory.old }
+        ensures served { ((self.new, result), memory.new) ≡ row_over_memory image.now self.old s memory.old }
         ensures others { KeepsOthers s self.old self.new }
     {
         self.streams.served(image, s as usize, memory)

@@ -3,11 +3,11 @@
 ghost use Rattle.std.specs.Prelude.{◌≡◌, ◌<◌, ◌≤◌, length, replicate, slice_get, slice_set, IfOk, is_some};
 ghost use Rattle.std.specs.List.{position_or_len};
 ghost use Rattle.std.specs.Option.{option_copied};
-ghost use Rattle.stream_core.specs.Streams.{idle, trapped};
+ghost use Rattle.stream_core.specs.Streams.{idle, after_trap};
 ghost use Rattle.stream_core.specs.Effects.{request_of};
 ghost use Rattle.stream_core.specs.StreamRow.{row_asking};
 ghost use Rattle.processor.specs.Processors.{is_idle, stream_at, stream_seen};
-ghost use Rattle.processor.specs.Table.{placed};
+ghost use Rattle.processor.specs.Table.{put_in_streams};
 
 use insn_word::Insn;
 use std::alloc::{AllocError, Global};
@@ -108,7 +108,7 @@ impl<const S: usize> StreamTable<S> {
     /// A used stream takes a trap that has no address.
     pub(crate) fn trap(&mut self, place: usize, kind: TrapKind) -> Outcome
         requires used { place < length self.old }
-        ensures { (self.new, result) ≡ placed self.old place (trapped kind 0 (stream_at self.old place)) }
+        ensures { (self.new, result) ≡ put_in_streams self.old place (after_trap kind 0 (stream_at self.old place)) }
     {
         self.streams[place].trap(kind, 0)
     }
@@ -126,7 +126,7 @@ impl<const S: usize> StreamTable<S> {
     ) -> Outcome
         requires used { place < length self.old }
         requires replied { is_some reply ≡ is_some (request_of (stream_at self.old place) insn.now) }
-        ensures { (self.new, result) ≡ placed self.old place
+        ensures { (self.new, result) ≡ put_in_streams self.old place
             (row_asking limit (stream_at self.old place) insn.now grant reply
             (request_of (stream_at self.old place) insn.now)) }
     {

@@ -4,8 +4,8 @@ use Rattle.insn_word.specs.declared.insn.Insn.{Insn}
 use Rattle.tag_memory.specs.declared.requests.Request.{Request}
 use Rattle.tag_memory.specs.declared.requests.Reply.{Reply}
 use Rattle.stream_core.specs.Streams.{StreamValue}
-use Rattle.stream_core.specs.Effects.{request_of, executed}
-use Rattle.stream_core.specs.StreamRow.{fetched, plan_asking, plan_from, plan_of, replied, row_asking, row_from}
+use Rattle.stream_core.specs.Effects.{request_of, after_instruction}
+use Rattle.stream_core.specs.StreamRow.{fetch_of, plan_asking, plan_from, plan_of, after_reply, row_asking, row_from}
 use Rattle.stream_core.specs.StreamRow.{stream_row}
 use Rattle.stream_core.specs.declared.steps.Fetched.{Fetched}
 use Rattle.stream_core.specs.declared.steps.Fetched.TheVariants.{Rest, Trap, Runs}
@@ -32,26 +32,26 @@ runs_asks s (Trap k) q e = cc
 runs_asks s (Runs i) q e = (i, refl)
 
 pub local_runs : (program : List ℕ) (s : StreamValue) → plan_of program s ≡ plan.Local
-    → (i : Insn) × (fetched program s ≡ Runs i)
+    → (i : Insn) × (fetch_of program s ≡ Runs i)
 unfolding plan_of
-local_runs program s e = runs_local s (fetched program s) e
+local_runs program s e = runs_local s (fetch_of program s) e
 
 pub asked_runs : (program : List ℕ) (s : StreamValue) (q : Request) → plan_of program s ≡ plan.Ask q
-    → (i : Insn) × (fetched program s ≡ Runs i)
+    → (i : Insn) × (fetch_of program s ≡ Runs i)
 unfolding plan_of
-asked_runs program s q e = runs_asks s (fetched program s) q e
+asked_runs program s q e = runs_asks s (fetch_of program s) q e
 
 pub row_local : (program : List ℕ) (limit : ℕ) (s : StreamValue) (i : Insn) (grant : ℕ) (r : Option Reply)
-    → fetched program s ≡ Runs i → plan_of program s ≡ plan.Local
-    → stream_row program limit s grant r ≡ (executed s i 0 grant, outcome.Done)
+    → fetch_of program s ≡ Runs i → plan_of program s ≡ plan.Local
+    → stream_row program limit s grant r ≡ (after_instruction s i 0 grant, outcome.Done)
 unfolding plan_of stream_row
 row_local program limit s i grant r found e =
     ap (row_from limit s grant r) found
     ∙ ap (row_asking limit s i grant r) (plan_local (request_of s i) (sym (ap (plan_from s) found) ∙ e))
 
 pub row_asked : (program : List ℕ) (limit : ℕ) (s : StreamValue) (i : Insn) (grant : ℕ) (r : Reply) (q : Request)
-    → fetched program s ≡ Runs i → plan_of program s ≡ plan.Ask q
-    → stream_row program limit s grant (Some r) ≡ replied limit s i grant r
+    → fetch_of program s ≡ Runs i → plan_of program s ≡ plan.Ask q
+    → stream_row program limit s grant (Some r) ≡ after_reply limit s i grant r
 unfolding plan_of stream_row
 row_asked program limit s i grant r q found e =
     ap (row_from limit s grant (Some r)) found

@@ -2,18 +2,18 @@
 use Rattle.std.proofs.Common.{◌≡◌, ℕ, ◌+◌, ◌-◌, ◌*◌, ◌/◌, ◌%◌, ◌^◌, ◌<◌, ◌≤◌, ◌==◌, Bool, true, false, bit_and, sym}
 use Rattle.std.proofs.Common.{◌∙◌, ap, arith}
 use Rattle.std.proofs.lemmas.Nat.{and_block, and_mask}
-use Rattle.stream_core.specs.Arithmetic.{number_of}
+use Rattle.stream_core.specs.Arithmetic.{bit_number}
 use Rattle.stream_core.specs.StatusWords.{code_number, code_from, codes_number, codes_from, mask_number, mask_from}
 use Rattle.stream_core.specs.StatusWords.{status_number, status_from, status_digits, IsKeptInDigits, AreOwnDigits}
 use Rattle.stream_core.specs.declared.conditions.Code.{Code}
 use Rattle.stream_core.specs.declared.status_words.Codes.{Codes}
 use Rattle.stream_core.specs.declared.status_words.TrapMask.{TrapMask}
 
-flag_is : (b : Bool) (m : ℕ) → m ≡ number_of b → (m == 1) ≡ b
+flag_is : (b : Bool) (m : ℕ) → m ≡ bit_number b → (m == 1) ≡ b
 flag_is true m e = ap (λ n. n == 1) e
 flag_is false m e = ap (λ n. n == 1) e
 
-flag_small : (b : Bool) → number_of b ≤ 1
+flag_small : (b : Bool) → bit_number b ≤ 1
 flag_small true = omega arith
 flag_small false = omega arith
 
@@ -36,7 +36,7 @@ four_digits m z n c v x hz hn hc hv e = (omega arith, omega arith, omega arith, 
 code_kept : (m : ℕ) (c : Code) (x : ℕ) → m ≡ code_number c + 16 * x → code_from m ≡ c
 code_kept m c x e =
     let d =
-    four_digits m (number_of c.zero) (number_of c.negative) (number_of c.carry) (number_of c.overflow) x
+    four_digits m (bit_number c.zero) (bit_number c.negative) (bit_number c.carry) (bit_number c.overflow) x
     (flag_small c.zero) (flag_small c.negative) (flag_small c.carry) (flag_small c.overflow) e in
     λ i. record {
       zero = flag_is c.zero _ d.0 i;
@@ -68,12 +68,12 @@ codes_kept m c x e =
 
 mask_kept : (m : ℕ) (k : TrapMask) (x : ℕ) → m ≡ mask_number k + 8 * x → mask_from m ≡ k
 mask_kept m k x e =
-    let a : number_of k.trap0 ≤ 1 = flag_small k.trap0 in
-    let b : number_of k.trap1 ≤ 1 = flag_small k.trap1 in
-    let d : number_of k.blocked ≤ 1 = flag_small k.blocked in
-    let first : m / 2 ^ 0 % 2 ≡ number_of k.trap0 = omega arith in
-    let second : m / 2 ^ 1 % 2 ≡ number_of k.trap1 = omega arith in
-    let third : m / 2 ^ 2 % 2 ≡ number_of k.blocked = omega arith in
+    let a : bit_number k.trap0 ≤ 1 = flag_small k.trap0 in
+    let b : bit_number k.trap1 ≤ 1 = flag_small k.trap1 in
+    let d : bit_number k.blocked ≤ 1 = flag_small k.blocked in
+    let first : m / 2 ^ 0 % 2 ≡ bit_number k.trap0 = omega arith in
+    let second : m / 2 ^ 1 % 2 ≡ bit_number k.trap1 = omega arith in
+    let third : m / 2 ^ 2 % 2 ≡ bit_number k.blocked = omega arith in
     λ i. record {
       trap0 = flag_is k.trap0 _ first i;
       trap1 = flag_is k.trap1 _ second i;
@@ -83,28 +83,28 @@ mask_kept m k x e =
 pub status_kept : IsKeptInDigits
 unfolding status_number status_from
 status_kept s small =
-    let n = s.pc + codes_number s.codes * 2 ^ 32 + mask_number s.mask * 2 ^ 48 + number_of s.in_trap * 2 ^ 56 in
+    let n = s.pc + codes_number s.codes * 2 ^ 32 + mask_number s.mask * 2 ^ 48 + bit_number s.in_trap * 2 ^ 56 in
     let a : codes_number s.codes < 65536 = codes_small s.codes in
     let b : mask_number s.mask < 8 = mask_small s.mask in
-    let d : number_of s.in_trap ≤ 1 = flag_small s.in_trap in
+    let d : bit_number s.in_trap ≤ 1 = flag_small s.in_trap in
     let pc : n % 2 ^ 32 ≡ s.pc = omega arith in
-    let codes : n / 2 ^ 32 ≡ codes_number s.codes + 65536 * (mask_number s.mask + 256 * number_of s.in_trap) =
+    let codes : n / 2 ^ 32 ≡ codes_number s.codes + 65536 * (mask_number s.mask + 256 * bit_number s.in_trap) =
     omega arith in
-    let mask : n / 2 ^ 48 ≡ mask_number s.mask + 8 * (32 * number_of s.in_trap) = omega arith in
-    let in_trap : n / 2 ^ 56 % 2 ≡ number_of s.in_trap = omega arith in
+    let mask : n / 2 ^ 48 ≡ mask_number s.mask + 8 * (32 * bit_number s.in_trap) = omega arith in
+    let in_trap : n / 2 ^ 56 % 2 ≡ bit_number s.in_trap = omega arith in
     λ i. record {
       pc = pc i;
-      codes = codes_kept (n / 2 ^ 32) s.codes (mask_number s.mask + 256 * number_of s.in_trap) codes i;
-      mask = mask_kept (n / 2 ^ 48) s.mask (32 * number_of s.in_trap) mask i;
+      codes = codes_kept (n / 2 ^ 32) s.codes (mask_number s.mask + 256 * bit_number s.in_trap) codes i;
+      mask = mask_kept (n / 2 ^ 48) s.mask (32 * bit_number s.in_trap) mask i;
       in_trap = flag_is s.in_trap _ in_trap i;
     }
 
 -- From digits to a word and back.
 
-digit_of : (m : ℕ) → m ≤ 1 → number_of (m == 1) ≡ m
+digit_of : (m : ℕ) → m ≤ 1 → bit_number (m == 1) ≡ m
 digit_of m h = grind arith
 
-has_digit : (m k : ℕ) → number_of (m / 2 ^ k % 2 == 1) ≡ m / 2 ^ k % 2
+has_digit : (m k : ℕ) → bit_number (m / 2 ^ k % 2 == 1) ≡ m / 2 ^ k % 2
 has_digit m k = digit_of (m / 2 ^ k % 2) (omega arith)
 
 code_digits : (m : ℕ) → code_number (code_from m) ≡ m % 16
@@ -140,8 +140,8 @@ unfolding status_number status_from
 status_own n =
     let codes : codes_number (codes_from (n / 2 ^ 32)) ≡ n / 2 ^ 32 % 65536 = codes_digits (n / 2 ^ 32) in
     let mask : mask_number (mask_from (n / 2 ^ 48)) ≡ n / 2 ^ 48 % 8 = mask_digits (n / 2 ^ 48) in
-    let in_trap : number_of (n / 2 ^ 56 % 2 == 1) ≡ n / 2 ^ 56 % 2 = has_digit n 56 in
+    let in_trap : bit_number (n / 2 ^ 56 % 2 == 1) ≡ n / 2 ^ 56 % 2 = has_digit n 56 in
     let sum : n % 2 ^ 32 + codes_number (codes_from (n / 2 ^ 32)) * 2 ^ 32
-    + mask_number (mask_from (n / 2 ^ 48)) * 2 ^ 48 + number_of (n / 2 ^ 56 % 2 == 1) * 2 ^ 56
+    + mask_number (mask_from (n / 2 ^ 48)) * 2 ^ 48 + bit_number (n / 2 ^ 56 % 2 == 1) * 2 ^ 56
     ≡ n % 2 ^ 51 + n / 2 ^ 56 % 2 * 2 ^ 56 = omega arith in
     sum ∙ sym (and_digits n)

@@ -25,15 +25,15 @@ abbrev pub shift_right : ℕ → ℕ → ℕ
 shift_right a b = if nat_lt b 64 then a / 2 ^ b else 0
 
 -- each digit the other one
-abbrev pub inverted : ℕ → ℕ
-inverted n = 2 ^ 64 - 1 - n
+abbrev pub ones_complement : ℕ → ℕ
+ones_complement n = 2 ^ 64 - 1 - n
 
 -- the sign comes in
 abbrev pub shift_right_signed : ℕ → ℕ → ℕ
-shift_right_signed a b = if nat_lt a (2 ^ 63) then shift_right a b else inverted (shift_right (inverted a) b)
+shift_right_signed a b = if nat_lt a (2 ^ 63) then shift_right a b else ones_complement (shift_right (ones_complement a) b)
 
-abbrev pub number_of : Bool → ℕ
-number_of b = if b then 1 else 0
+abbrev pub bit_number : Bool → ℕ
+bit_number b = if b then 1 else 0
 
 -- what the operation makes of a and b
 abbrev pub result_of : ArithmeticOp → ℕ → ℕ → ℕ
@@ -44,13 +44,13 @@ result_of op.Mul a b = a * b % 2 ^ 64
 result_of op.And a b = bit_and a b
 result_of op.Or a b = bit_or a b
 result_of op.Xor a b = bit_xor a b
-result_of op.AndNot a b = bit_and a (inverted b)
+result_of op.AndNot a b = bit_and a (ones_complement b)
 result_of op.ShiftLeft a b = shift_left a b
 result_of op.ShiftRight a b = shift_right a b
 result_of op.ShiftRightSigned a b = shift_right_signed a b
 result_of op.Tally a b = count_ones a
-result_of op.LessSigned a b = number_of (int_lt (signed a) (signed b))
-result_of op.LessUnsigned a b = number_of (nat_lt a b)
+result_of op.LessSigned a b = bit_number (int_lt (signed a) (signed b))
+result_of op.LessUnsigned a b = bit_number (nat_lt a b)
 result_of op.Pointer a b = b % 2 ^ 5 * 2 ^ 59 + a % 2 ^ 59
 
 abbrev pub carries : ArithmeticOp → ℕ → ℕ → Bool

@@ -6,8 +6,8 @@ use Rattle.stream_core.specs.Streams.{StreamValue, idle}
 use Rattle.stream_core.specs.declared.steps.Child.{Child}
 use Rattle.stream_core.specs.declared.steps.Status.TheVariants.{Running}
 
-abbrev pub born : Child → StreamValue
-born c = record idle {
+abbrev pub child_stream : Child → StreamValue
+child_stream c = record idle {
   registers = with_register (replicate 32 0) 1 c.value;
   targets = with_target (replicate 8 (status_at 0)) 0 c.t0;
   ssw = record (status_at c.pc) { mask = c.mask };

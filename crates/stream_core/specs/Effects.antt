@@ -22,7 +22,7 @@ use Rattle.tag_memory.specs.declared.requests.MemOp.TheVariants as op
 use Rattle.tag_memory.specs.declared.requests.Request.{Request}
 use Rattle.stream_core.specs.Arithmetic.{result_of, code_of}
 use Rattle.stream_core.specs.Conditions.{condition_holds}
-use Rattle.stream_core.specs.StatusWords.{pushed, mask_from, status_at, status_from, status_number}
+use Rattle.stream_core.specs.StatusWords.{with_newest_code, mask_from, status_at, status_from, status_number}
 use Rattle.stream_core.specs.Registers.{register_at, with_register, target_at, with_target}
 use Rattle.stream_core.specs.Streams.{StreamValue}
 use Rattle.stream_core.specs.declared.conditions.Code.{Code}
@@ -32,9 +32,9 @@ use Rattle.stream_core.specs.declared.status_words.StatusWord.{StatusWord}
 -- The memory operation.
 
 -- the pointer that lies so many words further; its upper 16 bits stay
-abbrev pub moved : ℕ → ℤ → ℕ
-moved p (pos n) = p / 2 ^ 48 * 2 ^ 48 + (p % 2 ^ 48 + 8 * n) % 2 ^ 48
-moved p (negsuc n) = p / 2 ^ 48 * 2 ^ 48 + (p % 2 ^ 48 + (2 ^ 48 - 8 * suc n)) % 2 ^ 48
+abbrev pub displaced_pointer : ℕ → ℤ → ℕ
+displaced_pointer p (pos n) = p / 2 ^ 48 * 2 ^ 48 + (p % 2 ^ 48 + 8 * n) % 2 ^ 48
+displaced_pointer p (negsuc n) = p / 2 ^ 48 * 2 ^ 48 + (p % 2 ^ 48 + (2 ^ 48 - 8 * suc n)) % 2 ^ 48
 
 abbrev pub access_of : Access → Acc
 access_of access.FromPointer = acc.FromPointer
@@ -42,27 +42,27 @@ access_of access.Normal = acc.Normal
 access_of access.Future = acc.Future
 access_of access.Sync = acc.Sync
 
-abbrev pub asked : StreamValue → MPart → MemOp → ℕ → Request
-asked s m op value = record {
+abbrev pub request_with : StreamValue → MPart → MemOp → ℕ → Request
+request_with s m op value = record {
   op = op;
-  pointer = moved (register_at s.registers m.base) m.disp;
+  pointer = displaced_pointer (register_at s.registers m.base) m.disp;
   acc = access_of m.acc;
   value = value;
   masked = record { trap0 = s.ssw.mask.trap0; trap1 = s.ssw.mask.trap1 };
 }
 
-abbrev pub asked_by : StreamValue → MPart → MemoryOp → Option Request
-asked_by s m memory.Nop = None
-asked_by s m memory.Load = Some (asked s m op.Load 0)
-asked_by s m memory.Store = Some (asked s m op.Store (register_at s.registers m.rd))
-asked_by s m memory.FetchAdd = Some (asked s m op.Fadd (register_at s.registers m.rd))
-asked_by s m memory.TagGet = Some (asked s m op.TagGet 0)
-asked_by s m memory.TagSet = Some (asked s m op.TagSet (register_at s.registers m.rd % 16))
+abbrev pub request_by : StreamValue → MPart → MemoryOp → Option Request
+request_by s m memory.Nop = None
+request_by s m memory.Load = Some (request_with s m op.Load 0)
+request_by s m memory.Store = Some (request_with s m op.Store (register_at s.registers m.rd))
+request_by s m memory.FetchAdd = Some (request_with s m op.Fadd (register_at s.registers m.rd))
+request_by s m memory.TagGet = Some (request_with s m op.TagGet 0)
+request_by s m memory.TagSet = Some (request_with s m op.TagSet (register_at s.registers m.rd % 16))
 
 -- what the instruction asks the memory, if anything
 unfoldable pub request_of : StreamValue → Insn → Option Request
 request_of s (Wide look op reg imm) = None
-request_of s (Normal look m a c) = asked_by s m m.op
+request_of s (Normal look m a c) = request_by s m m.op
 
 -- a reference that is done has not been blocked
 abbrev pub retries_after : MemoryOp → ℕ → ℕ
@@ -71,21 +71,21 @@ retries_after _ n = 0
 
 -- The arithmetic operation.
 
-abbrev pub second : StreamValue → APart → ℕ
-second s a = if a.imm then a.rb else register_at s.registers a.rb
+abbrev pub second_operand : StreamValue → APart → ℕ
+second_operand s a = if a.imm then a.rb else register_at s.registers a.rb
 
-abbrev pub made : StreamValue → APart → ℕ
-made s a = result_of a.op (register_at s.registers a.ra) (second s a)
+abbrev pub arithmetic_value : StreamValue → APart → ℕ
+arithmetic_value s a = result_of a.op (register_at s.registers a.ra) (second_operand s a)
 
-abbrev pub next : ℕ → ℕ
-next pc = (pc + 1) % 2 ^ 32
+abbrev pub next_pc : ℕ → ℕ
+next_pc pc = (pc + 1) % 2 ^ 32
 
 -- the status word that the step would leave, but for the control operation
-abbrev pub left : StreamValue → APart → StatusWord
-left s a = record s.ssw {
-  pc = next s.ssw.pc;
+abbrev pub ssw_before_control : StreamValue → APart → StatusWord
+ssw_before_control s a = record s.ssw {
+  pc = next_pc s.ssw.pc;
   codes =
-      if a.test then pushed (code_of a.op (register_at s.registers a.ra) (second s a)) s.ssw.codes
+      if a.test then with_newest_code (code_of a.op (register_at s.registers a.ra) (second_operand s a)) s.ssw.codes
       else s.ssw.codes;
 }
 
@@ -94,17 +94,17 @@ left s a = record s.ssw {
 abbrev pub code_at : Codes → ℕ → Code
 code_at cs k = if k == 0 then cs.newest else if k == 1 then cs.second else if k == 2 then cs.third else cs.oldest
 
-abbrev pub skipped : ℕ → ℤ → ℕ
-skipped pc (pos n) = (pc + 1 + n) % 2 ^ 32
-skipped pc (negsuc n) = (pc + 1 + (2 ^ 32 - suc n)) % 2 ^ 32
+abbrev pub skip_pc : ℕ → ℤ → ℕ
+skip_pc pc (pos n) = (pc + 1 + n) % 2 ^ 32
+skip_pc pc (negsuc n) = (pc + 1 + (2 ^ 32 - suc n)) % 2 ^ 32
 
-abbrev pub goes : StreamValue → CPart → Bool
-goes s c = condition_holds c.cond (code_at s.ssw.codes c.code)
+abbrev pub control_holds : StreamValue → CPart → Bool
+control_holds s c = condition_holds c.cond (code_at s.ssw.codes c.code)
 
 -- the status word
 abbrev pub control_ssw : StreamValue → CPart → ControlOp → StatusWord → StatusWord
-control_ssw s c control.Jump l = if goes s c then record l { pc = (target_at s.targets c.t).pc } else l
-control_ssw s c control.Skip l = if goes s c then record l { pc = skipped s.ssw.pc c.n } else l
+control_ssw s c control.Jump l = if control_holds s c then record l { pc = (target_at s.targets c.t).pc } else l
+control_ssw s c control.Skip l = if control_holds s c then record l { pc = skip_pc s.ssw.pc c.n } else l
 control_ssw s c control.Call l = record l { pc = (target_at s.targets c.t).pc }
 control_ssw s c control.Exchange l = target_at s.targets c.t
 control_ssw s c control.Mask l = record l { mask = mask_from (unsigned_abs c.n) }
@@ -131,32 +131,32 @@ abbrev pub registers_after : StreamValue → MPart → APart → CPart → ℕ �
 registers_after s m a c value grant =
     with_register (with_register (with_register s.registers
     (memory_destination m.op m.rd) value)
-    (arithmetic_destination a.op a.rd) (made s a))
+    (arithmetic_destination a.op a.rd) (arithmetic_value s a))
     (control_destination c.op c.rd) (control_value s c c.op grant)
 
-abbrev pub executed_parts : StreamValue → MPart → APart → CPart → ℕ → ℕ → StreamValue
-executed_parts s m a c value grant = record s {
+abbrev pub after_parts : StreamValue → MPart → APart → CPart → ℕ → ℕ → StreamValue
+after_parts s m a c value grant = record s {
   registers = registers_after s m a c value grant;
-  targets = control_targets s c c.op (left s a);
-  ssw = control_ssw s c c.op (left s a);
+  targets = control_targets s c c.op (ssw_before_control s a);
+  ssw = control_ssw s c c.op (ssw_before_control s a);
   retries = retries_after m.op s.retries;
 }
 
-abbrev pub executed_wide : StreamValue → WideOp → ℕ → ℕ → StreamValue
-executed_wide s wide.Literal reg imm = record s {
+abbrev pub after_wide : StreamValue → WideOp → ℕ → ℕ → StreamValue
+after_wide s wide.Literal reg imm = record s {
   registers = with_register s.registers reg imm;
-  ssw = record s.ssw { pc = next s.ssw.pc };
+  ssw = record s.ssw { pc = next_pc s.ssw.pc };
 }
-executed_wide s wide.LiteralHigh reg imm = record s {
+after_wide s wide.LiteralHigh reg imm = record s {
   registers = with_register s.registers reg (imm * 2 ^ 32 + register_at s.registers reg % 2 ^ 32);
-  ssw = record s.ssw { pc = next s.ssw.pc };
+  ssw = record s.ssw { pc = next_pc s.ssw.pc };
 }
-executed_wide s wide.TargetLiteral reg imm = record s {
+after_wide s wide.TargetLiteral reg imm = record s {
   targets = with_target s.targets reg (status_at imm);
-  ssw = record s.ssw { pc = next s.ssw.pc };
+  ssw = record s.ssw { pc = next_pc s.ssw.pc };
 }
 
 -- the stream after the instruction
-unfoldable pub executed : StreamValue → Insn → ℕ → ℕ → StreamValue
-executed s (Wide look op reg imm) value grant = executed_wide s op reg imm
-executed s (Normal look m a c) value grant = executed_parts s m a c value grant
+unfoldable pub after_instruction : StreamValue → Insn → ℕ → ℕ → StreamValue
+after_instruction s (Wide look op reg imm) value grant = after_wide s op reg imm
+after_instruction s (Normal look m a c) value grant = after_parts s m a c value grant

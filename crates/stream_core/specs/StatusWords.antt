@@ -1,7 +1,7 @@
 -- The digits of status words, and how condition codes age.
 use Rattle.std.specs.Prelude.{◌≡◌, ◌<◌, ℕ, ◌+◌, ◌*◌, ◌/◌, ◌%◌, ◌^◌, bit_and, false}
 use Rattle.tag_memory.specs.Cell.{has_bit}
-use Rattle.stream_core.specs.Arithmetic.{number_of}
+use Rattle.stream_core.specs.Arithmetic.{bit_number}
 use Rattle.stream_core.specs.declared.conditions.Code.{Code}
 use Rattle.stream_core.specs.declared.status_words.Codes.{Codes}
 use Rattle.stream_core.specs.declared.status_words.TrapMask.{TrapMask}
@@ -9,7 +9,7 @@ use Rattle.stream_core.specs.declared.status_words.StatusWord.{StatusWord}
 
 -- a code's four digits
 abbrev pub code_number : Code → ℕ
-code_number c = number_of c.zero + 2 * number_of c.negative + 4 * number_of c.carry + 8 * number_of c.overflow
+code_number c = bit_number c.zero + 2 * bit_number c.negative + 4 * bit_number c.carry + 8 * bit_number c.overflow
 
 abbrev pub code_from : ℕ → Code
 code_from n = record { zero = has_bit n 0; negative = has_bit n 1; carry = has_bit n 2; overflow = has_bit n 3 }
@@ -28,14 +28,14 @@ codes_from n = record {
 }
 
 abbrev pub mask_number : TrapMask → ℕ
-mask_number m = number_of m.trap0 + 2 * number_of m.trap1 + 4 * number_of m.blocked
+mask_number m = bit_number m.trap0 + 2 * bit_number m.trap1 + 4 * bit_number m.blocked
 
 abbrev pub mask_from : ℕ → TrapMask
 mask_from n = record { trap0 = has_bit n 0; trap1 = has_bit n 1; blocked = has_bit n 2 }
 
 -- a status word's 64 digits
 unfoldable pub status_number : StatusWord → ℕ
-status_number s = s.pc + codes_number s.codes * 2 ^ 32 + mask_number s.mask * 2 ^ 48 + number_of s.in_trap * 2 ^ 56
+status_number s = s.pc + codes_number s.codes * 2 ^ 32 + mask_number s.mask * 2 ^ 48 + bit_number s.in_trap * 2 ^ 56
 
 -- the status word that digits say
 unfoldable pub status_from : ℕ → StatusWord
@@ -51,8 +51,8 @@ abbrev pub status_digits : ℕ
 status_digits = 0x0107FFFFFFFFFFFF
 
 -- a new code in front: the oldest one is lost
-abbrev pub pushed : Code → Codes → Codes
-pushed c cs = record { newest = c; second = cs.newest; third = cs.second; oldest = cs.third }
+abbrev pub with_newest_code : Code → Codes → Codes
+with_newest_code c cs = record { newest = c; second = cs.newest; third = cs.second; oldest = cs.third }
 
 -- the word with no digit set but those of the pc
 abbrev pub no_code : Code

@@ -11,8 +11,8 @@ use Rattle.tag_memory.specs.declared.requests.Reply.{Reply}
 use Rattle.tag_memory.specs.declared.requests.Reply.TheVariants as reply
 use Rattle.stream_core.specs.Registers.{register_at, target_at}
 use Rattle.stream_core.specs.Traps.{memory_trap}
-use Rattle.stream_core.specs.Streams.{StreamValue, trapped}
-use Rattle.stream_core.specs.Effects.{request_of, executed}
+use Rattle.stream_core.specs.Streams.{StreamValue, after_trap}
+use Rattle.stream_core.specs.Effects.{request_of, after_instruction}
 use Rattle.stream_core.specs.declared.traps.TrapKind.TheVariants as kind
 use Rattle.stream_core.specs.declared.steps.Status.{Status}
 use Rattle.stream_core.specs.declared.steps.Status.TheVariants.{Idle, Running, Stopped}
@@ -27,22 +27,22 @@ use Rattle.stream_core.specs.declared.steps.Control.TheVariants as asks
 
 -- The instruction that stands at the pc.
 
-abbrev pub spelt : Option Insn → Fetched
-spelt None = fetch.Trap kind.Illegal
-spelt (Some i) = fetch.Runs i
+abbrev pub fetch_instruction : Option Insn → Fetched
+fetch_instruction None = fetch.Trap kind.Illegal
+fetch_instruction (Some i) = fetch.Runs i
 
-abbrev pub word_fetched : Option ℕ → Fetched
-word_fetched None = fetch.Trap kind.Program
-word_fetched (Some word) = spelt (instruction word)
+abbrev pub fetch_word : Option ℕ → Fetched
+fetch_word None = fetch.Trap kind.Program
+fetch_word (Some word) = fetch_instruction (instruction word)
 
-abbrev pub fetched_if : Status → List ℕ → ℕ → Fetched
-fetched_if Running program pc = word_fetched (slice_get program pc)
-fetched_if Idle program pc = fetch.Rest
-fetched_if (Stopped k) program pc = fetch.Rest
+abbrev pub fetch_if : Status → List ℕ → ℕ → Fetched
+fetch_if Running program pc = fetch_word (slice_get program pc)
+fetch_if Idle program pc = fetch.Rest
+fetch_if (Stopped k) program pc = fetch.Rest
 
 -- what a step of the stream finds
-unfoldable pub fetched : List ℕ → StreamValue → Fetched
-fetched program s = fetched_if s.status program s.ssw.pc
+unfoldable pub fetch_of : List ℕ → StreamValue → Fetched
+fetch_of program s = fetch_if s.status program s.ssw.pc
 
 -- What the step needs.
 
@@ -56,7 +56,7 @@ plan_from s (fetch.Trap k) = plan.Trap k
 plan_from s (fetch.Runs i) = plan_asking (request_of s i)
 
 unfoldable pub plan_of : List ℕ → StreamValue → Plan
-plan_of program s = plan_from s (fetched program s)
+plan_of program s = plan_from s (fetch_of program s)
 
 -- What the step asks of its processor.
 
@@ -82,37 +82,37 @@ control_from s fetch.Rest = asks.Plain
 control_from s (fetch.Trap k) = asks.Plain
 
 unfoldable pub control_at : List ℕ → StreamValue → Control
-control_at program s = control_from s (fetched program s)
+control_at program s = control_from s (fetch_of program s)
 
 -- The step itself.
 
 -- a blocked reference, where the retry limit is so
-abbrev pub blocked : ℕ → StreamValue → ℕ → StreamValue × Outcome
-blocked limit s a =
+abbrev pub after_blocked_reply : ℕ → StreamValue → ℕ → StreamValue × Outcome
+after_blocked_reply limit s a =
     if limit == 0 then (s, outcome.Blocked)
     else if nat_lt s.retries limit then (record s { retries = s.retries + 1 }, outcome.Blocked)
     else if s.ssw.mask.blocked then (s, outcome.Blocked)
-    else trapped kind.Blocked a s
+    else after_trap kind.Blocked a s
 
-abbrev pub replied : ℕ → StreamValue → Insn → ℕ → Reply → StreamValue × Outcome
-replied limit s i grant (reply.Done value) = (executed s i value grant, outcome.Done)
-replied limit s i grant (reply.Blocked a) = blocked limit s a
-replied limit s i grant (reply.Trap k a) = trapped (memory_trap k) a s
+abbrev pub after_reply : ℕ → StreamValue → Insn → ℕ → Reply → StreamValue × Outcome
+after_reply limit s i grant (reply.Done value) = (after_instruction s i value grant, outcome.Done)
+after_reply limit s i grant (reply.Blocked a) = after_blocked_reply limit s a
+after_reply limit s i grant (reply.Trap k a) = after_trap (memory_trap k) a s
 
 -- with no reply a reference waits
-abbrev pub replied_if : ℕ → StreamValue → Insn → ℕ → Option Reply → StreamValue × Outcome
-replied_if limit s i grant None = (s, outcome.Skipped)
-replied_if limit s i grant (Some r) = replied limit s i grant r
+abbrev pub after_reply_if : ℕ → StreamValue → Insn → ℕ → Option Reply → StreamValue × Outcome
+after_reply_if limit s i grant None = (s, outcome.Skipped)
+after_reply_if limit s i grant (Some r) = after_reply limit s i grant r
 
 abbrev pub row_asking : ℕ → StreamValue → Insn → ℕ → Option Reply → Option Request → StreamValue × Outcome
-row_asking limit s i grant r None = (executed s i 0 grant, outcome.Done)
-row_asking limit s i grant r (Some q) = replied_if limit s i grant r
+row_asking limit s i grant r None = (after_instruction s i 0 grant, outcome.Done)
+row_asking limit s i grant r (Some q) = after_reply_if limit s i grant r
 
 abbrev pub row_from : ℕ → StreamValue → ℕ → Option Reply → Fetched → StreamValue × Outcome
 row_from limit s grant r fetch.Rest = (s, outcome.Skipped)
-row_from limit s grant r (fetch.Trap k) = trapped k 0 s
+row_from limit s grant r (fetch.Trap k) = after_trap k 0 s
 row_from limit s grant r (fetch.Runs i) = row_asking limit s i grant r (request_of s i)
 
 -- the stream after a step, and the outcome
 unfoldable pub stream_row : List ℕ → ℕ → StreamValue → ℕ → Option Reply → StreamValue × Outcome
-stream_row program limit s grant r = row_from limit s grant r (fetched program s)
+stream_row program limit s grant r = row_from limit s grant r (fetch_of program s)

@@ -38,9 +38,9 @@ abbrev pub cannot_trap : StreamValue → Bool
 cannot_trap s = s.ssw.in_trap || ((target_at s.targets 0).pc == no_handler)
 
 -- the status word and t0 change places, and the stream is in a trap
-abbrev pub trapped_if : Bool → TrapKind → StreamValue → StreamValue × Outcome
-trapped_if true k s = (record s { status = Stopped k }, outcome.Stopped k)
-trapped_if false k s = (
+abbrev pub after_trap_if : Bool → TrapKind → StreamValue → StreamValue × Outcome
+after_trap_if true k s = (record s { status = Stopped k }, outcome.Stopped k)
+after_trap_if false k s = (
   record s {
     ssw = record (target_at s.targets 0) { in_trap = true };
     targets = with_target s.targets 0 s.ssw;
@@ -49,5 +49,5 @@ trapped_if false k s = (
 )
 
 -- the stream after a trap, and the step's outcome
-abbrev pub trapped : TrapKind → ℕ → StreamValue → StreamValue × Outcome
-trapped k a s = trapped_if (cannot_trap s) k (record s { xr = trap_number k + a % 2 ^ 48 * 256; retries = 0 })
+abbrev pub after_trap : TrapKind → ℕ → StreamValue → StreamValue × Outcome
+after_trap k a s = after_trap_if (cannot_trap s) k (record s { xr = trap_number k + a % 2 ^ 48 * 256; retries = 0 })

@@ -4,7 +4,7 @@
 ghost use Rattle.std.specs.Prelude.{◌≡◌, ◌<◌, ◌^◌, bit_and};
 ghost use Rattle.stream_core.specs.Effects.{code_at};
 ghost use Rattle.stream_core.specs.StatusWords.{codes_number, codes_from, mask_number, mask_from};
-ghost use Rattle.stream_core.specs.StatusWords.{pushed, status_at, status_number, status_from, status_digits};
+ghost use Rattle.stream_core.specs.StatusWords.{with_newest_code, status_at, status_number, status_from, status_digits};
 ghost use Rattle.stream_core.specs.StatusWords.{IsKeptInDigits, AreOwnDigits};
 
 use crate::conditions::Code;
@@ -33,7 +33,7 @@ impl Codes {
 
     /// The codes with a new one in front; the oldest is lost.
     pub(crate) fn pushed(&self, code: Code) -> Codes
-        ensures { result ≡ pushed code self.now }
+        ensures { result ≡ with_newest_code code self.now }
     {
         Codes {
             newest: code,

@@ -4,9 +4,9 @@ mod executing;
 mod planning;
 
 ghost use Rattle.std.specs.Prelude.{◌≡◌, ◌<◌, ◌↔◌, IsSome, slice_get};
-ghost use Rattle.stream_core.specs.Children.{born};
+ghost use Rattle.stream_core.specs.Children.{child_stream};
 ghost use Rattle.stream_core.specs.Registers.{register_at, target_at};
-ghost use Rattle.stream_core.specs.Streams.{StreamValue, idle, cannot_trap, trapped};
+ghost use Rattle.stream_core.specs.Streams.{StreamValue, idle, cannot_trap, after_trap};
 
 use crate::registers::{Registers, Targets};
 use crate::status_words::StatusWord;
@@ -69,7 +69,7 @@ impl Stream {
 
     /// The running stream that CREATE starts: its pc, r1, t0 and mask as given, all else zero.
     pub fn born(child: &Child) -> Stream
-        ensures { result ≡ born child.now }
+        ensures { result ≡ child_stream child.now }
     {
         let mut stream = Stream::idle();
         stream.registers.set(1, child.value);
@@ -130,7 +130,7 @@ impl Stream {
     /// Takes a trap at a byte address ("Traps", docs/MACHINE.md): the status word and t0 are exchanged, or the
     /// stream is stopped where it is in a trap already or t0 names no handler.
     pub fn trap(&mut self, kind: TrapKind, address: u64) -> Outcome
-        ensures { (self.new, result) ≡ trapped kind address self.old }
+        ensures { (self.new, result) ≡ after_trap kind address self.old }
     {
         let stops = self.cannot_trap();
         self.xr = u64::from(kind.number()) + address % (1 << 48) * 256;

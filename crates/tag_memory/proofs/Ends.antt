@@ -4,7 +4,7 @@ use Rattle.std.proofs.Common.{Option, Some, None}
 use Rattle.tag_memory.specs.Cell.{Cell}
 use Rattle.tag_memory.specs.Address.{address_of}
 use Rattle.tag_memory.specs.Storage.{TaggedMemory, cell_at}
-use Rattle.tag_memory.specs.Chain.{probe_cell, probe, followed, end_from}
+use Rattle.tag_memory.specs.Chain.{probe_cell, probe, end_by_probe, end_from}
 use Rattle.tag_memory.specs.declared.requests.Request.{Request}
 use Rattle.tag_memory.specs.declared.requests.MemTrap.{MemTrap}
 use Rattle.tag_memory.specs.declared.requests.MemTrap.TheVariants as trap
@@ -16,10 +16,10 @@ use Rattle.tag_memory.specs.declared.chain.End.TheVariants as at
 -- a chain follows its first probe
 followed_from : (m : TaggedMemory) (q : Request) (n p : ℕ) (x : Probe)
     → x ≡ probe m q p
-    → (rest : ℕ → End) × (followed p x rest ≡ end_from m q n p)
+    → (rest : ℕ → End) × (end_by_probe p x rest ≡ end_from m q n p)
 unfolding end_from
-followed_from m q zero p x e = (_, ap (λ y. followed p y (λ next. at.Trap trap.Forward (address_of p))) e)
-followed_from m q (suc n) p x e = (_, ap (λ y. followed p y (λ next. end_from m q n next)) e)
+followed_from m q zero p x e = (_, ap (λ y. end_by_probe p y (λ next. at.Trap trap.Forward (address_of p))) e)
+followed_from m q (suc n) p x e = (_, ap (λ y. end_by_probe p y (λ next. end_from m q n next)) e)
 
 pub trap_ends : (m : TaggedMemory) (q : Request) (n p a : ℕ) (kind : MemTrap)
     → Trap kind ≡ probe m q p → a ≡ address_of p → at.Trap kind a ≡ end_from m q n p
@@ -32,13 +32,13 @@ reach_ends m q n p c e = (followed_from m q n p (Reach c) e).1
 pub forward_goes : (m : TaggedMemory) (q : Request) (n p next : ℕ)
     → Forward next ≡ probe m q p → end_from m q n next ≡ end_from m q (suc n) p
 unfolding end_from
-forward_goes m q n p next e = ap (λ x. followed p x (λ further. end_from m q n further)) e
+forward_goes m q n p next e = ap (λ x. end_by_probe p x (λ further. end_from m q n further)) e
 
 pub forward_stops : (m : TaggedMemory) (q : Request) (p a next : ℕ)
     → Forward next ≡ probe m q p → a ≡ address_of p → at.Trap trap.Forward a ≡ end_from m q zero p
 unfolding end_from
 forward_stops m q p a next e here =
-    ap (λ b. at.Trap trap.Forward b) here ∙ ap (λ x. followed p x (λ further. at.Trap trap.Forward (address_of p))) e
+    ap (λ b. at.Trap trap.Forward b) here ∙ ap (λ x. end_by_probe p x (λ further. at.Trap trap.Forward (address_of p))) e
 
 reached_cell : (tags trap0 trap1 forward : Bool) (c d : Cell)
     → (if tags then Reach d
@@ -70,7 +70,7 @@ cell_at-reached m q p c e = reached q p _ _ _ c e
 last_stands : (m : TaggedMemory) (q : Request) (p last : ℕ) (c : Cell) (x : Probe) (rest : ℕ → End)
     → ((next : ℕ) → rest next ≡ at.Last last c → cell_at m (address_of last) ≡ Some c)
     → probe m q p ≡ x
-    → followed p x rest ≡ at.Last last c
+    → end_by_probe p x rest ≡ at.Last last c
     → cell_at m (address_of last) ≡ Some c
 last_stands m q p last c (Trap kind) rest further e f = cc
 last_stands m q p last c (Reach d) rest further e f =

@@ -5,7 +5,7 @@ use Rattle.std.proofs.Common.{Some, None, List, [], ◌∷◌, ◌++◌, length,
 use Rattle.std.proofs.lemmas.Bool.Decides.{nat_tests}
 use Rattle.tag_memory.specs.Address.{address_of}
 use Rattle.tag_memory.specs.Storage.{TaggedMemory}
-use Rattle.tag_memory.specs.Chain.{probe, chain_limit, ending, Leads, end_from, end_of}
+use Rattle.tag_memory.specs.Chain.{probe, chain_limit, end_at_probe, Leads, end_from, end_of}
 use Rattle.tag_memory.specs.declared.requests.Request.{Request}
 use Rattle.tag_memory.specs.declared.requests.MemTrap.TheVariants as trap
 use Rattle.tag_memory.specs.declared.chain.Probe.{Probe}
@@ -16,7 +16,7 @@ use Rattle.tag_memory.proofs.Ends.{trap_ends, reach_ends, forward_goes, forward_
 
 -- from p on, with so many hops made, the pointers of `rest` are probed and the end is this
 abbrev LeadsOn : TaggedMemory → Request → ℕ → ℕ → List ℕ → End → Type 0
-LeadsOn m q hops p [] end = ending hops p (probe m q p) ≡ Some end
+LeadsOn m q hops p [] end = end_at_probe hops p (probe m q p) ≡ Some end
 LeadsOn m q hops p (next ∷ rest) end = (probe m q p ≡ Forward next) × LeadsOn m q (hops + 1) next rest end
 
 -- a path that leads to an end does so from each of its pointers on
@@ -24,7 +24,7 @@ leads_on : (m : TaggedMemory) (q : Request) (path : List ℕ) (end : End) → Le
     → (rest front : List ℕ) (hops p : ℕ) → hops ≡ length front → path ≡ front ++ p ∷ rest
     → LeadsOn m q hops p rest end
 leads_on m q path end leads [] front hops p made cut =
-    ap (λ h. ending h p (probe m q p)) made ∙ leads.ends front p cut
+    ap (λ h. end_at_probe h p (probe m q p)) made ∙ leads.ends front p cut
 leads_on m q path end leads (next ∷ rest) front hops p made cut = (
   leads.linked front rest p next cut,
   leads_on m q path end leads rest (front ++ p ∷ []) (hops + 1) next (omega (arith, length-append front (p ∷ [])))
@@ -47,7 +47,7 @@ still_below hops n h = grind (arith, nat_tests)
 
 -- the last probe's end is the computed one
 last_end : (m : TaggedMemory) (q : Request) (n hops p : ℕ) (end : End) (x : Probe)
-    → hops + n ≡ chain_limit → x ≡ probe m q p → ending hops p x ≡ Some end → end ≡ end_from m q n p
+    → hops + n ≡ chain_limit → x ≡ probe m q p → end_at_probe hops p x ≡ Some end → end ≡ end_from m q n p
 last_end m q n hops p end (Trap kind) room e f =
     let it : end ≡ at.Trap kind (address_of p) = cc in it ∙ trap_ends m q n p (address_of p) kind e refl
 last_end m q n hops p end (Reach c) room e f = let it : end ≡ at.Last p c = cc in it ∙ reach_ends m q n p c e
@@ -85,17 +85,17 @@ there_by : (m : TaggedMemory) (q : Request) (n hops p : ℕ) (x : Probe)
 there_by m q n hops p (Trap kind) room e further = record {
   rest = [];
   short = omega arith;
-  on = ap (λ y. ending hops p y) (sym e) ∙ ap (λ t. Some t) (trap_ends m q n p (address_of p) kind e refl);
+  on = ap (λ y. end_at_probe hops p y) (sym e) ∙ ap (λ t. Some t) (trap_ends m q n p (address_of p) kind e refl);
 }
 there_by m q n hops p (Reach c) room e further = record {
   rest = [];
   short = omega arith;
-  on = ap (λ y. ending hops p y) (sym e) ∙ ap (λ t. Some t) (reach_ends m q n p c e);
+  on = ap (λ y. end_at_probe hops p y) (sym e) ∙ ap (λ t. Some t) (reach_ends m q n p c e);
 }
 there_by m q zero hops p (Forward next) room e further = record {
   rest = [];
   short = omega arith;
-  on = ap (λ y. ending hops p y) (sym e)
+  on = ap (λ y. end_at_probe hops p y) (sym e)
       ∙ ap (λ b. if b then None else Some (at.Trap trap.Forward (address_of p))) (not_below hops room)
       ∙ ap (λ t. Some t) (forward_stops m q p (address_of p) next e refl);
 }
@@ -133,11 +133,11 @@ linked_of m q (r ∷ rest) hops p end on (f ∷ front) back stop next cut =
 
 ends_of : (m : TaggedMemory) (q : Request) (rest : List ℕ) (hops p : ℕ) (end : End) → LeadsOn m q hops p rest end
     → (front : List ℕ) (stop total : ℕ) → p ∷ rest ≡ front ++ stop ∷ [] → hops + length front ≡ total
-    → ending total stop (probe m q stop) ≡ Some end
+    → end_at_probe total stop (probe m q stop) ≡ Some end
 ends_of m q [] hops p end on [] stop total cut made =
     let here : stop ≡ p = cc in
     let all : total ≡ hops = omega arith in
-    ap (λ h. ending h stop (probe m q stop)) all ∙ ap (λ x. ending hops x (probe m q x)) here ∙ on
+    ap (λ h. end_at_probe h stop (probe m q stop)) all ∙ ap (λ x. end_at_probe hops x (probe m q x)) here ∙ on
 ends_of m q [] hops p end on (f ∷ front) stop total cut made =
     let none : [] ≡ front ++ stop ∷ [] = cc in absurd (not_empty front [] stop none)
 ends_of m q (r ∷ rest) hops p end on [] stop total cut made = cc

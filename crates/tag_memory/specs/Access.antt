@@ -1,7 +1,7 @@
 -- What a reference does to the word that it reaches: the full/empty table.
 use Rattle.std.specs.Prelude.{ℕ, ◌+◌, ◌%◌, ◌^◌, ◌==◌, true, false, Option, Some, None, if◌then◌else◌}
 use Rattle.tag_memory.specs.Cell.{Cell, cell_of, tag_number}
-use Rattle.tag_memory.specs.Address.{control_number}
+use Rattle.tag_memory.specs.Address.{pointer_control_number}
 use Rattle.tag_memory.specs.declared.pointers.Control.{Control}
 use Rattle.tag_memory.specs.declared.pointers.Control.TheVariants.{Normal, Future, Sync}
 use Rattle.tag_memory.specs.declared.requests.MemOp.{MemOp}
@@ -10,12 +10,12 @@ use Rattle.tag_memory.specs.declared.requests.Acc.{Acc}
 use Rattle.tag_memory.specs.declared.requests.Acc.TheVariants as acc
 
 -- the control that a pointer carries; the reserved one, which no reference gets to use, reads as normal
-abbrev pub control_of : ℕ → Control
-control_of p = if control_number p == 2 then Future else if control_number p == 3 then Sync else Normal
+abbrev pub pointer_control : ℕ → Control
+pointer_control p = if pointer_control_number p == 2 then Future else if pointer_control_number p == 3 then Sync else Normal
 
 -- the control that the access field asks for, of a reference by the pointer p
 abbrev pub access_control : Acc → ℕ → Control
-access_control acc.FromPointer p = control_of p
+access_control acc.FromPointer p = pointer_control p
 access_control acc.Normal p = Normal
 access_control acc.Future p = Future
 access_control acc.Sync p = Sync
@@ -25,12 +25,12 @@ abbrev pub with_value : Cell → ℕ → Cell
 with_value c v = record c { value = v }
 
 -- the word with this value, full
-abbrev pub filled : Cell → ℕ → Cell
-filled c v = record c { value = v; full = true }
+abbrev pub with_value_full : Cell → ℕ → Cell
+with_value_full c v = record c { value = v; full = true }
 
 -- the word made empty
-abbrev pub emptied : Cell → Cell
-emptied c = record c { full = false }
+abbrev pub with_full_clear : Cell → Cell
+with_full_clear c = record c { full = false }
 
 -- the word with the tags that a number's four low bits are
 abbrev pub with_tags : Cell → ℕ → Cell
@@ -44,11 +44,11 @@ sum_of c v = (c.value + v) % 2 ^ 64
 abbrev pub effect : MemOp → Control → Cell → ℕ → Option (Cell × ℕ)
 effect Load Normal c v = Some (c, c.value)
 effect Load Future c v = if c.full then Some (c, c.value) else None
-effect Load Sync c v = if c.full then Some (emptied c, c.value) else None
-effect Store Normal c v = Some (filled c v, 0)
+effect Load Sync c v = if c.full then Some (with_full_clear c, c.value) else None
+effect Store Normal c v = Some (with_value_full c v, 0)
 effect Store Future c v = if c.full then Some (with_value c v, 0) else None
-effect Store Sync c v = if c.full then None else Some (filled c v, 0)
-effect Fadd Normal c v = Some (filled c (sum_of c v), c.value)
+effect Store Sync c v = if c.full then None else Some (with_value_full c v, 0)
+effect Fadd Normal c v = Some (with_value_full c (sum_of c v), c.value)
 effect Fadd Future c v = if c.full then Some (with_value c (sum_of c v), c.value) else None
 effect Fadd Sync c v = if c.full then Some (with_value c (sum_of c v), c.value) else None
 effect TagGet control c v = Some (c, tag_number c)

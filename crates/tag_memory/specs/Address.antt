@@ -7,9 +7,9 @@ abbrev pub address_of : ℕ → ℕ
 address_of p = p % 2 ^ 48
 
 -- the control as a number: 0 normal, 1 reserved, 2 future, 3 sync
-abbrev pub control_number : ℕ → ℕ
-control_number p = p / 2 ^ 59 % 4
+abbrev pub pointer_control_number : ℕ → ℕ
+pointer_control_number p = p / 2 ^ 59 % 4
 
 -- whether no reference may use the pointer
 abbrev pub is_reserved : ℕ → Bool
-is_reserved p = not (p / 2 ^ 48 % 2 ^ 11 == 0) || (control_number p == 1)
+is_reserved p = not (p / 2 ^ 48 % 2 ^ 11 == 0) || (pointer_control_number p == 1)

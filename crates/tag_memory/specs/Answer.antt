@@ -12,14 +12,14 @@ use Rattle.tag_memory.specs.declared.chain.End.{End}
 use Rattle.tag_memory.specs.declared.chain.End.TheVariants as at
 
 -- the memory and the reply, where the word at the address has this effect
-abbrev pub settled : TaggedMemory → ℕ → Option (Cell × ℕ) → TaggedMemory × Reply
-settled m a None = (m, Blocked a)
-settled m a (Some (c, n)) = (with_cell m a c, Done n)
+abbrev pub answer_by_effect : TaggedMemory → ℕ → Option (Cell × ℕ) → TaggedMemory × Reply
+answer_by_effect m a None = (m, Blocked a)
+answer_by_effect m a (Some (c, n)) = (with_cell m a c, Done n)
 
 -- the memory and the reply, for a request that ends so; the control is that of the request's own pointer
 abbrev pub at_end : TaggedMemory → Request → End → TaggedMemory × Reply
 at_end m q (at.Trap kind a) = (m, Trap kind a)
-at_end m q (at.Last p c) = settled m (address_of p) (effect q.op (access_control q.acc q.pointer) c q.value)
+at_end m q (at.Last p c) = answer_by_effect m (address_of p) (effect q.op (access_control q.acc q.pointer) c q.value)
 
 -- where a reference ends
 abbrev pub address_at : End → ℕ

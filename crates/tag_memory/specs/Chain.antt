@@ -43,10 +43,10 @@ abbrev pub chain_limit : ℕ
 chain_limit = 8
 
 -- how a probe at p ends the reference, with so many hops made; none where there is another probe
-abbrev pub ending : ℕ → ℕ → Probe → Option End
-ending hops p (Trap kind) = Some (at.Trap kind (address_of p))
-ending hops p (Reach c) = Some (at.Last p c)
-ending hops p (Forward next) = if nat_lt hops chain_limit then None else Some (at.Trap trap.Forward (address_of p))
+abbrev pub end_at_probe : ℕ → ℕ → Probe → Option End
+end_at_probe hops p (Trap kind) = Some (at.Trap kind (address_of p))
+end_at_probe hops p (Reach c) = Some (at.Last p c)
+end_at_probe hops p (Forward next) = if nat_lt hops chain_limit then None else Some (at.Trap trap.Forward (address_of p))
 
 -- whether a path begins with this pointer
 abbrev pub Begins : List ℕ → ℕ → Type 0
@@ -59,19 +59,19 @@ pub record Leads (m : TaggedMemory) (q : Request) (path : List ℕ) (end : End) 
   pub begins : Begins path q.pointer
   pub linked : (front back : List ℕ) (p next : ℕ) → path ≡ front ++ p ∷ next ∷ back → probe m q p ≡ Forward next
   pub at_most : length path ≤ chain_limit + 1
-  pub ends : (front : List ℕ) (p : ℕ) → path ≡ front ++ p ∷ [] → ending (length front) p (probe m q p) ≡ Some end
+  pub ends : (front : List ℕ) (p : ℕ) → path ≡ front ++ p ∷ [] → end_at_probe (length front) p (probe m q p) ≡ Some end
 
 -- the same end by computing: a probe at p ends the reference, or leads on to the end that `rest` has for the next
 -- pointer
-abbrev pub followed : ℕ → Probe → (ℕ → End) → End
-followed p (Trap kind) rest = at.Trap kind (address_of p)
-followed p (Reach c) rest = at.Last p c
-followed p (Forward next) rest = rest next
+abbrev pub end_by_probe : ℕ → Probe → (ℕ → End) → End
+end_by_probe p (Trap kind) rest = at.Trap kind (address_of p)
+end_by_probe p (Reach c) rest = at.Last p c
+end_by_probe p (Forward next) rest = rest next
 
 -- where the reference at p ends, with so many hops left
 unfoldable pub end_from : TaggedMemory → Request → ℕ → ℕ → End
-end_from m q zero p = followed p (probe m q p) (λ next. at.Trap trap.Forward (address_of p))
-end_from m q (suc left) p = followed p (probe m q p) (λ next. end_from m q left next)
+end_from m q zero p = end_by_probe p (probe m q p) (λ next. at.Trap trap.Forward (address_of p))
+end_from m q (suc left) p = end_by_probe p (probe m q p) (λ next. end_from m q left next)
 
 -- where the request ends
 abbrev pub end_of : TaggedMemory → Request → End

@@ -7,8 +7,8 @@ pub record TaggedMemory : Type 0 where
   pub cells : List Cell
 
 -- the most words that a memory has
-abbrev pub most_words : ℕ
-most_words = 262144
+abbrev pub most_memory_words : ℕ
+most_memory_words = 262144
 
 -- the memory with these words at the addresses 0, 8, 16, ..
 abbrev pub memory_of : List Cell → TaggedMemory

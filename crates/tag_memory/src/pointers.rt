@@ -2,7 +2,7 @@
 ghost use Rattle.std.specs.Prelude.{◌≡◌, ℕ};
 ghost use Rattle.tag_memory.specs.Cell.{has_bit};
 ghost use Rattle.tag_memory.specs.Address.{address_of, is_reserved};
-ghost use Rattle.tag_memory.specs.Access.{control_of};
+ghost use Rattle.tag_memory.specs.Access.{pointer_control};
 
 use std::marker::Model;
 
@@ -71,7 +71,7 @@ impl Pointer {
 
     /// The control. The reserved one reads as normal: no reference by such a pointer gets as far as to use it.
     pub fn control(self) -> Control
-        ensures { result ≡ control_of self }
+        ensures { result ≡ pointer_control self }
     {
         match self.0 >> Self::CONTROL_SHIFT & Self::CONTROL_MASK {
             2 => Control::Future,

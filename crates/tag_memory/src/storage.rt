@@ -1,6 +1,6 @@
 //! The words of the memory. No other file knows how they are kept.
 ghost use Rattle.std.specs.Prelude.{◌≡◌, ◌≤◌, length, IfOk, IsSome};
-ghost use Rattle.tag_memory.specs.Storage.{memory_of, most_words, cell_at, with_cell};
+ghost use Rattle.tag_memory.specs.Storage.{memory_of, most_memory_words, cell_at, with_cell};
 
 use crate::Word;
 use std::alloc::{AllocError, Global};
@@ -27,7 +27,7 @@ impl Memory {
     /// The memory with these words at the addresses 0, 8, 16, ..; 1 to [`MAX_WORDS`] of them.
     pub fn new(alloc: Global, words: &[Word]) -> Result<Memory, AllocError>
         requires some { 1 ≤ length words.now }
-        requires few { length words.now ≤ most_words }
+        requires few { length words.now ≤ most_memory_words }
         ensures { IfOk result (λ m. m ≡ memory_of words.now) }
     {
         let words = words.to_vec(alloc)?;

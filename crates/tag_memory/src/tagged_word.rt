@@ -1,7 +1,7 @@
 //! A word of the memory: 64 bits of value and four tags.
 ghost use Rattle.std.specs.Prelude.{◌≡◌, ℕ, ◌<◌, Some, None, if◌then◌else◌, nat_lt};
 ghost use Rattle.tag_memory.specs.Cell.{cell_of, tag_bits, tag_number};
-ghost use Rattle.tag_memory.specs.Access.{with_value, filled, emptied, with_tags};
+ghost use Rattle.tag_memory.specs.Access.{with_value, with_value_full, with_full_clear, with_tags};
 
 use crate::Tags;
 use bitflags::Flags;
@@ -117,7 +117,7 @@ impl Word {
 
     /// The word with another value, full.
     pub(crate) fn filled(self, value: u64) -> Word
-        ensures { result ≡ filled self value }
+        ensures { result ≡ with_value_full self value }
     {
         let mut tags = self.tags;
         tags.insert(Tags::FULL);
@@ -126,7 +126,7 @@ impl Word {
 
     /// The word made empty.
     pub(crate) fn emptied(self) -> Word
-        ensures { result ≡ emptied self }
+        ensures { result ≡ with_full_clear self }
     {
         let mut tags = self.tags;
         tags.remove(Tags::FULL);

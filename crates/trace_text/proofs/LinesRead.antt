@@ -12,7 +12,7 @@ use Rattle.number_text.specs.Laws.{ReadsBackDecimal}
 use Rattle.trace_text.specs.Lines.{lines_of}
 use Rattle.trace_text.specs.ScheduleLines.{LineValues, fields_of, decimal_number, values, values_in, values_of}
 use Rattle.trace_text.specs.declared.runs.Run.{Run}
-use Rattle.trace_text.specs.Runs.{run_line}
+use Rattle.trace_text.specs.Runs.{schedule_line}
 
 -- digits are neither spaces nor line ends
 
@@ -91,10 +91,10 @@ unfolding lines_of
 lines-before [] rest l = refl
 lines-before (b ∷ bs) rest l = rw l.0 (ap (onto_first b) (lines-before bs rest l.1))
 
-line-body : (r : Run) (rest : List ℕ) → run_line r ++ rest ≡ body r ++ 10 ∷ rest
-unfolding run_line
+line-body : (r : Run) (rest : List ℕ) → schedule_line r ++ rest ≡ body r ++ 10 ∷ rest
+unfolding schedule_line
 line-body r rest = simp append_assoc
 
 pub lines-run : (r : Run) (rest : List ℕ) → r.step.p < 2 ^ 64 → r.step.s < 2 ^ 64 → r.times < 2 ^ 64
-    → lines_of (run_line r ++ rest) ≡ body r ∷ lines_of rest
+    → lines_of (schedule_line r ++ rest) ≡ body r ∷ lines_of rest
 lines-run r rest p s n = ap lines_of (line-body r rest) ∙ lines-before (body r) rest (lacks-body r p s n)

@@ -8,35 +8,35 @@ use Rattle.std.specs.List.{flat_map}
 use Rattle.number_text.specs.Laws.{ReadsBackDecimal}
 use Rattle.trace_text.specs.Lines.{lines_of}
 use Rattle.trace_text.specs.ScheduleLines.{is_within, values_of, steps_on}
-use Rattle.trace_text.specs.ScheduleFaults.{line_fault, on_line, fault_from}
+use Rattle.trace_text.specs.ScheduleFaults.{schedule_line_fault, on_line, fault_from}
 use Rattle.trace_text.specs.Schedules.{values_by_line, schedule_fault, schedule_steps, schedule_of, unless_fault}
 use Rattle.trace_text.specs.declared.runs.Run.{Run}
-use Rattle.trace_text.specs.Runs.{parts_of, run_line, run_text, runs_of, written}
-use Rattle.trace_text.specs.Laws.{ReadsBack}
+use Rattle.trace_text.specs.Runs.{run_parts, schedule_line, schedule_run_text, runs_of, schedule_text}
+use Rattle.trace_text.specs.Laws.{ScheduleReadsBack}
 use Rattle.trace_text.proofs.RunsRead.{expanded, IsRun, EachRun, expanded-runs, each-run}
 use Rattle.trace_text.proofs.LinesRead.{said_by, values-body, lines-run}
 
 -- a run of at most 1,000,000 steps is one line
 
-parts-small : (r : Run) → 1 ≤ r.times → r.times < 1000000 → parts_of r ≡ r ∷ []
+parts-small : (r : Run) → 1 ≤ r.times → r.times < 1000000 → run_parts r ≡ r ∷ []
 parts-small r some few =
     let none : r.times / 1000000 ≡ 0 = omega arith in
     let all : r.times % 1000000 ≡ r.times = omega arith in
     let not_none = ne_eqb r.times 0 (λ e. omega arith) in
     rw (none, all, not_none) refl
 
-parts-full : (r : Run) → r.times ≡ 1000000 → parts_of r ≡ r ∷ []
+parts-full : (r : Run) → r.times ≡ 1000000 → run_parts r ≡ r ∷ []
 parts-full r full =
     let one : r.times / 1000000 ≡ 1 = omega arith in
     let none : r.times % 1000000 ≡ 0 = omega arith in
     rw (one, none) (ap (λ n. record { step = r.step; times = n } ∷ []) (sym full))
 
-text-line : (r : Run) → 1 ≤ r.times → r.times ≤ 1000000 → run_text r ≡ run_line r
-unfolding run_text
+text-line : (r : Run) → 1 ≤ r.times → r.times ≤ 1000000 → schedule_run_text r ≡ schedule_line r
+unfolding schedule_run_text
 text-line r some few =
-    ap (flat_map run_line) (⊎_elim (λ h. parts-small r some h) (λ h. parts-full r (omega arith))
+    ap (flat_map schedule_line) (⊎_elim (λ h. parts-small r some h) (λ h. parts-full r (omega arith))
     (cases_lt r.times 1000000))
-    ∙ append-nil (run_line r)
+    ∙ append-nil (schedule_line r)
 
 length-expanded : (r : Run) (rs : List Run) → length (flat_map expanded (r ∷ rs))
     ≡ r.times + length (flat_map expanded rs)
@@ -49,7 +49,7 @@ length-expanded r rs = omega (
 -- what the lines of runs say, one after another
 
 values-written : ReadsBackDecimal → (rs : List Run) → EachRun rs → length (flat_map expanded rs) ≤ 1000000
-    → values_by_line (flat_map run_text rs) ≡ map (λ r. Some (said_by r)) rs
+    → values_by_line (flat_map schedule_run_text rs) ≡ map (λ r. Some (said_by r)) rs
 unfolding lines_of
 values-written back [] each few = refl
 values-written back (r ∷ rs) each few =
@@ -58,10 +58,10 @@ values-written back (r ∷ rs) each few =
     let p : r.step.p < 2 ^ 64 = omega (arith, one.step.0) in
     let s : r.step.s < 2 ^ 64 = omega (arith, one.step.1) in
     let n : r.times < 2 ^ 64 = omega (arith, count) in
-    let line : run_text r ≡ run_line r = text-line r one.some (omega (arith, count)) in
-    ap (λ xs. values_by_line (xs ++ flat_map run_text rs)) line
-    ∙ ap (map values_of) (lines-run r (flat_map run_text rs) p s n)
-    ∙ ap (λ o. o ∷ values_by_line (flat_map run_text rs)) (values-body back r p s n)
+    let line : schedule_run_text r ≡ schedule_line r = text-line r one.some (omega (arith, count)) in
+    ap (λ xs. values_by_line (xs ++ flat_map schedule_run_text rs)) line
+    ∙ ap (map values_of) (lines-run r (flat_map schedule_run_text rs) p s n)
+    ∙ ap (λ o. o ∷ values_by_line (flat_map schedule_run_text rs)) (values-body back r p s n)
     ∙ ap (λ os. Some (said_by r) ∷ os) (values-written back rs each.1 (omega (arith, count)))
 
 within : (r : Run) → IsRun r → r.times ≤ 1000000 → is_within (said_by r) ≡ true
@@ -73,7 +73,7 @@ within r one few =
     rw (p, s, some, most) refl
 
 no_line_fault : (before : ℕ) (r : Run) → IsRun r → before + r.times ≤ 1000000
-    → line_fault before (Some (said_by r)) ≡ None
+    → schedule_line_fault before (Some (said_by r)) ≡ None
 no_line_fault before r one few =
     let room = le-leb (before + r.times) 1000000 few in rw (within r one (omega arith), room) refl
 
@@ -90,8 +90,8 @@ steps-said : (rs : List Run) → flat_map steps_on (map (λ r. Some (said_by r))
 steps-said [] = refl
 steps-said (r ∷ rs) = ap (λ ts. expanded r ++ ts) (steps-said rs)
 
-pub reads_back : ReadsBackDecimal → ReadsBack
-unfolding schedule_of schedule_fault schedule_steps written
+pub reads_back : ReadsBackDecimal → ScheduleReadsBack
+unfolding schedule_of schedule_fault schedule_steps schedule_text
 reads_back back steps all few =
     let rs = runs_of steps in
     let whole : flat_map expanded rs ≡ steps = expanded-runs steps in

@@ -9,7 +9,7 @@ use Rattle.std.specs.List.{flat_map, before_first, after_first, position_or_len}
 use Rattle.processor.specs.declared.steps.Step.{Step}
 use Rattle.trace_text.specs.Lines.{is_line_end, lines_of}
 use Rattle.trace_text.specs.ScheduleLines.{LineValues, values_of, steps_on, times_on, step_of}
-use Rattle.trace_text.specs.ScheduleFaults.{fault_from, line_fault, on_line}
+use Rattle.trace_text.specs.ScheduleFaults.{fault_from, schedule_line_fault, on_line}
 use Rattle.trace_text.specs.Schedules.{values_by_line, schedule_fault, schedule_steps, schedule_of, unless_fault}
 use Rattle.trace_text.specs.LineNumbers.{run_of}
 use Rattle.trace_text.specs.declared.runs.Run.{Run}
@@ -49,13 +49,13 @@ next_line line steps rest some =
 
 said-fault : (line : ℕ) (steps : List Step) (v : Option LineValues) (vs : List (Option LineValues))
     (kind : ScheduleFaultKind)
-    → line_fault (length steps) v ≡ Some kind → said line steps (v ∷ vs) ≡ Err (record { line = line; kind = kind })
+    → schedule_line_fault (length steps) v ≡ Some kind → said line steps (v ∷ vs) ≡ Err (record { line = line; kind = kind })
 said-fault line steps v vs kind e =
     ap (λ k. unless_fault (on_line line k (fault_from (line + 1) (length steps + times_on v) vs))
     (steps ++ flat_map steps_on (v ∷ vs))) e
 
 said-run : (line : ℕ) (steps more : List Step) (x : LineValues) (vs : List (Option LineValues))
-    → line_fault (length steps) (Some x) ≡ None → more ≡ steps ++ replicate x.times (step_of x)
+    → schedule_line_fault (length steps) (Some x) ≡ None → more ≡ steps ++ replicate x.times (step_of x)
     → said line steps (Some x ∷ vs) ≡ said (line + 1) more vs
 said-run line steps more x vs none e =
     let count : length steps + x.times ≡ length more =
@@ -75,7 +75,7 @@ said-run line steps more x vs none e =
 
 -- a line with a fault
 pub at_fault : (line : ℕ) (steps : List Step) (rest : List ℕ) (kind : ScheduleFaultKind) → (length rest == 0) ≡ false
-    → line_fault (length steps) (values_of (before_first is_line_end rest)) ≡ Some kind
+    → schedule_line_fault (length steps) (values_of (before_first is_line_end rest)) ≡ Some kind
     → read_on line steps rest ≡ Err (record { line = line; kind = kind })
 at_fault line steps rest kind some e =
     next_line line steps rest some
@@ -85,7 +85,7 @@ at_fault line steps rest kind some e =
 -- a line with a run
 pub at_run : (line : ℕ) (steps more : List Step) (rest : List ℕ) (run : Run) (x : LineValues)
     → (length rest == 0) ≡ false
-    → line_fault (length steps) (values_of (before_first is_line_end rest)) ≡ None
+    → schedule_line_fault (length steps) (values_of (before_first is_line_end rest)) ≡ None
     → values_of (before_first is_line_end rest) ≡ Some x → run_of x ≡ run
     → more ≡ steps ++ replicate run.times run.step
     → read_on line steps rest ≡ read_on (line + 1) more (after_first is_line_end rest)
@@ -93,7 +93,7 @@ unfolding read_on
 at_run line steps more rest run x some none is same e =
     let vs = values_by_line (after_first is_line_end rest) in
     next_line line steps rest some ∙ ap (λ v. said line steps (v ∷ vs)) is
-    ∙ said-run line steps more x vs (ap (line_fault (length steps)) (sym is) ∙ none)
+    ∙ said-run line steps more x vs (ap (schedule_line_fault (length steps)) (sym is) ∙ none)
     (e ∙ ap (λ r. steps ++ replicate r.times r.step) (sym same))
 
 -- no line left

@@ -6,7 +6,7 @@ use Rattle.std.proofs.lemmas.Bool.{eqb-true, eq-eqb, cond-true, cond-false}
 use Rattle.std.specs.List.{flat_map, slice_get}
 use Rattle.processor.specs.declared.steps.Step.{Step}
 use Rattle.trace_text.specs.declared.runs.Run.{Run}
-use Rattle.trace_text.specs.Runs.{same_step, joined, runs_of, same_run, run_text, written}
+use Rattle.trace_text.specs.Runs.{same_step, step_before_runs, runs_of, same_run, schedule_run_text, schedule_text}
 
 first-true : (a b : Bool) → (a && b) ≡ true → a ≡ true
 first-true true b e = refl
@@ -38,14 +38,14 @@ front-cons t u us true e front =
     let equal : u ≡ t = step-same u t e in
     let k : 1 + same_run u us + 1 ≡ 1 + (1 + same_run t us) = omega (arith, ap (λ v. same_run v us) equal) in
     let one_more : 1 + same_run t us ≡ suc (same_run t us) = omega arith in
-    ap (joined t) front
+    ap (step_before_runs t) front
     ∙ cond-true _ _ _ e
     ∙ ap (λ n. run t n ∷ runs_of (drop (same_run u us) us)) k
     ∙ ap (λ v. run t (1 + (1 + same_run t us)) ∷ runs_of (drop (same_run v us) us)) equal
     ∙ ap (λ n. run t (1 + (1 + same_run t us)) ∷ runs_of (drop n (u ∷ us))) (sym one_more)
     ∙ ap (λ n. run t (1 + n) ∷ runs_of (drop n (u ∷ us))) (sym (cond-true _ _ _ e))
 front-cons t u us false e front =
-    ap (joined t) front
+    ap (step_before_runs t) front
     ∙ cond-false _ _ _ e
     ∙ ap (λ rs. run t 1 ∷ rs) (sym front)
     ∙ ap (λ n. run t (1 + n) ∷ runs_of (drop n (u ∷ us))) (sym (cond-false _ _ _ e))
@@ -65,20 +65,20 @@ runs-front t ts =
     front t ts ∙ ap (λ n. run t (1 + same_run t ts) ∷ runs_of (drop n (t ∷ ts))) (sym one_more)
     ∙ ap (λ n. run t n ∷ runs_of (drop n (t ∷ ts))) (sym (same_run-whole t ts))
 
-written-cons : (t : Step) (ts : List Step) → written (t ∷ ts) ≡ run_text (run t (same_run t (t ∷ ts)))
-    ++ written (drop (same_run t (t ∷ ts)) (t ∷ ts))
-unfolding written
-written-cons t ts = ap (flat_map run_text) (runs-front t ts)
+written-cons : (t : Step) (ts : List Step) → schedule_text (t ∷ ts) ≡ schedule_run_text (run t (same_run t (t ∷ ts)))
+    ++ schedule_text (drop (same_run t (t ∷ ts)) (t ∷ ts))
+unfolding schedule_text
+written-cons t ts = ap (flat_map schedule_run_text) (runs-front t ts)
 
 at_first : (t u : Step) (ts : List Step) → Some u ≡ Some t → (P : Step → List Step → Type 0)
     → ((v : Step) → P v (v ∷ ts)) → P t (u ∷ ts)
 at_first t u ts e P all = let same : u ≡ t = cc in subst (λ v. P v (u ∷ ts)) same (all u)
 
 pub written-front : (t : Step) (rest : List Step) → slice_get rest 0 ≡ Some t
-    → written rest ≡ run_text (run t (same_run t rest)) ++ written (drop (same_run t rest) rest)
+    → schedule_text rest ≡ schedule_run_text (run t (same_run t rest)) ++ schedule_text (drop (same_run t rest) rest)
 written-front t [] e = cc
 written-front t (u ∷ us) e =
-    at_first t u us e (λ v ts. written ts ≡ run_text (run v (same_run v ts)) ++ written (drop (same_run v ts) ts))
+    at_first t u us e (λ v ts. schedule_text ts ≡ schedule_run_text (run v (same_run v ts)) ++ schedule_text (drop (same_run v ts) ts))
     (λ v. written-cons v us)
 
 pub some-front : (t : Step) (rest : List Step) → slice_get rest 0 ≡ Some t → (0 < same_run t rest) × (0 < length rest)
@@ -89,15 +89,15 @@ some-front t (u ∷ us) e =
 
 -- one more run in the text is one less to come
 pub run_written : (t : Step) (rest : List Step) (text new all : List ℕ) → slice_get rest 0 ≡ Some t
-    → new ≡ text ++ run_text (run t (same_run t rest)) → text ++ written rest ≡ all
-    → new ++ written (drop (same_run t rest) rest) ≡ all
+    → new ≡ text ++ schedule_run_text (run t (same_run t rest)) → text ++ schedule_text rest ≡ all
+    → new ++ schedule_text (drop (same_run t rest) rest) ≡ all
 run_written t rest text new all first e whole =
-    let after = written (drop (same_run t rest) rest) in
-    ap (λ xs. xs ++ after) e ∙ append_assoc text (run_text (run t (same_run t rest))) after
+    let after = schedule_text (drop (same_run t rest) rest) in
+    ap (λ xs. xs ++ after) e ∙ append_assoc text (schedule_run_text (run t (same_run t rest))) after
     ∙ ap (λ xs. text ++ xs) (sym (written-front t rest first)) ∙ whole
 
-pub all_written : (rest : List Step) (text all : List ℕ) → slice_get rest 0 ≡ None → text ++ written rest ≡ all
+pub all_written : (rest : List Step) (text all : List ℕ) → slice_get rest 0 ≡ None → text ++ schedule_text rest ≡ all
     → text ≡ all
-unfolding written
+unfolding schedule_text
 all_written [] text all none whole = sym (append-nil text) ∙ whole
 all_written (t ∷ ts) text all none whole = cc

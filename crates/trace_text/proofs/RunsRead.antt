@@ -7,7 +7,7 @@ use Rattle.std.specs.List.{flat_map, All}
 use Rattle.processor.specs.declared.steps.Step.{Step}
 use Rattle.trace_text.specs.declared.runs.Run.{Run}
 use Rattle.trace_text.specs.Laws.{IsStep}
-use Rattle.trace_text.specs.Runs.{same_step, joined, runs_of}
+use Rattle.trace_text.specs.Runs.{same_step, step_before_runs, runs_of}
 use Rattle.trace_text.proofs.RunsInFront.{step-same}
 
 abbrev pub expanded : Run → List Step
@@ -32,11 +32,11 @@ expanded-same t r rs same =
     ∙ ap (λ u. t ∷ (replicate r.times u ++ flat_map expanded rs)) (sym same)
 
 joined-by : (t : Step) (r : Run) (rs : List Run) (same : Bool) → same_step r.step t ≡ same
-    → flat_map expanded (joined t (r ∷ rs)) ≡ t ∷ flat_map expanded (r ∷ rs)
+    → flat_map expanded (step_before_runs t (r ∷ rs)) ≡ t ∷ flat_map expanded (r ∷ rs)
 joined-by t r rs true e = ap (flat_map expanded) (cond-true _ _ _ e) ∙ expanded-same t r rs (step-same r.step t e)
 joined-by t r rs false e = ap (flat_map expanded) (cond-false _ _ _ e)
 
-expanded-joined : (t : Step) (rs : List Run) → flat_map expanded (joined t rs) ≡ t ∷ flat_map expanded rs
+expanded-joined : (t : Step) (rs : List Run) → flat_map expanded (step_before_runs t rs) ≡ t ∷ flat_map expanded rs
 expanded-joined t [] = refl
 expanded-joined t (r ∷ rs) = joined-by t r rs (same_step r.step t) refl
 
@@ -50,7 +50,7 @@ each-by : (t : Step) (r : Run) (rs : List Run) (same : Bool) → same_step r.ste
 each-by t r rs true e step one rest = (record { step = step; some = omega arith }, rest)
 each-by t r rs false e step one rest = (record { step = step; some = omega arith }, (one, rest))
 
-each-joined : (t : Step) (rs : List Run) → IsStep t → EachRun rs → EachRun (joined t rs)
+each-joined : (t : Step) (rs : List Run) → IsStep t → EachRun rs → EachRun (step_before_runs t rs)
 each-joined t [] step each = (record { step = step; some = omega arith }, tt)
 each-joined t (r ∷ rs) step each = each-by t r rs (same_step r.step t) refl step each.0 each.1
 

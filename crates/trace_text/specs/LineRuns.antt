@@ -1,7 +1,7 @@
 -- What the code reads of a line: its run, or its first fault.
 use Rattle.std.specs.Prelude.{ℕ, ◌≡◌, ◌+◌, ◌≤◌, Option, Some, None, Result, Ok, Err}
 use Rattle.trace_text.specs.ScheduleLines.{LineValues}
-use Rattle.trace_text.specs.ScheduleFaults.{line_fault}
+use Rattle.trace_text.specs.ScheduleFaults.{schedule_line_fault}
 use Rattle.trace_text.specs.LineNumbers.{run_of}
 use Rattle.trace_text.specs.declared.runs.Run.{Run}
 use Rattle.trace_text.specs.declared.schedule_fault.ScheduleFaultKind.{ScheduleFaultKind}
@@ -9,6 +9,6 @@ use Rattle.trace_text.specs.declared.schedule_fault.ScheduleFaultKind.{ScheduleF
 -- of a line with these numbers, before which so many steps stand
 abbrev pub IsLineRun : ℕ → Option LineValues → Result Run ScheduleFaultKind → Type 0
 IsLineRun before v (Ok run) =
-    (line_fault before v ≡ None) × (before + run.times ≤ 1000000)
+    (schedule_line_fault before v ≡ None) × (before + run.times ≤ 1000000)
     × ((x : LineValues) × (v ≡ Some x) × (run_of x ≡ run))
-IsLineRun before v (Err kind) = line_fault before v ≡ Some kind
+IsLineRun before v (Err kind) = schedule_line_fault before v ≡ Some kind

@@ -10,36 +10,36 @@ abbrev pub same_step : Step → Step → Bool
 same_step t u = t.p == u.p && t.s == u.s
 
 -- a step in front of runs: it joins the first one where that is of the same step
-abbrev pub joined : Step → List Run → List Run
-joined t [] = record { step = t; times = 1 } ∷ []
-joined t (r ∷ rs) =
+abbrev pub step_before_runs : Step → List Run → List Run
+step_before_runs t [] = record { step = t; times = 1 } ∷ []
+step_before_runs t (r ∷ rs) =
     if same_step r.step t then record { step = t; times = r.times + 1 } ∷ rs
     else record { step = t; times = 1 } ∷ r ∷ rs
 
 -- the runs, each as long as it can be
 abbrev pub runs_of : List Step → List Run
 runs_of [] = []
-runs_of (t ∷ ts) = joined t (runs_of ts)
+runs_of (t ∷ ts) = step_before_runs t (runs_of ts)
 
 abbrev pub rest_of : Step → ℕ → List Run
 rest_of t n = if n == 0 then [] else record { step = t; times = n } ∷ []
 
 -- a run in parts of 1,000,000 and a rest, if there is one
-abbrev pub parts_of : Run → List Run
-parts_of r =
+abbrev pub run_parts : Run → List Run
+run_parts r =
     replicate (r.times / 1000000) (record { step = r.step; times = 1000000 })
     ++ rest_of r.step (r.times % 1000000)
 
-unfoldable pub run_line : Run → List ℕ
-run_line r = decimal r.step.p ++ codes " " ++ decimal r.step.s ++ codes " " ++ decimal r.times ++ codes "\n"
+unfoldable pub schedule_line : Run → List ℕ
+schedule_line r = decimal r.step.p ++ codes " " ++ decimal r.step.s ++ codes " " ++ decimal r.times ++ codes "\n"
 
 -- the lines of a run
-unfoldable pub run_text : Run → List ℕ
-run_text r = flat_map run_line (parts_of r)
+unfoldable pub schedule_run_text : Run → List ℕ
+schedule_run_text r = flat_map schedule_line (run_parts r)
 
 -- the text of a schedule
-unfoldable pub written : List Step → List ℕ
-written steps = flat_map run_text (runs_of steps)
+unfoldable pub schedule_text : List Step → List ℕ
+schedule_text steps = flat_map schedule_run_text (runs_of steps)
 
 -- how many steps in front are this one
 abbrev pub same_run : Step → List Step → ℕ

@@ -1,7 +1,7 @@
 //! Why a text is no schedule.
 
 ghost use Rattle.std.specs.Prelude.{◌≡◌};
-ghost use Rattle.trace_text.specs.ScheduleFaults.{fault_number, no_memory};
+ghost use Rattle.trace_text.specs.ScheduleFaults.{schedule_fault_number, schedule_no_memory};
 
 use std::alloc::AllocError;
 
@@ -21,7 +21,7 @@ pub enum ScheduleFaultKind {
 impl ScheduleFaultKind {
     /// The kind's number, 1 to 4 in the order of the variants.
     pub fn number(self) -> u8
-        ensures { result ≡ fault_number self }
+        ensures { result ≡ schedule_fault_number self }
     {
         match self {
             ScheduleFaultKind::Form => 1,
@@ -42,7 +42,7 @@ pub struct ScheduleFault {
 }
 
 impl From<AllocError> for ScheduleFault {
-    ghost from_gives = { λ _ fault. fault ≡ no_memory };
+    ghost from_gives = { λ _ fault. fault ≡ schedule_no_memory };
 
     fn from(_error: AllocError) -> ScheduleFault {
         ScheduleFault {

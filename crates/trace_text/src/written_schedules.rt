@@ -1,7 +1,7 @@
 //! Schedules as written text.
 
 ghost use Rattle.std.specs.Prelude.{◌≡◌, ◌++◌, ◌<◌, ◌≤◌, IfOk, OnOk, length, string_bytes};
-ghost use Rattle.trace_text.specs.Runs.{same_run, run_line, run_text, written};
+ghost use Rattle.trace_text.specs.Runs.{same_run, schedule_line, schedule_run_text, schedule_text};
 
 use crate::runs::{MAX_STEPS, Run};
 use processor::Step;
@@ -11,7 +11,7 @@ use std::fmt::Write;
 /// The text of a schedule: one line `p s n` for each run of equal steps that is as long as it can be, and for a run
 /// of more than 1,000,000 steps lines of 1,000,000 and one of the rest ("Schedules", docs/FORMATS.md).
 pub fn write_schedule(alloc: Global, steps: &[Step]) -> Result<String, AllocError>
-    ensures { IfOk result (λ text. string_bytes text ≡ written steps.now) }
+    ensures { IfOk result (λ text. string_bytes text ≡ schedule_text steps.now) }
 {
     let mut text = String::new(alloc);
     let mut rest = steps;
@@ -45,9 +45,9 @@ fn run_length(steps: &[Step], step: Step) -> usize
     times
 }
 
-#[tactic(auto, unfolding(crate::specs::Runs::run_text))]
+#[tactic(auto, unfolding(crate::specs::Runs::schedule_run_text))]
 fn write_run(text: &mut String, run: Run) -> Result<(), AllocError>
-    ensures { OnOk result (string_bytes text.new ≡ string_bytes text.old ++ run_text run) }
+    ensures { OnOk result (string_bytes text.new ≡ string_bytes text.old ++ schedule_run_text run) }
 {
     let step = run.step;
     for _full in 0..run.times / MAX_STEPS {
@@ -66,9 +66,9 @@ fn write_run(text: &mut String, run: Run) -> Result<(), AllocError>
     Ok(())
 }
 
-#[tactic(auto, unfolding(crate::specs::Runs::run_line))]
+#[tactic(auto, unfolding(crate::specs::Runs::schedule_line))]
 fn write_line(text: &mut String, run: Run) -> Result<(), AllocError>
-    ensures { OnOk result (string_bytes text.new ≡ string_bytes text.old ++ run_line run) }
+    ensures { OnOk result (string_bytes text.new ≡ string_bytes text.old ++ schedule_line run) }
 {
     let p = run.step.p;
     let s = run.step.s;

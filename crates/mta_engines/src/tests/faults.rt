@@ -1,7 +1,7 @@
 //! Which faults there are, and what they leave.
 
 use super::devices::{FailingReader, FailingWriter, Repeated};
-use crate::{INPUT_LIMIT, MAX_WORDS, ToolFault, words_engine};
+use crate::{INPUT_LIMIT, MAX_PROGRAM_WORDS, ToolFault, words_engine};
 use asm_text::{AsmFault, Fault};
 use image_file::ImageFault;
 use std::io::ErrorKind;
@@ -33,7 +33,7 @@ fn the_least_line_with_a_fault_is_named(rt: HostRuntime) {
 #[test]
 fn a_program_has_65536_words(rt: HostRuntime) -> Result<(), Fail> {
     let mut input = Vec::new(rt.alloc());
-    for _ in 0..MAX_WORDS {
+    for _ in 0..MAX_PROGRAM_WORDS {
         input.extend_from_slice(b"0000000000000000\n")?;
     }
     let mut written = Vec::new(rt.alloc());

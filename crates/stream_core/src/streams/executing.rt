@@ -1,10 +1,10 @@
 //! What a step does to its stream: each operand is read as it stood before, and all is written at once.
 
 ghost use Rattle.std.specs.Prelude.{◌≡◌, ℕ};
-ghost use Rattle.stream_core.specs.Effects.{made, left, goes, skipped, retries_after};
+ghost use Rattle.stream_core.specs.Effects.{arithmetic_value, ssw_before_control, control_holds, skip_pc, retries_after};
 ghost use Rattle.stream_core.specs.Effects.{control_ssw, control_targets, control_value};
-ghost use Rattle.stream_core.specs.Effects.{executed_wide, executed_parts, executed};
-ghost use Rattle.stream_core.specs.StreamRow.{plan_of, blocked, replied, stream_row};
+ghost use Rattle.stream_core.specs.Effects.{after_wide, after_parts, after_instruction};
+ghost use Rattle.stream_core.specs.StreamRow.{plan_of, after_blocked_reply, after_reply, stream_row};
 ghost use Rattle.tag_memory.specs.declared.requests.Request.{Request};
 
 use super::Stream;
@@ -21,10 +21,10 @@ impl Stream {
     /// Executes the instruction, where the memory answered `value` (it counts only where the instruction has a
     /// reference that answers) and the processor granted so many streams (only for RESERVE). QUIT, QUITP and CREATE
     /// do here what NOP does; the processor completes them.
-    #[tactic(auto, unfolding(crate::specs::Effects::executed))]
+    #[tactic(auto, unfolding(crate::specs::Effects::after_instruction))]
     #[inline(always)]
     pub fn execute(&mut self, insn: &Insn, value: u64, grant: u64)
-        ensures { self.new ≡ executed self.old insn.now value grant }
+        ensures { self.new ≡ after_instruction self.old insn.now value grant }
     {
         match insn {
             Insn::Wide { op, reg, imm, .. } => self.execute_wide(*op, *reg, *imm),
@@ -33,7 +33,7 @@ impl Stream {
     }
 
     fn execute_wide(&mut self, op: WideOp, reg: u8, imm: u32)
-        ensures { self.new ≡ executed_wide self.old op reg imm }
+        ensures { self.new ≡ after_wide self.old op reg imm }
     {
         let imm_value = u64::from(imm);
         match op {
@@ -48,7 +48,7 @@ impl Stream {
     }
 
     fn execute_parts(&mut self, m: &MPart, a: &APart, c: &CPart, value: u64, grant: u64)
-        ensures { self.new ≡ executed_parts self.old m.now a.now c.now value grant }
+        ensures { self.new ≡ after_parts self.old m.now a.now c.now value grant }
     {
         // what is written, from the values at entry
         let (made, left) = self.arithmetic(a);
@@ -65,7 +65,7 @@ impl Stream {
     /// The result of the arithmetic operation, and the status word that the step would leave but for the control
     /// operation.
     fn arithmetic(&self, a: &APart) -> (u64, StatusWord)
-        ensures { result ≡ (made self.now a.now, left self.now a.now) }
+        ensures { result ≡ (arithmetic_value self.now a.now, ssw_before_control self.now a.now) }
     {
         let second = if a.imm {
             u64::from(a.rb)
@@ -126,7 +126,7 @@ impl Stream {
 
     /// Whether the condition of a jump or skip holds on the code that it asks.
     fn goes(&self, c: &CPart) -> bool
-        ensures { result ≡ goes self.now c.now }
+        ensures { result ≡ control_holds self.now c.now }
     {
         holds(c.cond, self.ssw.codes.at(c.code))
     }
@@ -161,7 +161,7 @@ impl Stream {
     /// Completes the step of an instruction with a reference, by the memory's reply: it is executed, blocked or
     /// trapped ("Retries", docs/MACHINE.md). `limit` is the image's retry limit.
     pub fn reply(&mut self, insn: &Insn, reply: Reply, limit: u32, grant: u64) -> Outcome
-        ensures { (self.new, result) ≡ replied limit self.old insn.now grant reply }
+        ensures { (self.new, result) ≡ after_reply limit self.old insn.now grant reply }
     {
         match reply {
             Reply::Done(value) => {
@@ -174,7 +174,7 @@ impl Stream {
     }
 
     fn block(&mut self, limit: u32, address: u64) -> Outcome
-        ensures { (self.new, result) ≡ blocked limit self.old address }
+        ensures { (self.new, result) ≡ after_blocked_reply limit self.old address }
     {
         if limit == 0 {
             return Outcome::Blocked;
@@ -225,7 +225,7 @@ fn retries_after(op: MemoryOp, retries: u32) -> u32
 
 /// The pc that lies so many words behind the next one.
 fn skipped(pc: u32, words: i8) -> u32
-    ensures { result ≡ skipped pc words }
+    ensures { result ≡ skip_pc pc words }
 {
     let next = u64::from(pc) + 1;
     let distance = u64::from(words.unsigned_abs());

@@ -1,8 +1,8 @@
 //! What the next step of a stream finds and needs. It reads the stream and changes nothing.
 
 ghost use Rattle.std.specs.Prelude.{◌≡◌};
-ghost use Rattle.stream_core.specs.Effects.{moved, asked, request_of};
-ghost use Rattle.stream_core.specs.StreamRow.{fetched, plan_of, control_of, control_at};
+ghost use Rattle.stream_core.specs.Effects.{displaced_pointer, request_with, request_of};
+ghost use Rattle.stream_core.specs.StreamRow.{fetch_of, plan_of, control_of, control_at};
 
 use super::Stream;
 use crate::conversions::acc_of;
@@ -15,9 +15,9 @@ impl Stream {
     /// What stands at the pc of this program: nothing where the stream does not run, else the instruction or the trap
     /// `Program` or `Illegal`. One step needs one call: `request`, `control_of`, `execute` and `reply` go by its
     /// instruction.
-    #[tactic(auto, unfolding(crate::specs::StreamRow::fetched))]
+    #[tactic(auto, unfolding(crate::specs::StreamRow::fetch_of))]
     pub fn fetch(&self, program: &[u64]) -> Fetched
-        ensures { result ≡ fetched program.now self.now }
+        ensures { result ≡ fetch_of program.now self.now }
     {
         if self.status != Status::Running {
             return Fetched::Rest;
@@ -50,7 +50,7 @@ impl Stream {
     }
 
     fn asked(&self, m: &MPart, op: MemOp, value: u64) -> Request
-        ensures { result ≡ asked self.now m.now op value }
+        ensures { result ≡ request_with self.now m.now op value }
     {
         Request {
             op,
@@ -117,7 +117,7 @@ impl Stream {
 
 /// The effective pointer: so many words further, modulo 2^48, with the upper 16 bits as they are.
 fn moved(pointer: u64, words: i8) -> Pointer
-    ensures { result ≡ moved pointer words }
+    ensures { result ≡ displaced_pointer pointer words }
 {
     let address = pointer % (1 << 48);
     let bytes = u64::from(words.unsigned_abs()) * 8;

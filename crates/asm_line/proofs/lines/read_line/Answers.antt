@@ -1,7 +1,7 @@
 use Rattle.std.proofs.Common.{sym, subst, Result}
 use Rattle.std.specs.Prelude.{IfOk}
 use Rattle.asm_line.specs.Labels.{places_of}
-use Rattle.asm_line.specs.Ranges.{IsInRange}
+use Rattle.asm_line.specs.Ranges.{IsItemInRange}
 use Rattle.asm_line.specs.Seen.{line_seen}
 use Rattle.asm_line.specs.declared.fault.Fault.{Fault}
 use Rattle.asm_line.specs.declared.item.Item.{Item}
@@ -10,7 +10,7 @@ use Rattle.asm_line.proofs.lines.read_line.Goals as goal
 
 pub returns-clause-range : goal.returns-clause-range
 returns-clause-range c =
-    let P : Result Item Fault → Type 0 = λ r. IfOk r (IsInRange c.args.words) in
+    let P : Result Item Fault → Type 0 = λ r. IfOk r (IsItemInRange c.args.words) in
     subst P (sym c.line_item.ensures)
     (item_range c.spelling_is_one_to_one.ensures.valid (places_of c.args.labels.now) c.args.words
     c.args.number c.args.here

@@ -3,7 +3,7 @@ use Rattle.std.proofs.Common.{arith, ap, ◌∙◌, length-drop}
 use Rattle.std.specs.Prelude.{nat_le, nat_lt}
 use Rattle.std.proofs.lemmas.Bool.Decides.{nat_tests}
 use Rattle.tag_memory.specs.Cell.{cell_of}
-use Rattle.image_file.specs.Fields.{number_of}
+use Rattle.image_file.specs.Fields.{number_of_bytes}
 use Rattle.image_file.specs.Reading.{tag_byte, cell_from, cells_from}
 use Rattle.image_file.proofs.Loops.{nothing_read, fill_goes_on, fill_ends, search_begins, search_goes_on}
 use Rattle.image_file.proofs.Loops.{search_finds_none}
@@ -24,7 +24,7 @@ unreachable-requires c =
     let sound =
     search_finds_none (λ t. nat_le 16 t) 9 tag_byte c.args.count c.loop.counter c.loop.rest.now c.loop-test.true
     c.loop.invariant.sound in
-    let is : c.u8_of.result ≡ tag_byte c.loop.rest.now = c.u8_of.ensures ∙ ap (number_of 1) c.from_place.ensures in
+    let is : c.u8_of.result ≡ tag_byte c.loop.rest.now = c.u8_of.ensures ∙ ap (number_of_bytes 1) c.from_place.ensures in
     let below : nat_lt c.u8_of.result 16 ≡ true = grind (arith, nat_tests) in
     let none = rw below at c.from_number.ensures in
     c.in_default.not-Some (cell_of c.u64_of.result c.u8_of.result) none
@@ -34,7 +34,7 @@ loop-preserved c =
     let sound =
     search_finds_none (λ t. nat_le 16 t) 9 tag_byte c.args.count c.loop.counter c.loop.rest.now c.loop-test.true
     c.loop.invariant.sound in
-    let is : c.u8_of.result ≡ tag_byte c.loop.rest.now = c.u8_of.ensures ∙ ap (number_of 1) c.from_place.ensures in
+    let is : c.u8_of.result ≡ tag_byte c.loop.rest.now = c.u8_of.ensures ∙ ap (number_of_bytes 1) c.from_place.ensures in
     let below : nat_lt c.u8_of.result 16 ≡ true = grind (arith, nat_tests) in
     let some = rw below at c.from_number.ensures in
     let made : c.in-Some.cell ≡ cell_of c.u64_of.result c.u8_of.result = cc (some, c.in-Some.is) in

@@ -1,12 +1,12 @@
 use Rattle.std.proofs.Common.{◌<◌, ◌^◌, ◌++◌, ap, ◌∙◌}
 use Rattle.std.specs.List.{flat_map, All}
 use Rattle.std.proofs.lemmas.List.Elements.{recursion_from_All}
-use Rattle.image_file.specs.Spelling.{header_of, entry_bytes, word_bytes, cell_bytes, spelling}
+use Rattle.image_file.specs.Spelling.{header_of, entry_bytes, word_bytes, cell_bytes, bytes_of_image}
 use Rattle.image_file.proofs.Made.{four_put}
 use Rattle.image_file.proofs.writing.write_image.Goals as goal
 
 pub returns : goal.returns
-unfolding spelling
+unfolding bytes_of_image
 returns c =
     let image = c.args.image.now in
     let program : All (λ w. w < 2 ^ 64) image.program =

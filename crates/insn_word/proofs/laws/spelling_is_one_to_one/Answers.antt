@@ -1,5 +1,5 @@
 use Rattle.std.proofs.Common.{◌∙◌, sym, refl}
-use Rattle.insn_word.specs.Fields.{number}
+use Rattle.insn_word.specs.Fields.{number_of_fields}
 use Rattle.insn_word.specs.Words.{fields}
 use Rattle.insn_word.proofs.WordParts.{Holds-from_spells, Spells-number, Spells-from_number}
 use Rattle.insn_word.proofs.Read.{candidate-holds}
@@ -17,7 +17,7 @@ returns-clause-one_word c i v w first second = sym (Spells-number v i first) ∙
 pub returns-clause-valid : goal.returns-clause-valid
 returns-clause-valid c i = (
   λ valid. (valid.1.in_range, valid.1.rest, valid.1.one_writer),
-  λ h. (number (fields i), Spells-from_number (number (fields i)) i h.0 refl h.1 h.2),
+  λ h. (number_of_fields (fields i), Spells-from_number (number_of_fields (fields i)) i h.0 refl h.1 h.2),
 )
 
 pub returns-clause-computed : goal.returns-clause-computed

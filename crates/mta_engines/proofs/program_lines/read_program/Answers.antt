@@ -16,8 +16,8 @@ returns-in_default-clause-fault c = λ _.
     let none : hexadecimal_word (before_first is_line_end c.loop-rest.rest.now) ≡ None = cc in
     rw (← count) (at_malformed _ _ _ c.loop-rest.invariant.1 some none)
 
-pub returns-then-len-eq-MAX_WORDS-clause-fault : goal.returns-then-len-eq-MAX_WORDS-clause-fault
-returns-then-len-eq-MAX_WORDS-clause-fault c = λ _.
+pub returns-then-len-eq-MAX_PROGRAM_WORDS-clause-fault : goal.returns-then-len-eq-MAX_PROGRAM_WORDS-clause-fault
+returns-then-len-eq-MAX_PROGRAM_WORDS-clause-fault c = λ _.
     let count : length c.loop-rest.words.items ≡ c.len.result = search rules in
     let some : (length c.loop-rest.rest.now == 0) ≡ false = cc in
     let is : hexadecimal_word (before_first is_line_end c.loop-rest.rest.now) ≡ Some c.in-Some.word = cc in

@@ -1,6 +1,6 @@
 use Rattle.std.proofs.Common.{◌≡◌, ◌∙◌, sym, ap, subst, IfSome, map}
 use Rattle.clap.specs.Words.{App, fault_of, is_simple, is_simple_and_free, subcommand_of}
-use Rattle.mta_sim.specs.CommandLine.{asked, asked_in, meaning}
+use Rattle.mta_sim.specs.CommandLine.{command_of_line, command_in, command_of_request}
 use Rattle.mta_sim.proofs.Asking.{only}
 use Rattle.mta_sim.proofs.Commands.{command_asks}
 use Rattle.mta_sim.proofs.command_line.read_command_line.Goals as goal
@@ -17,5 +17,5 @@ returns-clause-request g c =
     let same = c.in_ok-tool_command.ensures in
     let met = (c.in_ok-matches.ensures.matches (ap is_simple same)).1
     ∙ ap (λ (a : App). subcommand_of a words) same in
-    only (asked words) (meaning c.requested.result) (command_asks words (returns-clause-fault g c))
-    (subst (λ o. IfSome (asked_in o) (λ wanted. meaning c.requested.result ≡ wanted)) met c.requested.ensures)
+    only (command_of_line words) (command_of_request c.requested.result) (command_asks words (returns-clause-fault g c))
+    (subst (λ o. IfSome (command_in o) (λ wanted. command_of_request c.requested.result ≡ wanted)) met c.requested.ensures)

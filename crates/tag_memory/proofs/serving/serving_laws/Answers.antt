@@ -4,7 +4,7 @@ use Rattle.tag_memory.specs.Address.{address_of}
 use Rattle.tag_memory.specs.Cell.{Cell}
 use Rattle.tag_memory.specs.Storage.{TaggedMemory, cell_at}
 use Rattle.tag_memory.specs.Chain.{chain_limit, end_of}
-use Rattle.tag_memory.specs.Answer.{settled, at_end, address_at}
+use Rattle.tag_memory.specs.Answer.{answer_by_effect, at_end, address_at}
 use Rattle.tag_memory.specs.declared.requests.Request.{Request}
 use Rattle.tag_memory.specs.declared.chain.End.{End}
 use Rattle.tag_memory.specs.declared.chain.End.TheVariants as at
@@ -14,7 +14,7 @@ use Rattle.tag_memory.proofs.Words.{same_memories, cell_at-with_cell_other}
 use Rattle.tag_memory.proofs.serving.serving_laws.Goals as goal
 
 settled_others : (m : TaggedMemory) (a b : ℕ) (c : Cell) (o : Option (Cell × ℕ))
-    → cell_at m a ≡ Some c → (a ≢ b) → cell_at (settled m a o).0 b ≡ cell_at m b
+    → cell_at m a ≡ Some c → (a ≢ b) → cell_at (answer_by_effect m a o).0 b ≡ cell_at m b
 settled_others m a b c None stands apart = refl
 settled_others m a b c (Some (d, n)) stands apart = cell_at-with_cell_other m a b c d stands apart
 

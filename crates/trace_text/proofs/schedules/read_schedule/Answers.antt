@@ -1,7 +1,7 @@
 use Rattle.std.proofs.Common.{rules, ◌≡◌, ◌∙◌, ◌+◌, ◌==◌, false, length, None, ◌≤◌, ap, sym, arith}
 use Rattle.std.specs.List.{before_first}
 use Rattle.trace_text.specs.Lines.{is_line_end}
-use Rattle.trace_text.specs.ScheduleFaults.{line_fault}
+use Rattle.trace_text.specs.ScheduleFaults.{schedule_line_fault}
 use Rattle.trace_text.specs.ScheduleLines.{values_of}
 use Rattle.trace_text.proofs.Reading.{reading-begins, read_on, at_fault, at_run, at_end, after-shorter}
 use Rattle.trace_text.proofs.schedules.read_schedule.Goals as goal
@@ -26,7 +26,7 @@ loop-rest-preserved c =
     let count : length c.loop-rest.steps.items ≡ c.len.result = search rules in
     let some : (length c.loop-rest.rest.now == 0) ≡ false = cc in
     let read = c.in-Ok.ensures in
-    let none : line_fault (length c.loop-rest.steps.items) (values_of (before_first is_line_end c.loop-rest.rest.now))
+    let none : schedule_line_fault (length c.loop-rest.steps.items) (values_of (before_first is_line_end c.loop-rest.rest.now))
     ≡ None =
     rw (count, ← c.split_line.ensures.line) read.0 in
     let shorter : length c.split_line.result.1.now + 1 ≤ length c.loop-rest.rest.now =

@@ -1,6 +1,6 @@
 use Rattle.std.proofs.Common.{◌≡◌, ◌∙◌, sym, ap, subst}
 use Rattle.insn_word.specs.Words.{control_fields}
-use Rattle.insn_word.specs.Fields.{number}
+use Rattle.insn_word.specs.Fields.{number_of_fields}
 use Rattle.insn_word.specs.Parts.{IsControlPart}
 use Rattle.insn_word.proofs.WordParts.{control_is}
 use Rattle.insn_word.proofs.insn.CPart.from_bits.Goals as goal
@@ -8,7 +8,7 @@ use Rattle.insn_word.proofs.insn.CPart.from_bits.Goals as goal
 pub returns-then-bits : goal.returns-then-bits
 returns-then-bits c other =
     let kind = c.in_ok-part.ensures.kind in
-    let number_is : number (control_fields c.in_ok-part.part) ≡ c.args.bits =
+    let number_is : number_of_fields (control_fields c.in_ok-part.part) ≡ c.args.bits =
     sym (c.bits.ensures kind.0) ∙ c.if-bits.true in
     let read : IsControlPart c.args.bits c.in_ok-part.part =
     record { in_range = kind.0; number_is = number_is; rest = kind.1 } in (
@@ -26,6 +26,6 @@ returns-else-bits c other = (
       let op_is = control_is c.args.bits c.in_ok-from_number.field-0 other p named in
       let found = c.in_ok-part.ensures.only other op_is p in
       let same : c.in_ok-part.part ≡ other = cc in
-      let number_is = ap (λ part. number (control_fields part)) same ∙ p.number_is in
+      let number_is = ap (λ part. number_of_fields (control_fields part)) same ∙ p.number_is in
       absurd (c.if-bits.false (c.bits.ensures c.in_ok-part.ensures.kind.0 ∙ number_is)),
 )

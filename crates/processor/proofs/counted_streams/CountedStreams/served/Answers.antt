@@ -1,6 +1,6 @@
 use Rattle.std.proofs.Common.{◌∙◌, ap, sym, refl, lit<, is_some}
 use Rattle.stream_core.specs.declared.steps.Fetched.TheVariants.{Rest, Trap, Runs}
-use Rattle.processor.specs.Row.{replied}
+use Rattle.processor.specs.Row.{memory_reply}
 use Rattle.processor.proofs.Begun.{rests, awake, free, served_begun, is_replied, asked_there}
 use Rattle.processor.proofs.Counting.{some_current}
 use Rattle.processor.proofs.counted_streams.CountedStreams.served.Goals as goal
@@ -50,4 +50,4 @@ returns-in-Runs g c =
     c.request-request.ensures in
     ap (λ x. (x, c.reply_of-reply.new.memory)) c.complete.ensures
     ∙ served_begun c.args.image.now c.args.self.now c.args.place c.args.memory.now _ (Runs c.in-Runs.insn) _
-    (sym c.in-Runs.ensures) (c.reply_of-reply.ensures ∙ ap (replied c.args.memory.now) asks)
+    (sym c.in-Runs.ensures) (c.reply_of-reply.ensures ∙ ap (memory_reply c.args.memory.now) asks)
