@@ -11,7 +11,7 @@ use Rattle.std.proofs.lemmas.Bool.Decides.{nat_tests}
 use Rattle.std.proofs.lemmas.List.Sums.{prefix_len-le-length}
 use Rattle.tag_memory.specs.Cell.{Cell, cell_of, tag_number}
 use Rattle.image_file.specs.Same.{same_cell}
-use Rattle.image_file.specs.Tags.{cell_of-tag_number}
+use Rattle.image_file.specs.SameLaws.{cell_of-tag_number}
 use Rattle.asm_text.specs.Runs.{Run, cell_before_runs, runs, front}
 
 pub same_is : (c d : Cell) → same_cell c d ≡ true → c ≡ d

@@ -12,7 +12,7 @@ use Rattle.tag_memory.specs.Cell.{Cell, tag_number}
 use Rattle.insn_word.specs.Reading.{instruction}
 use Rattle.insn_word.specs.declared.insn.Insn.{Insn}
 use Rattle.image_file.specs.ImageValue.{ImageValue}
-use Rattle.image_file.specs.Tags.{cell_of-tag_number}
+use Rattle.image_file.specs.SameLaws.{cell_of-tag_number}
 use Rattle.asm_line.specs.Faults.{◌>>=◌}
 use Rattle.asm_line.specs.declared.fault.Fault.{Fault}
 use Rattle.asm_line.specs.declared.fault.Fault.TheVariants as fault

@@ -1,6 +1,7 @@
 pub mod Searches
 pub mod Limits
 pub mod Numbers
+pub mod TagNumbers
 pub mod Sequences
 pub mod Loops
 pub mod Headers

@@ -8,7 +8,8 @@ use Rattle.std.proofs.lemmas.List.{drop-drop, drop_at}
 use Rattle.std.proofs.lemmas.List.Elements.{recursion_from_All}
 use Rattle.tag_memory.specs.Cell.{Cell, cell_of, tag_number}
 use Rattle.image_file.specs.ImageValue.{ImageValue, IsWithin}
-use Rattle.image_file.specs.Tags.{cell_of-tag_number, tag_number-below}
+use Rattle.image_file.specs.SameLaws.{cell_of-tag_number}
+use Rattle.image_file.proofs.TagNumbers.{tag_number-below}
 use Rattle.image_file.specs.Fields.{number_bytes, number_of_bytes}
 use Rattle.image_file.specs.Parts.{count_fault, entry_fault}
 use Rattle.image_file.specs.Spelling.{magic, version, entry_bytes, word_bytes, cell_bytes, header_bytes, bytes_of_image}

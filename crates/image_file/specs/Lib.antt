@@ -1,11 +1,14 @@
+-- The definitions, in the order of reading: an image, the bytes that stand for it, and the first fault of parts and bytes.
 pub mod ImageValue
-pub mod Fault
-pub mod Parts
-pub mod Tags
 pub mod Same
 pub mod Fields
 pub mod Spelling
+pub mod Fault
+pub mod Parts
 pub mod Reading
+pub mod Laws
+-- What private contracts say on the way.
 pub mod Header
 pub mod Answers
-pub mod Laws
+-- Proofs on which `==` of images rests; an impl can take none from proofs/.
+pub mod SameLaws

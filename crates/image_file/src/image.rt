@@ -3,7 +3,8 @@
 ghost use Rattle.std.specs.Prelude.{◌≡◌, ◌<◌, ◌≤◌, ◌↔◌, length, slice_get, IsSome, IfSome};
 ghost use Rattle.std.specs.Bool.{IsTrue};
 ghost use Rattle.image_file.specs.ImageValue.{IsWithin};
-ghost use Rattle.image_file.specs.Same.{same_image, same_image-laws};
+ghost use Rattle.image_file.specs.Same.{same_image};
+ghost use Rattle.image_file.specs.SameLaws.{same_image-laws};
 
 use std::marker::Model;
 use tag_memory::Word;
@@ -120,7 +121,7 @@ impl PartialEq for Image {
 
     ghost laws = { same_image-laws };
 
-    #[tactic(auto, using(crate::specs::Same::same_image_decides))]
+    #[tactic(auto, using(crate::specs::SameLaws::same_image_decides))]
     fn eq(&self, other: &Image) -> bool
         ensures gives { result ≡ same_image self.now other.now }
         ensures equal { IsTrue result ↔ (self.now ≡ other.now) }

@@ -55,7 +55,8 @@ fn taken<T>(vector: &mut Vec<T>) -> Vec<T>
 }
 
 impl Image {
-    /// The image of these parts, whose vectors it takes and leaves empty. Takes no memory.
+    /// The image of these parts, whose vectors it takes and leaves empty. It is never
+    /// refused for want of memory.
     ///
     /// Where they are no image the vectors stay as they are, and the fault is `Count` with the first field that is
     /// out of its limits, else `Entry` with the least processor whose entry is not below the number of program words.

@@ -108,7 +108,7 @@ fn image_of(alloc: Global, bytes: &[u8]) -> Result<Image, ImageFault>
 /// The image that the bytes stand for; else their first fault, in the order of [`ImageFault`], with the least field,
 /// processor or cell.
 ///
-/// Memory is asked for only where there is no fault, so bytes that lie about their length ask for none.
+/// `NoMemory` comes only where the bytes have no fault, so bytes that lie about their length are refused for that.
 pub fn read_image(alloc: Global, bytes: &[u8]) -> Result<Image, ImageFault>
     // What is read is what the bytes stand for.
     ensures found { IfOk result (λ i. Stands bytes.now i) }

@@ -39,7 +39,7 @@ impl<'i, const S: usize> Machine<'i, S> {
     /// The machine of an image at its start: each processor has the one stream that runs from its entry, and the
     /// memory holds the image's cells.
     ///
-    /// `Streams` where the image's slim is above `S`; no memory is asked for then.
+    /// `Streams` exactly where the image's slim is above `S`: it comes before any want of memory.
     pub fn load(alloc: Global, image: &'i Image) -> Result<Machine<'i, S>, LoadFault>
         ensures loaded { IfOk result (λ m. m ≡ record { image = image.entry.now; world = start image.entry.now }) }
         ensures streams { (result ≡ Err LoadFault.Streams) ↔ (S < image.entry.now.slim) }

@@ -72,6 +72,42 @@ leads_end m q (first ∷ rest) end leads =
     (leads_on m q _ end leads rest [] 0 first refl refl)
     ∙ ap (λ p. end_from m q chain_limit p) leads.begins
 
+-- a probe that ends a path with hops left does not lead on
+ends_here : (m : TaggedMemory) (q : Request) (hops p next : ℕ) (end : End)
+    → suc hops ≤ chain_limit → end_at_probe hops p (probe m q p) ≡ Some end → probe m q p ≡ Forward next → ⊥
+ends_here m q hops p next end room stops on =
+    let below : nat_lt hops chain_limit ≡ true = grind (arith, nat_tests) in
+    below_limit _ end (at.Trap trap.Forward (address_of p)) below (ap (λ x. end_at_probe hops p x) (sym on) ∙ stops)
+
+-- from one pointer on there is one path
+same_rest : (m : TaggedMemory) (q : Request) (rest other : List ℕ) (hops p : ℕ) (end last : End)
+    → hops + length rest ≤ chain_limit → hops + length other ≤ chain_limit
+    → LeadsOn m q hops p rest end → LeadsOn m q hops p other last → rest ≡ other
+same_rest m q [] [] hops p end last short few on off = refl
+same_rest m q [] (next ∷ other) hops p end last short few on off =
+    absurd (ends_here m q hops p next end (omega arith) on off.0)
+same_rest m q (next ∷ rest) [] hops p end last short few on off =
+    absurd (ends_here m q hops p next last (omega arith) off on.0)
+same_rest m q (r ∷ rest) (s ∷ other) hops p end last short few on off =
+    let both : Forward r ≡ Forward s = sym on.0 ∙ off.0 in
+    let here : s ≡ r = cc in
+    let further : LeadsOn m q (hops + 1) r other last = subst (λ n. LeadsOn m q (hops + 1) n other last) here off.1 in
+    let same : rest ≡ other = same_rest m q rest other (hops + 1) r end last (omega arith) (omega arith) on.1 further in
+    cc
+
+-- a request is led along one path
+pub one_path : (m : TaggedMemory) (q : Request) (path other : List ℕ) (end last : End)
+    → Leads m q path end → Leads m q other last → path ≡ other
+one_path m q [] other end last leads leads_too = absurd leads.begins
+one_path m q (p ∷ rest) [] end last leads leads_too = absurd leads_too.begins
+one_path m q (p ∷ rest) (r ∷ other) end last leads leads_too =
+    let here : r ≡ p = leads_too.begins ∙ sym leads.begins in
+    let on : LeadsOn m q 0 p rest end = leads_on m q _ end leads rest [] 0 p refl refl in
+    let off : LeadsOn m q 0 r other last = leads_on m q _ last leads_too other [] 0 r refl refl in
+    let same : rest ≡ other = same_rest m q rest other 0 p end last (omega (arith, leads.at_most))
+    (omega (arith, leads_too.at_most)) on (subst (λ n. LeadsOn m q 0 n other last) here off) in
+    cc
+
 -- some pointers lead on to the computed end
 record There (m : TaggedMemory) (q : Request) (n hops p : ℕ) : Type 0 where
   rest : List ℕ

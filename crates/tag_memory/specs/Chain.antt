@@ -61,6 +61,12 @@ pub record Leads (m : TaggedMemory) (q : Request) (path : List ℕ) (end : End) 
   pub at_most : length path ≤ chain_limit + 1
   pub ends : (front : List ℕ) (p : ℕ) → path ≡ front ++ p ∷ [] → end_at_probe (length front) p (probe m q p) ≡ Some end
 
+-- A request is led along one path, to one end.
+abbrev pub IsLedAlongOnePath : Type 0
+IsLedAlongOnePath =
+    (m : TaggedMemory) (q : Request) (path other : List ℕ) (end last : End)
+    → Leads m q path end → Leads m q other last → (path ≡ other) × (end ≡ last)
+
 -- the same end by computing: a probe at p ends the reference, or leads on to the end that `rest` has for the next
 -- pointer
 abbrev pub end_by_probe : ℕ → Probe → (ℕ → End) → End

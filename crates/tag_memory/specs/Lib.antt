@@ -1,7 +1,9 @@
+-- The definitions, in the order of reading.
 pub mod Cell
-pub mod TagNumber
 pub mod Address
 pub mod Storage
 pub mod Access
 pub mod Chain
 pub mod Answer
+-- A proof on which the model of a word rests; a model can take none from proofs/.
+pub mod TagNumber

@@ -1,6 +1,6 @@
 -- The memory, as contracts see it: a map from the byte addresses 0, 8, 16, .. to words, kept as the list of its
 -- words.
-use Rattle.std.specs.Prelude.{ℕ, ◌/◌, ◌%◌, ◌==◌, List, Option, None, if◌then◌else◌, slice_get, slice_set}
+use Rattle.std.specs.Prelude.{ℕ, ◌≤◌, ◌/◌, ◌%◌, ◌==◌, List, length, Option, None, if◌then◌else◌, slice_get, slice_set}
 use Rattle.tag_memory.specs.Cell.{Cell}
 
 pub record TaggedMemory : Type 0 where
@@ -9,6 +9,11 @@ pub record TaggedMemory : Type 0 where
 -- the most words that a memory has
 abbrev pub most_memory_words : ℕ
 most_memory_words = 262144
+
+-- it has a word, and no more than these
+pub record IsWithinLimits (m : TaggedMemory) : Type 0 where
+  pub some : 1 ≤ length m.cells
+  pub few : length m.cells ≤ most_memory_words
 
 -- the memory with these words at the addresses 0, 8, 16, ..
 abbrev pub memory_of : List Cell → TaggedMemory

@@ -32,20 +32,28 @@ impl Model for Pointer {
 }
 
 impl Pointer {
+    /// Bits 0 to 47: the byte address.
     const ADDRESS_MASK: u64 = 0xFFFF_FFFF_FFFF;
 
+    /// Bits 48 to 58 are to be zero: where they begin,
     const ZERO_SHIFT: u32 = 48;
 
+    /// and as many ones.
     const ZERO_MASK: u64 = 0x7FF;
 
+    /// Bits 59 and 60: the control; where they begin,
     const CONTROL_SHIFT: u32 = 59;
 
+    /// and as many ones.
     const CONTROL_MASK: u64 = 3;
 
+    /// Bit 61 disables forwarding.
     const FORWARD_DISABLE_SHIFT: u32 = 61;
 
+    /// Bit 62 disables the trap0 bit.
     const TRAP0_DISABLE_SHIFT: u32 = 62;
 
+    /// Bit 63 disables the trap1 bit.
     const TRAP1_DISABLE_SHIFT: u32 = 63;
 
     /// The pointer of these 64 bits.

@@ -8,15 +8,15 @@ use crate::{Control, Pointer};
 /// The operation of a request.
 #[derive(Clone, Copy, PartialEq, Eq, Debug)]
 pub enum MemOp {
-    /// Reads the value.
+    /// LOAD: reads the value.
     Load,
-    /// Writes the value.
+    /// STORE: writes the value.
     Store,
-    /// Fetch-and-add: adds to the value, modulo 2^64, and reads what it was.
+    /// FADD, fetch-and-add: adds to the value, modulo 2^64, and reads what it was.
     Fadd,
-    /// Reads the four tags of the word at the pointer itself, whatever they are.
+    /// TAGGET: reads the four tags of the word at the pointer itself, whatever they are.
     TagGet,
-    /// Writes the four tags of the word at the pointer itself, whatever they are.
+    /// TAGSET: writes the four tags of the word at the pointer itself, whatever they are.
     TagSet,
 }
 
@@ -62,17 +62,17 @@ impl Acc {
 /// Why a request is refused ("the request rules", docs/MACHINE.md).
 #[derive(Clone, Copy, PartialEq, Eq, Debug)]
 pub enum MemTrap {
-    /// No reference may use the pointer: a bit of 48 to 58 is set, or its control is the reserved one.
+    /// POINTER: no reference may use the pointer: a bit of 48 to 58 is set, or its control is the reserved one.
     Pointer,
-    /// The address is not a multiple of 8.
+    /// ALIGN: the address is not a multiple of 8.
     Align,
-    /// There is no word at the address.
+    /// RANGE: there is no word at the address.
     Range,
-    /// The word's trap0 bit is set, and neither disabled by the pointer nor masked.
+    /// TRAP0: the word's trap0 bit is set, and neither disabled by the pointer nor masked.
     Trap0,
-    /// The word's trap1 bit is set, and neither disabled by the pointer nor masked.
+    /// TRAP1: the word's trap1 bit is set, and neither disabled by the pointer nor masked.
     Trap1,
-    /// The word forwards a reference that was forwarded eight times already.
+    /// FORWARD: the word forwards a reference that was forwarded eight times already.
     Forward,
 }
 

@@ -1,5 +1,6 @@
 //! The answer to one request, and the laws of answers.
 ghost use Rattle.std.specs.Prelude.{◌≡◌};
+ghost use Rattle.tag_memory.specs.Chain.{IsLedAlongOnePath};
 ghost use Rattle.tag_memory.specs.Answer.{answer, AnswersAreComputed, OthersStay, IsDeterminedByWords};
 
 use crate::chain::End;
@@ -28,9 +29,11 @@ impl Memory {
     }
 }
 
-/// Does nothing: its clauses are the laws of answers. A request has one answer, the computed one (`computed`); it
-/// changes no word but the one at the address where it ends (`others`); a memory is known by its words (`words`).
+/// Does nothing: its clauses are the laws of answers. A request is led along one path (`one_path`) and has one answer,
+/// the computed one (`computed`); it changes no word but the one at the address where it ends (`others`); a memory is
+/// known by its words (`words`).
 pub fn serving_laws()
+    ensures one_path { IsLedAlongOnePath }
     ensures computed { AnswersAreComputed }
     ensures others { OthersStay }
     ensures words { IsDeterminedByWords }

@@ -1,6 +1,6 @@
 //! The words of the memory. No other file knows how they are kept.
 ghost use Rattle.std.specs.Prelude.{◌≡◌, ◌≤◌, length, IfOk, IsSome};
-ghost use Rattle.tag_memory.specs.Storage.{memory_of, most_memory_words, cell_at, with_cell};
+ghost use Rattle.tag_memory.specs.Storage.{memory_of, most_memory_words, IsWithinLimits, cell_at, with_cell};
 
 use crate::Word;
 use std::alloc::{AllocError, Global};
@@ -9,18 +9,22 @@ use std::marker::Model;
 /// The most words that a memory has.
 pub const MAX_WORDS: usize = 262_144;
 
-/// A memory of tagged words, at the byte addresses 0, 8, 16, ... It keeps its length.
+const _: () = prove!(MAX_WORDS == 262_144);
+
+/// A memory of 1 to [`MAX_WORDS`] tagged words, at the byte addresses 0, 8, 16, ... It keeps its length.
 #[derive(Drop)]
 pub struct Memory {
     words: Vec<Word>,
 }
 
 impl Model for Memory {
-    ghost use Rattle.tag_memory.specs.Storage.{TaggedMemory, memory_of};
+    ghost use Rattle.tag_memory.specs.Storage.{TaggedMemory, IsWithinLimits, memory_of};
 
     ghost Value = { TaggedMemory };
 
     ghost view = { λ m. memory_of m.words.items };
+
+    ghost invariant = { λ m. IsWithinLimits (memory_of m.words.items) };
 }
 
 impl Memory {
@@ -34,9 +38,10 @@ impl Memory {
         Ok(Memory { words })
     }
 
-    /// The number of words.
+    /// The number of words, 1 to [`MAX_WORDS`].
     pub fn len(&self) -> usize
-        ensures { result ≡ length self.now.cells }
+        ensures is { result ≡ length self.now.cells }
+        ensures within { IsWithinLimits self.now }
     {
         self.words.len()
     }

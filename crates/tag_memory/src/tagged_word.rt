@@ -116,7 +116,7 @@ impl Word {
     }
 
     /// The word with another value, full.
-    pub(crate) fn filled(self, value: u64) -> Word
+    pub(crate) fn with_value_full(self, value: u64) -> Word
         ensures { result ≡ with_value_full self value }
     {
         let mut tags = self.tags;
@@ -125,7 +125,7 @@ impl Word {
     }
 
     /// The word made empty.
-    pub(crate) fn emptied(self) -> Word
+    pub(crate) fn with_full_clear(self) -> Word
         ensures { result ≡ with_full_clear self }
     {
         let mut tags = self.tags;

@@ -1,5 +1,5 @@
 -- The laws: the computed answer is the only one, it changes one word at most, and a memory is known by its words.
-use Rattle.std.proofs.Common.{◌≡◌, ◌≢◌, ℕ, refl, ◌∙◌, ap, Option, Some, None}
+use Rattle.std.proofs.Common.{◌≡◌, ◌≢◌, ℕ, refl, sym, ◌∙◌, ap, Option, Some, None}
 use Rattle.tag_memory.specs.Address.{address_of}
 use Rattle.tag_memory.specs.Cell.{Cell}
 use Rattle.tag_memory.specs.Storage.{TaggedMemory, cell_at}
@@ -9,7 +9,7 @@ use Rattle.tag_memory.specs.declared.requests.Request.{Request}
 use Rattle.tag_memory.specs.declared.chain.End.{End}
 use Rattle.tag_memory.specs.declared.chain.End.TheVariants as at
 use Rattle.tag_memory.proofs.Ends.{cell_at-last}
-use Rattle.tag_memory.proofs.Paths.{leads_end, path_there}
+use Rattle.tag_memory.proofs.Paths.{leads_end, one_path, path_there}
 use Rattle.tag_memory.proofs.Words.{same_memories, cell_at-with_cell_other}
 use Rattle.tag_memory.proofs.serving.serving_laws.Goals as goal
 
@@ -23,6 +23,12 @@ at_end_others : (m : TaggedMemory) (q : Request) (b : ℕ) (end : End)
 at_end_others m q b (at.Trap kind a) e apart = refl
 at_end_others m q b (at.Last p c) e apart =
     settled_others m (address_of p) b c _ (cell_at-last m q chain_limit q.pointer p c e) apart
+
+pub returns-clause-one_path : goal.returns-clause-one_path
+returns-clause-one_path c = λ m q path other end last leads leads_too. (
+  one_path m q path other end last leads leads_too,
+  leads_end m q path end leads ∙ sym (leads_end m q other last leads_too),
+)
 
 pub returns-clause-computed : goal.returns-clause-computed
 returns-clause-computed c = λ m q after reply. (

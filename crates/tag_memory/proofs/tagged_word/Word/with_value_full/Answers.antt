@@ -3,7 +3,7 @@ use Rattle.std.proofs.Common.{◌≡◌, ℕ, ◌%◌, ◌/◌, ◌^◌, ◌==�
 use Rattle.std.proofs.lemmas.Nat.Bits.{bit_at_or}
 use Rattle.tag_memory.specs.Cell.{Cell, cell_of}
 use Rattle.tag_memory.specs.Access.{with_value_full}
-use Rattle.tag_memory.proofs.tagged_word.Word.filled.Goals as goal
+use Rattle.tag_memory.proofs.tagged_word.Word.with_value_full.Goals as goal
 
 bit_kept : (t k : ℕ) → 1 / 2 ^ k % 2 ≡ 0 → bit_or t 1 / 2 ^ k % 2 ≡ t / 2 ^ k % 2
 bit_kept t k clear = omega (arith, bit_at_or t 1 k)
