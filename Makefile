@@ -2,15 +2,20 @@
 PREFIX ?= /usr/local
 PROGRAM = crates/mta_sim/out/mta_sim
 BENCH = crates/bench/out/bench
+# how many crates are proved side by side
+JOBS ?= $(shell nproc)
 
 .PHONY: run try test refuse bench install build
 
 # proves and builds the program, and shows its first run
 run:
+	@echo "== proving the crates and building the program, some minutes the first time"
+	@tests/progress.sh out/check.log rt all check --jobs $(JOBS)
+	@cd crates/mta_sim && rt run -- words < stdin > ../../out/build.log 2>&1 || { cat ../../out/build.log; exit 1; }
 	@echo "== first run: mta_sim words, on these program words (LIT r1, 5 and ADD r2, r1, 3)"
 	@cat crates/mta_sim/stdin
-	@echo "== proving the crates and building the program, some minutes the first time; then the stream after two steps"
-	@cd crates/mta_sim && rt run -- words < stdin
+	@echo "== the stream after two steps"
+	@$(PROGRAM) words < crates/mta_sim/stdin
 
 # shows the same run unproved
 try:
@@ -21,7 +26,7 @@ try:
 
 # proves everything from nothing, tries the must-fail edits, runs the tests and the programs
 test:
-	@rt ci
+	@tests/progress.sh out/test.log rt ci
 
 # proves and builds the program, where it is not built yet
 build:
