@@ -1,5 +1,6 @@
 #!/usr/bin/env bash
-# Wall time (the best of some runs) and peak memory of the tool on its longest inputs, and of the machine's steps.
+# Wall time (the best of some runs), instructions and peak memory of the tool on its longest inputs, and of the machine's
+# steps. Instructions are counted by valgrind's callgrind, where it is installed: they do not depend on the machine's load.
 set -eu
 cd "$(dirname "$0")/.."
 tool=$PWD/crates/mta_sim/out/mta_sim
@@ -29,32 +30,51 @@ peak() {
   fi
 }
 
-# report WHAT MICROSECONDS KILOBYTES
-report() {
-  printf '%-58s %7d.%d ms  %6d.%d MB\n' "$1" $(($2 / 1000)) $(($2 / 100 % 10)) $(($3 / 1024)) $(($3 * 10 / 1024 % 10))
+# instructions COMMAND..: how many it runs; 0 where callgrind is not installed
+instructions() {
+  if command -v valgrind >/dev/null; then
+    valgrind --tool=callgrind --callgrind-out-file=/dev/null "$@" 2>&1 >/dev/null | sed -n 's/.*Collected : \([0-9]*\).*/\1/p'
+  else
+    echo 0
+  fi
 }
 
-# steps WHAT: steps a second, by the difference of 101 rounds and 1 of 1,000,000 steps
+# report WHAT MICROSECONDS INSTRUCTIONS COUNT OF KILOBYTES: the instructions are those of COUNT things
+report() {
+  printf '%-58s %6d.%d ms %7d instructions a %-5s %4d.%d MB\n' "$1" $(($2 / 1000)) $(($2 / 100 % 10)) $(($3 / $4)) "$5" \
+    $(($6 / 1024)) $(($6 * 10 / 1024 % 10))
+}
+
+# steps WHAT: 1,000,000 steps, by the difference of 101 rounds and 1; their instructions by that of 2 rounds and 1
 steps() {
-  local one many
+  local one many once twice
   one=$(best 3 "$parts" "$1" 1)
   many=$(best 3 "$parts" "$1" 101)
-  printf '%-58s %7d million steps a second  %6d.%d MB\n' "machine, $1 loop on 16 processors" \
-    $((100000000 / (many - one))) $(($(peak "$parts" "$1" 1) / 1024)) 0
+  once=$(instructions "$parts" "$1" 1)
+  twice=$(instructions "$parts" "$1" 2)
+  report "machine, 1000000 steps, $1 loop on 16 processors" $(((many - one) / 100)) $((twice - once)) 1000000 step \
+    "$(peak "$parts" "$1" 1)"
 }
 
 # rounds WHAT: the time of one round, by the difference of 11 rounds and 1
 rounds() {
-  local one many
+  local one many once twice bytes
   one=$(best 3 "$parts" "$1" 1)
   many=$(best 3 "$parts" "$1" 11)
-  report "$1, $(sed 's/.* of //' "$work/out") bytes" $(((many - one) / 10)) "$(peak "$parts" "$1" 1)"
+  bytes=$(sed 's/.* of //' "$work/out")
+  once=$(instructions "$parts" "$1" 1)
+  twice=$(instructions "$parts" "$1" 2)
+  report "$1, $bytes bytes" $(((many - one) / 10)) $((twice - once)) "$bytes" byte "$(peak "$parts" "$1" 1)"
 }
+
+command -v valgrind >/dev/null || echo "valgrind is not installed: no instructions are counted, and 0 is printed for them"
 
 bench/words_input.sh >"$work/words"
 words() { "$tool" words <"$work/words"; }
 export tool work
-report "words, $(wc -l <"$work/words") lines" "$(best 10 words)" "$(peak "$tool" words <"$work/words")"
+lines=$(wc -l <"$work/words")
+report "words, $lines lines" "$(best 10 words)" "$(instructions "$tool" words <"$work/words")" "$lines" line \
+  "$(peak "$tool" words <"$work/words")"
 
 steps arithmetic
 steps fetch_add
@@ -62,12 +82,16 @@ rounds write_image
 rounds read_image
 
 bench/source.sh >"$work/source"
-report "asm, $(wc -l <"$work/source") lines, $(wc -c <"$work/source") bytes" \
-  "$(best 10 "$tool" asm "$work/source" "$work/image")" "$(peak "$tool" asm "$work/source" "$work/image")"
-report "list, the same image" "$(best 10 "$tool" list "$work/image")" "$(peak "$tool" list "$work/image")"
+lines=$(wc -l <"$work/source")
+report "asm, $lines lines, $(wc -c <"$work/source") bytes" "$(best 10 "$tool" asm "$work/source" "$work/image")" \
+  "$(instructions "$tool" asm "$work/source" "$work/image")" "$lines" line "$(peak "$tool" asm "$work/source" "$work/image")"
+report "list, the same image" "$(best 10 "$tool" list "$work/image")" "$(instructions "$tool" list "$work/image")" "$lines" \
+  line "$(peak "$tool" list "$work/image")"
 
 printf '.entry 0\nADD r1, r1, 1\nSUB.T r0, r1, 11 | SKIP ALWAYS, 0, -2\n.data 0\n' >"$work/loop"
 "$tool" asm "$work/loop" "$work/loop_image"
 echo '0 0 1000000' >"$work/schedule"
 spent=$(best 5 "$tool" run "$work/loop_image" "$work/schedule")
-report "run, 1000000 steps, $(wc -c <"$work/out") bytes" "$spent" "$(peak "$tool" run "$work/loop_image" "$work/schedule")"
+report "run, 1000000 steps, $(wc -c <"$work/out") bytes" "$spent" \
+  "$(instructions "$tool" run "$work/loop_image" "$work/schedule")" 1000000 line \
+  "$(peak "$tool" run "$work/loop_image" "$work/schedule")"
