@@ -62,8 +62,8 @@ impl MPart {
     {
         match self.op {
             MemoryOp::Nop => *self == MPart::NOP,
+            MemoryOp::Load | MemoryOp::Store | MemoryOp::FetchAdd => true,
             MemoryOp::TagGet | MemoryOp::TagSet => self.acc == Access::FromPointer,
-            _ => true,
         }
     }
 
@@ -74,7 +74,7 @@ impl MPart {
     {
         match self.op {
             MemoryOp::Load | MemoryOp::FetchAdd | MemoryOp::TagGet => self.rd,
-            _ => 0,
+            MemoryOp::Nop | MemoryOp::Store | MemoryOp::TagSet => 0,
         }
     }
 }
@@ -117,7 +117,19 @@ impl APart {
         match self.op {
             ArithmeticOp::Nop => *self == APart::NOP,
             ArithmeticOp::Tally => !self.imm && self.rb == 0,
-            _ => true,
+            ArithmeticOp::Add
+            | ArithmeticOp::Sub
+            | ArithmeticOp::Mul
+            | ArithmeticOp::And
+            | ArithmeticOp::Or
+            | ArithmeticOp::Xor
+            | ArithmeticOp::AndNot
+            | ArithmeticOp::ShiftLeft
+            | ArithmeticOp::ShiftRight
+            | ArithmeticOp::ShiftRightSigned
+            | ArithmeticOp::LessSigned
+            | ArithmeticOp::LessUnsigned
+            | ArithmeticOp::Pointer => true,
         }
     }
 
@@ -128,7 +140,20 @@ impl APart {
     {
         match self.op {
             ArithmeticOp::Nop => 0,
-            _ => self.rd,
+            ArithmeticOp::Add
+            | ArithmeticOp::Sub
+            | ArithmeticOp::Mul
+            | ArithmeticOp::And
+            | ArithmeticOp::Or
+            | ArithmeticOp::Xor
+            | ArithmeticOp::AndNot
+            | ArithmeticOp::ShiftLeft
+            | ArithmeticOp::ShiftRight
+            | ArithmeticOp::ShiftRightSigned
+            | ArithmeticOp::Tally
+            | ArithmeticOp::LessSigned
+            | ArithmeticOp::LessUnsigned
+            | ArithmeticOp::Pointer => self.rd,
         }
     }
 }
@@ -258,7 +283,16 @@ impl CPart {
     {
         match self.op {
             ControlOp::TargetGet | ControlOp::TrapGet | ControlOp::Reserve => self.rd,
-            _ => 0,
+            ControlOp::Nop
+            | ControlOp::Jump
+            | ControlOp::Skip
+            | ControlOp::Call
+            | ControlOp::Exchange
+            | ControlOp::TargetSet
+            | ControlOp::Create
+            | ControlOp::Quit
+            | ControlOp::QuitKeep
+            | ControlOp::Mask => 0,
         }
     }
 }

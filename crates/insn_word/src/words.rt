@@ -80,8 +80,11 @@ fn decode_wide(word: u64) -> Option<Insn>
 {
     let op = WideOp::from_number(field(word, 57, 3))?;
     let reg = small_field(word, 52, 5);
-    let is_target = op == WideOp::TargetLiteral;
-    if field(word, 32, 20) != 0 || is_target && reg >= 8 {
+    let register_count = match op {
+        WideOp::Literal | WideOp::LiteralHigh => 32,
+        WideOp::TargetLiteral => 8,
+    };
+    if field(word, 32, 20) != 0 || reg >= register_count {
         return None;
     }
     Some(Insn::Wide {

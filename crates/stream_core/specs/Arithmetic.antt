@@ -54,16 +54,38 @@ result_of op.LessUnsigned a b = bit_number (nat_lt a b)
 result_of op.Pointer a b = b % 2 ^ 5 * 2 ^ 59 + a % 2 ^ 59
 
 abbrev pub carries : ArithmeticOp → ℕ → ℕ → Bool
+carries op.Nop a b = false
 carries op.Add a b = not (fits_unsigned (a + b))
 carries op.Sub a b = nat_lt a b
 carries op.Mul a b = not (fits_unsigned (a * b))
-carries _ a b = false
+carries op.And a b = false
+carries op.Or a b = false
+carries op.Xor a b = false
+carries op.AndNot a b = false
+carries op.ShiftLeft a b = false
+carries op.ShiftRight a b = false
+carries op.ShiftRightSigned a b = false
+carries op.Tally a b = false
+carries op.LessSigned a b = false
+carries op.LessUnsigned a b = false
+carries op.Pointer a b = false
 
 abbrev pub overflows : ArithmeticOp → ℕ → ℕ → Bool
+overflows op.Nop a b = false
 overflows op.Add a b = not (fits_signed (signed a +ℤ signed b))
 overflows op.Sub a b = not (fits_signed (signed a -ℤ signed b))
 overflows op.Mul a b = not (fits_signed (signed a *ℤ signed b))
-overflows _ a b = false
+overflows op.And a b = false
+overflows op.Or a b = false
+overflows op.Xor a b = false
+overflows op.AndNot a b = false
+overflows op.ShiftLeft a b = false
+overflows op.ShiftRight a b = false
+overflows op.ShiftRightSigned a b = false
+overflows op.Tally a b = false
+overflows op.LessSigned a b = false
+overflows op.LessUnsigned a b = false
+overflows op.Pointer a b = false
 
 -- the code that the operation makes
 abbrev pub code_of : ArithmeticOp → ℕ → ℕ → Code

@@ -59,7 +59,18 @@ fn carry_of(op: ArithmeticOp, a: u64, b: u64) -> bool
         ArithmeticOp::Add => a.overflowing_add(b).1,
         ArithmeticOp::Sub => a < b,
         ArithmeticOp::Mul => a.overflowing_mul(b).1,
-        _ => false,
+        ArithmeticOp::Nop
+        | ArithmeticOp::And
+        | ArithmeticOp::Or
+        | ArithmeticOp::Xor
+        | ArithmeticOp::AndNot
+        | ArithmeticOp::ShiftLeft
+        | ArithmeticOp::ShiftRight
+        | ArithmeticOp::ShiftRightSigned
+        | ArithmeticOp::Tally
+        | ArithmeticOp::LessSigned
+        | ArithmeticOp::LessUnsigned
+        | ArithmeticOp::Pointer => false,
     }
 }
 
@@ -72,7 +83,18 @@ fn overflow_of(op: ArithmeticOp, a: u64, b: u64) -> bool
         ArithmeticOp::Add => a.overflowing_add(b).1,
         ArithmeticOp::Sub => a.overflowing_sub(b).1,
         ArithmeticOp::Mul => a.overflowing_mul(b).1,
-        _ => false,
+        ArithmeticOp::Nop
+        | ArithmeticOp::And
+        | ArithmeticOp::Or
+        | ArithmeticOp::Xor
+        | ArithmeticOp::AndNot
+        | ArithmeticOp::ShiftLeft
+        | ArithmeticOp::ShiftRight
+        | ArithmeticOp::ShiftRightSigned
+        | ArithmeticOp::Tally
+        | ArithmeticOp::LessSigned
+        | ArithmeticOp::LessUnsigned
+        | ArithmeticOp::Pointer => false,
     }
 }
 

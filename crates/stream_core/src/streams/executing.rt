@@ -91,26 +91,14 @@ impl Stream {
         ensures { result ≡ control_ssw self.now c.now c.now.op left }
     {
         match c.op {
-            ControlOp::Jump => {
-                if self.goes(c) {
-                    StatusWord {
-                        pc: self.targets.word(c.t).pc,
-                        ..left
-                    }
-                } else {
-                    left
-                }
-            }
-            ControlOp::Skip => {
-                if self.goes(c) {
-                    StatusWord {
-                        pc: skipped(self.ssw.pc, c.n),
-                        ..left
-                    }
-                } else {
-                    left
-                }
-            }
+            ControlOp::Jump if self.goes(c) => StatusWord {
+                pc: self.targets.word(c.t).pc,
+                ..left
+            },
+            ControlOp::Skip if self.goes(c) => StatusWord {
+                pc: skipped(self.ssw.pc, c.n),
+                ..left
+            },
             ControlOp::Call => StatusWord {
                 pc: self.targets.word(c.t).pc,
                 ..left
@@ -120,7 +108,16 @@ impl Stream {
                 mask: TrapMask::from_number(u64::from(c.n.unsigned_abs())),
                 ..left
             },
-            _ => left,
+            ControlOp::Jump
+            | ControlOp::Skip
+            | ControlOp::Nop
+            | ControlOp::TargetSet
+            | ControlOp::TargetGet
+            | ControlOp::TrapGet
+            | ControlOp::Reserve
+            | ControlOp::Create
+            | ControlOp::Quit
+            | ControlOp::QuitKeep => left,
         }
     }
 
@@ -142,7 +139,16 @@ impl Stream {
                 let word = StatusWord::from_bits(self.registers.value(c.ra));
                 self.targets.set(c.t, word);
             }
-            _ => {}
+            ControlOp::Nop
+            | ControlOp::Jump
+            | ControlOp::Skip
+            | ControlOp::TargetGet
+            | ControlOp::TrapGet
+            | ControlOp::Reserve
+            | ControlOp::Create
+            | ControlOp::Quit
+            | ControlOp::QuitKeep
+            | ControlOp::Mask => {}
         }
     }
 
@@ -154,7 +160,16 @@ impl Stream {
             ControlOp::TargetGet => self.targets.word(c.t).bits(),
             ControlOp::TrapGet => self.xr,
             ControlOp::Reserve => grant,
-            _ => 0,
+            ControlOp::Nop
+            | ControlOp::Jump
+            | ControlOp::Skip
+            | ControlOp::Call
+            | ControlOp::Exchange
+            | ControlOp::TargetSet
+            | ControlOp::Create
+            | ControlOp::Quit
+            | ControlOp::QuitKeep
+            | ControlOp::Mask => 0,
         }
     }
 
@@ -219,7 +234,11 @@ fn retries_after(op: MemoryOp, retries: u32) -> u32
 {
     match op {
         MemoryOp::Nop => retries,
-        _ => 0,
+        MemoryOp::Load
+        | MemoryOp::Store
+        | MemoryOp::FetchAdd
+        | MemoryOp::TagGet
+        | MemoryOp::TagSet => 0,
     }
 }
 

@@ -82,7 +82,15 @@ impl Stream {
             }),
             ControlOp::Quit => Control::Quit,
             ControlOp::QuitKeep => Control::QuitKeep,
-            _ => Control::Plain,
+            ControlOp::Nop
+            | ControlOp::Jump
+            | ControlOp::Skip
+            | ControlOp::Call
+            | ControlOp::Exchange
+            | ControlOp::TargetSet
+            | ControlOp::TargetGet
+            | ControlOp::TrapGet
+            | ControlOp::Mask => Control::Plain,
         }
     }
 
