@@ -1,6 +1,6 @@
 -- What the arithmetic operations compute, and the codes that they make.
 use Rattle.std.specs.Prelude.{ℕ, ◌+◌, ◌-◌, ◌*◌, ◌/◌, ◌%◌, ◌^◌, ◌==◌, nat_lt, nat_le, Bool, false, not, if◌then◌else◌}
-use Rattle.std.specs.Prelude.{int_lt, ℤ, pos, negsuc, ◌+ℤ◌, ◌-ℤ◌, ◌*ℤ◌, bit_and, bit_or, bit_xor, count_ones}
+use Rattle.std.specs.Prelude.{int_lt, ℤ, pos, negsuc, ◌+ℤ◌, ◌-ℤ◌, ◌*ℤ◌, ◌≤ℤ◌, ◌<ℤ◌, bit_and, bit_or, bit_xor, count_ones}
 use Rattle.std.specs.Int.{w64, cast_signed}
 use Rattle.insn_word.specs.declared.operations.ArithmeticOp.{ArithmeticOp}
 use Rattle.insn_word.specs.declared.operations.ArithmeticOp.TheVariants as op
@@ -95,3 +95,7 @@ code_of op a b = record {
   carry = carries op a b;
   overflow = overflows op a b;
 }
+
+-- how often d goes into x: q times, and not once more
+abbrev pub IsQuotientRoundedDown : ℤ → ℕ → ℤ → Type 0
+IsQuotientRoundedDown x d q = ((q *ℤ pos d) ≤ℤ x) × (x <ℤ ((q +ℤ pos 1) *ℤ pos d))

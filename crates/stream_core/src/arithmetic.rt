@@ -1,7 +1,7 @@
 //! The arithmetic operations and the codes that they make.
 
-ghost use Rattle.std.specs.Prelude.{◌≡◌, ◌<◌, ◌<ℤ◌, ◌↔◌, IsTrue};
-ghost use Rattle.stream_core.specs.Arithmetic.{signed, result_of, carries, overflows, code_of};
+ghost use Rattle.std.specs.Prelude.{◌≡◌, ◌<◌, ◌≤◌, ◌^◌, ◌<ℤ◌, ◌≤ℤ◌, ◌↔◌, pos, neg_ℤ, IsTrue};
+ghost use Rattle.stream_core.specs.Arithmetic.{signed, result_of, carries, overflows, code_of, IsQuotientRoundedDown};
 ghost use Rattle.stream_core.specs.Arithmetic.{shift_left as shifted_left, shift_right as shifted_right};
 ghost use Rattle.stream_core.specs.Arithmetic.{shift_right_signed as shifted_right_signed};
 ghost use Rattle.stream_core.specs.Conditions.{condition_holds};
@@ -28,6 +28,16 @@ pub fn alu(op: ArithmeticOp, a: u64, b: u64) -> (u64, Code)
 pub fn less_after_subtraction(a: u64, b: u64)
     ensures signed { IsTrue (condition_holds Condition.Less (code_of ArithmeticOp.Sub a b)) ↔ (signed a <ℤ signed b) }
     ensures unsigned { IsTrue (condition_holds Condition.LessUnsigned (code_of ArithmeticOp.Sub a b)) ↔ (a < b) }
+{}
+
+/// SAR divides: its result as a signed number is `a` as one over 2^`b`, rounded down; from `b` = 64 on, where only
+/// sign bits are left, 0 where `a` is not negative and -1 where it is.
+pub fn signed_shift_divides(a: u64, b: u64)
+    ensures quotient { b < 64
+        → IsQuotientRoundedDown (signed a) (2 ^ b) (signed (result_of ArithmeticOp.ShiftRightSigned a b)) }
+    ensures zero { 64 ≤ b → pos 0 ≤ℤ signed a → signed (result_of ArithmeticOp.ShiftRightSigned a b) ≡ pos 0 }
+    ensures minus_one { 64 ≤ b → signed a <ℤ pos 0
+        → signed (result_of ArithmeticOp.ShiftRightSigned a b) ≡ neg_ℤ (pos 1) }
 {}
 
 fn value_of(op: ArithmeticOp, a: u64, b: u64) -> u64

@@ -66,8 +66,9 @@ impl CPart {
         ensures only { (c : CPart) → c.op ≡ op → IsControlPart bits c → result ≡ Some c }
     {
         let none = CPart { op, ..CPart::NOP };
-        let target = small_field(bits, TARGET_PLACE, TARGET_WIDTH);
+        let t = small_field(bits, TARGET_PLACE, TARGET_WIDTH);
         let register = small_field(bits, REGISTER_PLACE, REGISTER_WIDTH);
+        let of_t = CPart { t, ..none };
         let part = match op {
             ControlOp::Nop | ControlOp::Quit | ControlOp::QuitKeep => none,
             ControlOp::Jump => CPart {
@@ -79,20 +80,17 @@ impl CPart {
                 ..none.with_condition(bits)?
             },
             ControlOp::Call => CPart {
-                t: target,
                 u: small_field(bits, RETURN_TARGET_PLACE, TARGET_WIDTH),
-                ..none
+                ..of_t
             },
-            ControlOp::Exchange => CPart { t: target, ..none },
+            ControlOp::Exchange => of_t,
             ControlOp::TargetSet | ControlOp::Create => CPart {
-                t: target,
                 ra: register,
-                ..none
+                ..of_t
             },
             ControlOp::TargetGet => CPart {
-                t: target,
                 rd: register,
-                ..none
+                ..of_t
             },
             ControlOp::TrapGet => CPart {
                 rd: register,
@@ -104,7 +102,7 @@ impl CPart {
                 ..none
             },
             ControlOp::Mask => CPart {
-                n: target.cast_signed(),
+                n: t.cast_signed(),
                 ..none
             },
         };
