@@ -4,7 +4,7 @@ ghost use Rattle.std.specs.Prelude.{◌≡◌, ◌≤◌, IfSome, IfNone};
 ghost use Rattle.insn_word.specs.Operations.{wide_number, memory_number, access_number};
 ghost use Rattle.insn_word.specs.Operations.{arithmetic_number, control_number, condition_number};
 
-/// The operations of wide words.
+/// The operations of wide words ("Wide operations", docs/MACHINE.md).
 #[derive(Clone, Copy, Debug, PartialEq, Eq)]
 pub enum WideOp {
     /// LIT: the register becomes the immediate.
@@ -37,10 +37,10 @@ impl WideOp {
     }
 }
 
-/// The memory operations of normal words.
+/// The memory operations of normal words ("Memory operations", docs/MACHINE.md).
 #[derive(Clone, Copy, Debug, PartialEq, Eq)]
 pub enum MemoryOp {
-    /// No memory operation.
+    /// NOP: no memory operation.
     Nop = 0,
     /// LOAD: `rd` becomes the word.
     Load = 1,
@@ -79,7 +79,7 @@ impl MemoryOp {
     }
 }
 
-/// Which control a memory operation obeys.
+/// Which control a memory operation obeys ("The full/empty table", docs/MACHINE.md).
 #[derive(Clone, Copy, Debug, PartialEq, Eq)]
 pub enum Access {
     /// The control that the pointer carries.
@@ -115,10 +115,11 @@ impl Access {
     }
 }
 
-/// The arithmetic operations of normal words. `a` is the first operand, `b` the second.
+/// The arithmetic operations of normal words ("Arithmetic operations", docs/MACHINE.md). `a` is the first operand,
+/// `b` the second; results are modulo 2^64.
 #[derive(Clone, Copy, Debug, PartialEq, Eq)]
 pub enum ArithmeticOp {
-    /// No arithmetic operation.
+    /// NOP: no arithmetic operation.
     Nop = 0,
     /// ADD: `a + b`.
     Add = 1,
@@ -134,11 +135,11 @@ pub enum ArithmeticOp {
     Xor = 6,
     /// ANDN: `a` and not `b`, bit by bit.
     AndNot = 7,
-    /// SHL: `a` shifted left by `b`, zeros in.
+    /// SHL: `a` shifted left by `b`, zeros in; 0 where `b` is 64 or more.
     ShiftLeft = 8,
-    /// SHR: `a` shifted right by `b`, zeros in.
+    /// SHR: `a` shifted right by `b`, zeros in; 0 where `b` is 64 or more.
     ShiftRight = 9,
-    /// SAR: `a` shifted right by `b`, its sign in.
+    /// SAR: `a` shifted right by `b`, its sign in; nothing but signs where `b` is 64 or more.
     ShiftRightSigned = 10,
     /// TALLY: the number of ones in `a`.
     Tally = 11,
@@ -184,10 +185,10 @@ impl ArithmeticOp {
     }
 }
 
-/// The control operations of normal words.
+/// The control operations of normal words ("Control operations", docs/MACHINE.md).
 #[derive(Clone, Copy, Debug, PartialEq, Eq)]
 pub enum ControlOp {
-    /// No control operation: on to the next word.
+    /// NOP: no control operation; on to the next word.
     Nop = 0,
     /// JUMP: where the condition holds, to the pc of target `t`.
     Jump = 1,
@@ -207,9 +208,9 @@ pub enum ControlOp {
     Reserve = 8,
     /// CREATE: starts a stream at the pc of target `t` with the value of `ra`.
     Create = 9,
-    /// QUIT: ends the stream and gives its reservation back.
+    /// QUIT: the stream becomes idle, its reservation is given back.
     Quit = 10,
-    /// QUITP: ends the stream and keeps its reservation.
+    /// QUITP: the stream becomes idle, its reservation is kept.
     QuitKeep = 11,
     /// MASK: the trap mask becomes `n`.
     Mask = 12,
@@ -247,10 +248,10 @@ impl ControlOp {
     }
 }
 
-/// Conditions on a condition code.
+/// Conditions on a condition code ("Conditions", docs/MACHINE.md).
 #[derive(Clone, Copy, Debug, PartialEq, Eq)]
 pub enum Condition {
-    /// ALWAYS.
+    /// ALWAYS: on each code.
     Always = 0,
     /// EQ: the result is zero.
     Equal = 1,

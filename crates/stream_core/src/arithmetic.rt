@@ -9,6 +9,11 @@ ghost use Rattle.stream_core.specs.Conditions.{condition_holds};
 use crate::conditions::Code;
 use insn_word::{ArithmeticOp, Condition};
 
+/// Bits 59 to 63 of a pointer: its control and what it disables, which PTR replaces.
+const RIGHTS_PLACE: u32 = 59;
+
+const RIGHTS_WIDTH: u32 = 5;
+
 /// The result of the operation on `a` and `b`, modulo 2^64, and the condition code of it
 /// ("Arithmetic operations", docs/MACHINE.md). NOP answers 0.
 pub fn alu(op: ArithmeticOp, a: u64, b: u64) -> (u64, Code)
@@ -58,7 +63,9 @@ fn value_of(op: ArithmeticOp, a: u64, b: u64) -> u64
         ArithmeticOp::Tally => u64::from(a.count_ones()),
         ArithmeticOp::LessSigned => u64::from(a.cast_signed() < b.cast_signed()),
         ArithmeticOp::LessUnsigned => u64::from(a < b),
-        ArithmeticOp::Pointer => b % (1 << 5) * (1 << 59) + a % (1 << 59),
+        ArithmeticOp::Pointer => {
+            b % (1 << RIGHTS_WIDTH) * (1 << RIGHTS_PLACE) + a % (1 << RIGHTS_PLACE)
+        }
     }
 }
 

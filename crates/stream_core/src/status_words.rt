@@ -177,7 +177,8 @@ impl StatusWord {
             + u64::from(self.in_trap) * (1 << IN_TRAP_PLACE)
     }
 
-    /// The status word that the bits say; bits that a status word does not have are left out.
+    /// The status word that the bits say ("Status words", docs/MACHINE.md); bits that a status word does not have are
+    /// left out.
     #[tactic(auto, unfolding(crate::specs::StatusWords::status_from))]
     pub fn from_bits(bits: u64) -> StatusWord
         ensures { result ≡ status_from bits }

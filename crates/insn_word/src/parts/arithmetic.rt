@@ -79,7 +79,7 @@ impl APart {
     }
 
     /// The register that the part writes, 0 to 31 in a valid part; r0, whose writes are discarded, where it writes
-    /// none.
+    /// none ("What each operation does", docs/MACHINE.md).
     pub fn destination(&self) -> u8
         ensures { result ≡ arithmetic_destination self.now.op self.now.rd }
     {

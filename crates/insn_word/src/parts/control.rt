@@ -177,7 +177,7 @@ impl CPart {
     }
 
     /// The register that the part writes, 0 to 31 in a valid part; r0, whose writes are discarded, where it writes
-    /// none.
+    /// none ("What each operation does", docs/MACHINE.md).
     pub fn destination(&self) -> u8
         ensures { result ≡ control_destination self.now.op self.now.rd }
     {

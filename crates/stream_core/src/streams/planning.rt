@@ -20,8 +20,8 @@ const WORD_BYTES: u64 = 8;
 
 impl Stream {
     /// What stands at the pc of this program: nothing where the stream does not run, else the instruction or the trap
-    /// `Program` or `Illegal`. One step needs one call: `request`, `control_of`, `execute` and `reply` go by its
-    /// instruction.
+    /// PROGRAM or ILLEGAL ("Traps", docs/MACHINE.md). One step needs one call: `request`, `control_of`, `execute` and
+    /// `reply` go by its instruction.
     #[tactic(auto, unfolding(crate::specs::StreamRow::fetch_of))]
     pub fn fetch(&self, program: &[u64]) -> Fetched
         ensures { result ≡ fetch_of program.now self.now }
@@ -38,7 +38,8 @@ impl Stream {
         }
     }
 
-    /// What the instruction asks of the memory, if it has a reference.
+    /// What the instruction asks of the memory, with the values at entry; None where it has no reference ("Memory
+    /// operations", docs/MACHINE.md).
     #[tactic(auto, unfolding(crate::specs::Effects::request_of))]
     pub fn request(&self, insn: &Insn) -> Option<Request>
         ensures { result ≡ request_of self.now insn.now }
@@ -76,7 +77,7 @@ impl Stream {
         }
     }
 
-    /// What the instruction asks of the processor, with the values at entry.
+    /// What the instruction asks of the processor, with the values at entry ("Processors", docs/MACHINE.md).
     #[tactic(auto, unfolding(crate::specs::StreamRow::control_of))]
     pub fn control_of(&self, insn: &Insn) -> Control
         ensures { result ≡ control_of self.now insn.now }
@@ -106,8 +107,8 @@ impl Stream {
         }
     }
 
-    /// What the next step needs: nothing where the stream does not run, a trap `Program` or `Illegal`, a reply of the
-    /// memory, or nothing but the stream.
+    /// What the next step needs: nothing where the stream does not run, a trap PROGRAM or ILLEGAL, a reply of the
+    /// memory, or nothing but the stream ("One step", docs/MACHINE.md).
     #[tactic(auto, unfolding(crate::specs::StreamRow::plan_of))]
     pub fn plan(&self, program: &[u64]) -> Plan
         ensures { result ≡ plan_of program.now self.now }
