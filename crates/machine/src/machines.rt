@@ -4,8 +4,8 @@ ghost use Rattle.std.specs.Prelude.{◌≡◌, ◌<◌, ◌≤◌, ◌↔◌, �
 ghost use Rattle.std.specs.Option.{option_copied};
 ghost use Rattle.tag_memory.specs.Storage.{cell_at};
 ghost use Rattle.processor.specs.Processors.{ProcessorValue, IsCounted};
-ghost use Rattle.processor.specs.World.{start, world_step, steps};
-ghost use Rattle.machine.specs.MachineValue.{IsMachine, stream_of, counts_of};
+ghost use Rattle.processor.specs.World.{start, world_step, steps, stream_of, counts_of};
+ghost use Rattle.machine.specs.MachineValue.{IsMachine};
 
 use crate::load_fault::LoadFault;
 use image_file::Image;

@@ -2,7 +2,7 @@
 use Rattle.std.specs.Prelude.{ℕ, List, [], length, Option, Some, None, Result, Ok, Err, nat_le, if◌then◌else◌}
 use Rattle.stream_core.specs.Streams.{StreamValue}
 use Rattle.stream_core.specs.StreamText.{stream_text_of}
-use Rattle.machine.specs.MachineValue.{stream_of}
+use Rattle.processor.specs.World.{stream_of}
 use Rattle.mta_engines.specs.Input.{input_limit}
 use Rattle.mta_engines.specs.ProgramLines.{program_of}
 use Rattle.mta_engines.specs.WordsMachine.{words_world}

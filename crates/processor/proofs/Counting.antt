@@ -1,11 +1,9 @@
 -- The counts keep to the streams over each step.
 use Rattle.std.proofs.Common.{◌≡◌, ℕ, zero, suc, ◌+◌, ◌<◌, ◌≤◌, ◌==◌, Bool, true, false, not, refl}
-use Rattle.std.proofs.Common.{sym, ap, ◌∙◌, subst, arith, zero-add, if◌then◌else◌}
-use Rattle.std.proofs.Common.{List, [], ◌∷◌, length, set, replicate, slice_get, slice_index, Option}
-use Rattle.std.proofs.Common.{Some}
-use Rattle.std.proofs.lemmas.Option.{get_or_from_slice_get}
+use Rattle.std.proofs.Common.{sym, ap, ◌∙◌, subst, arith, if◌then◌else◌}
+use Rattle.std.proofs.Common.{List, [], ◌∷◌, length, set, Option}
 use Rattle.std.specs.List.{position_or_len}
-use Rattle.std.proofs.lemmas.List.{length-set, get_or-set_same, length-replicate, get_or-replicate}
+use Rattle.std.proofs.lemmas.List.{length-set, get_or-set_same}
 use Rattle.std.proofs.lemmas.List.Sums.{passes_at_first}
 use Rattle.std.proofs.lemmas.Bool.{eqb-false}
 use Rattle.tag_memory.specs.declared.requests.Reply.{Reply}
@@ -22,13 +20,12 @@ use Rattle.stream_core.specs.declared.steps.Fetched.TheVariants as fetch
 use Rattle.stream_core.specs.declared.steps.Control.{Control}
 use Rattle.stream_core.specs.declared.steps.Control.TheVariants as asks
 use Rattle.processor.specs.Processors.{ProcessorValue, is_idle, count_current, IsCounted, stream_at}
-use Rattle.processor.specs.Processors.{first_stream, opening}
 use Rattle.processor.specs.Row.{lacks_stream, step_fetch_of, grant_of, with_stream, lowest_idle, after_control, after_control_if_done}
 use Rattle.processor.specs.Row.{row_by, row, request, memory_reply, row_over_memory}
 use Rattle.processor.proofs.Begun.{rests, awake, free, row_is}
 use Rattle.processor.proofs.Awake.{awake-trapped, awake-row_asking}
 
-abbrev weight : StreamValue → ℕ
+abbrev pub weight : StreamValue → ℕ
 weight s = if is_idle s then 0 else 1
 
 swapped : (a b c : ℕ) → (a + b) + c ≡ (c + b) + a
@@ -37,7 +34,7 @@ swapped a b c = omega arith
 beside : (w a b c d : ℕ) → a + b ≡ c + d → (w + a) + b ≡ (w + c) + d
 beside w a b c d e = omega arith
 
-count-set : (ss : List StreamValue) (n : ℕ) (t : StreamValue) → n < length ss
+pub count-set : (ss : List StreamValue) (n : ℕ) (t : StreamValue) → n < length ss
     → count_current (set ss n t) + weight (stream_at ss n) ≡ count_current ss + weight t
 count-set [] n t below = absurd (omega arith)
 count-set (x ∷ ss) zero t below = swapped (weight t) (count_current ss) (weight x)
@@ -46,10 +43,10 @@ count-set (x ∷ ss) (suc n) t below =
     beside (weight x) (count_current (set ss n t)) (weight (stream_at ss n)) (count_current ss) (weight t)
     (count-set ss n t inner)
 
-weight_awake : (s : StreamValue) → is_idle s ≡ false → weight s ≡ 1
+pub weight_awake : (s : StreamValue) → is_idle s ≡ false → weight s ≡ 1
 weight_awake s e = ap (λ b. if b then 0 else 1) e
 
-weight_idle : (s : StreamValue) → is_idle s ≡ true → weight s ≡ 0
+pub weight_idle : (s : StreamValue) → is_idle s ≡ true → weight s ≡ 0
 weight_idle s e = ap (λ b. if b then 0 else 1) e
 
 some_counted : (ss : List StreamValue) (n : ℕ) → n < length ss → is_idle (stream_at ss n) ≡ false
@@ -212,28 +209,6 @@ unfolding row_over_memory
 counted_served image proc n m slim counted =
     counted_row image proc n (memory_reply m (request image proc n)).1 slim counted
 
--- The counts at the start.
-
-count-idle : (n : ℕ) → count_current (replicate n idle) ≡ 0
-count-idle zero = refl
-count-idle (suc n) = zero-add (count_current (replicate n idle)) ∙ count-idle n
-
-pub counted_opening : (image : ImageValue) (entry : ℕ) → 1 ≤ image.slim → IsCounted (opening image entry)
-unfolding opening
-counted_opening image entry some =
-    let ss = replicate image.slim idle in
-    let all : length ss ≡ image.slim = length-replicate image.slim idle in
-    let there : 0 < length ss = omega (arith, all) in
-    let was : is_idle (stream_at ss 0) ≡ true = ap is_idle (get_or-replicate image.slim 0 idle idle (omega arith)) in
-    let first = first_stream image entry in
-    let change = count-set ss 0 first there in
-    let before = weight_idle (stream_at ss 0) was in
-    record {
-      counts = omega (arith, change, count-idle image.slim, before, weight_awake first refl);
-      within_reserved = omega arith;
-      within_slim = omega (arith, length-set ss 0 first, all);
-    }
-
 -- The same of the parts of a processor.
 
 pub counted_new : (image : ImageValue) (now old new : ProcessorValue) (n : ℕ) (r : Option Reply) (o : Outcome)
@@ -250,21 +225,3 @@ counted_over image now old new n m after o same slim counted stepped =
     let P : (ProcessorValue × Outcome) × TaggedMemory → Type 0 = λ x. IsCounted x.0.0 in
     let as_many = slim ∙ ap (λ (p : ProcessorValue). length p.streams) (sym same) in
     subst P (sym stepped) (counted_served image old n m as_many counted)
-
--- a processor made of a table with its first stream
-pub opened : (image : ImageValue) (number entry slim : ℕ) (first : StreamValue) (ss : List StreamValue)
-    → Some entry ≡ slice_get image.entries number → slim ≡ image.slim → first ≡ first_stream image entry
-    → ss ≡ set (replicate slim idle) 0 first
-    → record { streams = ss; current = 1; reserved = 1 } ≡ opening image (slice_index image.entries number)
-unfolding opening
-opened image number entry slim first ss stands same child_stream all =
-    let there = get_or_from_slice_get image.entries number entry 0 (sym stands) in
-    let filled = all ∙ ap (λ f. set (replicate slim idle) 0 f) (child_stream ∙ ap (first_stream image) (sym there))
-    ∙ ap (λ k. set (replicate k idle) 0 (first_stream image (slice_index image.entries number))) same in
-    λ i. record { streams = filled i; current = 1; reserved = 1 }
-
-pub counted_opened : (image : ImageValue) (number : ℕ) (p : ProcessorValue) (slim : ℕ) → 1 ≤ slim → slim ≡ image.slim
-    → p ≡ opening image (slice_index image.entries number) → IsCounted p
-counted_opened image number p slim some same opens =
-    let P : ProcessorValue → Type 0 = λ x. IsCounted x in
-    subst P (sym opens) (counted_opening image (slice_index image.entries number) (omega arith))

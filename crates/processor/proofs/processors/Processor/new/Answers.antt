@@ -1,5 +1,5 @@
 use Rattle.std.proofs.Common.{rules}
-use Rattle.processor.proofs.Counting.{opened, counted_opened}
+use Rattle.processor.proofs.Opening.{opened, counted_opened}
 use Rattle.processor.proofs.processors.Processor.new.Goals as goal
 
 pub invariant_of-result : goal.invariant_of-result
