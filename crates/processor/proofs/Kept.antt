@@ -18,9 +18,9 @@ use Rattle.stream_core.specs.declared.steps.Fetched.TheVariants as fetch
 use Rattle.stream_core.specs.declared.steps.Control.{Control}
 use Rattle.stream_core.specs.declared.steps.Control.TheVariants as asks
 use Rattle.processor.specs.Processors.{ProcessorValue, is_idle, stream_at}
-use Rattle.processor.specs.Row.{step_fetch_of, grant_of, with_stream, lowest_idle, after_control, after_control_if_done, row_by, row}
+use Rattle.processor.specs.Row.{step_fetch_of, grant_of, with_stream, lowest_idle, after_control, after_control_if_done, row_on_fetch, row}
 use Rattle.processor.specs.Row.{request, memory_reply, row_over_memory}
-use Rattle.processor.specs.Kept.{IsStarted, KeepsOthers}
+use Rattle.processor.specs.OtherStreams.{IsStarted, KeepsOthers}
 use Rattle.processor.proofs.Begun.{rests, awake, row_is}
 use Rattle.processor.proofs.Awake.{awake-row_asking}
 
@@ -68,31 +68,31 @@ lowest_same : (proc : ProcessorValue) (n : ℕ) (s : StreamValue) → is_idle (s
     → is_idle s ≡ false → lowest_idle (with_stream proc n s) ≡ lowest_idle proc
 lowest_same proc n s was is = position_or_len-set is_idle proc.streams n s idle (is ∙ sym was)
 
-kept_controlled : (n grant : ℕ) (proc : ProcessorValue) (s : StreamValue) (c : Control)
+kept_control : (n grant : ℕ) (proc : ProcessorValue) (s : StreamValue) (c : Control)
     → is_idle (stream_at proc.streams n) ≡ false → is_idle s ≡ false
     → KeepsOthers n proc (after_control (with_stream proc n s) n grant c)
-kept_controlled n grant proc s asks.Plain was is = kept_with n proc s proc.current proc.reserved
-kept_controlled n grant proc s (asks.Reserve k) was is = kept_with n proc s proc.current (proc.reserved + grant)
-kept_controlled n grant proc s (asks.Create child) was is =
+kept_control n grant proc s asks.Plain was is = kept_with n proc s proc.current proc.reserved
+kept_control n grant proc s (asks.Reserve k) was is = kept_with n proc s proc.current (proc.reserved + grant)
+kept_control n grant proc s (asks.Create child) was is =
     let j = lowest_idle (with_stream proc n s) in
     record {
       as_many = length-set (set proc.streams n s) j (child_stream child) ∙ length-set proc.streams n s;
       others = started n j proc s (child_stream child) proc.reserved (lowest_same proc n s was is);
     }
-kept_controlled n grant proc s asks.Quit was is = kept_twice n proc s idle _ _
-kept_controlled n grant proc s asks.QuitKeep was is = kept_twice n proc s idle _ _
+kept_control n grant proc s asks.Quit was is = kept_twice n proc s idle _ _
+kept_control n grant proc s asks.QuitKeep was is = kept_twice n proc s idle _ _
 
-kept_settled : (n grant : ℕ) (proc : ProcessorValue) (s : StreamValue) (c : Control) (o : Outcome)
+kept_if_done : (n grant : ℕ) (proc : ProcessorValue) (s : StreamValue) (c : Control) (o : Outcome)
     → is_idle (stream_at proc.streams n) ≡ false → is_idle s ≡ false
     → KeepsOthers n proc (after_control_if_done (with_stream proc n s) n grant c o)
-kept_settled n grant proc s c outcome.Skipped was is = kept_with n proc s proc.current proc.reserved
-kept_settled n grant proc s c outcome.Done was is = kept_controlled n grant proc s c was is
-kept_settled n grant proc s c outcome.Blocked was is = kept_with n proc s proc.current proc.reserved
-kept_settled n grant proc s c (outcome.Trapped k) was is = kept_with n proc s proc.current proc.reserved
-kept_settled n grant proc s c (outcome.Stopped k) was is = kept_with n proc s proc.current proc.reserved
+kept_if_done n grant proc s c outcome.Skipped was is = kept_with n proc s proc.current proc.reserved
+kept_if_done n grant proc s c outcome.Done was is = kept_control n grant proc s c was is
+kept_if_done n grant proc s c outcome.Blocked was is = kept_with n proc s proc.current proc.reserved
+kept_if_done n grant proc s c (outcome.Trapped k) was is = kept_with n proc s proc.current proc.reserved
+kept_if_done n grant proc s c (outcome.Stopped k) was is = kept_with n proc s proc.current proc.reserved
 
 kept_by : (image : ImageValue) (proc : ProcessorValue) (n : ℕ) (r : Option Reply) (f : Fetched)
-    → step_fetch_of image proc n ≡ f → KeepsOthers n proc (row_by image proc n r (stream_at proc.streams n) f).0
+    → step_fetch_of image proc n ≡ f → KeepsOthers n proc (row_on_fetch image proc n r (stream_at proc.streams n) f).0
 kept_by image proc n r fetch.Rest e = kept_same n proc
 kept_by image proc n r (fetch.Trap k) e =
     kept_with n proc (after_trap k 0 (stream_at proc.streams n)).0 proc.current proc.reserved
@@ -101,7 +101,7 @@ kept_by image proc n r (fetch.Runs i) e =
     let c = control_of s i in
     let found = awake image proc n (ap rests e) in
     let after = row_asking image.retry_limit s i (grant_of image proc c) r (request_of s i) in
-    kept_settled n (grant_of image proc c) proc after.0 c after.1 found.1
+    kept_if_done n (grant_of image proc c) proc after.0 c after.1 found.1
     (awake-row_asking image.retry_limit s i (grant_of image proc c) r (request_of s i) found.1)
 
 pub kept_row : (image : ImageValue) (proc : ProcessorValue) (n : ℕ) (r : Option Reply)
@@ -110,10 +110,10 @@ kept_row image proc n r =
     let P : ProcessorValue × Outcome → Type 0 = λ x. KeepsOthers n proc x.0 in
     subst P (sym (row_is image proc n r)) (kept_by image proc n r (step_fetch_of image proc n) refl)
 
-pub kept_served : (image : ImageValue) (proc : ProcessorValue) (n : ℕ) (m : TaggedMemory)
+pub kept_row_over_memory : (image : ImageValue) (proc : ProcessorValue) (n : ℕ) (m : TaggedMemory)
     → KeepsOthers n proc (row_over_memory image proc n m).0.0
 unfolding row_over_memory
-kept_served image proc n m = kept_row image proc n (memory_reply m (request image proc n)).1
+kept_row_over_memory image proc n m = kept_row image proc n (memory_reply m (request image proc n)).1
 
 -- The same of the parts of a processor.
 
@@ -127,4 +127,4 @@ pub kept_over : (image : ImageValue) (now old new : ProcessorValue) (n : ℕ) (m
     → old ≡ now → ((new, o), after) ≡ row_over_memory image old n m → KeepsOthers n now new
 kept_over image now old new n m after o same stepped =
     let P : (ProcessorValue × Outcome) × TaggedMemory → Type 0 = λ x. KeepsOthers n now x.0.0 in
-    subst P (sym (stepped ∙ ap (λ p. row_over_memory image p n m) same)) (kept_served image now n m)
+    subst P (sym (stepped ∙ ap (λ p. row_over_memory image p n m) same)) (kept_row_over_memory image now n m)

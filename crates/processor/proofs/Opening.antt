@@ -7,7 +7,7 @@ use Rattle.image_file.specs.ImageValue.{ImageValue}
 use Rattle.stream_core.specs.Streams.{StreamValue, idle}
 use Rattle.processor.specs.Processors.{ProcessorValue, is_idle, count_current, IsCounted, stream_at}
 use Rattle.processor.specs.Processors.{first_stream, opening}
-use Rattle.processor.proofs.Counting.{count-set, weight_awake, weight_idle}
+use Rattle.processor.proofs.Counting.{count-set, weight_awake, weight_idle, awake-zeros, zeros-set}
 
 -- it has as many streams as its image says
 pub opening-length : (image : ImageValue) (entry : ℕ) → length (opening image entry).streams ≡ image.slim
@@ -18,6 +18,11 @@ opening-length image entry =
 count-idle : (n : ℕ) → count_current (replicate n idle) ≡ 0
 count-idle zero = refl
 count-idle (suc n) = zero-add (count_current (replicate n idle)) ∙ count-idle n
+
+replicate-zeros : (n k : ℕ) → stream_at (replicate n idle) k ≡ idle
+replicate-zeros zero k = refl
+replicate-zeros (suc n) zero = refl
+replicate-zeros (suc n) (suc k) = replicate-zeros n k
 
 pub counted_opening : (image : ImageValue) (entry : ℕ) → 1 ≤ image.slim → IsCounted (opening image entry)
 unfolding opening
@@ -33,6 +38,7 @@ counted_opening image entry some =
       counts = omega (arith, change, count-idle image.slim, before, weight_awake first refl);
       within_reserved = omega arith;
       within_slim = omega (arith, length-set ss 0 first, all);
+      zeros = zeros-set ss 0 first (awake-zeros first refl) (λ k e. replicate-zeros image.slim k);
     }
 
 -- a processor made of a table with its first stream
@@ -52,3 +58,9 @@ pub counted_opened : (image : ImageValue) (number : ℕ) (p : ProcessorValue) (s
 counted_opened image number p slim some same opens =
     let P : ProcessorValue → Type 0 = λ x. IsCounted x in
     subst P (sym opens) (counted_opening image (slice_index image.entries number) (omega arith))
+
+pub opened-length : (image : ImageValue) (number : ℕ) (p : ProcessorValue)
+    → p ≡ opening image (slice_index image.entries number) → length p.streams ≡ image.slim
+opened-length image number p opens =
+    ap (λ (q : ProcessorValue). length q.streams) opens
+    ∙ opening-length image (slice_index image.entries number)
