@@ -3,5 +3,5 @@ pub mod Begun
 pub mod Awake
 pub mod Counting
 pub mod Opening
-pub mod Kept
+pub mod OtherStreams
 pub mod World

@@ -1,5 +1,5 @@
 use Rattle.processor.proofs.Counting.{counted_over}
-use Rattle.processor.proofs.Kept.{kept_over}
+use Rattle.processor.proofs.OtherStreams.{kept_over}
 use Rattle.processor.proofs.processors.Processor.step.Goals as goal
 
 pub invariant_of-self : goal.invariant_of-self
