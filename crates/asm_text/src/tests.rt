@@ -1,7 +1,11 @@
 //! Tests against docs/FORMATS.md, "Source text" and "Listing". The expected values are worked out by hand from its
 //! tables. Where memory runs out a test ends with `no memory` or the allocator's own error, so that a run with a
 //! refused allocation tells that from a wrong answer.
-use crate::{AsmFault, Fault, assemble, cells_are_their_runs, listing, listings_are_read_back};
+use crate::{
+    AsmFault, Fault, assemble, cells_are_their_runs, data_is_one_full_cell,
+    faults_are_on_their_least_line, labels_stand_on_their_least_line, listing,
+    listings_are_read_back, reassemble,
+};
 use image_file::{Image, ImageFault};
 use std::alloc::{AllocError, Global};
 use std::process::Abort;

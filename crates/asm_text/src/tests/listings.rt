@@ -30,8 +30,15 @@ fn an_image_both_ways(rt: HostRuntime) -> Result<(), Fail> {
     assert_eq!(rt; text.as_str(), SMALL);
     let assembled = image_of(&rt, rt.alloc(), SMALL)?;
     assert!(rt; assembled == image);
+    match reassemble(rt.alloc(), &image) {
+        Ok(again) => assert!(rt; again == image),
+        Err(_) => return Err(Fail::new("no memory")),
+    }
     listings_are_read_back();
     cells_are_their_runs();
+    labels_stand_on_their_least_line();
+    faults_are_on_their_least_line();
+    data_is_one_full_cell();
     Ok(())
 }
 
