@@ -10,7 +10,7 @@ use Rattle.std.proofs.lemmas.Bool.Decides.{nat_tests}
 use Rattle.std.proofs.lemmas.List.Sums.{sum_by-cons}
 use Rattle.asm_line.specs.Text.{parts}
 use Rattle.asm_text.specs.Sources.{line_of, not_ascii}
-use Rattle.asm_text.specs.FaultLaws.{IsFirstForeign}
+use Rattle.asm_text.specs.FaultLaws.{IsFirstNotAscii}
 
 -- The first element that passes a test.
 
@@ -194,24 +194,24 @@ by_lines : (text : List ℕ)
 unfolding not_ascii
 by_lines text = ap (line_of text) (position_is foreign text) ∙ lines_side text
 
-first_foreign : (text : List ℕ) (k : ℕ) → IsFirst has_foreign (parts 10 text) k → IsFirstForeign text k
+first_foreign : (text : List ℕ) (k : ℕ) → IsFirst has_foreign (parts 10 text) k → IsFirstNotAscii text k
 first_foreign text k f = record {
   line = f.element;
   stands = f.stands;
-  foreign = some_foreign f.element f.passes;
+  byte = some_foreign f.element f.passes;
   before = λ j other less is. none_foreign other (f.before j other less is);
 }
 
-foreign_first : (text : List ℕ) (k : ℕ) → IsFirstForeign text k → IsFirst has_foreign (parts 10 text) k
+foreign_first : (text : List ℕ) (k : ℕ) → IsFirstNotAscii text k → IsFirst has_foreign (parts 10 text) k
 foreign_first text k f = record {
   element = f.line;
   stands = f.stands;
-  passes = foreign_by f.line (has_foreign f.line) refl f.foreign;
+  passes = foreign_by f.line (has_foreign f.line) refl f.byte;
   before = λ j other less is. ascii_by other (has_foreign other) refl (f.before j other less is);
 }
 
 abbrev pub HasForeign : List ℕ → ℕ → Type 0
-HasForeign text n = (k : ℕ) × (n ≡ k + 1) × IsFirstForeign text k
+HasForeign text n = (k : ℕ) × (n ≡ k + 1) × IsFirstNotAscii text k
 
 foreign_at : (text : List ℕ) (n : ℕ) (o : Option ℕ) → first_at has_foreign (parts 10 text) ≡ o
     → option_map (λ (k : ℕ). k + 1) o ≡ Some n → HasForeign text n
@@ -223,7 +223,7 @@ pub foreign_line : (text : List ℕ) (n : ℕ) → not_ascii text ≡ Some n →
 foreign_line text n is =
     foreign_at text n (first_at has_foreign (parts 10 text)) refl (sym (by_lines text) ∙ is)
 
-pub line_foreign : (text : List ℕ) (k : ℕ) → IsFirstForeign text k → not_ascii text ≡ Some (k + 1)
+pub line_foreign : (text : List ℕ) (k : ℕ) → IsFirstNotAscii text k → not_ascii text ≡ Some (k + 1)
 line_foreign text k f =
     by_lines text
     ∙ ap (option_map (λ (j : ℕ). j + 1)) (is_found has_foreign (parts 10 text) k (foreign_first text k f))

@@ -9,7 +9,7 @@ use Rattle.asm_line.specs.declared.fault.Fault.TheVariants as fault
 use Rattle.asm_text.specs.declared.fault.AsmFault.{AsmFault}
 use Rattle.asm_text.specs.Drafts.{DraftValue, empty, has_all, image_of_draft}
 use Rattle.asm_text.specs.Sources.{with_lines, not_ascii, complete, meaning_of, Means, HasFault}
-use Rattle.asm_text.specs.FaultLaws.{AddUpTo, IsFirstFault, IsForeignFault, IsLineFault, IsIncomplete, IsMeant}
+use Rattle.asm_text.specs.FaultLaws.{AddUpTo, IsFirstFault, IsNotAsciiFault, IsLineFault, IsIncomplete, IsMeant}
 use Rattle.asm_text.specs.FaultLaws.{FaultsAreFirst, LinesAddUp}
 use Rattle.asm_text.proofs.Assembly.{with_byte, by_lines}
 use Rattle.asm_text.proofs.ForeignBytes.{foreign_line, line_foreign, all_ascii, ascii_all}
@@ -77,7 +77,7 @@ ascii_text : (text : List ℕ) → IsAscii text → meaning_of text ≡ complete
 ascii_text text ascii = without_foreign text (ascii_all text ascii)
 
 abbrev Cases : List ℕ → AsmFault → Type 0
-Cases text e = IsForeignFault text e ⊎ (IsLineFault text e ⊎ IsIncomplete text e)
+Cases text e = IsNotAsciiFault text e ⊎ (IsLineFault text e ⊎ IsIncomplete text e)
 
 lacking : (text : List ℕ) (e : AsmFault) (d : DraftValue) (b : Bool) → IsAscii text → all_lines text ≡ Ok d
     → has_all d ≡ b
@@ -117,7 +117,7 @@ fault_by text e (Err f) ascii is told =
 
 foreign_fault : (text : List ℕ) (e : AsmFault) (n : ℕ) → not_ascii text ≡ Some n
     → ◌≡◌ {A = Result ImageValue AsmFault} (Err (record { line = n; kind = fault.NotAscii })) (Err e)
-    → IsForeignFault text e
+    → IsNotAsciiFault text e
 foreign_fault text e n is told =
     let at : ◌≡◌ {A = AsmFault} (record { line = n; kind = fault.NotAscii }) e = cc in
     let f = foreign_line text n is in
@@ -133,7 +133,7 @@ fault_in text e (Some n) is has = inl (foreign_fault text e n is (sym (with_byte
 fault_in text e None is has =
     inr (fault_by text e (all_lines text) (all_ascii text is) refl (sym (without_foreign text is) ∙ has))
 
-from_foreign : (text : List ℕ) (e : AsmFault) → IsForeignFault text e → HasFault text e
+from_foreign : (text : List ℕ) (e : AsmFault) → IsNotAsciiFault text e → HasFault text e
 from_foreign text e f =
     with_byte text (f.k + 1) (line_foreign text f.k f.first)
     ∙ ap (λ (g : AsmFault). Err g) (fault_is e (f.k + 1) fault.NotAscii f.line f.kind)

@@ -28,19 +28,19 @@ pub record IsFirstFault (ls : List Line) (k : ℕ) (kind : Fault) : Type 0 where
   pub refuses : with_line (place ls) (count_words ls) k draft line ≡ Err kind
 
 -- Line k (from 0) has a byte that is not ASCII, and no line before it has one.
-pub record IsFirstForeign (text : List ℕ) (k : ℕ) : Type 0 where
+pub record IsFirstNotAscii (text : List ℕ) (k : ℕ) : Type 0 where
   pub line : List ℕ
   pub stands : slice_get (parts 10 text) k ≡ Some line
-  pub foreign : IsNotAscii line
+  pub byte : IsNotAscii line
   pub before : (j : ℕ) (other : List ℕ) → j < k → slice_get (parts 10 text) j ≡ Some other → IsAscii other
 
 -- Faults are counted by lines from 1.
 
-pub record IsForeignFault (text : List ℕ) (e : AsmFault) : Type 0 where
+pub record IsNotAsciiFault (text : List ℕ) (e : AsmFault) : Type 0 where
   pub k : ℕ
   pub line : e.line ≡ k + 1
   pub kind : e.kind ≡ fault.NotAscii
-  pub first : IsFirstForeign text k
+  pub first : IsFirstNotAscii text k
 
 pub record IsLineFault (text : List ℕ) (e : AsmFault) : Type 0 where
   pub ascii : IsAscii text
@@ -48,7 +48,7 @@ pub record IsLineFault (text : List ℕ) (e : AsmFault) : Type 0 where
   pub line : e.line ≡ k + 1
   pub first : IsFirstFault (lines text) k e.kind
 
--- all lines add without a fault, but an entry, a program word or a cell lacks
+-- All lines add without a fault, but there is no entry, no program word or no cell: a fault of no line.
 pub record IsIncomplete (text : List ℕ) (e : AsmFault) : Type 0 where
   pub ascii : IsAscii text
   pub draft : DraftValue
@@ -57,7 +57,7 @@ pub record IsIncomplete (text : List ℕ) (e : AsmFault) : Type 0 where
   pub line : e.line ≡ 0
   pub kind : e.kind ≡ fault.Directive
 
--- all lines add without a fault, and nothing lacks
+-- All lines add without a fault, and there are an entry, a program word and a cell.
 pub record IsMeant (text : List ℕ) (i : ImageValue) : Type 0 where
   pub ascii : IsAscii text
   pub draft : DraftValue
@@ -68,7 +68,7 @@ pub record IsMeant (text : List ℕ) (i : ImageValue) : Type 0 where
 -- A text has the fault of the least line that has one.
 abbrev pub FaultsAreFirst : Type 0
 FaultsAreFirst = (text : List ℕ) (e : AsmFault)
-    → HasFault text e ↔ (IsForeignFault text e ⊎ (IsLineFault text e ⊎ IsIncomplete text e))
+    → HasFault text e ↔ (IsNotAsciiFault text e ⊎ (IsLineFault text e ⊎ IsIncomplete text e))
 
 -- A text means the image that its lines add up to.
 abbrev pub LinesAddUp : Type 0
