@@ -8,6 +8,7 @@ mod list;
 mod output;
 mod program_lines;
 mod run;
+mod stream_room;
 #[cfg(test)]
 mod tests;
 mod tool_fault;
