@@ -18,8 +18,6 @@ mod operand;
 mod operation;
 mod parts;
 mod place;
-#[cfg(test)]
-mod tests;
 mod text;
 
 pub use fault::Fault;

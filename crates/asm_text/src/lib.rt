@@ -10,8 +10,6 @@ mod runs;
 mod settings;
 mod source;
 mod spelled;
-#[cfg(test)]
-mod tests;
 
 pub use asm_line::Fault;
 pub use fault::AsmFault;

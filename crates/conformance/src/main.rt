@@ -2,10 +2,17 @@
 #![tactic(auto)]
 
 mod arithmetic;
+mod commands;
+mod escapes;
 mod instruction_words;
+mod numbers;
 mod programs;
+mod schedules;
+mod source_lines;
+mod sources;
 #[cfg(test)]
 mod tests;
+mod text_vectors;
 mod vectors;
 
 use anyhow::{Context, Result};

@@ -8,8 +8,6 @@ mod list;
 mod output;
 mod program_lines;
 mod run;
-#[cfg(test)]
-mod tests;
 mod tool_fault;
 mod words;
 mod words_image;

@@ -7,8 +7,6 @@ mod numbers;
 mod printed_decimal;
 mod printed_hexadecimal;
 mod reading;
-#[cfg(test)]
-mod tests;
 
 pub use laws::{decimal_numbers_read_back, fixed_widths_read_back, printed_digits_read_back};
 pub use numbers::{Base, Number, read_digits};

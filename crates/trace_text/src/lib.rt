@@ -8,8 +8,6 @@ mod rounds;
 mod runs;
 mod schedule_fault;
 mod schedules;
-#[cfg(test)]
-mod tests;
 mod trace_lines;
 mod world_texts;
 mod written_schedules;

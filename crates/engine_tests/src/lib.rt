@@ -1,0 +1,11 @@
+//! Tests of the engines with readers and writers that fail, which no line of conformance/data can have.
+#![tactic(auto)]
+
+#[cfg(test)]
+mod devices;
+#[cfg(test)]
+mod reads;
+#[cfg(test)]
+mod texts;
+#[cfg(test)]
+mod writes;
