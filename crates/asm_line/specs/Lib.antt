@@ -9,7 +9,6 @@ pub mod Parts
 pub mod Instructions
 pub mod Directives
 pub mod Lines
-pub mod Cutting
 pub mod Ranges
 pub mod Labels
 pub mod Seen

@@ -10,8 +10,9 @@ ghost use Rattle.asm_line.specs.Heads.{operation_of, directive_of, memory_suffix
 use crate::fault::Fault;
 use crate::names;
 use crate::operation::{Directive, Operation};
-use crate::text::{cut, tail};
+use crate::text::tail;
 use insn_word::{Access, ArithmeticOp, Condition, ControlOp, MemoryOp, WideOp};
+use text_parts::cut;
 
 // What a source text may name: all but the operations NOP of the parts.
 

@@ -29,4 +29,3 @@ pub use lines::{SourceLine, cut_line, is_word, next_line, read_line};
 pub use operand::Source;
 pub use operation::{Directive, Operation};
 pub use place::Place;
-pub use text::cut;

@@ -1,6 +1,6 @@
 //! Tests against docs/FORMATS.md, "Source text" and "Instruction words". The expected values are worked out by hand
 //! from its tables.
-use crate::{Fault, Item, Labels, Place, SourceLine, cut, cut_line, is_word, next_line, read_line};
+use crate::{Fault, Item, Labels, Place, SourceLine, cut_line, is_word, next_line, read_line};
 use insn_word::{
     APart, Access, ArithmeticOp, CPart, Condition, ControlOp, Insn, MPart, MemoryOp, WideOp, decode,
 };

@@ -14,7 +14,7 @@ use Rattle.insn_word.specs.declared.insn.Insn.{Insn}
 use Rattle.number_text.specs.Columns.{five_digits}
 use Rattle.number_text.specs.Digits.{hexadecimal_16}
 use Rattle.number_text.specs.Laws.{HexadecimalReadsBack}
-use Rattle.asm_line.specs.Text.{text_after}
+use Rattle.text_parts.specs.Parts.{text_after}
 use Rattle.asm_line.specs.Names.{directive_name}
 use Rattle.asm_line.specs.Heads.{directive_of, directive_named}
 use Rattle.asm_line.specs.Operands.{Places}

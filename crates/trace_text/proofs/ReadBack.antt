@@ -6,7 +6,7 @@ use Rattle.std.proofs.lemmas.Bool.{cases_lt}
 use Rattle.std.proofs.lemmas.List.{length-append, length-replicate}
 use Rattle.std.specs.List.{flat_map}
 use Rattle.number_text.specs.Laws.{ReadsBackDecimal}
-use Rattle.trace_text.specs.Lines.{lines_of}
+use Rattle.text_parts.specs.Lines.{lines_of}
 use Rattle.trace_text.specs.ScheduleLines.{is_within, values_of, steps_on}
 use Rattle.trace_text.specs.ScheduleFaults.{schedule_line_fault, on_line, fault_from}
 use Rattle.trace_text.specs.Schedules.{values_by_line, schedule_fault, schedule_steps, schedule_of, unless_fault}

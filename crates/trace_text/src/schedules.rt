@@ -7,11 +7,11 @@ ghost use Rattle.trace_text.specs.ScheduleLines.{values_of};
 ghost use Rattle.trace_text.specs.declared.schedule_fault.ScheduleFaultKind.TheVariants.{NoMemory};
 
 use crate::line_numbers::LineNumbers;
-use crate::lines::split_line;
 use crate::runs::{MAX_STEPS, Run};
 use crate::schedule_fault::{ScheduleFault, ScheduleFaultKind};
 use processor::Step;
 use std::alloc::{AllocError, Global};
+use text_parts::split_line;
 
 /// The steps that a text says, line by line ("Schedules", docs/FORMATS.md).
 ///

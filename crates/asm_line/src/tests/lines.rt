@@ -1,5 +1,6 @@
 //! Cutting a text into lines, and a line into its label and statement.
 use super::*;
+use text_parts::cut;
 
 #[test]
 fn lines_end_at_line_ends(rt: HostRuntime) {

@@ -2,7 +2,7 @@
 use Rattle.std.proofs.Common.{◌≡◌, ℕ, suc, ◌+◌, ◌<◌, Bool, true, false, not, cond, List, [], ◌∷◌, length, take, drop}
 use Rattle.std.proofs.Common.{refl, ap, arith}
 use Rattle.std.specs.List.{before_first, after_first, onto_first, position_or_len}
-use Rattle.trace_text.specs.Lines.{is_line_end, lines_of}
+use Rattle.text_parts.specs.Lines.{is_line_end, lines_of}
 
 -- how far the end of the first line is
 abbrev line_length : List ℕ → ℕ
@@ -35,3 +35,7 @@ pub lines-first : (text : List ℕ) → 0 < length text
 unfolding lines_of
 lines-first [] some = absurd (omega arith)
 lines-first (byte ∷ bytes) some = first_line-cons (is_line_end byte) byte bytes (onto_first-lines byte bytes)
+
+pub lines-cut : (text line after : List ℕ) → line ≡ before_first is_line_end text
+    → after ≡ after_first is_line_end text → 0 < length text → lines_of text ≡ line ∷ lines_of after
+lines-cut text line after e f some = rw (e, f) (lines-first text some)

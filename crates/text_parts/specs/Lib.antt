@@ -1,0 +1,3 @@
+-- The definitions, in the order of reading.
+pub mod Parts
+pub mod Lines
