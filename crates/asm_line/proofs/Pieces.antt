@@ -6,7 +6,7 @@ use Rattle.std.proofs.lemmas.List.{drop_all}
 use Rattle.asm_line.specs.Text.{is_blank, trim, behind_head, operands_of}
 use Rattle.text_parts.specs.Parts.{parts, text_before, text_after, rest_parts}
 use Rattle.text_parts.proofs.Pieces.{no_place, parts_cut}
-use Rattle.asm_line.specs.Seen.{AreMore}
+use Rattle.asm_line.specs.OperandsSeen.{AreMore}
 
 -- a text without a blank is its head
 pub nothing_behind : (text : List ℕ) → None ≡ position is_blank text → [] ≡ behind_head text

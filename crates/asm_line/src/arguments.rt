@@ -2,7 +2,7 @@
 
 ghost use Rattle.std.specs.Prelude.{◌≡◌, ℕ, List};
 ghost use Rattle.asm_line.specs.Text.{operands_of};
-ghost use Rattle.asm_line.specs.Seen.{AreOperands};
+ghost use Rattle.asm_line.specs.OperandsSeen.{AreOperands};
 
 use crate::text::trim;
 use text_parts::cut;

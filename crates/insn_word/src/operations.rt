@@ -35,6 +35,9 @@ impl WideOp {
             _ => None,
         }
     }
+
+    /// All wide operations, in the order of their numbers.
+    pub const ALL: [WideOp; 3] = [WideOp::Literal, WideOp::LiteralHigh, WideOp::TargetLiteral];
 }
 
 /// The memory operations of normal words.
@@ -77,6 +80,16 @@ impl MemoryOp {
             _ => None,
         }
     }
+
+    /// All memory operations, in the order of their numbers.
+    pub const ALL: [MemoryOp; 6] = [
+        MemoryOp::Nop,
+        MemoryOp::Load,
+        MemoryOp::Store,
+        MemoryOp::FetchAdd,
+        MemoryOp::TagGet,
+        MemoryOp::TagSet,
+    ];
 }
 
 /// Which control a memory operation obeys.
@@ -113,6 +126,14 @@ impl Access {
             _ => None,
         }
     }
+
+    /// All accesses, in the order of their numbers.
+    pub const ALL: [Access; 4] = [
+        Access::FromPointer,
+        Access::Normal,
+        Access::Future,
+        Access::Sync,
+    ];
 }
 
 /// The arithmetic operations of normal words. `a` is the first operand, `b` the second.
@@ -182,6 +203,25 @@ impl ArithmeticOp {
             _ => None,
         }
     }
+
+    /// All arithmetic operations, in the order of their numbers.
+    pub const ALL: [ArithmeticOp; 15] = [
+        ArithmeticOp::Nop,
+        ArithmeticOp::Add,
+        ArithmeticOp::Sub,
+        ArithmeticOp::Mul,
+        ArithmeticOp::And,
+        ArithmeticOp::Or,
+        ArithmeticOp::Xor,
+        ArithmeticOp::AndNot,
+        ArithmeticOp::ShiftLeft,
+        ArithmeticOp::ShiftRight,
+        ArithmeticOp::ShiftRightSigned,
+        ArithmeticOp::Tally,
+        ArithmeticOp::LessSigned,
+        ArithmeticOp::LessUnsigned,
+        ArithmeticOp::Pointer,
+    ];
 }
 
 /// The control operations of normal words.
@@ -245,6 +285,23 @@ impl ControlOp {
             _ => None,
         }
     }
+
+    /// All control operations, in the order of their numbers.
+    pub const ALL: [ControlOp; 13] = [
+        ControlOp::Nop,
+        ControlOp::Jump,
+        ControlOp::Skip,
+        ControlOp::Call,
+        ControlOp::Exchange,
+        ControlOp::TargetSet,
+        ControlOp::TargetGet,
+        ControlOp::TrapGet,
+        ControlOp::Reserve,
+        ControlOp::Create,
+        ControlOp::Quit,
+        ControlOp::QuitKeep,
+        ControlOp::Mask,
+    ];
 }
 
 /// Conditions on a condition code.
@@ -314,4 +371,23 @@ impl Condition {
             _ => None,
         }
     }
+
+    /// All conditions, in the order of their numbers.
+    pub const ALL: [Condition; 15] = [
+        Condition::Always,
+        Condition::Equal,
+        Condition::NotEqual,
+        Condition::Less,
+        Condition::GreaterEqual,
+        Condition::LessEqual,
+        Condition::Greater,
+        Condition::LessUnsigned,
+        Condition::GreaterEqualUnsigned,
+        Condition::LessEqualUnsigned,
+        Condition::GreaterUnsigned,
+        Condition::Negative,
+        Condition::Positive,
+        Condition::Overflow,
+        Condition::NoOverflow,
+    ];
 }
