@@ -7,7 +7,7 @@ ghost use Rattle.image_file.specs.ImageValue.{IsWithin};
 ghost use Rattle.listing_line.specs.DirectiveLines.{profile_line, slim_line, retry_line, number_line};
 ghost use Rattle.listing_line.specs.DirectiveLines.{entry_line, fill_line};
 ghost use Rattle.asm_text.specs.Sources.{Means};
-ghost use Rattle.asm_text.specs.Runs.{runs};
+ghost use Rattle.asm_text.specs.Runs.{cell_runs};
 ghost use Rattle.asm_text.specs.Listing.{setting_lines, trap_lines, word_lines, cell_run_line, text_of_lines, with_line_end, listing};
 
 use crate::laws::listings_are_read_back;
@@ -133,7 +133,7 @@ fn words_fit(words: &[u64])
 /// Appends the runs of equal cells.
 fn push_cells(text: &mut String, cells: &[Word]) -> Result<(), AllocError>
     ensures is { OnOk result (string_bytes text.new ≡ string_bytes text.old
-        ++ text_of_lines (map cell_run_line (runs cells.now))) }
+        ++ text_of_lines (map cell_run_line (cell_runs cells.now))) }
     ensures fit { OnOk result (All (λ c. c.value < 2 ^ 64) cells.now) }
 {
     let mut rest = cells;
