@@ -7,7 +7,7 @@ ghost use Rattle.trace_text.specs.ScheduleLines.{LineValues, values_of};
 ghost use Rattle.trace_text.specs.Fields.{times_in};
 ghost use Rattle.trace_text.specs.LineNumbers.{numbers_from, run_within};
 
-use crate::runs::{MAX_STEPS, Run};
+use crate::runs::{MAX_STEPS, StepRun};
 use number_text::{Base, Number, read_digits};
 use processor::Step;
 use text_parts::cut;
@@ -38,7 +38,7 @@ impl LineNumbers {
     }
 
     /// The run that the numbers say, and None where one of them is out of its limits.
-    pub(crate) fn run(self) -> Option<Run>
+    pub(crate) fn run(self) -> Option<StepRun>
         ensures { (v : LineValues) → self ≡ numbers_from v → result ≡ run_within v }
     {
         let processor = self.processor.up_to(255)?;
@@ -51,7 +51,7 @@ impl LineNumbers {
             p: u8::try_from(processor).ok()?,
             s: u8::try_from(stream).ok()?,
         };
-        Some(Run {
+        Some(StepRun {
             step,
             times: times as usize,
         })
