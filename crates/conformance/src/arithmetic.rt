@@ -4,24 +4,6 @@ use insn_word::ArithmeticOp;
 use number_text::read_hexadecimal;
 use stream_core::{Code, alu};
 
-/// The operations that make a result.
-const OPERATIONS: [ArithmeticOp; 14] = [
-    ArithmeticOp::Add,
-    ArithmeticOp::Sub,
-    ArithmeticOp::Mul,
-    ArithmeticOp::And,
-    ArithmeticOp::Or,
-    ArithmeticOp::Xor,
-    ArithmeticOp::AndNot,
-    ArithmeticOp::ShiftLeft,
-    ArithmeticOp::ShiftRight,
-    ArithmeticOp::ShiftRightSigned,
-    ArithmeticOp::Tally,
-    ArithmeticOp::LessSigned,
-    ArithmeticOp::LessUnsigned,
-    ArithmeticOp::Pointer,
-];
-
 /// Whether the line's operation makes the result and the code's number at its end.
 pub(crate) fn is_computed(line: &str) -> bool {
     agrees(line).unwrap_or(false)
@@ -47,9 +29,9 @@ fn number(code: Code) -> u8 {
         + u8::from(code.overflow) * 8
 }
 
-/// The operation with this name that makes a result; None where there is none.
+/// The operation with this name that makes a result, so not NOP, the first; None where there is none.
 fn arithmetic_op(name: &str) -> Option<ArithmeticOp> {
-    OPERATIONS
+    ArithmeticOp::ALL[1..]
         .iter()
         .copied()
         .find(|op| names::arithmetic(*op) == name)
