@@ -11,7 +11,7 @@ mod reading;
 mod tests;
 
 pub use laws::{decimal_numbers_read_back, fixed_widths_read_back, printed_digits_read_back};
-pub use numbers::{Base, Number, read_digits};
+pub use numbers::{Base, Number, read_digits, read_number};
 pub use printed_decimal::{FiveDigits, RightAligned, TwoDigits};
 pub use printed_hexadecimal::{Hexadecimal, Hexadecimal8, Hexadecimal12, HexadecimalDigit};
 pub use reading::read_hexadecimal;

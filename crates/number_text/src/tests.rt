@@ -185,6 +185,30 @@ fn other_texts_are_no_number(rt: HostRuntime) {
 }
 
 #[test]
+fn numbers_with_and_without_a_prefix_are_read(rt: HostRuntime) {
+    for (text, number) in [
+        ("0", Some(Number::Word(0))),
+        ("010", Some(Number::Word(10))),
+        ("0x10", Some(Number::Word(16))),
+        ("0xaF", Some(Number::Word(0xAF))),
+        ("0x00FFFFFFFFFFFFFFFF", Some(Number::Word(u64::MAX))),
+        ("0x10000000000000000", Some(Number::TooLarge)),
+        ("18446744073709551616", Some(Number::TooLarge)),
+        ("", None),
+        ("0x", None),
+        ("0X10", None),
+        ("x10", None),
+        ("1f", None),
+        ("0x0x1", None),
+        ("-1", None),
+        ("0x1_0", None),
+        (" 1", None),
+    ] {
+        assert_eq!(rt; read_number(text.as_bytes()), number, "{text}");
+    }
+}
+
+#[test]
 fn a_limit_takes_part(rt: HostRuntime) {
     assert_eq!(rt; Number::Word(255).up_to(255), Some(255));
     assert_eq!(rt; Number::Word(256).up_to(255), None);
