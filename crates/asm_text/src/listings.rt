@@ -15,7 +15,7 @@ use crate::runs::first_run;
 use asm_line::{Directive, names};
 use image_file::Image;
 use listing_line::push_word_line;
-use number_text::Hexadecimal;
+use number_text::push_hexadecimal_16;
 use std::alloc::{AllocError, Global};
 use std::fmt::Write;
 use tag_memory::Word;
@@ -151,7 +151,9 @@ fn push_run(text: &mut String, count: usize, cell: &Word) -> Result<(), AllocErr
     ensures fits { cell.now.value < 2 ^ 64 }
 {
     let name = names::directive(Directive::Fill);
-    let value = Hexadecimal(cell.value());
+    let value = cell.value();
     let tags = cell.tag_number();
-    writeln!(text, "{name} {count}, 0x{value}, {tags}")
+    write!(text, "{name} {count}, 0x")?;
+    push_hexadecimal_16(text, value)?;
+    writeln!(text, ", {tags}")
 }

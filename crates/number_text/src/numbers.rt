@@ -27,7 +27,7 @@ impl Base {
     }
 
     /// What a byte says as a digit of the base.
-    fn value_of_digit(self, byte: u8) -> Option<u64>
+    pub(crate) fn value_of_digit(self, byte: u8) -> Option<u64>
         ensures { SomeIff result (digit_value byte < base_number self) (digit_value byte) }
     {
         char::from(byte).to_digit(self.number()).map(u64::from)

@@ -1,5 +1,4 @@
 use super::*;
-use std::fmt::Write;
 use std::test::Fail;
 
 #[test]
@@ -11,26 +10,11 @@ fn words_print_as_16_digits_and_are_read_back(rt: HostRuntime) -> Result<(), Fai
         (u64::MAX, "FFFFFFFFFFFFFFFF"),
     ] {
         let mut printed = String::new(rt.alloc());
-        write!(printed, "{}", Hexadecimal(word))?;
+        push_hexadecimal_16(&mut printed, word)?;
         assert_eq!(rt; printed.as_str(), text);
         assert_eq!(rt; read_hexadecimal(printed.as_bytes()), Some(word), "{text}");
     }
     printed_digits_read_back();
-    Ok(())
-}
-
-#[test]
-fn numbers_below_100_print_as_two_digits(rt: HostRuntime) -> Result<(), Fail> {
-    let mut printed = String::new(rt.alloc());
-    for number in [
-        TwoDigits::new(0),
-        TwoDigits::new(2),
-        TwoDigits::new(10),
-        TwoDigits::new(99),
-    ] {
-        write!(printed, "{number} ")?;
-    }
-    assert_eq!(rt; printed.as_str(), "00 02 10 99 ");
     Ok(())
 }
 
@@ -64,41 +48,30 @@ fn other_texts_are_no_word(rt: HostRuntime) {
 }
 
 #[test]
-fn fixed_widths_print_all_their_digits(rt: HostRuntime) -> Result<(), Fail> {
+fn fixed_widths_print_their_last_digits(rt: HostRuntime) -> Result<(), Fail> {
     let mut printed = String::new(rt.alloc());
-    write!(printed, "{} {} ", Hexadecimal8(0), Hexadecimal8(0xFFFFFFFF))?;
-    write!(
-        printed,
-        "{} {} ",
-        Hexadecimal12(8),
-        Hexadecimal12(0x0107FFFFFFFFFFFE)
-    )?;
-    for number in [0, 9, 10, 15] {
-        write!(printed, "{}", HexadecimalDigit::new(number))?;
+    push_hexadecimal_8(&mut printed, 0)?;
+    printed.push_str(" ")?;
+    push_hexadecimal_8(&mut printed, 0xFFFFFFFF)?;
+    printed.push_str(" ")?;
+    push_hexadecimal_12(&mut printed, 0x0107FFFFFFFFFFFE)?;
+    printed.push_str(" ")?;
+    for number in [0, 9, 10, 15, 16] {
+        push_hexadecimal_digit(&mut printed, number)?;
+    }
+    for number in [0, 2, 10, 99, 100] {
+        printed.push_str(" ")?;
+        push_two_digits(&mut printed, number)?;
+    }
+    for number in [0, 10, 65535] {
+        printed.push_str(" ")?;
+        push_five_digits(&mut printed, number)?;
     }
     assert_eq!(rt;
         printed.as_str(),
-        "00000000 FFFFFFFF 000000000008 FFFFFFFFFFFE 09AF"
+        "00000000 FFFFFFFF FFFFFFFFFFFE 09AF0 00 02 10 99 00 00000 00010 65535"
     );
     fixed_widths_read_back();
-    Ok(())
-}
-
-#[test]
-fn five_digits_have_zeros_in_front(rt: HostRuntime) -> Result<(), Fail> {
-    for (number, text) in [
-        (0, "00000"),
-        (2, "00002"),
-        (10, "00010"),
-        (65535, "65535"),
-        (99999, "99999"),
-        (100000, "100000"),
-        (u32::MAX, "4294967295"),
-    ] {
-        let mut printed = String::new(rt.alloc());
-        write!(printed, "{}", FiveDigits(number))?;
-        assert_eq!(rt; printed.as_str(), text);
-    }
     Ok(())
 }
 
@@ -113,10 +86,10 @@ fn columns_have_blanks_in_front(rt: HostRuntime) -> Result<(), Fail> {
         (u64::MAX, "18446744073709551615", "18446744073709551615"),
     ] {
         let mut printed = String::new(rt.alloc());
-        write!(printed, "{}", RightAligned::<7>(number))?;
+        push_right_aligned::<7>(&mut printed, number)?;
         assert_eq!(rt; printed.as_str(), in_seven);
         printed.clear();
-        write!(printed, "{}", RightAligned::<3>(number))?;
+        push_right_aligned::<3>(&mut printed, number)?;
         assert_eq!(rt; printed.as_str(), in_three);
     }
     decimal_numbers_read_back();

@@ -8,7 +8,7 @@ use Rattle.std.specs.Char.{digit_value}
 use Rattle.std.specs.Fmt.{decimal}
 use Rattle.std.specs.List.{All, onto_first}
 use Rattle.std.specs.Str.Parse.{AllDigits}
-use Rattle.number_text.specs.Laws.{ReadsBackDecimal}
+use Rattle.number_text.specs.Laws.{DecimalReadsBack}
 use Rattle.trace_text.specs.Lines.{lines_of}
 use Rattle.trace_text.specs.ScheduleLines.{LineValues, fields_of, decimal_number, values, values_in, values_of}
 use Rattle.trace_text.specs.declared.runs.Run.{Run}
@@ -50,7 +50,7 @@ fields-body r p s n =
 abbrev pub said_by : Run → LineValues
 said_by r = record { processor = r.step.p; stream = r.step.s; times = r.times }
 
-pub values-body : ReadsBackDecimal → (r : Run) → r.step.p < 2 ^ 64 → r.step.s < 2 ^ 64 → r.times < 2 ^ 64
+pub values-body : DecimalReadsBack → (r : Run) → r.step.p < 2 ^ 64 → r.step.s < 2 ^ 64 → r.times < 2 ^ 64
     → values_of (body r) ≡ Some (said_by r)
 unfolding values_of
 values-body back r p s n =

@@ -5,7 +5,7 @@ use Rattle.std.proofs.Common.{Some, None, Ok, ne_eqb, append-nil, map, le-leb, �
 use Rattle.std.proofs.lemmas.Bool.{cases_lt}
 use Rattle.std.proofs.lemmas.List.{length-append, length-replicate}
 use Rattle.std.specs.List.{flat_map}
-use Rattle.number_text.specs.Laws.{ReadsBackDecimal}
+use Rattle.number_text.specs.Laws.{DecimalReadsBack}
 use Rattle.trace_text.specs.Lines.{lines_of}
 use Rattle.trace_text.specs.ScheduleLines.{is_within, values_of, steps_on}
 use Rattle.trace_text.specs.ScheduleFaults.{schedule_line_fault, on_line, fault_from}
@@ -48,7 +48,7 @@ length-expanded r rs = omega (
 
 -- what the lines of runs say, one after another
 
-values-written : ReadsBackDecimal → (rs : List Run) → EachRun rs → length (flat_map expanded rs) ≤ 1000000
+values-written : DecimalReadsBack → (rs : List Run) → EachRun rs → length (flat_map expanded rs) ≤ 1000000
     → values_by_line (flat_map schedule_run_text rs) ≡ map (λ r. Some (said_by r)) rs
 unfolding lines_of
 values-written back [] each few = refl
@@ -90,7 +90,7 @@ steps-said : (rs : List Run) → flat_map steps_on (map (λ r. Some (said_by r))
 steps-said [] = refl
 steps-said (r ∷ rs) = ap (λ ts. expanded r ++ ts) (steps-said rs)
 
-pub reads_back : ReadsBackDecimal → ScheduleReadsBack
+pub reads_back : DecimalReadsBack → ScheduleReadsBack
 unfolding schedule_of schedule_fault schedule_steps schedule_text
 reads_back back steps all few =
     let rs = runs_of steps in
