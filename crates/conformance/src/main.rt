@@ -2,10 +2,14 @@
 #![tactic(auto)]
 
 mod arithmetic;
+mod conditions;
+mod fields;
+mod images;
 mod instruction_words;
+mod memory_requests;
 mod programs;
-#[cfg(test)]
-mod tests;
+mod stream_steps;
+mod streams;
 mod vectors;
 
 use anyhow::{Context, Result};
