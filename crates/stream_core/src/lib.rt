@@ -10,8 +10,6 @@ mod status_words;
 mod steps;
 mod stream_texts;
 mod streams;
-#[cfg(test)]
-mod tests;
 mod traps;
 
 pub use arithmetic::{alu, less_after_subtraction};
