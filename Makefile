@@ -5,7 +5,7 @@ BENCH = crates/bench/out/bench
 # how many crates are proved side by side
 JOBS ?= $(shell nproc)
 
-.PHONY: run try test refuse bench install build
+.PHONY: run try test refuse statuses bench install build
 
 # proves and builds the program, and shows its first run
 run:
@@ -40,6 +40,10 @@ bench: build
 # refuses each allocation of the commands in turn, on the programs of conformance/data; needs a C compiler
 refuse: build
 	@tests/refused_allocations.sh
+
+# the statuses with which the built program ends
+statuses: build
+	@tests/exit_statuses.sh
 
 # puts the built program in place
 install: build

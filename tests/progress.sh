@@ -6,13 +6,13 @@ set -u
 log=$1
 shift
 mkdir -p "$(dirname "$log")"
-"$@" 2>&1 | tee "$log" | awk -v all="$(grep -cE '^[a-z]' crates.txt)" '
-  BEGIN { begin = systime() }
+"$@" 2>&1 | tee "$log" | awk -v all="$(grep -cE '^[a-z]' crates.txt)" -v command="$*" '
+  BEGIN { begin = systime(); gate = command ~ / ci$/ }
   function tell(what) { printf "%s, %d s\n", what, systime() - begin; fflush() }
   function place() { return "[" ++count "/" all "] " }
   # the gate: a crate is proved, then its tests, then the edits that must fail
-  /^rt: [a-z_]+ (proved|NOT PROVED)$/ { gate = 1; tell(place() substr($0, 5)); next }
-  /^rt: [a-z_]+: (its tests are|trying its must-fail edits)/ { tell("        " substr($0, 5)); next }
+  /^rt: [a-z_]+ (proved|NOT PROVED)$/ && gate { tell(place() substr($0, 5)); next }
+  /^rt: [a-z_]+: (its tests are|trying its must-fail edits)/ && gate { tell("        " substr($0, 5)); next }
   # a check of all crates: a crate has its name as a heading, then its verdict, and none where nothing has changed
   /^== [a-z_]+$/ && !gate { if (name != "") tell(place() name " proved before"); name = substr($0, 4); next }
   /^logic=/ && !gate && name != "" { tell(place() name ($0 ~ /^logic=proved/ ? " proved" : " NOT PROVED")); name = "" }

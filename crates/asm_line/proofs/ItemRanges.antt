@@ -5,7 +5,8 @@ use Rattle.std.specs.List.{list_all}
 use Rattle.insn_word.specs.Laws.{IsValidByFields}
 use Rattle.insn_word.specs.declared.insn.Insn.{Insn}
 use Rattle.insn_word.specs.declared.insn.Insn.TheVariants as insn
-use Rattle.asm_line.specs.Text.{head, behind_head, operands, trim, parts}
+use Rattle.asm_line.specs.Text.{head, behind_head, operands, trim}
+use Rattle.text_parts.specs.Parts.{parts}
 use Rattle.asm_line.specs.Faults.{both}
 use Rattle.asm_line.specs.Numbers.{number_within, count_within}
 use Rattle.asm_line.specs.Operands.{Places}

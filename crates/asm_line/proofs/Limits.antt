@@ -1,9 +1,10 @@
 -- Numbers and their limits.
 use Rattle.std.proofs.Common.{◌≡◌, ℕ, ◌≤◌, Option, Some, None, Result, Ok, Err, sym, ◌∙◌, ap, arith, ⊎_elim}
 use Rattle.std.proofs.lemmas.Bool.Decides.{leb_tells}
+use Rattle.std.specs.Option.{ok_or, option_map}
 use Rattle.number_text.specs.Numbers.{number_from, up_to}
 use Rattle.number_text.specs.declared.numbers.Number.{Number}
-use Rattle.asm_line.specs.Faults.{map_ok, ◌>>=◌}
+use Rattle.asm_line.specs.Faults.{◌>>=◌}
 use Rattle.asm_line.specs.Numbers.{within}
 use Rattle.asm_line.specs.declared.fault.Fault.{Fault}
 use Rattle.asm_line.specs.declared.fault.Fault.TheVariants as fault
@@ -16,11 +17,11 @@ limit_is : (most v : ℕ) → or_range (up_to most v) ≡ within most v
 limit_is most v = ⊎_elim (λ h. rw h.0) (λ h. rw h.0) (leb_tells v most)
 
 -- a number up to a limit
-pub within_limit : (most : ℕ) (r : Result ℕ Fault) (x : Number) (o : Option ℕ) → map_ok number_from r ≡ Ok x
-    → ((v : ℕ) → x ≡ number_from v → o ≡ up_to most v) → (r >>= within most) ≡ or_range o
-within_limit most (Ok v) x o e f =
+pub within_limit : (most : ℕ) (n : Option ℕ) (x : Number) (o : Option ℕ) → option_map number_from n ≡ Some x
+    → ((v : ℕ) → x ≡ number_from v → o ≡ up_to most v) → (ok_or n fault.Operand >>= within most) ≡ or_range o
+within_limit most (Some v) x o e f =
     let is : x ≡ number_from v = cc in sym (limit_is most v) ∙ ap or_range (sym (f v is))
-within_limit most (Err k) x o e f = cc
+within_limit most None x o e f = cc
 
 pub within_bound : (most : ℕ) (r : Result ℕ Fault) (n : ℕ) → (r >>= within most) ≡ Ok n → n ≤ most
 within_bound most (Err k) n e = cc

@@ -1,5 +1,5 @@
 -- Which operations heads can name.
-use Rattle.std.proofs.Common.{◌≡◌, ℕ, Bool, true, false, if◌then◌else◌, List, Option, Some, None, refl}
+use Rattle.std.proofs.Common.{◌≡◌, ℕ, Bool, true, false, if◌then◌else◌, List, drop, Option, Some, None, refl}
 use Rattle.std.specs.Prelude.{IfOk, IfSome, ⊤, codes}
 use Rattle.std.specs.Option.{option_map, option_or}
 use Rattle.std.specs.Str.{bytes_eq}
@@ -9,8 +9,9 @@ use Rattle.insn_word.specs.declared.operations.Access.{Access}
 use Rattle.insn_word.specs.declared.operations.Access.TheVariants as access
 use Rattle.insn_word.specs.declared.operations.ArithmeticOp.{ArithmeticOp}
 use Rattle.insn_word.specs.declared.operations.ArithmeticOp.TheVariants as arithmetic
-use Rattle.asm_line.specs.Text.{text_before, text_after}
-use Rattle.asm_line.specs.Names.{memory_name, arithmetic_name, memory_operations, arithmetic_operations}
+use Rattle.text_parts.specs.Parts.{text_before, text_after}
+use Rattle.insn_word.specs.Operations.{memory_operations, arithmetic_operations}
+use Rattle.asm_line.specs.Names.{memory_name, arithmetic_name}
 use Rattle.asm_line.specs.Heads.{wide_named, memory_named, arithmetic_named, control_named, nop_named, plain_named}
 use Rattle.asm_line.specs.Heads.{without_suffix, letter_access, access_named, test_named}
 use Rattle.asm_line.specs.Heads.{memory_or_plain, arithmetic_or_other, operation_named, operation_of}
@@ -21,32 +22,53 @@ use Rattle.asm_line.proofs.OkRules.{ok_known, found_in}
 -- not NOP
 abbrev IsMemory : MemoryOp → Type 0
 IsMemory memory.Nop = ⊥
-IsMemory _ = ⊤
+IsMemory memory.Load = ⊤
+IsMemory memory.Store = ⊤
+IsMemory memory.FetchAdd = ⊤
+IsMemory memory.TagGet = ⊤
+IsMemory memory.TagSet = ⊤
 
 abbrev pub IsArithmetic : ArithmeticOp → Type 0
 IsArithmetic arithmetic.Nop = ⊥
-IsArithmetic _ = ⊤
+IsArithmetic arithmetic.Add = ⊤
+IsArithmetic arithmetic.Sub = ⊤
+IsArithmetic arithmetic.Mul = ⊤
+IsArithmetic arithmetic.And = ⊤
+IsArithmetic arithmetic.Or = ⊤
+IsArithmetic arithmetic.Xor = ⊤
+IsArithmetic arithmetic.AndNot = ⊤
+IsArithmetic arithmetic.ShiftLeft = ⊤
+IsArithmetic arithmetic.ShiftRight = ⊤
+IsArithmetic arithmetic.ShiftRightSigned = ⊤
+IsArithmetic arithmetic.Tally = ⊤
+IsArithmetic arithmetic.LessSigned = ⊤
+IsArithmetic arithmetic.LessUnsigned = ⊤
+IsArithmetic arithmetic.Pointer = ⊤
 
 -- NOP is no memory operation, and TAGGET and TAGSET name no access
 abbrev pub IsWithAccess : MemoryOp → Access → Type 0
 IsWithAccess memory.Nop acc = ⊥
+IsWithAccess memory.Load acc = ⊤
+IsWithAccess memory.Store acc = ⊤
+IsWithAccess memory.FetchAdd acc = ⊤
 IsWithAccess memory.TagGet acc = access.FromPointer ≡ acc
 IsWithAccess memory.TagSet acc = access.FromPointer ≡ acc
-IsWithAccess _ acc = ⊤
 
 abbrev pub IsNamed : Operation → Type 0
 IsNamed (operation.Memory op acc) = IsWithAccess op acc
 IsNamed (operation.Arithmetic op test) = IsArithmetic op
-IsNamed _ = ⊤
+IsNamed operation.Nop = ⊤
+IsNamed (operation.Wide op) = ⊤
+IsNamed (operation.Control op) = ⊤
 
 memory_range : (name : List ℕ) → IfSome (memory_named name) IsMemory
 unfolding memory_named
 memory_range name =
-    found_in (λ o. bytes_eq name (memory_name o)) IsMemory memory_operations (tt, (tt, (tt, (tt, (tt, tt)))))
+    found_in (λ o. bytes_eq name (memory_name o)) IsMemory (drop 1 memory_operations) (tt, (tt, (tt, (tt, (tt, tt)))))
 
 arithmetic_range : (name : List ℕ) → IfSome (arithmetic_named name) IsArithmetic
 unfolding arithmetic_named
-arithmetic_range name = found_in (λ o. bytes_eq name (arithmetic_name o)) IsArithmetic arithmetic_operations
+arithmetic_range name = found_in (λ o. bytes_eq name (arithmetic_name o)) IsArithmetic (drop 1 arithmetic_operations)
     (tt, (tt, (tt, (tt, (tt, (tt, (tt, (tt, (tt, (tt, (tt, (tt, (tt, (tt, tt))))))))))))))
 
 access_range : (op : MemoryOp) (suffix : Option (List ℕ)) → IsMemory op

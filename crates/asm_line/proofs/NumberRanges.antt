@@ -6,10 +6,12 @@ use Rattle.std.proofs.lemmas.Int.{ints}
 use Rattle.std.proofs.Common.{le-ltb}
 use Rattle.std.proofs.lemmas.Bool.{cases_lt}
 use Rattle.std.proofs.lemmas.Bool.Decides.{leb_tells}
+use Rattle.std.specs.Option.{ok_or}
 use Rattle.insn_word.specs.Fields.{IsFieldInRange, signed}
+use Rattle.number_text.specs.Reading.{are_digits, number_of_text}
 use Rattle.asm_line.specs.Text.{is_name}
 use Rattle.asm_line.specs.Faults.{map_ok, ◌>>=◌}
-use Rattle.asm_line.specs.Numbers.{are_digits, number_of_text, within, number_within, at_least_one, count_within}
+use Rattle.asm_line.specs.Numbers.{within, number_within, at_least_one, count_within}
 use Rattle.asm_line.specs.Numbers.{signed_within, has_minus}
 use Rattle.asm_line.specs.Operands.{number_behind_letter, is_register, register, is_target, target, Places, label_value, value_within}
 use Rattle.asm_line.specs.Operands.{distance, offset, displacement, source_of, source_number}
@@ -31,7 +33,8 @@ within_range most n = ⊎_elim (λ h. rw h.0 h.1) (λ h. rw h.0 tt) (leb_tells n
 pub number_within_range : (most : ℕ) (text : List ℕ) → IfOk (number_within most text) (λ n. n ≤ most)
 unfolding number_within
 number_within_range most text =
-    ok_then (within most) (λ _. ⊤) (λ n. n ≤ most) (number_of_text text) (λ n _. within_range most n) (ok_any (number_of_text text))
+    let number = ok_or (number_of_text text) fault.Operand in
+    ok_then (within most) (λ _. ⊤) (λ n. n ≤ most) number (λ n _. within_range most n) (ok_any number)
 
 pub count_within_range : (most : ℕ) (text : List ℕ) → IfOk (count_within most text) (λ n. (1 ≤ n) × (n ≤ most))
 unfolding count_within

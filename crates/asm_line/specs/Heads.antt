@@ -11,30 +11,31 @@ use Rattle.insn_word.specs.declared.operations.Access.TheVariants as access
 use Rattle.insn_word.specs.declared.operations.ArithmeticOp.{ArithmeticOp}
 use Rattle.insn_word.specs.declared.operations.ControlOp.{ControlOp}
 use Rattle.insn_word.specs.declared.operations.Condition.{Condition}
-use Rattle.asm_line.specs.Text.{text_before, text_after}
+use Rattle.text_parts.specs.Parts.{text_before, text_after}
 use Rattle.asm_line.specs.Faults.{unless_unknown}
 use Rattle.asm_line.specs.Names.{wide_name, memory_name, arithmetic_name, control_name, condition_name}
 use Rattle.asm_line.specs.Names.{access_suffix, test_suffix, directive_name}
-use Rattle.asm_line.specs.Names.{wide_operations, memory_operations, arithmetic_operations, control_operations}
-use Rattle.asm_line.specs.Names.{accesses, conditions, directives}
+use Rattle.asm_line.specs.Names.{directives}
+use Rattle.insn_word.specs.Operations.{wide_operations, memory_operations, accesses, arithmetic_operations}
+use Rattle.insn_word.specs.Operations.{control_operations, conditions}
 use Rattle.asm_line.specs.declared.fault.Fault.{Fault}
 use Rattle.asm_line.specs.declared.operation.Operation.{Operation}
 use Rattle.asm_line.specs.declared.operation.Operation.TheVariants as operation
 use Rattle.asm_line.specs.declared.operation.Directive.{Directive}
 
--- Names.
+-- Names. NOP, the first operation of each part of a normal word, is named by no part: it is an instruction of its own.
 
 unfoldable pub wide_named : List ℕ → Option WideOp
 wide_named name = find (λ o. bytes_eq name (wide_name o)) wide_operations
 
 unfoldable pub memory_named : List ℕ → Option MemoryOp
-memory_named name = find (λ o. bytes_eq name (memory_name o)) memory_operations
+memory_named name = find (λ o. bytes_eq name (memory_name o)) (drop 1 memory_operations)
 
 unfoldable pub arithmetic_named : List ℕ → Option ArithmeticOp
-arithmetic_named name = find (λ o. bytes_eq name (arithmetic_name o)) arithmetic_operations
+arithmetic_named name = find (λ o. bytes_eq name (arithmetic_name o)) (drop 1 arithmetic_operations)
 
 unfoldable pub control_named : List ℕ → Option ControlOp
-control_named name = find (λ o. bytes_eq name (control_name o)) control_operations
+control_named name = find (λ o. bytes_eq name (control_name o)) (drop 1 control_operations)
 
 unfoldable pub condition_named : List ℕ → Option Condition
 condition_named name = find (λ o. bytes_eq name (condition_name o)) conditions
@@ -52,16 +53,18 @@ abbrev pub without_suffix : Option (List ℕ) → Option Operation → Option Op
 without_suffix None o = o
 without_suffix (Some _) o = None
 
--- the access of the letter behind the dot of its suffix
+-- the access of the letter behind the dot of its suffix; the first access, which is the pointer's, has no suffix
 abbrev pub letter_access : List ℕ → Option Access
-letter_access letter = find (λ a. bytes_eq letter (drop 1 (access_suffix a))) accesses
+letter_access letter = find (λ a. bytes_eq letter (drop 1 (access_suffix a))) (drop 1 accesses)
 
 -- LOAD, STORE and FADD may name an access; with no suffix it is the pointer's
 abbrev pub has_access : MemoryOp → Bool
+has_access memory.Nop = false
 has_access memory.Load = true
 has_access memory.Store = true
 has_access memory.FetchAdd = true
-has_access _ = false
+has_access memory.TagGet = false
+has_access memory.TagSet = false
 
 unfoldable pub access_named : MemoryOp → Option (List ℕ) → Option Access
 access_named op None = Some access.FromPointer

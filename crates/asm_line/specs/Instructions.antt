@@ -11,7 +11,8 @@ use Rattle.insn_word.specs.declared.insn.APart.{APart}
 use Rattle.insn_word.specs.declared.insn.CPart.{CPart}
 use Rattle.insn_word.specs.declared.insn.Insn.{Insn}
 use Rattle.insn_word.specs.declared.insn.Insn.TheVariants as insn
-use Rattle.asm_line.specs.Text.{trim, parts, head, behind_head, operands}
+use Rattle.asm_line.specs.Text.{trim, head, behind_head, operands}
+use Rattle.text_parts.specs.Parts.{parts}
 use Rattle.asm_line.specs.Faults.{map_ok, ◌>>=◌, both}
 use Rattle.asm_line.specs.Numbers.{number_within}
 use Rattle.asm_line.specs.Heads.{operation_of}

@@ -1,4 +1,4 @@
--- The definitions, in the order of reading.
+-- The definitions, in the order of reading. Contracts of public functions cite them, or go back to them.
 pub mod Text
 pub mod Faults
 pub mod Numbers
@@ -9,7 +9,8 @@ pub mod Parts
 pub mod Instructions
 pub mod Directives
 pub mod Lines
-pub mod Cutting
-pub mod Ranges
-pub mod Labels
 pub mod Seen
+pub mod Labels
+pub mod Ranges
+-- What the code has of operands on its way.
+pub mod OperandsSeen

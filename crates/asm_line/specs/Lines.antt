@@ -4,7 +4,8 @@ use Rattle.std.specs.Prelude.{List, [], ◌∷◌, length, slice_index, map, cod
 use Rattle.std.specs.Option.{option_map}
 use Rattle.std.specs.List.{list_any}
 use Rattle.std.specs.Str.{bytes_eq}
-use Rattle.asm_line.specs.Text.{trim, parts, text_before, text_after, is_name, head, operands}
+use Rattle.asm_line.specs.Text.{trim, is_name, head, operands}
+use Rattle.text_parts.specs.Parts.{parts, text_before, text_after}
 use Rattle.asm_line.specs.Faults.{map_ok, ◌>>=◌, both}
 use Rattle.asm_line.specs.Heads.{directive_of}
 use Rattle.asm_line.specs.Operands.{Places}
@@ -32,6 +33,11 @@ line bytes = let text = trim (text_before 59 bytes) in line_with_label text (tex
 -- the lines of a text. A line end at the text's end leaves one more, which is empty and adds nothing.
 abbrev pub lines : List ℕ → List Line
 lines text = map line (parts 10 text)
+
+-- the lines of what is left of a text of which a line is cut off
+abbrev pub rest_lines : Option (List ℕ) → List Line
+rest_lines None = []
+rest_lines (Some text) = lines text
 
 -- a statement that is a word of the program: an instruction, or .word
 unfoldable pub is_word : List ℕ → Bool

@@ -107,35 +107,7 @@ operation_name (operation.Memory o acc) = memory_name o ++ access_suffix acc
 operation_name (operation.Arithmetic o test) = arithmetic_name o ++ test_suffix test
 operation_name (operation.Control o) = control_name o
 
--- What a source text may name.
-
-abbrev pub wide_operations : List WideOp
-wide_operations = wide.Literal ∷ wide.LiteralHigh ∷ wide.TargetLiteral ∷ []
-
-abbrev pub memory_operations : List MemoryOp
-memory_operations = memory.Load ∷ memory.Store ∷ memory.FetchAdd ∷ memory.TagGet ∷ memory.TagSet ∷ []
-
-abbrev pub accesses : List Access
-accesses = access.Normal ∷ access.Future ∷ access.Sync ∷ []
-
-abbrev pub arithmetic_operations : List ArithmeticOp
-arithmetic_operations =
-    arithmetic.Add ∷ arithmetic.Sub ∷ arithmetic.Mul ∷ arithmetic.And ∷ arithmetic.Or ∷ arithmetic.Xor
-    ∷ arithmetic.AndNot ∷ arithmetic.ShiftLeft ∷ arithmetic.ShiftRight ∷ arithmetic.ShiftRightSigned
-    ∷ arithmetic.Tally ∷ arithmetic.LessSigned ∷ arithmetic.LessUnsigned ∷ arithmetic.Pointer ∷ []
-
-abbrev pub control_operations : List ControlOp
-control_operations =
-    control.Jump ∷ control.Skip ∷ control.Call ∷ control.Exchange ∷ control.TargetSet ∷ control.TargetGet
-    ∷ control.TrapGet ∷ control.Reserve ∷ control.Create ∷ control.Quit ∷ control.QuitKeep ∷ control.Mask ∷ []
-
-abbrev pub conditions : List Condition
-conditions =
-    condition.Always ∷ condition.Equal ∷ condition.NotEqual ∷ condition.Less ∷ condition.GreaterEqual
-    ∷ condition.LessEqual ∷ condition.Greater ∷ condition.LessUnsigned ∷ condition.GreaterEqualUnsigned
-    ∷ condition.LessEqualUnsigned ∷ condition.GreaterUnsigned ∷ condition.Negative ∷ condition.Positive
-    ∷ condition.Overflow ∷ condition.NoOverflow ∷ []
-
+-- what the head of a directive may name
 abbrev pub directives : List Directive
 directives =
     directive.Profile ∷ directive.Slim ∷ directive.Retry ∷ directive.Trap ∷ directive.Entry ∷ directive.Word

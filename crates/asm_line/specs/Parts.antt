@@ -60,8 +60,21 @@ of_two op test (x ∷ y ∷ z ∷ []) =
 of_two op test _ = Err fault.Operand
 
 abbrev pub arithmetic_part : ArithmeticOp → Bool → List (List ℕ) → Result APart Fault
+arithmetic_part arithmetic.Nop test ops = Err fault.Operand
+arithmetic_part arithmetic.Add test ops = of_two arithmetic.Add test ops
+arithmetic_part arithmetic.Sub test ops = of_two arithmetic.Sub test ops
+arithmetic_part arithmetic.Mul test ops = of_two arithmetic.Mul test ops
+arithmetic_part arithmetic.And test ops = of_two arithmetic.And test ops
+arithmetic_part arithmetic.Or test ops = of_two arithmetic.Or test ops
+arithmetic_part arithmetic.Xor test ops = of_two arithmetic.Xor test ops
+arithmetic_part arithmetic.AndNot test ops = of_two arithmetic.AndNot test ops
+arithmetic_part arithmetic.ShiftLeft test ops = of_two arithmetic.ShiftLeft test ops
+arithmetic_part arithmetic.ShiftRight test ops = of_two arithmetic.ShiftRight test ops
+arithmetic_part arithmetic.ShiftRightSigned test ops = of_two arithmetic.ShiftRightSigned test ops
 arithmetic_part arithmetic.Tally test ops = tally test ops
-arithmetic_part op test ops = of_two op test ops
+arithmetic_part arithmetic.LessSigned test ops = of_two arithmetic.LessSigned test ops
+arithmetic_part arithmetic.LessUnsigned test ops = of_two arithmetic.LessUnsigned test ops
+arithmetic_part arithmetic.Pointer test ops = of_two arithmetic.Pointer test ops
 
 -- The control part.
 

@@ -1,8 +1,9 @@
--- Bytes of a line: blanks, parts, names.
+-- Bytes of a line: blanks, heads, operands, names.
 use Rattle.std.specs.Prelude.{ℕ, ◌==◌, Bool, nat_lt, nat_le, ◌&&◌, ◌||◌, if◌then◌else◌}
-use Rattle.std.specs.Prelude.{List, [], ◌∷◌, length, slice_index, Option, Some, None, map, drop, reverse}
-use Rattle.std.specs.List.{slice_split, before_first, after_first, position_or_len, list_all}
+use Rattle.std.specs.Prelude.{List, [], ◌∷◌, length, slice_index, map, drop, reverse}
+use Rattle.std.specs.List.{before_first, after_first, list_all}
 use Rattle.std.specs.Char.{is_ascii_alphabetic, is_ascii_alphanumeric}
+use Rattle.text_parts.specs.Parts.{parts}
 
 -- a blank is a space, a tab or a carriage return
 abbrev pub is_blank : ℕ → Bool
@@ -15,20 +16,6 @@ skip_blanks (b ∷ bytes) = if is_blank b then skip_blanks bytes else b ∷ byte
 -- without the blanks at both ends
 unfoldable pub trim : List ℕ → List ℕ
 trim bytes = reverse (skip_blanks (reverse (skip_blanks bytes)))
-
--- the parts between the bytes c
-abbrev pub parts : ℕ → List ℕ → List (List ℕ)
-parts c bytes = slice_split (λ b. b == c) bytes
-
--- what stands before the first c, or all
-abbrev pub text_before : ℕ → List ℕ → List ℕ
-text_before c bytes = before_first (λ b. b == c) bytes
-
--- what stands after the first c, if there is one
-unfoldable pub text_after : ℕ → List ℕ → Option (List ℕ)
-text_after c bytes =
-    if nat_lt (position_or_len (λ b. b == c) bytes) (length bytes) then Some (after_first (λ b. b == c) bytes)
-    else None
 
 -- the head of a statement ends at its first blank
 unfoldable pub head : List ℕ → List ℕ

@@ -2,9 +2,10 @@
 
 ghost use Rattle.std.specs.Prelude.{◌≡◌, ℕ, List};
 ghost use Rattle.asm_line.specs.Text.{operands_of};
-ghost use Rattle.asm_line.specs.Seen.{AreOperands};
+ghost use Rattle.asm_line.specs.OperandsSeen.{AreOperands};
 
-use crate::text::{cut, trim};
+use crate::text::trim;
+use text_parts::cut;
 
 /// Up to three operands, as texts without blanks at their ends.
 #[derive(Clone, Copy)]

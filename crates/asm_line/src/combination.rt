@@ -2,7 +2,7 @@
 
 ghost use Rattle.std.specs.Prelude.{◌≡◌, ℕ, List};
 ghost use Rattle.asm_line.specs.Labels.{places_of};
-ghost use Rattle.asm_line.specs.Seen.{AreOperands};
+ghost use Rattle.asm_line.specs.OperandsSeen.{AreOperands};
 ghost use Rattle.asm_line.specs.Instructions.{nop_word, single, double, triple, memory_arithmetic, full_word};
 ghost use Rattle.asm_line.specs.Instructions.{memory_arithmetic_word, memory_control_word, arithmetic_control_word};
 ghost use Rattle.asm_line.specs.Instructions.{unless_two};

@@ -2,7 +2,7 @@
 
 ghost use Rattle.std.specs.Prelude.{◌≡◌, ℕ, List};
 ghost use Rattle.asm_line.specs.Labels.{places_of};
-ghost use Rattle.asm_line.specs.Seen.{AreOperands};
+ghost use Rattle.asm_line.specs.OperandsSeen.{AreOperands};
 ghost use Rattle.asm_line.specs.Faults.{both};
 ghost use Rattle.asm_line.specs.Numbers.{number_within};
 ghost use Rattle.asm_line.specs.Operands.{condition};

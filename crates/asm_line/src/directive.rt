@@ -2,7 +2,7 @@
 
 ghost use Rattle.std.specs.Prelude.{◌≡◌, ◌^◌, ◌-◌, ℕ, List};
 ghost use Rattle.asm_line.specs.Labels.{places_of};
-ghost use Rattle.asm_line.specs.Seen.{AreOperands};
+ghost use Rattle.asm_line.specs.OperandsSeen.{AreOperands};
 ghost use Rattle.asm_line.specs.Directives.{profile, slim, retry, trap, entry_item, word, data_cell, fill, cells};
 ghost use Rattle.asm_line.specs.Directives.{item_of_directive};
 ghost use Rattle.asm_line.specs.Directives.{entry_number, word_number, tags_number};

@@ -1,4 +1,7 @@
 //! The operation, condition or directive that a name stands for.
+//!
+//! NOP, the first operation of each part of a normal word, is named by no part: it is an instruction of its own. The
+//! first access, which is the pointer's, has no suffix.
 
 ghost use Rattle.std.specs.Prelude.{◌≡◌};
 ghost use Rattle.std.specs.Option.{option_copied};
@@ -10,73 +13,11 @@ ghost use Rattle.asm_line.specs.Heads.{operation_of, directive_of, memory_suffix
 use crate::fault::Fault;
 use crate::names;
 use crate::operation::{Directive, Operation};
-use crate::text::{cut, tail};
+use crate::text::tail;
 use insn_word::{Access, ArithmeticOp, Condition, ControlOp, MemoryOp, WideOp};
+use text_parts::cut;
 
-// What a source text may name: all but the operations NOP of the parts.
-
-const WIDE_OPERATIONS: [WideOp; 3] = [WideOp::Literal, WideOp::LiteralHigh, WideOp::TargetLiteral];
-
-const MEMORY_OPERATIONS: [MemoryOp; 5] = [
-    MemoryOp::Load,
-    MemoryOp::Store,
-    MemoryOp::FetchAdd,
-    MemoryOp::TagGet,
-    MemoryOp::TagSet,
-];
-
-const ACCESSES: [Access; 3] = [Access::Normal, Access::Future, Access::Sync];
-
-const ARITHMETIC_OPERATIONS: [ArithmeticOp; 14] = [
-    ArithmeticOp::Add,
-    ArithmeticOp::Sub,
-    ArithmeticOp::Mul,
-    ArithmeticOp::And,
-    ArithmeticOp::Or,
-    ArithmeticOp::Xor,
-    ArithmeticOp::AndNot,
-    ArithmeticOp::ShiftLeft,
-    ArithmeticOp::ShiftRight,
-    ArithmeticOp::ShiftRightSigned,
-    ArithmeticOp::Tally,
-    ArithmeticOp::LessSigned,
-    ArithmeticOp::LessUnsigned,
-    ArithmeticOp::Pointer,
-];
-
-const CONTROL_OPERATIONS: [ControlOp; 12] = [
-    ControlOp::Jump,
-    ControlOp::Skip,
-    ControlOp::Call,
-    ControlOp::Exchange,
-    ControlOp::TargetSet,
-    ControlOp::TargetGet,
-    ControlOp::TrapGet,
-    ControlOp::Reserve,
-    ControlOp::Create,
-    ControlOp::Quit,
-    ControlOp::QuitKeep,
-    ControlOp::Mask,
-];
-
-const CONDITIONS: [Condition; 15] = [
-    Condition::Always,
-    Condition::Equal,
-    Condition::NotEqual,
-    Condition::Less,
-    Condition::GreaterEqual,
-    Condition::LessEqual,
-    Condition::Greater,
-    Condition::LessUnsigned,
-    Condition::GreaterEqualUnsigned,
-    Condition::LessEqualUnsigned,
-    Condition::GreaterUnsigned,
-    Condition::Negative,
-    Condition::Positive,
-    Condition::Overflow,
-    Condition::NoOverflow,
-];
-
+/// What the head of a directive may name.
 const DIRECTIVES: [Directive; 8] = [
     Directive::Profile,
     Directive::Slim,
@@ -92,7 +33,7 @@ const DIRECTIVES: [Directive; 8] = [
 fn wide_named(name: &[u8]) -> Option<WideOp>
     ensures { result ≡ wide_named name.now }
 {
-    WIDE_OPERATIONS
+    WideOp::ALL
         .iter()
         .copied()
         .find(|op| name == names::wide(*op).as_bytes())
@@ -102,7 +43,7 @@ fn wide_named(name: &[u8]) -> Option<WideOp>
 fn memory_named(name: &[u8]) -> Option<MemoryOp>
     ensures { result ≡ memory_named name.now }
 {
-    MEMORY_OPERATIONS
+    MemoryOp::ALL[1..]
         .iter()
         .copied()
         .find(|op| name == names::memory(*op).as_bytes())
@@ -112,7 +53,7 @@ fn memory_named(name: &[u8]) -> Option<MemoryOp>
 fn arithmetic_named(name: &[u8]) -> Option<ArithmeticOp>
     ensures { result ≡ arithmetic_named name.now }
 {
-    ARITHMETIC_OPERATIONS
+    ArithmeticOp::ALL[1..]
         .iter()
         .copied()
         .find(|op| name == names::arithmetic(*op).as_bytes())
@@ -122,7 +63,7 @@ fn arithmetic_named(name: &[u8]) -> Option<ArithmeticOp>
 fn control_named(name: &[u8]) -> Option<ControlOp>
     ensures { result ≡ control_named name.now }
 {
-    CONTROL_OPERATIONS
+    ControlOp::ALL[1..]
         .iter()
         .copied()
         .find(|op| name == names::control(*op).as_bytes())
@@ -132,7 +73,7 @@ fn control_named(name: &[u8]) -> Option<ControlOp>
 pub(crate) fn condition_named(name: &[u8]) -> Option<Condition>
     ensures { result ≡ condition_named name.now }
 {
-    CONDITIONS.iter().copied().find(|condition| name == names::condition(*condition).as_bytes())
+    Condition::ALL.iter().copied().find(|condition| name == names::condition(*condition).as_bytes())
 }
 
 #[tactic(auto, unfolding(crate::specs::Heads::directive_named))]
@@ -160,7 +101,7 @@ fn access_named(op: MemoryOp, suffix: Option<&[u8]>) -> Option<Access>
 fn letter_access(letter: &[u8]) -> Option<Access>
     ensures { result ≡ letter_access letter.now }
 {
-    ACCESSES
+    Access::ALL[1..]
         .iter()
         .copied()
         .find(|access| letter == tail(names::access(*access).as_bytes()))
@@ -170,7 +111,10 @@ fn letter_access(letter: &[u8]) -> Option<Access>
 fn has_access(op: MemoryOp) -> bool
     ensures { result ≡ has_access op }
 {
-    matches!(op, MemoryOp::Load | MemoryOp::Store | MemoryOp::FetchAdd)
+    match op {
+        MemoryOp::Load | MemoryOp::Store | MemoryOp::FetchAdd => true,
+        MemoryOp::Nop | MemoryOp::TagGet | MemoryOp::TagSet => false,
+    }
 }
 
 /// Whether the suffix, if there is one, asks for a condition code; None where it says something else.

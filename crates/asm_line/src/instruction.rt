@@ -1,7 +1,8 @@
 //! What an instruction says: the parts between `|`, and before them perhaps the lookahead.
 
 ghost use Rattle.std.specs.Prelude.{◌≡◌, map, Err};
-ghost use Rattle.asm_line.specs.Text.{head, trim, parts};
+ghost use Rattle.asm_line.specs.Text.{head, trim};
+ghost use Rattle.text_parts.specs.Parts.{parts};
 ghost use Rattle.asm_line.specs.Heads.{operation_of};
 ghost use Rattle.asm_line.specs.Labels.{places_of};
 ghost use Rattle.asm_line.specs.Instructions.{one_part, two_parts, three_parts, too_many, operations};
@@ -13,8 +14,9 @@ use crate::fault::{Fault, both};
 use crate::heads::operation_of;
 use crate::labels::Labels;
 use crate::numbers::small_within;
-use crate::text::{begins, cut, split_head, tail, trim};
+use crate::text::{begins, split_head, tail, trim};
 use insn_word::Insn;
+use text_parts::cut;
 
 /// The instruction at the place `here`.
 #[tactic(auto, unfolding(crate::specs::Instructions::instruction_of_text))]
@@ -43,7 +45,7 @@ fn looking(look: u8, insn: Insn) -> Insn
 }
 
 /// The operations, separated by `|`.
-#[tactic(auto, unfolding(crate::specs::Instructions::operations), using(crate::proofs::Pieces::parts_cut))]
+#[tactic(auto, unfolding(crate::specs::Instructions::operations), using(text_parts::proofs::Pieces::parts_cut))]
 fn operations(labels: &Labels, here: usize, text: &[u8]) -> Result<Insn, Fault>
     ensures { result ≡ operations (places_of labels.now) here text.now }
 {

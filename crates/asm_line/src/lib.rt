@@ -18,15 +18,11 @@ mod operand;
 mod operation;
 mod parts;
 mod place;
-#[cfg(test)]
-mod tests;
 mod text;
 
 pub use fault::Fault;
 pub use item::Item;
 pub use labels::Labels;
 pub use lines::{SourceLine, cut_line, is_word, next_line, read_line};
-pub use operand::Source;
-pub use operation::{Directive, Operation};
+pub use operation::Directive;
 pub use place::Place;
-pub use text::cut;

@@ -3,11 +3,13 @@
 ghost use Rattle.std.specs.Prelude.{◌≡◌, ◌≤◌, ◌==◌, ◌∷◌, length, IfOk};
 ghost use Rattle.std.specs.Option.{option_copied};
 ghost use Rattle.std.specs.List.{list_any};
-ghost use Rattle.asm_line.specs.Text.{is_name, text_before, text_after};
+ghost use Rattle.asm_line.specs.Text.{is_name};
+ghost use Rattle.text_parts.specs.Parts.{text_before, text_after};
 ghost use Rattle.asm_line.specs.Lines.{line, lines, is_word, is_label, labelling, statement_item, directive_item};
 ghost use Rattle.asm_line.specs.Lines.{line_item};
 ghost use Rattle.asm_line.specs.Labels.{places_of};
-ghost use Rattle.asm_line.specs.Cutting.{rest_lines, rest_length};
+ghost use Rattle.asm_line.specs.Lines.{rest_lines};
+ghost use Rattle.text_parts.specs.Parts.{rest_length};
 ghost use Rattle.asm_line.specs.Ranges.{IsItemInRange};
 ghost use Rattle.asm_line.specs.Seen.{line_seen};
 
@@ -20,8 +22,9 @@ use crate::item::Item;
 use crate::labels::Labels;
 use crate::names;
 use crate::operation::Directive;
-use crate::text::{begins, cut, is_name, split_head, trim};
+use crate::text::{begins, is_name, split_head, trim};
 use insn_word::spelling_is_one_to_one;
+use text_parts::cut;
 
 /// A line without its comment: the label that stands before its first colon, and its statement.
 #[derive(Clone, Copy)]

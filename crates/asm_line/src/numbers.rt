@@ -1,33 +1,12 @@
 //! Numbers.
 
 ghost use Rattle.std.specs.Prelude.{◌≡◌, ◌≤◌, ◌-◌, ◌^◌, IfOk, pos, neg_ℤ};
-ghost use Rattle.number_text.specs.Numbers.{base_number, number_from};
 ghost use Rattle.asm_line.specs.Faults.{map_ok};
-ghost use Rattle.asm_line.specs.Numbers.{number_in, number_of_text, number_within, count_within, signed_within};
+ghost use Rattle.asm_line.specs.Numbers.{number_within, count_within, signed_within};
 
 use crate::fault::Fault;
 use crate::text::{begins, tail};
-use number_text::{Base, Number, read_digits};
-
-/// The number that a text says, decimal or after `0x` hexadecimal.
-#[tactic(auto, unfolding(crate::specs::Numbers::number_of_text))]
-fn number(text: &[u8]) -> Result<Number, Fault>
-    ensures { result ≡ map_ok number_from (number_of_text text.now) }
-{
-    if text.starts_with(b"0x") {
-        number_in(Base::Hexadecimal, &text[2..])
-    } else {
-        number_in(Base::Decimal, text)
-    }
-}
-
-/// The number that digits of a base say.
-#[tactic(auto, unfolding(number_text::specs::Reading::number_of_digits))]
-pub(crate) fn number_in(base: Base, text: &[u8]) -> Result<Number, Fault>
-    ensures { result ≡ map_ok number_from (number_in (base_number base) text.now) }
-{
-    read_digits(base, text).ok_or(Fault::Operand)
-}
+use number_text::read_number;
 
 /// A number of at most so much.
 #[tactic(auto, unfolding(crate::specs::Numbers::number_within), using(crate::proofs::Limits::limits))]
@@ -35,7 +14,7 @@ pub(crate) fn number_within(most: u64, text: &[u8]) -> Result<u64, Fault>
     ensures value { result ≡ number_within most text.now }
     ensures bound { IfOk result (λ n. n ≤ most) }
 {
-    let number = number(text)?;
+    let number = read_number(text).ok_or(Fault::Operand)?;
     number.up_to(most).ok_or(Fault::Range)
 }
 

@@ -9,10 +9,10 @@ ghost use Rattle.asm_line.specs.Parts.{immediate};
 use crate::fault::Fault;
 use crate::heads::condition_named;
 use crate::labels::Labels;
-use crate::numbers::{negative, number_32, number_in, positive, signed_within, small_within};
+use crate::numbers::{negative, number_32, positive, signed_within, small_within};
 use crate::text::{begins, is_name, tail};
 use insn_word::Condition;
-use number_text::{Base, Number};
+use number_text::{Base, Number, read_digits};
 
 /// The second operand of an arithmetic operation.
 #[derive(Clone, Copy, Debug, PartialEq, Eq)]
@@ -24,14 +24,14 @@ pub enum Source {
 }
 
 /// A register, `r0` to `r31`.
-#[tactic(auto, unfolding(crate::specs::Operands::register))]
+#[tactic(auto, unfolding(crate::specs::Operands::register, number_text::specs::Reading::number_of_digits))]
 pub(crate) fn register(text: &[u8]) -> Result<u8, Fault>
     ensures { result ≡ register text.now }
 {
     if !begins(text, b'r') {
         return Err(Fault::Operand);
     }
-    let Number::Word(number) = number_in(Base::Decimal, tail(text))? else {
+    let Some(Number::Word(number)) = read_digits(Base::Decimal, tail(text)) else {
         return Err(Fault::Operand);
     };
     if number < 32 && (text.len() == 2 || text.len() == 3 && text[1] > b'0') {

@@ -2,7 +2,7 @@
 
 ghost use Rattle.std.specs.Prelude.{◌≡◌, ℕ, List};
 ghost use Rattle.asm_line.specs.Labels.{places_of};
-ghost use Rattle.asm_line.specs.Seen.{AreOperands};
+ghost use Rattle.asm_line.specs.OperandsSeen.{AreOperands};
 ghost use Rattle.asm_line.specs.Parts.{wide_register, wide_word, memory_part, tally, of_two, arithmetic_part};
 
 use crate::arguments::Arguments;
@@ -62,8 +62,21 @@ pub(crate) fn arithmetic_part(
     ensures { (os : List (List ℕ)) → AreOperands operands.now os → result ≡ arithmetic_part op test os }
 {
     match op {
+        ArithmeticOp::Nop => Err(Fault::Operand),
         ArithmeticOp::Tally => tally(test, operands),
-        _ => of_two(op, test, operands),
+        ArithmeticOp::Add
+        | ArithmeticOp::Sub
+        | ArithmeticOp::Mul
+        | ArithmeticOp::And
+        | ArithmeticOp::Or
+        | ArithmeticOp::Xor
+        | ArithmeticOp::AndNot
+        | ArithmeticOp::ShiftLeft
+        | ArithmeticOp::ShiftRight
+        | ArithmeticOp::ShiftRightSigned
+        | ArithmeticOp::LessSigned
+        | ArithmeticOp::LessUnsigned
+        | ArithmeticOp::Pointer => of_two(op, test, operands),
     }
 }
 

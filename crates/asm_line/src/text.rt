@@ -1,32 +1,10 @@
-//! Bytes of a line: blanks, parts, names.
+//! Bytes of a line: blanks, heads, names.
 
 ghost use Rattle.std.specs.Prelude.{◌≡◌, ◌≤◌, ◌∷◌, ◌==◌, length, reverse, drop, slice_index, ◌<◌};
 ghost use Rattle.std.specs.List.{position, before_first, list_all};
 ghost use Rattle.std.specs.Option.{option_copied};
-ghost use Rattle.asm_line.specs.Text.{is_blank, skip_blanks, trim, parts, text_before, text_after, head, behind_head};
+ghost use Rattle.asm_line.specs.Text.{is_blank, skip_blanks, trim, head, behind_head};
 ghost use Rattle.asm_line.specs.Text.{is_first, is_further, is_name};
-ghost use Rattle.asm_line.specs.Cutting.{rest_parts, rest_length};
-
-/// What stands before the first byte `c`, or all, and what stands after it, if there is one.
-#[tactic(auto, unfolding(crate::specs::Text::text_after), using(crate::proofs::Pieces::parts_cut))]
-pub fn cut(bytes: &[u8], c: u8) -> (&[u8], Option<&[u8]>)
-    ensures front { result.0.now ≡ text_before c bytes.now }
-    ensures back { option_copied result.1 ≡ text_after c bytes.now }
-    ensures parts { parts c bytes.now ≡ result.0.now ∷ rest_parts c (option_copied result.1) }
-    ensures shorter { rest_length (option_copied result.1) ≤ length bytes.now }
-{
-    match find(bytes, c) {
-        Some(i) => (&bytes[..i], Some(&bytes[i + 1..])),
-        None => (bytes, None),
-    }
-}
-
-/// Where the first byte `c` stands.
-fn find(bytes: &[u8], c: u8) -> Option<usize>
-    ensures { result ≡ position (λ b. b == c) bytes.now }
-{
-    bytes.iter().position(|b| *b == c)
-}
 
 /// A space, a tab or a carriage return.
 fn is_blank(byte: u8) -> bool

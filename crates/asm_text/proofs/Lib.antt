@@ -9,3 +9,9 @@ pub mod RunCells
 pub mod ReadLines
 pub mod Sections
 pub mod ReadBack
+pub mod LabelPlaces
+pub mod ForeignBytes
+pub mod LineSteps
+pub mod LineFaults
+pub mod DataFill
+pub mod DataTexts

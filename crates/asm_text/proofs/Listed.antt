@@ -11,7 +11,7 @@ use Rattle.tag_memory.specs.Cell.{Cell}
 use Rattle.image_file.specs.ImageValue.{ImageValue}
 use Rattle.listing_line.specs.WordText.{word_line}
 use Rattle.listing_line.specs.DirectiveLines.{entry_line}
-use Rattle.asm_text.specs.Runs.{Run, runs}
+use Rattle.asm_text.specs.Runs.{CellRun, cell_runs}
 use Rattle.asm_text.specs.Listing.{setting_lines, word_lines, cell_run_line, listing_lines, with_line_end, text_of_lines, listing}
 
 -- one line more in the text is one less to come
@@ -62,13 +62,13 @@ words_end program k now whole past h =
 -- the four parts of a listing, one after another
 pub parts_joined : (i : ImageValue)
     → ((text_of_lines (setting_lines i) ++ text_of_lines (map entry_line i.entries)) ++ text_of_lines (word_lines 0 i.program))
-    ++ text_of_lines (map cell_run_line (runs i.cells)) ≡ listing i
+    ++ text_of_lines (map cell_run_line (cell_runs i.cells)) ≡ listing i
 unfolding listing listing_lines
 parts_joined i =
     let s = setting_lines i in
     let e = map entry_line i.entries in
     let w = word_lines 0 i.program in
-    let c = map cell_run_line (runs i.cells) in
+    let c = map cell_run_line (cell_runs i.cells) in
     append_assoc (text_of_lines s ++ text_of_lines e) (text_of_lines w) (text_of_lines c)
     ∙ append_assoc (text_of_lines s) (text_of_lines e) (text_of_lines w ++ text_of_lines c)
     ∙ sym (flat_map-append with_line_end s (e ++ (w ++ c))
@@ -78,17 +78,17 @@ parts_joined i =
 pub all_parts : (i : ImageValue) (t0 t1 t2 t3 t4 : List ℕ) (cells : List Cell) → t0 ≡ []
     → t1 ≡ t0 ++ text_of_lines (setting_lines i) → t2 ≡ t1 ++ text_of_lines (map entry_line i.entries)
     → t3 ≡ t2 ++ text_of_lines (word_lines 0 i.program) → cells ≡ i.cells
-    → t4 ≡ t3 ++ text_of_lines (map cell_run_line (runs cells)) → t4 ≡ listing i
+    → t4 ≡ t3 ++ text_of_lines (map cell_run_line (cell_runs cells)) → t4 ≡ listing i
 all_parts i t0 t1 t2 t3 t4 cells e0 e1 e2 e3 ec e4 =
     let s = text_of_lines (setting_lines i) in
     let e = text_of_lines (map entry_line i.entries) in
     let w = text_of_lines (word_lines 0 i.program) in
-    let c = text_of_lines (map cell_run_line (runs i.cells)) in
-    e4 ∙ ap (λ cs. t3 ++ text_of_lines (map cell_run_line (runs cs))) ec
+    let c = text_of_lines (map cell_run_line (cell_runs i.cells)) in
+    e4 ∙ ap (λ cs. t3 ++ text_of_lines (map cell_run_line (cell_runs cs))) ec
     ∙ ap (λ t. t ++ c) (e3 ∙ ap (λ t. t ++ w) (e2 ∙ ap (λ t. t ++ e) (e1 ∙ ap (λ t. t ++ s) e0)))
     ∙ parts_joined i
 
-pub run_pushed : (rs following : List Run) (count : ℕ) (cell : Cell) (before whole now : List ℕ)
+pub run_pushed : (rs following : List CellRun) (count : ℕ) (cell : Cell) (before whole now : List ℕ)
     → rs ≡ record { count = count; cell = cell } ∷ following
     → now ≡ before ++ with_line_end (cell_run_line (record { count = count; cell = cell }))
     → before ++ text_of_lines (map cell_run_line rs) ≡ whole → now ++ text_of_lines (map cell_run_line following) ≡ whole
@@ -97,6 +97,6 @@ run_pushed rs following count cell before whole now first is h =
     whole now is
     (sym (ap (λ xs. before ++ text_of_lines (map cell_run_line xs)) first) ∙ h)
 
-pub runs_end : (rs : List Run) (now whole : List ℕ) → rs ≡ [] → now ++ text_of_lines (map cell_run_line rs) ≡ whole → now ≡ whole
+pub runs_end : (rs : List CellRun) (now whole : List ℕ) → rs ≡ [] → now ++ text_of_lines (map cell_run_line rs) ≡ whole → now ≡ whole
 runs_end rs now whole none h =
     sym (append-nil now) ∙ sym (ap (λ xs. now ++ text_of_lines (map cell_run_line xs)) none) ∙ h

@@ -17,7 +17,7 @@ use Rattle.listing_line.specs.DirectiveLines.{entry_line}
 use Rattle.asm_text.specs.declared.fault.AsmFault.{AsmFault}
 use Rattle.asm_text.specs.Drafts.{DraftValue, empty, has_all, image_of_draft}
 use Rattle.asm_text.specs.Sources.{with_lines, image_or_incomplete}
-use Rattle.asm_text.specs.Runs.{runs}
+use Rattle.asm_text.specs.Runs.{cell_runs}
 use Rattle.asm_text.specs.Listing.{setting_lines, word_lines, cell_run_line, listing_lines, text_of_lines, listing}
 use Rattle.asm_text.specs.Laws.{OneMeaning, ListingsReadBack, cells_of}
 use Rattle.asm_text.proofs.Assembly.{IsFound, draft_whole}
@@ -31,7 +31,7 @@ use Rattle.asm_text.proofs.Sections.{words_read, words_added, words_count}
 use Rattle.asm_text.proofs.Sections.{run_item, runs_read, runs_added, runs_count}
 
 abbrev items : ImageValue → List Item
-items i = setting_items i ++ (entry_items i.entries ++ (map word_item i.program ++ map run_item (runs i.cells)))
+items i = setting_items i ++ (entry_items i.entries ++ (map word_item i.program ++ map run_item (cell_runs i.cells)))
 
 lines_read : (laws : Laws) (i : ImageValue) → IsWithin i → Fits i
     → AreRead (length i.program) (listing_lines i) (items i)
@@ -39,29 +39,29 @@ unfolding listing_lines
 lines_read laws i w f =
     let words = length i.program in
     read_both words (setting_lines i)
-    (map entry_line i.entries ++ (word_lines 0 i.program ++ map cell_run_line (runs i.cells)))
-    (setting_items i) (entry_items i.entries ++ (map word_item i.program ++ map run_item (runs i.cells)))
+    (map entry_line i.entries ++ (word_lines 0 i.program ++ map cell_run_line (cell_runs i.cells)))
+    (setting_items i) (entry_items i.entries ++ (map word_item i.program ++ map run_item (cell_runs i.cells)))
     (settings_read laws words i w.some_slim w.few_slim f.retry_limit f.trap_entry)
-    (read_both words (map entry_line i.entries) (word_lines 0 i.program ++ map cell_run_line (runs i.cells))
-    (entry_items i.entries) (map word_item i.program ++ map run_item (runs i.cells))
+    (read_both words (map entry_line i.entries) (word_lines 0 i.program ++ map cell_run_line (cell_runs i.cells))
+    (entry_items i.entries) (map word_item i.program ++ map run_item (cell_runs i.cells))
     (entries_read laws words i.entries w.few_words w.entries_stand)
-    (read_both words (word_lines 0 i.program) (map cell_run_line (runs i.cells)) (map word_item i.program)
-    (map run_item (runs i.cells))
+    (read_both words (word_lines 0 i.program) (map cell_run_line (cell_runs i.cells)) (map word_item i.program)
+    (map run_item (cell_runs i.cells))
     (words_read laws words 0 i.program (omega (arith, w.few_words))
     (All-from_recursion (λ n. n < 2 ^ 64) i.program f.program))
-    (runs_read laws words (length i.cells) (runs i.cells) w.few_cells
+    (runs_read laws words (length i.cells) (cell_runs i.cells) w.few_cells
     (runs_fit i.cells (All-from_recursion (λ (c : Cell). c.value < 2 ^ 64) i.cells f.cells)))))
 
 items_count : (i : ImageValue) → count_items (items i) ≡ length i.program
 items_count i =
     let all = count_both (setting_items i)
-    (entry_items i.entries ++ (map word_item i.program ++ map run_item (runs i.cells))) in
-    let behind = count_both (entry_items i.entries) (map word_item i.program ++ map run_item (runs i.cells)) in
-    let last = count_both (map word_item i.program) (map run_item (runs i.cells)) in
+    (entry_items i.entries ++ (map word_item i.program ++ map run_item (cell_runs i.cells))) in
+    let behind = count_both (entry_items i.entries) (map word_item i.program ++ map run_item (cell_runs i.cells)) in
+    let last = count_both (map word_item i.program) (map run_item (cell_runs i.cells)) in
     let s = settings_count i in
     let e = entries_count i.entries in
     let w = words_count i.program in
-    let r = runs_count (runs i.cells) in
+    let r = runs_count (cell_runs i.cells) in
     omega arith
 
 abbrev draft_of : ImageValue → DraftValue
@@ -69,7 +69,7 @@ draft_of i = record {
   settings = (with_settings_of i).settings;
   entries = i.entries;
   words = i.program;
-  cells = flat_map cells_of (runs i.cells);
+  cells = flat_map cells_of (cell_runs i.cells);
 }
 
 items_added : (i : ImageValue) → IsWithin i → add_all empty (items i) ≡ Ok (draft_of i)
@@ -79,13 +79,13 @@ items_added i w =
     let p : DraftValue = record e { words = i.program } in
     let cells = ap length (runs_are_cells i.cells) in
     add_both empty s (setting_items i)
-    (entry_items i.entries ++ (map word_item i.program ++ map run_item (runs i.cells)))
+    (entry_items i.entries ++ (map word_item i.program ++ map run_item (cell_runs i.cells)))
     (settings_added i)
-    ∙ add_both s e (entry_items i.entries) (map word_item i.program ++ map run_item (runs i.cells))
+    ∙ add_both s e (entry_items i.entries) (map word_item i.program ++ map run_item (cell_runs i.cells))
     (entries_added s i.entries (omega (arith, w.few_processors)))
-    ∙ add_both e p (map word_item i.program) (map run_item (runs i.cells))
+    ∙ add_both e p (map word_item i.program) (map run_item (cell_runs i.cells))
     (words_added e i.program (omega (arith, w.few_words)))
-    ∙ runs_added p (runs i.cells) (omega (arith, cells, w.few_cells))
+    ∙ runs_added p (cell_runs i.cells) (omega (arith, cells, w.few_cells))
 
 trap_kept : (trap : ℕ) (none : Bool) → eqb trap 4294967295 ≡ none
     → unwrap_or (cond none None (Some trap)) 4294967295 ≡ trap
@@ -111,12 +111,12 @@ all_there i w =
     let cells = ap length (runs_are_cells i.cells) in
     let entries : 0 < length i.entries = omega (arith, w.some_processors) in
     let words : 0 < length i.program = omega (arith, w.some_words) in
-    let some : 0 < length (flat_map cells_of (runs i.cells)) = omega (arith, cells, w.some_cells) in
+    let some : 0 < length (flat_map cells_of (cell_runs i.cells)) = omega (arith, cells, w.some_cells) in
     and_from (ltb 0 (length i.entries))
-    (ltb 0 (length i.program) && ltb 0 (length (flat_map cells_of (runs i.cells))))
+    (ltb 0 (length i.program) && ltb 0 (length (flat_map cells_of (cell_runs i.cells))))
     (lt-ltb 0 (length i.entries) entries)
-    (and_from (ltb 0 (length i.program)) (ltb 0 (length (flat_map cells_of (runs i.cells))))
-    (lt-ltb 0 (length i.program) words) (lt-ltb 0 (length (flat_map cells_of (runs i.cells))) some))
+    (and_from (ltb 0 (length i.program)) (ltb 0 (length (flat_map cells_of (cell_runs i.cells))))
+    (lt-ltb 0 (length i.program) words) (lt-ltb 0 (length (flat_map cells_of (cell_runs i.cells))) some))
 
 passes : (b : Bool) (x y : ImageValue) (e : AsmFault) → b ≡ true → x ≡ y
     → ◌≡◌ {A = Result ImageValue AsmFault} (cond b (Ok x) (Err e)) (Ok y)

@@ -9,7 +9,8 @@ use Rattle.std.proofs.lemmas.Bool.Decides.{nat_tests, Decides-by_and}
 use Rattle.std.proofs.lemmas.List.Elements.{All-append, All-nil, All-cons, All-weaker}
 use Rattle.std.proofs.lemmas.List.Splits.{slice_split_at}
 use Rattle.std.proofs.lemmas.List.Sums.{position_or_len_is}
-use Rattle.asm_line.specs.Text.{trim, text_after, parts}
+use Rattle.asm_line.specs.Text.{trim}
+use Rattle.text_parts.specs.Parts.{text_after, parts}
 use Rattle.asm_line.specs.Faults.{◌>>=◌}
 use Rattle.asm_line.specs.Operands.{Places}
 use Rattle.asm_line.specs.Lines.{Line, line, lines, line_item, labelling, statement_item, is_word}

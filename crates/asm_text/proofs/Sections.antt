@@ -24,7 +24,7 @@ use Rattle.listing_line.specs.Laws.{IsReadAs, word_item, item_of}
 use Rattle.listing_line.specs.Laws.{WordLinesReadBack, ProfileLinesReadBack, SlimLinesReadBack, RetryLinesReadBack}
 use Rattle.listing_line.specs.Laws.{TrapLinesReadBack, EntryLinesReadBack, FillLinesReadBack}
 use Rattle.asm_text.specs.Drafts.{DraftValue, empty, add, with_word, with_cells}
-use Rattle.asm_text.specs.Runs.{Run}
+use Rattle.asm_text.specs.Runs.{CellRun}
 use Rattle.asm_text.specs.Listing.{setting_lines, word_lines, cell_run_line}
 use Rattle.asm_text.specs.Laws.{cells_of}
 use Rattle.asm_text.proofs.WordOfFields.{number_of_spelt}
@@ -200,7 +200,7 @@ words_count (w ∷ ws) = omega (arith, one_word w, words_count ws)
 abbrev with_data : DraftValue → List Cell → Result DraftValue Fault
 with_data d cells = Ok (record d { cells = cells })
 
-abbrev pub run_item : Run → Item
+abbrev pub run_item : CellRun → Item
 run_item r = item.Cells r.count r.cell.value (tag_number r.cell)
 
 four : (full forward trap0 trap1 : Bool)
@@ -225,8 +225,8 @@ four false false false false = omega arith
 few_tags : (c : Cell) → tag_number c < 16
 few_tags c = four c.full c.forward c.trap0 c.trap1
 
-pub runs_read : (laws : Laws) (words n : ℕ) (rs : List Run) → n ≤ 262144
-    → AllByRecursion (λ (r : Run). (1 ≤ r.count) × (r.count ≤ n) × (r.cell.value < 2 ^ 64)) rs
+pub runs_read : (laws : Laws) (words n : ℕ) (rs : List CellRun) → n ≤ 262144
+    → AllByRecursion (λ (r : CellRun). (1 ≤ r.count) × (r.count ≤ n) × (r.cell.value < 2 ^ 64)) rs
     → AreRead words (map cell_run_line rs) (map run_item rs)
 runs_read laws words n [] few h = tt
 runs_read laws words n (r ∷ rs) few h = (
@@ -234,7 +234,7 @@ runs_read laws words n (r ∷ rs) few h = (
   runs_read laws words n rs few h.1,
 )
 
-run_added : (d : DraftValue) (r : Run) → length d.cells + r.count ≤ 262144
+run_added : (d : DraftValue) (r : CellRun) → length d.cells + r.count ≤ 262144
     → add d (run_item r) ≡ Ok (record d { cells = d.cells ++ cells_of r })
 unfolding add
 run_added d r room =
@@ -242,7 +242,7 @@ run_added d r room =
     ∙ ap (λ b. cond b (Ok (record d { cells = d.cells ++ cells_of r })) (Err fault.Limit))
     (le-leb (length d.cells + r.count) 262144 room)
 
-pub runs_added : (d : DraftValue) (rs : List Run) → length d.cells + length (flat_map cells_of rs) ≤ 262144
+pub runs_added : (d : DraftValue) (rs : List CellRun) → length d.cells + length (flat_map cells_of rs) ≤ 262144
     → add_all d (map run_item rs) ≡ Ok (record d { cells = d.cells ++ flat_map cells_of rs })
 runs_added d [] room = ap (with_data d) (sym (append-nil d.cells))
 runs_added d (r ∷ rs) room =
@@ -254,6 +254,6 @@ runs_added d (r ∷ rs) room =
     ∙ runs_added f rs (omega arith)
     ∙ ap (with_data d) (append_assoc d.cells (cells_of r) (flat_map cells_of rs))
 
-pub runs_count : (rs : List Run) → count_items (map run_item rs) ≡ 0
+pub runs_count : (rs : List CellRun) → count_items (map run_item rs) ≡ 0
 runs_count [] = refl
 runs_count (r ∷ rs) = let rest = runs_count rs in omega arith

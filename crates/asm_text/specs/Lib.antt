@@ -7,3 +7,6 @@ pub mod Sources
 pub mod Runs
 pub mod Listing
 pub mod Laws
+pub mod LabelLaws
+pub mod FaultLaws
+pub mod DataLaws

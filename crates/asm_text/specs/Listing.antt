@@ -5,7 +5,7 @@ use Rattle.tag_memory.specs.Cell.{tag_number}
 use Rattle.image_file.specs.ImageValue.{ImageValue}
 use Rattle.listing_line.specs.WordText.{word_line}
 use Rattle.listing_line.specs.DirectiveLines.{profile_line, slim_line, retry_line, trap_line, entry_line, fill_line}
-use Rattle.asm_text.specs.Runs.{Run, runs}
+use Rattle.asm_text.specs.Runs.{CellRun, cell_runs}
 
 -- no line where there is no trap entry
 abbrev pub trap_lines : ℕ → List (List ℕ)
@@ -19,13 +19,13 @@ abbrev pub word_lines : ℕ → List ℕ → List (List ℕ)
 word_lines place [] = []
 word_lines place (w ∷ ws) = word_line place w ∷ word_lines (place + 1) ws
 
-abbrev pub cell_run_line : Run → List ℕ
+abbrev pub cell_run_line : CellRun → List ℕ
 cell_run_line r = fill_line r.count r.cell.value (tag_number r.cell)
 
 -- the lines, without their ends
 unfoldable pub listing_lines : ImageValue → List (List ℕ)
 listing_lines i =
-    setting_lines i ++ (map entry_line i.entries ++ (word_lines 0 i.program ++ map cell_run_line (runs i.cells)))
+    setting_lines i ++ (map entry_line i.entries ++ (word_lines 0 i.program ++ map cell_run_line (cell_runs i.cells)))
 
 abbrev pub with_line_end : List ℕ → List ℕ
 with_line_end line = line ++ codes "\n"

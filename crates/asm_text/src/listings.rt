@@ -7,15 +7,16 @@ ghost use Rattle.image_file.specs.ImageValue.{IsWithin};
 ghost use Rattle.listing_line.specs.DirectiveLines.{profile_line, slim_line, retry_line, number_line};
 ghost use Rattle.listing_line.specs.DirectiveLines.{entry_line, fill_line};
 ghost use Rattle.asm_text.specs.Sources.{Means};
-ghost use Rattle.asm_text.specs.Runs.{runs};
-ghost use Rattle.asm_text.specs.Listing.{setting_lines, trap_lines, word_lines, cell_run_line, text_of_lines, with_line_end, listing};
+ghost use Rattle.asm_text.specs.Runs.{cell_runs};
+ghost use Rattle.asm_text.specs.Listing.{setting_lines, trap_lines, word_lines, cell_run_line};
+ghost use Rattle.asm_text.specs.Listing.{text_of_lines, with_line_end, listing};
 
 use crate::laws::listings_are_read_back;
 use crate::runs::first_run;
 use asm_line::{Directive, names};
 use image_file::Image;
 use listing_line::push_word_line;
-use number_text::Hexadecimal;
+use number_text::push_hexadecimal_16;
 use std::alloc::{AllocError, Global};
 use std::fmt::Write;
 use tag_memory::Word;
@@ -84,7 +85,8 @@ fn push_trap(text: &mut String, trap: u32) -> Result<(), AllocError>
 
 /// Appends a directive that has one number.
 fn push_number(text: &mut String, directive: Directive, number: u32) -> Result<(), AllocError>
-    ensures { OnOk result (string_bytes text.new ≡ string_bytes text.old ++ with_line_end (number_line directive number)) }
+    ensures { OnOk result (string_bytes text.new
+        ≡ string_bytes text.old ++ with_line_end (number_line directive number)) }
 {
     let name = names::directive(directive);
     writeln!(text, "{name} {number}")
@@ -133,7 +135,7 @@ fn words_fit(words: &[u64])
 /// Appends the runs of equal cells.
 fn push_cells(text: &mut String, cells: &[Word]) -> Result<(), AllocError>
     ensures is { OnOk result (string_bytes text.new ≡ string_bytes text.old
-        ++ text_of_lines (map cell_run_line (runs cells.now))) }
+        ++ text_of_lines (map cell_run_line (cell_runs cells.now))) }
     ensures fit { OnOk result (All (λ c. c.value < 2 ^ 64) cells.now) }
 {
     let mut rest = cells;
@@ -151,7 +153,9 @@ fn push_run(text: &mut String, count: usize, cell: &Word) -> Result<(), AllocErr
     ensures fits { cell.now.value < 2 ^ 64 }
 {
     let name = names::directive(Directive::Fill);
-    let value = Hexadecimal(cell.value());
+    let value = cell.value();
     let tags = cell.tag_number();
-    writeln!(text, "{name} {count}, 0x{value}, {tags}")
+    write!(text, "{name} {count}, 0x")?;
+    push_hexadecimal_16(text, value)?;
+    writeln!(text, ", {tags}")
 }

@@ -4,24 +4,6 @@ use insn_word::ArithmeticOp;
 use number_text::read_hexadecimal;
 use stream_core::{Code, alu};
 
-/// The operations that make a result.
-const OPERATIONS: [ArithmeticOp; 14] = [
-    ArithmeticOp::Add,
-    ArithmeticOp::Sub,
-    ArithmeticOp::Mul,
-    ArithmeticOp::And,
-    ArithmeticOp::Or,
-    ArithmeticOp::Xor,
-    ArithmeticOp::AndNot,
-    ArithmeticOp::ShiftLeft,
-    ArithmeticOp::ShiftRight,
-    ArithmeticOp::ShiftRightSigned,
-    ArithmeticOp::Tally,
-    ArithmeticOp::LessSigned,
-    ArithmeticOp::LessUnsigned,
-    ArithmeticOp::Pointer,
-];
-
 /// Whether the line's operation makes the result and the code's number at its end.
 pub(crate) fn is_computed(line: &str) -> bool {
     agrees(line).unwrap_or(false)
@@ -35,21 +17,22 @@ fn agrees(line: &str) -> Option<bool> {
     let b = read_hexadecimal(fields.next()?.as_bytes())?;
     let result = read_hexadecimal(fields.next()?.as_bytes())?;
     let code = fields.next()?.parse::<u8>().ok()?;
-    let (value, made) = alu(op, a, b);
-    Some(value == result && number(made) == code && fields.next().is_none())
+    Some(alu(op, a, b) == (result, code_of(code)) && code < 16 && fields.next().is_none())
 }
 
-/// The code's four bits as a number: Z is 1, N 2, C 4, V 8.
-fn number(code: Code) -> u8 {
-    u8::from(code.zero)
-        + u8::from(code.negative) * 2
-        + u8::from(code.carry) * 4
-        + u8::from(code.overflow) * 8
+/// The code of a number: Z is 1, N 2, C 4, V 8.
+pub(crate) fn code_of(number: u8) -> Code {
+    Code {
+        zero: number & 1 == 1,
+        negative: number & 2 == 2,
+        carry: number & 4 == 4,
+        overflow: number & 8 == 8,
+    }
 }
 
-/// The operation with this name that makes a result; None where there is none.
+/// The operation with this name that makes a result, so not NOP, the first; None where there is none.
 fn arithmetic_op(name: &str) -> Option<ArithmeticOp> {
-    OPERATIONS
+    ArithmeticOp::ALL[1..]
         .iter()
         .copied()
         .find(|op| names::arithmetic(*op) == name)

@@ -2,10 +2,21 @@
 #![tactic(auto)]
 
 mod arithmetic;
+mod commands;
+mod conditions;
+mod escapes;
+mod fields;
+mod images;
 mod instruction_words;
+mod memory_requests;
+mod numbers;
 mod programs;
-#[cfg(test)]
-mod tests;
+mod schedules;
+mod source_lines;
+mod sources;
+mod stream_steps;
+mod streams;
+mod text_vectors;
 mod vectors;
 
 use anyhow::{Context, Result};

@@ -23,8 +23,8 @@ const EXAMPLES: [&str; 12] = [
     "forwarding.trapped",
 ];
 
-/// Runs that show single rows of the operation table: retries, counts of streams, and traps.
-const ROWS: [&str; 10] = [
+/// Runs that show single rows of the operation table: retries, counts of streams, starts and ends, and traps.
+const ROWS: [&str; 22] = [
     "undecodable_word",
     "trap_after_retries",
     "no_retry_limit",
@@ -32,9 +32,21 @@ const ROWS: [&str; 10] = [
     "create_to_slim",
     "create_to_largest_slim",
     "trap_in_handler",
+    "return_past_trap.trapped",
     "return_past_trap.back",
     "return_past_trap.ends",
     "trap_before_store",
+    "quit.before",
+    "quit.ends",
+    "quit_keeps",
+    "blocked_quit",
+    "blocked_reserve",
+    "lowest_idle",
+    "entries",
+    "shared_word",
+    "mask",
+    "illegal_alone",
+    "past_the_end",
 ];
 
 /// Compares the runs of both folders.

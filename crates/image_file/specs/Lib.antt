@@ -1,4 +1,5 @@
--- The definitions, in the order of reading: an image, the bytes that stand for it, and the first fault of parts and bytes.
+-- The definitions, in the order of reading: an image, the bytes that stand for it, and the first fault of parts and
+-- bytes.
 pub mod ImageValue
 pub mod Same
 pub mod Fields

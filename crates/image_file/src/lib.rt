@@ -17,6 +17,3 @@ pub use image::Image;
 pub use laws::image_bytes_laws;
 pub use reading::read_image;
 pub use writing::write_image;
-
-#[cfg(test)]
-mod tests;

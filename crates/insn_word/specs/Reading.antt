@@ -2,8 +2,10 @@
 -- and the result counts where it is spelt by the word again. Definitions that fold over runs go by it.
 use Rattle.std.specs.Prelude.{◌≡◌, ◌↔◌, ℕ, ◌-◌, ◌/◌, ◌%◌, ◌^◌, ◌==◌, ℤ, pos, negsuc}
 use Rattle.std.specs.Prelude.{Bool, true, not, ◌&&◌, ◌||◌, nat_lt, if◌then◌else◌}
-use Rattle.std.specs.Prelude.{List, [], ◌∷◌, Option, Some, None, slice_index_or}
+use Rattle.std.specs.Prelude.{Option, Some, None, slice_index_or}
 use Rattle.insn_word.specs.Fields.{number_of_fields}
+use Rattle.insn_word.specs.Operations.{wide_operations, memory_operations, accesses, arithmetic_operations}
+use Rattle.insn_word.specs.Operations.{control_operations, conditions}
 use Rattle.insn_word.specs.Words.{fields, used_memory, used_arithmetic, only_control, Spells}
 use Rattle.insn_word.specs.Words.{memory_destination, arithmetic_destination, control_destination}
 use Rattle.insn_word.specs.declared.operations.WideOp.{WideOp}
@@ -24,51 +26,22 @@ use Rattle.insn_word.specs.declared.insn.CPart.{CPart}
 use Rattle.insn_word.specs.declared.insn.Insn.{Insn}
 use Rattle.insn_word.specs.declared.insn.Insn.TheVariants as insn
 
--- The operations in the order of their numbers. A number past the end reads as the first one, which the test at the
--- end refuses.
+-- The operation of a number. A number past the end reads as the first one, which the test at the end refuses.
 
 abbrev pub wide_read : ℕ → WideOp
-wide_read n = slice_index_or (wide.Literal ∷ wide.LiteralHigh ∷ wide.TargetLiteral ∷ []) n wide.Literal
-
-abbrev pub memory_operations : List MemoryOp
-memory_operations =
-    memory.Nop ∷ memory.Load ∷ memory.Store ∷ memory.FetchAdd ∷ memory.TagGet ∷ memory.TagSet ∷ []
+wide_read n = slice_index_or wide_operations n wide.Literal
 
 abbrev pub memory_read : ℕ → MemoryOp
 memory_read n = slice_index_or memory_operations n memory.Nop
 
-abbrev pub accesses : List Access
-accesses =
-    access.FromPointer ∷ access.Normal ∷ access.Future ∷ access.Sync ∷ []
-
 abbrev pub access_read : ℕ → Access
 access_read n = slice_index_or accesses n access.FromPointer
-
-abbrev pub arithmetic_operations : List ArithmeticOp
-arithmetic_operations =
-    arithmetic.Nop ∷ arithmetic.Add ∷ arithmetic.Sub ∷ arithmetic.Mul ∷ arithmetic.And ∷ arithmetic.Or
-    ∷ arithmetic.Xor ∷ arithmetic.AndNot ∷ arithmetic.ShiftLeft ∷ arithmetic.ShiftRight
-    ∷ arithmetic.ShiftRightSigned ∷ arithmetic.Tally ∷ arithmetic.LessSigned ∷ arithmetic.LessUnsigned
-    ∷ arithmetic.Pointer ∷ []
 
 abbrev pub arithmetic_read : ℕ → ArithmeticOp
 arithmetic_read n = slice_index_or arithmetic_operations n arithmetic.Nop
 
-abbrev pub control_operations : List ControlOp
-control_operations =
-    control.Nop ∷ control.Jump ∷ control.Skip ∷ control.Call ∷ control.Exchange ∷ control.TargetSet
-    ∷ control.TargetGet ∷ control.TrapGet ∷ control.Reserve ∷ control.Create ∷ control.Quit ∷ control.QuitKeep
-    ∷ control.Mask ∷ []
-
 abbrev pub control_read : ℕ → ControlOp
 control_read n = slice_index_or control_operations n control.Nop
-
-abbrev pub conditions : List Condition
-conditions =
-    condition.Always ∷ condition.Equal ∷ condition.NotEqual ∷ condition.Less ∷ condition.GreaterEqual
-    ∷ condition.LessEqual ∷ condition.Greater ∷ condition.LessUnsigned ∷ condition.GreaterEqualUnsigned
-    ∷ condition.LessEqualUnsigned ∷ condition.GreaterUnsigned ∷ condition.Negative ∷ condition.Positive
-    ∷ condition.Overflow ∷ condition.NoOverflow ∷ []
 
 abbrev pub condition_read : ℕ → Condition
 condition_read n = slice_index_or conditions n condition.Always

@@ -22,8 +22,9 @@ use Rattle.insn_word.specs.declared.insn.Insn.TheVariants as insn
 -- Fields, the most significant first.
 
 abbrev pub register_fields : WideOp → ℕ → List Field
+register_fields wide.Literal reg = unsigned 5 reg ∷ []
+register_fields wide.LiteralHigh reg = unsigned 5 reg ∷ []
 register_fields wide.TargetLiteral reg = zeros 2 ∷ unsigned 3 reg ∷ []
-register_fields _ reg = unsigned 5 reg ∷ []
 
 abbrev pub memory_fields : MPart → List Field
 memory_fields m =
@@ -68,17 +69,31 @@ memory_nop = record { op = memory.Nop; acc = access.FromPointer; rd = 0; base = 
 
 abbrev pub used_memory : MemoryOp → MPart → MPart
 used_memory memory.Nop m = memory_nop
+used_memory memory.Load m = m
+used_memory memory.Store m = m
+used_memory memory.FetchAdd m = m
 used_memory memory.TagGet m = record m { acc = access.FromPointer }
 used_memory memory.TagSet m = record m { acc = access.FromPointer }
-used_memory _ m = m
 
 abbrev pub arithmetic_nop : APart
 arithmetic_nop = record { op = arithmetic.Nop; test = false; imm = false; rd = 0; ra = 0; rb = 0 }
 
 abbrev pub used_arithmetic : ArithmeticOp → APart → APart
 used_arithmetic arithmetic.Nop a = arithmetic_nop
+used_arithmetic arithmetic.Add a = a
+used_arithmetic arithmetic.Sub a = a
+used_arithmetic arithmetic.Mul a = a
+used_arithmetic arithmetic.And a = a
+used_arithmetic arithmetic.Or a = a
+used_arithmetic arithmetic.Xor a = a
+used_arithmetic arithmetic.AndNot a = a
+used_arithmetic arithmetic.ShiftLeft a = a
+used_arithmetic arithmetic.ShiftRight a = a
+used_arithmetic arithmetic.ShiftRightSigned a = a
 used_arithmetic arithmetic.Tally a = record a { imm = false; rb = 0 }
-used_arithmetic _ a = a
+used_arithmetic arithmetic.LessSigned a = a
+used_arithmetic arithmetic.LessUnsigned a = a
+used_arithmetic arithmetic.Pointer a = a
 
 abbrev pub only_control : ControlOp → CPart
 only_control op = record { op = op; cond = condition.Always; code = 0; t = 0; u = 0; rd = 0; ra = 0; n = pos 0 }
@@ -108,20 +123,44 @@ RestIsZero (insn.Normal look m a c) =
 -- The register that an operation with this rd writes, and 0 where it writes none.
 
 abbrev pub memory_destination : MemoryOp → ℕ → ℕ
+memory_destination memory.Nop rd = 0
 memory_destination memory.Load rd = rd
+memory_destination memory.Store rd = 0
 memory_destination memory.FetchAdd rd = rd
 memory_destination memory.TagGet rd = rd
-memory_destination _ rd = 0
+memory_destination memory.TagSet rd = 0
 
 abbrev pub arithmetic_destination : ArithmeticOp → ℕ → ℕ
 arithmetic_destination arithmetic.Nop rd = 0
-arithmetic_destination _ rd = rd
+arithmetic_destination arithmetic.Add rd = rd
+arithmetic_destination arithmetic.Sub rd = rd
+arithmetic_destination arithmetic.Mul rd = rd
+arithmetic_destination arithmetic.And rd = rd
+arithmetic_destination arithmetic.Or rd = rd
+arithmetic_destination arithmetic.Xor rd = rd
+arithmetic_destination arithmetic.AndNot rd = rd
+arithmetic_destination arithmetic.ShiftLeft rd = rd
+arithmetic_destination arithmetic.ShiftRight rd = rd
+arithmetic_destination arithmetic.ShiftRightSigned rd = rd
+arithmetic_destination arithmetic.Tally rd = rd
+arithmetic_destination arithmetic.LessSigned rd = rd
+arithmetic_destination arithmetic.LessUnsigned rd = rd
+arithmetic_destination arithmetic.Pointer rd = rd
 
 abbrev pub control_destination : ControlOp → ℕ → ℕ
+control_destination control.Nop rd = 0
+control_destination control.Jump rd = 0
+control_destination control.Skip rd = 0
+control_destination control.Call rd = 0
+control_destination control.Exchange rd = 0
+control_destination control.TargetSet rd = 0
 control_destination control.TargetGet rd = rd
 control_destination control.TrapGet rd = rd
 control_destination control.Reserve rd = rd
-control_destination _ rd = 0
+control_destination control.Create rd = 0
+control_destination control.Quit rd = 0
+control_destination control.QuitKeep rd = 0
+control_destination control.Mask rd = 0
 
 -- If two registers are one, it is r0.
 abbrev pub AreApart : ℕ → ℕ → Type 0

@@ -6,8 +6,6 @@ mod insn;
 mod laws;
 mod operations;
 mod parts;
-#[cfg(test)]
-mod tests;
 mod words;
 
 pub use insn::{APart, CPart, Insn, MPart};

@@ -4,7 +4,7 @@ ghost use Rattle.std.specs.Prelude.{◌≡◌, ◌≤◌, IfSome, IfNone};
 ghost use Rattle.insn_word.specs.Operations.{wide_number, memory_number, access_number};
 ghost use Rattle.insn_word.specs.Operations.{arithmetic_number, control_number, condition_number};
 
-/// The operations of wide words.
+/// The operations of wide words ("Wide operations", docs/MACHINE.md).
 #[derive(Clone, Copy, Debug, PartialEq, Eq)]
 pub enum WideOp {
     /// LIT: the register becomes the immediate.
@@ -35,12 +35,15 @@ impl WideOp {
             _ => None,
         }
     }
+
+    /// All wide operations, in the order of their numbers.
+    pub const ALL: [WideOp; 3] = [WideOp::Literal, WideOp::LiteralHigh, WideOp::TargetLiteral];
 }
 
-/// The memory operations of normal words.
+/// The memory operations of normal words ("Memory operations", docs/MACHINE.md).
 #[derive(Clone, Copy, Debug, PartialEq, Eq)]
 pub enum MemoryOp {
-    /// No memory operation.
+    /// NOP: no memory operation.
     Nop = 0,
     /// LOAD: `rd` becomes the word.
     Load = 1,
@@ -77,9 +80,19 @@ impl MemoryOp {
             _ => None,
         }
     }
+
+    /// All memory operations, in the order of their numbers.
+    pub const ALL: [MemoryOp; 6] = [
+        MemoryOp::Nop,
+        MemoryOp::Load,
+        MemoryOp::Store,
+        MemoryOp::FetchAdd,
+        MemoryOp::TagGet,
+        MemoryOp::TagSet,
+    ];
 }
 
-/// Which control a memory operation obeys.
+/// Which control a memory operation obeys ("The full/empty table", docs/MACHINE.md).
 #[derive(Clone, Copy, Debug, PartialEq, Eq)]
 pub enum Access {
     /// The control that the pointer carries.
@@ -113,12 +126,21 @@ impl Access {
             _ => None,
         }
     }
+
+    /// All accesses, in the order of their numbers.
+    pub const ALL: [Access; 4] = [
+        Access::FromPointer,
+        Access::Normal,
+        Access::Future,
+        Access::Sync,
+    ];
 }
 
-/// The arithmetic operations of normal words. `a` is the first operand, `b` the second.
+/// The arithmetic operations of normal words ("Arithmetic operations", docs/MACHINE.md). `a` is the first operand,
+/// `b` the second; results are modulo 2^64.
 #[derive(Clone, Copy, Debug, PartialEq, Eq)]
 pub enum ArithmeticOp {
-    /// No arithmetic operation.
+    /// NOP: no arithmetic operation.
     Nop = 0,
     /// ADD: `a + b`.
     Add = 1,
@@ -134,11 +156,11 @@ pub enum ArithmeticOp {
     Xor = 6,
     /// ANDN: `a` and not `b`, bit by bit.
     AndNot = 7,
-    /// SHL: `a` shifted left by `b`, zeros in.
+    /// SHL: `a` shifted left by `b`, zeros in; 0 where `b` is 64 or more.
     ShiftLeft = 8,
-    /// SHR: `a` shifted right by `b`, zeros in.
+    /// SHR: `a` shifted right by `b`, zeros in; 0 where `b` is 64 or more.
     ShiftRight = 9,
-    /// SAR: `a` shifted right by `b`, its sign in.
+    /// SAR: `a` shifted right by `b`, its sign in; nothing but signs where `b` is 64 or more.
     ShiftRightSigned = 10,
     /// TALLY: the number of ones in `a`.
     Tally = 11,
@@ -182,12 +204,31 @@ impl ArithmeticOp {
             _ => None,
         }
     }
+
+    /// All arithmetic operations, in the order of their numbers.
+    pub const ALL: [ArithmeticOp; 15] = [
+        ArithmeticOp::Nop,
+        ArithmeticOp::Add,
+        ArithmeticOp::Sub,
+        ArithmeticOp::Mul,
+        ArithmeticOp::And,
+        ArithmeticOp::Or,
+        ArithmeticOp::Xor,
+        ArithmeticOp::AndNot,
+        ArithmeticOp::ShiftLeft,
+        ArithmeticOp::ShiftRight,
+        ArithmeticOp::ShiftRightSigned,
+        ArithmeticOp::Tally,
+        ArithmeticOp::LessSigned,
+        ArithmeticOp::LessUnsigned,
+        ArithmeticOp::Pointer,
+    ];
 }
 
-/// The control operations of normal words.
+/// The control operations of normal words ("Control operations", docs/MACHINE.md).
 #[derive(Clone, Copy, Debug, PartialEq, Eq)]
 pub enum ControlOp {
-    /// No control operation: on to the next word.
+    /// NOP: no control operation; on to the next word.
     Nop = 0,
     /// JUMP: where the condition holds, to the pc of target `t`.
     Jump = 1,
@@ -207,9 +248,9 @@ pub enum ControlOp {
     Reserve = 8,
     /// CREATE: starts a stream at the pc of target `t` with the value of `ra`.
     Create = 9,
-    /// QUIT: ends the stream and gives its reservation back.
+    /// QUIT: the stream becomes idle, its reservation is given back.
     Quit = 10,
-    /// QUITP: ends the stream and keeps its reservation.
+    /// QUITP: the stream becomes idle, its reservation is kept.
     QuitKeep = 11,
     /// MASK: the trap mask becomes `n`.
     Mask = 12,
@@ -245,12 +286,29 @@ impl ControlOp {
             _ => None,
         }
     }
+
+    /// All control operations, in the order of their numbers.
+    pub const ALL: [ControlOp; 13] = [
+        ControlOp::Nop,
+        ControlOp::Jump,
+        ControlOp::Skip,
+        ControlOp::Call,
+        ControlOp::Exchange,
+        ControlOp::TargetSet,
+        ControlOp::TargetGet,
+        ControlOp::TrapGet,
+        ControlOp::Reserve,
+        ControlOp::Create,
+        ControlOp::Quit,
+        ControlOp::QuitKeep,
+        ControlOp::Mask,
+    ];
 }
 
-/// Conditions on a condition code.
+/// Conditions on a condition code ("Conditions", docs/MACHINE.md).
 #[derive(Clone, Copy, Debug, PartialEq, Eq)]
 pub enum Condition {
-    /// ALWAYS.
+    /// ALWAYS: on each code.
     Always = 0,
     /// EQ: the result is zero.
     Equal = 1,
@@ -314,4 +372,23 @@ impl Condition {
             _ => None,
         }
     }
+
+    /// All conditions, in the order of their numbers.
+    pub const ALL: [Condition; 15] = [
+        Condition::Always,
+        Condition::Equal,
+        Condition::NotEqual,
+        Condition::Less,
+        Condition::GreaterEqual,
+        Condition::LessEqual,
+        Condition::Greater,
+        Condition::LessUnsigned,
+        Condition::GreaterEqualUnsigned,
+        Condition::LessEqualUnsigned,
+        Condition::GreaterUnsigned,
+        Condition::Negative,
+        Condition::Positive,
+        Condition::Overflow,
+        Condition::NoOverflow,
+    ];
 }

@@ -10,6 +10,36 @@ ghost use Rattle.insn_word.specs.declared.insn.Insn.{Insn};
 use crate::fields::{field, small_field, with_field};
 use crate::insn::{APart, CPart, Insn, MPart};
 use crate::operations::WideOp;
+use crate::parts::REGISTER_WIDTH;
+
+/// Bit 63: whether the word is wide.
+const WIDE_PLACE: u32 = 63;
+/// Bits 60 to 62: the lookahead.
+const LOOKAHEAD_PLACE: u32 = 60;
+
+const LOOKAHEAD_WIDTH: u32 = 3;
+/// Bits 57 to 59 of a wide word: the operation.
+const OPERATION_PLACE: u32 = 57;
+
+const OPERATION_WIDTH: u32 = 3;
+/// Bits 52 to 56 of a wide word: the register.
+const REGISTER_PLACE: u32 = 52;
+/// Bits 32 to 51 of a wide word: zero.
+const UNUSED_PLACE: u32 = 32;
+
+const UNUSED_WIDTH: u32 = 20;
+/// Bits 0 to 31 of a wide word: the immediate.
+const IMMEDIATE_WIDTH: u32 = 32;
+/// Bits 39 to 59 of a normal word: the memory part.
+const MEMORY_PLACE: u32 = 39;
+
+const MEMORY_WIDTH: u32 = 21;
+/// Bits 18 to 38 of a normal word: the arithmetic part.
+const ARITHMETIC_PLACE: u32 = 18;
+
+const ARITHMETIC_WIDTH: u32 = 21;
+/// Bits 0 to 17 of a normal word: the control part.
+const CONTROL_WIDTH: u32 = 18;
 
 impl Insn {
     /// Whether some word spells the instruction: each field is in its range, each unused field is
@@ -29,15 +59,15 @@ impl Insn {
     {
         match self {
             Insn::Wide { look, op, reg, imm } => {
-                let bits = with_field(1, 3, u64::from(*look));
-                let bits = with_field(bits, 3, op.number());
-                let bits = with_field(bits, 5, u64::from(*reg));
-                with_field(bits, 52, u64::from(*imm))
+                let bits = with_field(1, LOOKAHEAD_WIDTH, u64::from(*look));
+                let bits = with_field(bits, OPERATION_WIDTH, op.number());
+                let bits = with_field(bits, REGISTER_WIDTH, u64::from(*reg));
+                with_field(bits, REGISTER_PLACE, u64::from(*imm))
             }
             Insn::Normal { look, m, a, c } => {
-                let bits = with_field(u64::from(*look), 21, m.bits());
-                let bits = with_field(bits, 21, a.bits());
-                with_field(bits, 18, c.bits())
+                let bits = with_field(u64::from(*look), MEMORY_WIDTH, m.bits());
+                let bits = with_field(bits, ARITHMETIC_WIDTH, a.bits());
+                with_field(bits, CONTROL_WIDTH, c.bits())
             }
         }
     }
@@ -67,7 +97,7 @@ pub fn decode(word: u64) -> Option<Insn>
 fn read_parts(word: u64) -> Option<Insn>
     ensures { (i : Insn) → (result ≡ Some i) ↔ Holds word i }
 {
-    if word < 1 << 63 {
+    if word < 1 << WIDE_PLACE {
         decode_normal(word)
     } else {
         decode_wide(word)
@@ -78,17 +108,20 @@ fn decode_wide(word: u64) -> Option<Insn>
     requires { 2 ^ 63 ≤ word }
     ensures { (i : Insn) → (result ≡ Some i) ↔ Holds word i }
 {
-    let op = WideOp::from_number(field(word, 57, 3))?;
-    let reg = small_field(word, 52, 5);
-    let is_target = op == WideOp::TargetLiteral;
-    if field(word, 32, 20) != 0 || is_target && reg >= 8 {
+    let op = WideOp::from_number(field(word, OPERATION_PLACE, OPERATION_WIDTH))?;
+    let reg = small_field(word, REGISTER_PLACE, REGISTER_WIDTH);
+    let register_count = match op {
+        WideOp::Literal | WideOp::LiteralHigh => 32,
+        WideOp::TargetLiteral => 8,
+    };
+    if field(word, UNUSED_PLACE, UNUSED_WIDTH) != 0 || reg >= register_count {
         return None;
     }
     Some(Insn::Wide {
-        look: small_field(word, 60, 3),
+        look: small_field(word, LOOKAHEAD_PLACE, LOOKAHEAD_WIDTH),
         op,
         reg,
-        imm: field(word, 0, 32) as u32,
+        imm: field(word, 0, IMMEDIATE_WIDTH) as u32,
     })
 }
 
@@ -96,12 +129,12 @@ fn decode_normal(word: u64) -> Option<Insn>
     requires { word < 2 ^ 63 }
     ensures { (i : Insn) → (result ≡ Some i) ↔ Holds word i }
 {
-    let m = MPart::from_bits(field(word, 39, 21))?;
-    let a = APart::from_bits(field(word, 18, 21))?;
-    let c = CPart::from_bits(field(word, 0, 18))?;
+    let m = MPart::from_bits(field(word, MEMORY_PLACE, MEMORY_WIDTH))?;
+    let a = APart::from_bits(field(word, ARITHMETIC_PLACE, ARITHMETIC_WIDTH))?;
+    let c = CPart::from_bits(field(word, 0, CONTROL_WIDTH))?;
     if write_apart(&m, &a, &c) {
         Some(Insn::Normal {
-            look: small_field(word, 60, 3),
+            look: small_field(word, LOOKAHEAD_PLACE, LOOKAHEAD_WIDTH),
             m,
             a,
             c,

@@ -3,7 +3,8 @@ use Rattle.std.proofs.Common.{◌≡◌, ℕ, Bool, true, false, not, ◌||◌, 
 use Rattle.std.proofs.Common.{get_or, map, refl, sym, append_assoc, true≢false}
 use Rattle.std.specs.Prelude.{◌==◌}
 use Rattle.std.specs.List.{list_all}
-use Rattle.asm_line.specs.Text.{trim, parts}
+use Rattle.asm_line.specs.Text.{trim}
+use Rattle.text_parts.specs.Parts.{parts}
 use Rattle.listing_line.specs.WordText.{bar_separated}
 use Rattle.listing_line.proofs.Bytes.{list_all-imp, list_all-both, lacks, split-at, split-lacks, Starts, IsTrimmed}
 use Rattle.listing_line.proofs.Bytes.{Ends-append, IsTrimmed-append}

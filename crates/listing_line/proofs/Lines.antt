@@ -1,20 +1,19 @@
 -- Printed lines are read back.
-use Rattle.std.proofs.Common.{◌≡◌, ℕ, ◌-◌, ◌<◌, ◌^◌, zero, suc, Bool, true, false, not, List, [], ◌∷◌, ◌++◌}
-use Rattle.std.proofs.Common.{length, get_or, replicate, refl, sym, ap, ◌∙◌, arith, append_assoc}
+use Rattle.std.proofs.Common.{◌≡◌, ℕ, ◌/◌, ◌%◌, ◌<◌, ◌^◌, zero, suc, Bool, true, false, not, List, [], ◌∷◌, ◌++◌}
+use Rattle.std.proofs.Common.{length, get_or, refl, sym, ap, ◌∙◌, arith, append_assoc}
 use Rattle.std.specs.Prelude.{◌==◌, codes, Option, Some, None, Ok}
 use Rattle.std.specs.List.{list_all}
 use Rattle.std.specs.Str.{bytes_eq}
-use Rattle.std.specs.Fmt.{decimal}
+use Rattle.std.specs.Fmt.{digit_glyph}
 use Rattle.std.proofs.lemmas.Bool.{and_from, le-ltb}
 use Rattle.std.proofs.lemmas.Bool.Decides.{nat_tests}
 use Rattle.insn_word.specs.Words.{Spells}
 use Rattle.insn_word.specs.Reading.{InstructionIsSpelt}
 use Rattle.insn_word.specs.Reading as reading
 use Rattle.insn_word.specs.declared.insn.Insn.{Insn}
-use Rattle.number_text.specs.Columns.{five_digits}
-use Rattle.number_text.specs.Digits.{hexadecimal_16}
+use Rattle.number_text.specs.Digits.{fixed_digits, hexadecimal_16, five_digits}
 use Rattle.number_text.specs.Laws.{HexadecimalReadsBack}
-use Rattle.asm_line.specs.Text.{text_after}
+use Rattle.text_parts.specs.Parts.{text_after}
 use Rattle.asm_line.specs.Names.{directive_name}
 use Rattle.asm_line.specs.Heads.{directive_of, directive_named}
 use Rattle.asm_line.specs.Operands.{Places}
@@ -29,9 +28,9 @@ use Rattle.listing_line.specs.WordText.{place_comment, word_line}
 use Rattle.listing_line.specs.Laws.{is_line_byte, IsReadAs, item_of, word_item, WordLinesReadBack}
 use Rattle.listing_line.proofs.Bytes.{list_all-imp, list_all-both, position-lacks, before-at, before-lacks, IsTrimmed}
 use Rattle.listing_line.proofs.Bytes.{trim-trimmed, trim-blank_behind}
-use Rattle.listing_line.proofs.Statements.{is_term, all_terms, term-atoms, atoms-ink, not_empty, some_bytes}
+use Rattle.listing_line.proofs.Statements.{is_term, all_terms, atoms-ink, not_empty, some_bytes}
 use Rattle.listing_line.proofs.Statements.{statement}
-use Rattle.listing_line.proofs.Numbers.{decimal-term, hexadecimal-digits, hexadecimal-atoms, digits_text-term}
+use Rattle.listing_line.proofs.Numbers.{hexadecimal-digits, hexadecimal-atoms, digits_text-term}
 use Rattle.listing_line.proofs.Numbers.{word_number-digits}
 use Rattle.listing_line.proofs.Joined.{is_print, ink-prints}
 use Rattle.listing_line.proofs.Instructions.{spelt-instruction}
@@ -142,24 +141,25 @@ directive-line d ops words added e reads =
 
 -- Program words.
 
-replicated : (p : ℕ → Bool) (k byte : ℕ) → p byte ≡ true → list_all p (replicate k byte) ≡ true
-replicated p zero byte h = refl
-replicated p (suc k) byte h = and_from (p byte) (list_all p (replicate k byte)) h (replicated p k byte h)
+glyph-one_line : (d : ℕ) → d < 10 → list_all is_line_byte (digit_glyph true d ∷ []) ≡ true
+glyph-one_line d small = grind (arith, nat_tests)
+
+digits-one_line : (count n : ℕ) → list_all is_line_byte (fixed_digits 10 count n) ≡ true
+unfolding fixed_digits
+digits-one_line zero n = refl
+digits-one_line (suc k) n =
+    list_all-both is_line_byte (fixed_digits 10 k (n / 10)) (digit_glyph true (n % 10) ∷ [])
+    (digits-one_line k (n / 10)) (glyph-one_line (n % 10) (omega arith))
 
 comment-one_line : HexadecimalReadsBack → (place word : ℕ) → place < 2 ^ 16 → word < 2 ^ 64
     → list_all is_line_byte (place_comment place word) ≡ true
 unfolding place_comment
 comment-one_line law place word h k =
-    let number = decimal place in
-    let digits = atoms-ink number (term-atoms number (decimal-term place (omega arith))) in
-    let front = replicate (5 - length number) 48 in
-    let places = list_all-both is_line_byte front number (replicated is_line_byte (5 - length number) 48 refl)
-    (prints-one_line number (ink-prints number digits)) in
     let word_digits = hexadecimal_16 word in
     let printed = prints-one_line word_digits
     (ink-prints word_digits
     (atoms-ink word_digits (hexadecimal-atoms word_digits word (hexadecimal-digits law word k)))) in
-    list_all-both is_line_byte (five_digits place) (32 ∷ word_digits) places printed
+    list_all-both is_line_byte (five_digits place) (32 ∷ word_digits) (digits-one_line 5 place) printed
 
 comment-cut : (text : List ℕ) (place word : ℕ) → IsShown text
     → line (text ++ place_comment place word) ≡ record { label = None; statement = text }

@@ -10,10 +10,10 @@ use Rattle.std.proofs.lemmas.Bool.{and_parts, and_from, and_left, and_right, lt-
 use Rattle.std.proofs.lemmas.Bool.Decides.{nat_tests}
 use Rattle.std.proofs.lemmas.Fmt.{decimal_by_steps, decimal_nonempty, decimal_is_IsNumeral}
 use Rattle.number_text.specs.Digits.{hexadecimal_16}
-use Rattle.number_text.specs.Reading.{hexadecimal_word, number_of_digits}
+use Rattle.number_text.specs.Reading.{are_digits, number_of_digits, number_of_text, hexadecimal_word}
 use Rattle.number_text.specs.Laws.{HexadecimalReadsBack}
 use Rattle.asm_line.specs.Text.{is_name, is_first, is_further}
-use Rattle.asm_line.specs.Numbers.{are_digits, number_of_text, number_within, count_within}
+use Rattle.asm_line.specs.Numbers.{number_within, count_within}
 use Rattle.asm_line.specs.Operands.{Places, value_within}
 use Rattle.asm_line.specs.Parts.{immediate}
 use Rattle.asm_line.specs.Directives.{word_number}
@@ -72,15 +72,15 @@ Digits-no_prefix (x ∷ y ∷ ys) d =
     let other = digit-no_x y (and_parts (is_decimal y) (list_all is_decimal ys) two.1).0 in
     and_right (nat_eq 48 x) (nat_eq 120 y && true) (and_left (nat_eq 120 y) true other)
 
-Digits-number : (xs : List ℕ) → Digits xs → number_of_text xs ≡ Ok (digits_value 10 xs)
-unfolding number_of_text
+Digits-number : (xs : List ℕ) → Digits xs → number_of_text xs ≡ Some (digits_value 10 xs)
+unfolding number_of_text number_of_digits
 Digits-number xs d = rw (Digits-no_prefix xs d, Digits-are_digits xs d)
 
 decimal-value : (n : ℕ) → n < 2 ^ 64 → digits_value 10 (decimal n) ≡ n
 decimal-value n h = (decimal_is_IsNumeral n h).1
 
-pub number-decimal : (n : ℕ) → n < 2 ^ 64 → number_of_text (decimal n) ≡ Ok n
-number-decimal n h = Digits-number (decimal n) (decimal-Digits n h) ∙ ap Ok (decimal-value n h)
+pub number-decimal : (n : ℕ) → n < 2 ^ 64 → number_of_text (decimal n) ≡ Some n
+number-decimal n h = Digits-number (decimal n) (decimal-Digits n h) ∙ ap Some (decimal-value n h)
 
 pub number_within-decimal : (most n : ℕ) → n < 2 ^ 64 → n ≤ most → number_within most (decimal n) ≡ Ok n
 unfolding number_within
@@ -144,6 +144,6 @@ pub digits_text-term : HexadecimalReadsBack → (n : ℕ) → n < 2 ^ 64 → is_
 digits_text-term law n h = hexadecimal-atoms (hexadecimal_16 n) n (hexadecimal-digits law n h)
 
 pub word_number-digits : HexadecimalReadsBack → (n : ℕ) → n < 2 ^ 64 → word_number (digits_text n) ≡ Ok n
-unfolding word_number number_within number_of_text
+unfolding word_number number_within number_of_text number_of_digits
 word_number-digits law n h =
     let w = hexadecimal-digits law n h in rw (w.digits, w.value, le-leb n (2 ^ 64 - 1) (omega arith))

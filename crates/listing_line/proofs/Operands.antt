@@ -11,7 +11,8 @@ use Rattle.insn_word.specs.declared.operations.Condition.TheVariants as conditio
 use Rattle.asm_line.specs.Text.{is_name}
 use Rattle.asm_line.specs.Names.{condition_name}
 use Rattle.asm_line.specs.Heads.{condition_named}
-use Rattle.asm_line.specs.Numbers.{number_of_text, number_within, signed_within}
+use Rattle.number_text.specs.Reading.{number_of_digits, number_of_text}
+use Rattle.asm_line.specs.Numbers.{number_within, signed_within}
 use Rattle.asm_line.specs.Operands.{Places, register, target, offset, displacement, source_of, condition}
 use Rattle.asm_line.specs.declared.fault.Fault.{Fault}
 use Rattle.asm_line.specs.declared.operand.Source.{Source}
@@ -50,14 +51,14 @@ target-text n h =
     (agree_below_at (λ k. is_answer k (target (target_text k))) (λ _. true) 8 n refl h)
 
 pub code-text : (n : ℕ) → n < 4 → number_within 3 (decimal n) ≡ Ok n
-unfolding number_within number_of_text digits
+unfolding number_within number_of_text number_of_digits digits
 code-text n h =
     answered n (number_within 3 (decimal n))
     (agree_below_at (λ k. is_answer k (number_within 3 (decimal k))) (λ _. true) 4 n refl h)
 
 -- the mask of MASK, and the lookahead
 pub three_bits-text : (n : ℕ) → n < 8 → number_within 7 (decimal n) ≡ Ok n
-unfolding number_within number_of_text digits
+unfolding number_within number_of_text number_of_digits digits
 three_bits-text n h =
     answered n (number_within 7 (decimal n))
     (agree_below_at (λ k. is_answer k (number_within 7 (decimal k))) (λ _. true) 8 n refl h)
@@ -82,7 +83,7 @@ source_answered false n (Ok (source.Register m)) e = ap (λ k. Ok (source.Regist
 source_answered false n (Err f) e = absurd (true≢false (sym e))
 
 pub source-text : (b : Bool) (n : ℕ) → n < 32 → source_of (source_text b n) ≡ Ok (source_from b n)
-unfolding source_of register number_within number_of_text digits
+unfolding source_of register number_within number_of_text number_of_digits digits
 source-text true n h =
     source_answered true n (source_of (source_text true n))
     (agree_below_at (λ k. is_source true k (source_of (source_text true k))) (λ _. true) 32 n refl h)
@@ -93,7 +94,7 @@ source-text false n h =
 -- Signed numbers.
 
 pub displacement-text : (z : ℤ) → neg_ℤ (pos 32) ≤ℤ z → z <ℤ pos 32 → displacement (signed_decimal z) ≡ Ok z
-unfolding signed_within number_within number_of_text digits
+unfolding signed_within number_within number_of_text number_of_digits digits
 displacement-text (pos n) low high =
     int_answered (pos n) (displacement (signed_decimal (pos n)))
     (agree_below_at (λ k. is_int_answer (pos k) (displacement (signed_decimal (pos k)))) (λ _. true) 32 n refl
@@ -105,7 +106,7 @@ displacement-text (negsuc n) low high =
 
 pub offset-text : (places : Places) (here : ℕ) (z : ℤ) → neg_ℤ (pos 128) ≤ℤ z → z <ℤ pos 128
     → offset places here (signed_decimal z) ≡ Ok z
-unfolding offset is_name signed_within number_within number_of_text digits
+unfolding offset is_name signed_within number_within number_of_text number_of_digits digits
 offset-text places here (pos n) low high =
     int_answered (pos n) (offset places here (signed_decimal (pos n)))
     (agree_below_at (λ k. is_int_answer (pos k) (offset places here (signed_decimal (pos k)))) (λ _. true) 128 n refl

@@ -128,6 +128,7 @@ memory-text m h r u =
 
 arithmetic-terms : (op : ArithmeticOp) (a : APart) → a.rd < 32 → a.ra < 32 → a.rb < 32
     → all_terms (arithmetic_operands op a) ≡ true
+arithmetic-terms arithmetic.Nop a d e f = refl
 arithmetic-terms arithmetic.Tally a d e f =
     two-terms (register_text a.rd) (register_text a.ra) (register-term a.rd (omega arith))
     (register-term a.ra (omega arith))

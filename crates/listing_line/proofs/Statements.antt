@@ -6,7 +6,8 @@ use Rattle.std.specs.List.{list_all}
 use Rattle.std.proofs.lemmas.Bool.{and_parts, not-true, lt-ltb, ne_eqb}
 use Rattle.std.proofs.lemmas.Bool.Decides.{nat_tests}
 use Rattle.std.proofs.lemmas.List.{length-reverse}
-use Rattle.asm_line.specs.Text.{is_blank, trim, parts, head, behind_head, operands, operands_of}
+use Rattle.asm_line.specs.Text.{is_blank, trim, head, behind_head, operands, operands_of}
+use Rattle.text_parts.specs.Parts.{parts}
 use Rattle.listing_line.specs.WordText.{comma_separated, statement_text}
 use Rattle.listing_line.proofs.Bytes.{list_all-imp, list_all-both, list_all-reverse, lacks, before-at, before-lacks}
 use Rattle.listing_line.proofs.Bytes.{after-at, after-lacks}

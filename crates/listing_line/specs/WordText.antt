@@ -16,8 +16,7 @@ use Rattle.insn_word.specs.declared.insn.APart.{APart}
 use Rattle.insn_word.specs.declared.insn.CPart.{CPart}
 use Rattle.insn_word.specs.declared.insn.Insn.{Insn}
 use Rattle.insn_word.specs.declared.insn.Insn.TheVariants as insn
-use Rattle.number_text.specs.Columns.{five_digits}
-use Rattle.number_text.specs.Digits.{hexadecimal_16}
+use Rattle.number_text.specs.Digits.{hexadecimal_16, five_digits}
 use Rattle.asm_line.specs.Names.{wide_name, condition_name, operation_name, directive_name}
 use Rattle.asm_line.specs.declared.operation.Operation.TheVariants as operation
 use Rattle.asm_line.specs.declared.operation.Directive.TheVariants as directive
@@ -53,15 +52,33 @@ abbrev pub digits_text : ℕ → List ℕ
 digits_text word = codes "0x" ++ hexadecimal_16 word
 
 abbrev pub wide_operands : WideOp → ℕ → ℕ → List (List ℕ)
+wide_operands wide.Literal reg imm = register_text reg ∷ decimal imm ∷ []
+wide_operands wide.LiteralHigh reg imm = register_text reg ∷ decimal imm ∷ []
 wide_operands wide.TargetLiteral reg imm = target_text reg ∷ decimal imm ∷ []
-wide_operands _ reg imm = register_text reg ∷ decimal imm ∷ []
 
 abbrev pub memory_operands : MPart → List (List ℕ)
 memory_operands m = register_text m.rd ∷ register_text m.base ∷ signed_decimal m.disp ∷ []
 
+-- a destination, a register, and a register or number
+abbrev pub operands_of_two : APart → List (List ℕ)
+operands_of_two a = register_text a.rd ∷ register_text a.ra ∷ source_text a.imm a.rb ∷ []
+
 abbrev pub arithmetic_operands : ArithmeticOp → APart → List (List ℕ)
+arithmetic_operands arithmetic.Nop a = []
+arithmetic_operands arithmetic.Add a = operands_of_two a
+arithmetic_operands arithmetic.Sub a = operands_of_two a
+arithmetic_operands arithmetic.Mul a = operands_of_two a
+arithmetic_operands arithmetic.And a = operands_of_two a
+arithmetic_operands arithmetic.Or a = operands_of_two a
+arithmetic_operands arithmetic.Xor a = operands_of_two a
+arithmetic_operands arithmetic.AndNot a = operands_of_two a
+arithmetic_operands arithmetic.ShiftLeft a = operands_of_two a
+arithmetic_operands arithmetic.ShiftRight a = operands_of_two a
+arithmetic_operands arithmetic.ShiftRightSigned a = operands_of_two a
 arithmetic_operands arithmetic.Tally a = register_text a.rd ∷ register_text a.ra ∷ []
-arithmetic_operands _ a = register_text a.rd ∷ register_text a.ra ∷ source_text a.imm a.rb ∷ []
+arithmetic_operands arithmetic.LessSigned a = operands_of_two a
+arithmetic_operands arithmetic.LessUnsigned a = operands_of_two a
+arithmetic_operands arithmetic.Pointer a = operands_of_two a
 
 abbrev pub control_operands : ControlOp → CPart → List (List ℕ)
 control_operands control.Nop c = []
@@ -96,15 +113,43 @@ control_text c = statement_text (operation_name (operation.Control c.op)) (contr
 
 abbrev pub is_no_memory : MemoryOp → Bool
 is_no_memory memory.Nop = true
-is_no_memory _ = false
+is_no_memory memory.Load = false
+is_no_memory memory.Store = false
+is_no_memory memory.FetchAdd = false
+is_no_memory memory.TagGet = false
+is_no_memory memory.TagSet = false
 
 abbrev pub is_no_arithmetic : ArithmeticOp → Bool
 is_no_arithmetic arithmetic.Nop = true
-is_no_arithmetic _ = false
+is_no_arithmetic arithmetic.Add = false
+is_no_arithmetic arithmetic.Sub = false
+is_no_arithmetic arithmetic.Mul = false
+is_no_arithmetic arithmetic.And = false
+is_no_arithmetic arithmetic.Or = false
+is_no_arithmetic arithmetic.Xor = false
+is_no_arithmetic arithmetic.AndNot = false
+is_no_arithmetic arithmetic.ShiftLeft = false
+is_no_arithmetic arithmetic.ShiftRight = false
+is_no_arithmetic arithmetic.ShiftRightSigned = false
+is_no_arithmetic arithmetic.Tally = false
+is_no_arithmetic arithmetic.LessSigned = false
+is_no_arithmetic arithmetic.LessUnsigned = false
+is_no_arithmetic arithmetic.Pointer = false
 
 abbrev pub is_no_control : ControlOp → Bool
 is_no_control control.Nop = true
-is_no_control _ = false
+is_no_control control.Jump = false
+is_no_control control.Skip = false
+is_no_control control.Call = false
+is_no_control control.Exchange = false
+is_no_control control.TargetSet = false
+is_no_control control.TargetGet = false
+is_no_control control.TrapGet = false
+is_no_control control.Reserve = false
+is_no_control control.Create = false
+is_no_control control.Quit = false
+is_no_control control.QuitKeep = false
+is_no_control control.Mask = false
 
 abbrev pub unless : Bool → List ℕ → List (List ℕ)
 unless true text = []

@@ -4,8 +4,6 @@
 
 mod laws;
 mod operations;
-#[cfg(test)]
-mod tests;
 mod word_lines;
 
 pub use laws::{listed_directives_are_read_back, listed_words_are_read_back};

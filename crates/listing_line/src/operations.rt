@@ -15,8 +15,8 @@ pub(crate) fn push_wide(text: &mut String, op: WideOp, reg: u8, imm: u32) -> Res
 {
     let name = names::wide(op);
     match op {
+        WideOp::Literal | WideOp::LiteralHigh => write!(text, "{name} r{reg}, {imm}"),
         WideOp::TargetLiteral => write!(text, "{name} t{reg}, {imm}"),
-        _ => write!(text, "{name} r{reg}, {imm}"),
     }
 }
 
@@ -38,9 +38,27 @@ pub(crate) fn push_arithmetic(text: &mut String, part: &APart) -> Result<(), All
     let suffix = names::test(part.test);
     let (rd, ra, rb) = (part.rd, part.ra, part.rb);
     match part.op {
+        ArithmeticOp::Nop => write!(text, "{name}{suffix}"),
         ArithmeticOp::Tally => write!(text, "{name}{suffix} r{rd}, r{ra}"),
-        _ if part.imm => write!(text, "{name}{suffix} r{rd}, r{ra}, {rb}"),
-        _ => write!(text, "{name}{suffix} r{rd}, r{ra}, r{rb}"),
+        ArithmeticOp::Add
+        | ArithmeticOp::Sub
+        | ArithmeticOp::Mul
+        | ArithmeticOp::And
+        | ArithmeticOp::Or
+        | ArithmeticOp::Xor
+        | ArithmeticOp::AndNot
+        | ArithmeticOp::ShiftLeft
+        | ArithmeticOp::ShiftRight
+        | ArithmeticOp::ShiftRightSigned
+        | ArithmeticOp::LessSigned
+        | ArithmeticOp::LessUnsigned
+        | ArithmeticOp::Pointer => {
+            if part.imm {
+                write!(text, "{name}{suffix} r{rd}, r{ra}, {rb}")
+            } else {
+                write!(text, "{name}{suffix} r{rd}, r{ra}, r{rb}")
+            }
+        }
     }
 }
 

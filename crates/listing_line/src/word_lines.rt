@@ -9,7 +9,7 @@ ghost use Rattle.listing_line.specs.WordText.{word_text, word_line};
 use crate::operations::{push_arithmetic, push_control, push_memory, push_wide};
 use asm_line::{Directive, names};
 use insn_word::{APart, ArithmeticOp, CPart, ControlOp, Insn, MPart, MemoryOp, decode};
-use number_text::{FiveDigits, Hexadecimal};
+use number_text::{push_five_digits, push_hexadecimal_16};
 use std::alloc::AllocError;
 use std::fmt::Write;
 
@@ -21,9 +21,11 @@ pub fn push_word_line(text: &mut String, place: u16, word: u64) -> Result<(), Al
     ensures { OnOk result (string_bytes text.new ≡ string_bytes text.old ++ (word_line place word ++ codes "\n")) }
 {
     push_word(text, word)?;
-    let place = FiveDigits(u32::from(place));
-    let digits = Hexadecimal(word);
-    writeln!(text, " ; {place} {digits}")
+    text.push_str(" ; ")?;
+    push_five_digits(text, place)?;
+    text.push_str(" ")?;
+    push_hexadecimal_16(text, word)?;
+    text.push_str("\n")
 }
 
 #[tactic(auto, unfolding(crate::specs::WordText::word_text, crate::specs::WordText::raw_text))]
@@ -33,9 +35,9 @@ fn push_word(text: &mut String, word: u64) -> Result<(), AllocError>
     match decode(word) {
         Some(insn) => push_insn(text, &insn),
         None => {
-            let name = names::directive(Directive::Word);
-            let digits = Hexadecimal(word);
-            write!(text, "{name} 0x{digits}")
+            text.push_str(names::directive(Directive::Word))?;
+            text.push_str(" 0x")?;
+            push_hexadecimal_16(text, word)
         }
     }
 }

@@ -1,24 +1,19 @@
 -- The processors of a new machine.
 use Rattle.std.proofs.Common.{◌≡◌, ℕ, zero, suc, ◌+◌, ◌<◌, ◌≤◌, sym, ap, ◌∙◌, subst, arith, List, [], ◌∷◌}
-use Rattle.std.proofs.Common.{◌++◌, length, take, get_or, map, replicate, slice_index}
-use Rattle.std.proofs.lemmas.List.{length-set, length-replicate, length-map, take_more, take_all, map-append}
+use Rattle.std.proofs.Common.{◌++◌, length, take, get_or, map, slice_index}
+use Rattle.std.proofs.lemmas.List.{length-map, take_more, take_all, map-append}
 use Rattle.image_file.specs.ImageValue.{ImageValue}
-use Rattle.stream_core.specs.Streams.{idle}
 use Rattle.tag_memory.specs.Storage.{TaggedMemory, memory_of}
 use Rattle.tag_memory.specs.Cell.{Cell}
 use Rattle.processor.specs.World.{start}
-use Rattle.processor.specs.Processors.{ProcessorValue, first_stream, opening}
+use Rattle.processor.specs.Processors.{ProcessorValue, opening}
+use Rattle.processor.proofs.Opening.{opening-length}
 use Rattle.machine.specs.MachineValue.{IsMachine, machine_of}
-
-length-opening : (image : ImageValue) (entry : ℕ) → length (opening image entry).streams ≡ image.slim
-unfolding opening
-length-opening image entry =
-    length-set (replicate image.slim idle) 0 (first_stream image entry) ∙ length-replicate image.slim idle
 
 each_opening : (image : ImageValue) (es : List ℕ) (k : ℕ) (d : ProcessorValue) → k < length (map (opening image) es)
     → length (get_or (map (opening image) es) k d).streams ≡ image.slim
 each_opening image [] k d below = absurd (omega arith)
-each_opening image (e ∷ es) zero d below = length-opening image e
+each_opening image (e ∷ es) zero d below = opening-length image e
 each_opening image (e ∷ es) (suc k) d below = each_opening image es k d (omega arith)
 
 -- a new machine is one

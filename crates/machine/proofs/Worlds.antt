@@ -1,6 +1,6 @@
 -- A machine over a step, and over the steps of a schedule.
 use Rattle.std.proofs.Common.{◌≡◌, ℕ, zero, suc, ◌+◌, ◌<◌, ◌≤◌, sym, ap, ◌∙◌, arith, add-one, List, []}
-use Rattle.std.proofs.Common.{◌∷◌, length, drop, get_or, set, Some, slice_get}
+use Rattle.std.proofs.Common.{◌∷◌, length, drop, get_or, set, slice_get}
 use Rattle.std.proofs.Math.Seq.{drop-cons, drop-nil}
 use Rattle.std.proofs.lemmas.Option.{slice_get_past, slice_get_read}
 use Rattle.tag_memory.specs.Storage.{TaggedMemory}
@@ -9,24 +9,18 @@ use Rattle.stream_core.specs.declared.steps.Outcome.{Outcome}
 use Rattle.stream_core.specs.declared.steps.Outcome.TheVariants.{Skipped}
 use Rattle.processor.specs.Processors.{ProcessorValue}
 use Rattle.processor.specs.Row.{row_over_memory}
-use Rattle.processor.specs.World.{World, world_with, world_step_at, world_step, after, steps}
+use Rattle.processor.specs.World.{World, world_step, after, steps}
 use Rattle.processor.specs.declared.steps.Step.{Step}
+use Rattle.processor.proofs.World.{world_step-absent, world_step-present}
 use Rattle.machine.specs.MachineValue.{MachineValue, machine_of}
 
 -- One step.
 
 pub absent : (now : MachineValue) (image : ImageValue) (ps : List ProcessorValue) (m : TaggedMemory) (t : Step)
     → machine_of image ps m ≡ now → length ps ≤ t.p → (now.world, Skipped) ≡ world_step now.image now.world t
-unfolding world_step
 absent now image ps m t same past =
     let none = ap (λ (v : MachineValue). slice_get v.world.processors t.p) (sym same) ∙ slice_get_past ps t.p past in
-    sym (ap (world_step_at now.image now.world t) none)
-
-there_taken : (image : ImageValue) (w : World) (t : Step) (proc next : ProcessorValue) (m : TaggedMemory)
-    (o : Outcome) → slice_get w.processors t.p ≡ Some proc → ((next, o), m) ≡ row_over_memory image proc t.s w.memory
-    → (record { processors = set w.processors t.p next; memory = m }, o) ≡ world_step image w t
-unfolding world_step
-there_taken image w t proc next m o there is = ap (world_with w t.p) is ∙ sym (ap (world_step_at image w t) there)
+    world_step-absent now.image now.world t none
 
 pub present : (now : MachineValue) (image : ImageValue) (ps : List ProcessorValue) (m mem : TaggedMemory) (t : Step)
     (count : ℕ) (proc next : ProcessorValue) (o : Outcome) → machine_of image ps m ≡ now → count ≡ length ps
@@ -34,7 +28,7 @@ pub present : (now : MachineValue) (image : ImageValue) (ps : List ProcessorValu
     → (record { processors = set ps t.p next; memory = mem }, o) ≡ world_step now.image now.world t
 present now image ps m mem t count proc next o same all below read is =
     let there = slice_get_read ps count t.p proc all below read in
-    there_taken image (record { processors = ps; memory = m }) t proc next mem o there is
+    world_step-present image (record { processors = ps; memory = m }) t proc next mem o there is
     ∙ ap (λ (v : MachineValue). world_step v.image v.world t) same
 
 -- A schedule.

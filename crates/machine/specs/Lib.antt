@@ -1,2 +1,2 @@
--- The definitions, in the order of reading.
+-- What public contracts promise: the image and the world of a machine, and what holds of them.
 pub mod MachineValue

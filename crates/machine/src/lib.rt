@@ -4,8 +4,6 @@
 
 mod load_fault;
 mod machines;
-#[cfg(test)]
-mod tests;
 
 pub use load_fault::LoadFault;
 pub use machines::Machine;

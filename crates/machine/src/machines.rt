@@ -4,8 +4,8 @@ ghost use Rattle.std.specs.Prelude.{◌≡◌, ◌<◌, ◌≤◌, ◌↔◌, �
 ghost use Rattle.std.specs.Option.{option_copied};
 ghost use Rattle.tag_memory.specs.Storage.{cell_at};
 ghost use Rattle.processor.specs.Processors.{ProcessorValue, IsCounted};
-ghost use Rattle.processor.specs.World.{start, world_step, steps};
-ghost use Rattle.machine.specs.MachineValue.{IsMachine, stream_of, counts_of};
+ghost use Rattle.processor.specs.World.{start, world_step, steps, stream_of, counts_of};
+ghost use Rattle.machine.specs.MachineValue.{IsMachine};
 
 use crate::load_fault::LoadFault;
 use image_file::Image;
@@ -41,7 +41,7 @@ impl<'i, const S: usize> Machine<'i, S> {
     ///
     /// `Streams` exactly where the image's slim is above `S`: it comes before any want of memory.
     pub fn load(alloc: Global, image: &'i Image) -> Result<Machine<'i, S>, LoadFault>
-        ensures loaded { IfOk result (λ m. m ≡ record { image = image.entry.now; world = start image.entry.now }) }
+        ensures is { IfOk result (λ m. m ≡ record { image = image.entry.now; world = start image.entry.now }) }
         ensures streams { (result ≡ Err LoadFault.Streams) ↔ (S < image.entry.now.slim) }
     {
         if usize::from(image.slim()) > S {
@@ -100,7 +100,7 @@ impl<'i, const S: usize> Machine<'i, S> {
     /// How many streams of a processor are current and how many are reserved; None where there is no such processor.
     pub fn counts(&self, p: u8) -> Option<(u16, u16)>
         ensures is { result ≡ counts_of self.now.world p }
-        ensures counted { (d : ProcessorValue) → slice_get self.now.world.processors p ≡ Some d → IsCounted d }
+        ensures counts { (d : ProcessorValue) → slice_get self.now.world.processors p ≡ Some d → IsCounted d }
     {
         let place = p as usize;
         if place >= self.processors.len() {

@@ -1,3 +1,4 @@
-pub mod ReadBytes
 pub mod ProgramText
+pub mod ReadBytes
+pub mod ImageFaults
 pub mod Traces

@@ -6,8 +6,8 @@ use Rattle.std.proofs.lemmas.Bool.{eq-eqb, ne_eqb, cases_Bool, lt-leb, le-leb, c
 use Rattle.std.proofs.lemmas.Bool.{cases_eq, eqb-true, eqb-false, true≢false}
 use Rattle.std.specs.List.{filter_map, cons_option, before_first, after_first}
 use Rattle.number_text.specs.Reading.{hexadecimal_word}
-use Rattle.trace_text.specs.Lines.{is_line_end, lines_of}
-use Rattle.trace_text.proofs.FirstLine.{lines-first}
+use Rattle.text_parts.specs.Lines.{is_line_end, lines_of}
+use Rattle.text_parts.proofs.FirstLine.{lines-first}
 use Rattle.mta_engines.specs.ProgramLines.{most_program_words, program_of, least_line, empty_fault, too_many_fault, malformed_from}
 use Rattle.mta_engines.specs.ProgramLines.{words_unless}
 use Rattle.mta_engines.specs.declared.tool_fault.ToolFault.{ToolFault}

@@ -10,10 +10,10 @@ use Rattle.std.specs.List.{slice_get}
 use Rattle.stream_core.specs.Streams.{StreamValue, idle}
 use Rattle.processor.specs.Processors.{ProcessorValue, stream_at}
 use Rattle.processor.specs.declared.steps.Step.{Step}
-use Rattle.machine.specs.MachineValue.{MachineValue, IsMachine, stream_of, stream_seen_at}
+use Rattle.machine.specs.MachineValue.{MachineValue, IsMachine}
 use Rattle.image_file.specs.ImageValue.{ImageValue}
 use Rattle.stream_core.specs.declared.steps.Outcome.{Outcome}
-use Rattle.processor.specs.World.{World, world_step, after, outcome_of}
+use Rattle.processor.specs.World.{World, stream_of, stream_seen_at, world_step, after, outcome_of}
 use Rattle.trace_text.specs.TraceLines.{trace_line_of}
 use Rattle.mta_engines.specs.RunOutput.{pc_in, pc_of, trace_from}
 

@@ -3,7 +3,7 @@ use Rattle.std.specs.Prelude.{ℕ, ◌+◌, min, List, [], ◌∷◌, length, Op
 use Rattle.std.specs.Prelude.{nat_le, ◌==◌, if◌then◌else◌}
 use Rattle.std.specs.List.{filter_map}
 use Rattle.number_text.specs.Reading.{hexadecimal_word}
-use Rattle.trace_text.specs.Lines.{lines_of}
+use Rattle.text_parts.specs.Lines.{lines_of}
 use Rattle.mta_engines.specs.declared.tool_fault.ToolFault.{ToolFault}
 use Rattle.mta_engines.specs.declared.tool_fault.ToolFault.TheVariants.{Words}
 
@@ -31,7 +31,8 @@ least_line (Some line) (Some other) = Some (min line other)
 
 -- the least line with a fault, if there is one
 abbrev pub program_line_fault : List (List ℕ) → Option ℕ
-program_line_fault lines = least_line (malformed_from 1 lines) (least_line (empty_fault (length lines)) (too_many_fault (length lines)))
+program_line_fault lines =
+    least_line (malformed_from 1 lines) (least_line (empty_fault (length lines)) (too_many_fault (length lines)))
 
 abbrev pub words_unless : Option ℕ → List ℕ → Result (List ℕ) ToolFault
 words_unless None words = Ok words

@@ -1,8 +1,8 @@
 -- What the command `words` writes for an input.
-use Rattle.std.specs.Prelude.{ℕ, List, [], length, Option, Some, None, Result, Ok, Err, nat_le, if◌then◌else◌}
+use Rattle.std.specs.Prelude.{◌≡◌, ℕ, List, [], length, Option, Some, None, Result, Ok, Err, nat_le, if◌then◌else◌}
 use Rattle.stream_core.specs.Streams.{StreamValue}
 use Rattle.stream_core.specs.StreamText.{stream_text_of}
-use Rattle.machine.specs.MachineValue.{stream_of}
+use Rattle.processor.specs.World.{stream_of}
 use Rattle.mta_engines.specs.Input.{input_limit}
 use Rattle.mta_engines.specs.ProgramLines.{program_of}
 use Rattle.mta_engines.specs.WordsMachine.{words_world}
@@ -25,3 +25,7 @@ text_or_fault (Err fault) = Err fault
 -- the text for an input, or the fault
 abbrev pub words_output : List ℕ → Result (List ℕ) ToolFault
 words_output input = if nat_le (length input) input_limit then text_or_fault (program_of input) else Err TooLarge
+
+-- the text is the input's
+abbrev pub IsWordsOutput : List ℕ → List ℕ → Type 0
+IsWordsOutput input text = words_output input ≡ Ok text

@@ -1,7 +1,8 @@
 //! The engine of the command `asm`.
 ghost use Rattle.std.specs.Prelude.{◌≢◌, OnOk, IfErr, IfSome};
-ghost use Rattle.std.specs.Io.KnownBytes.{Appends, Keeps};
+ghost use Rattle.std.specs.Io.KnownBytes.{Keeps};
 ghost use Rattle.mta_engines.specs.Faults.{IsFaultBy};
+ghost use Rattle.mta_engines.specs.InputOutput.{HasInput, HasOutput};
 ghost use Rattle.mta_engines.specs.AsmOutput.{IsAsmOutput, HasAsmFault};
 
 use crate::input::read_input;
@@ -21,11 +22,11 @@ pub fn asm_engine<R: Read, W: Write>(
     source: &mut R,
     writer: &mut W,
 ) -> Result<(), ToolFault>
-    ensures written { OnOk result (IfSome (R.remaining source.old) (λ text. (output : _) × IsAsmOutput text output
-        × Appends (W.contents writer.old) (W.contents writer.new) output)) }
+    ensures output { OnOk result (HasInput (R.remaining source.old) (λ text.
+        HasOutput (W.contents writer.old) (W.contents writer.new) (IsAsmOutput text))) }
     ensures fault { IfErr result (λ fault. IfSome (R.remaining source.old) (λ text.
         IsFaultBy (HasAsmFault text) fault)) }
-    ensures kept { IfErr result (λ fault. fault ≢ ToolFault.Write
+    ensures writer_as_before { IfErr result (λ fault. fault ≢ ToolFault.Write
         → Keeps (W.contents writer.old) (W.contents writer.new)) }
 {
     let text = read_input(alloc, source)?;

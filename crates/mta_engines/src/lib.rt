@@ -8,8 +8,7 @@ mod list;
 mod output;
 mod program_lines;
 mod run;
-#[cfg(test)]
-mod tests;
+mod stream_room;
 mod tool_fault;
 mod words;
 mod words_image;

@@ -1,7 +1,8 @@
 //! The engine of the command `list`.
 ghost use Rattle.std.specs.Prelude.{◌≢◌, OnOk, IfErr, IfSome};
-ghost use Rattle.std.specs.Io.KnownBytes.{Appends, Keeps};
+ghost use Rattle.std.specs.Io.KnownBytes.{Keeps};
 ghost use Rattle.mta_engines.specs.Faults.{IsFaultBy};
+ghost use Rattle.mta_engines.specs.InputOutput.{HasInput, HasOutput};
 ghost use Rattle.mta_engines.specs.Images.{HasImageFault};
 ghost use Rattle.mta_engines.specs.ListOutput.{IsListOutput};
 
@@ -21,11 +22,11 @@ pub fn list_engine<R: Read, W: Write>(
     image: &mut R,
     writer: &mut W,
 ) -> Result<(), ToolFault>
-    ensures written { OnOk result (IfSome (R.remaining image.old) (λ bytes. (output : _) × IsListOutput bytes output
-        × Appends (W.contents writer.old) (W.contents writer.new) output)) }
+    ensures output { OnOk result (HasInput (R.remaining image.old) (λ bytes.
+        HasOutput (W.contents writer.old) (W.contents writer.new) (IsListOutput bytes))) }
     ensures fault { IfErr result (λ fault. IfSome (R.remaining image.old) (λ bytes.
         IsFaultBy (HasImageFault bytes) fault)) }
-    ensures kept { IfErr result (λ fault. fault ≢ ToolFault.Write
+    ensures writer_as_before { IfErr result (λ fault. fault ≢ ToolFault.Write
         → Keeps (W.contents writer.old) (W.contents writer.new)) }
 {
     let image = read_image_input(alloc, image)?;

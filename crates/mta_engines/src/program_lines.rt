@@ -5,7 +5,7 @@ ghost use Rattle.mta_engines.specs.ProgramLines.{program_of};
 use crate::tool_fault::ToolFault;
 use number_text::read_hexadecimal;
 use std::alloc::Global;
-use trace_text::split_line;
+use text_parts::split_line;
 
 /// The most words of a program.
 pub const MAX_PROGRAM_WORDS: usize = 65_536;

@@ -1,14 +1,19 @@
 //! The engine of the command `run`.
-ghost use Rattle.std.specs.Prelude.{◌≡◌, ◌≢◌, ◌≤◌, ◌++◌, OnOk, IfOk, IfErr, IfSome, string_bytes};
+ghost use Rattle.std.specs.Prelude.{◌≡◌, ◌≢◌, ◌≤◌, ◌++◌, OnOk, IfOk, IfErr, IsErrAnd, IfSome, string_bytes};
 ghost use Rattle.std.specs.Option.{option_copied};
-ghost use Rattle.std.specs.Io.KnownBytes.{Appends, Keeps};
+ghost use Rattle.std.specs.Io.KnownBytes.{Keeps};
 ghost use Rattle.processor.specs.World.{steps};
 ghost use Rattle.mta_engines.specs.Faults.{IsFaultBy};
+ghost use Rattle.mta_engines.specs.InputOutput.{HasInput, HasOutput};
 ghost use Rattle.mta_engines.specs.Images.{HasImageFault};
 ghost use Rattle.mta_engines.specs.RunOutput.{run_output, trace_from, pc_of, IsRunOutput, HasRunFault};
+ghost use Rattle.mta_engines.specs.RunOutput.{HasScheduleFault};
+ghost use Rattle.image_file.specs.declared.fault.ImageFault.{ImageFault};
+ghost use Rattle.trace_text.specs.declared.schedule_fault.ScheduleFault.{ScheduleFault};
 
 use crate::inputs::{read_image_input, read_schedule_input};
 use crate::output::write_output;
+use crate::stream_room::StreamRoom;
 use crate::tool_fault::ToolFault;
 use image_file::Image;
 use machine::{LoadFault, Machine};
@@ -31,16 +36,25 @@ pub fn run_engine<I: Read, R: Read, W: Write>(
     schedule: &mut R,
     writer: &mut W,
 ) -> Result<(), ToolFault>
-    ensures written { OnOk result (IfSome (I.remaining image.old) (λ image_bytes.
-        IfSome (R.remaining schedule.old) (λ schedule_bytes.
-        (output : _) × IsRunOutput image_bytes schedule_bytes output
-        × Appends (W.contents writer.old) (W.contents writer.new) output))) }
+    ensures output { OnOk result (HasInput (I.remaining image.old) (λ image_bytes.
+        HasInput (R.remaining schedule.old) (λ schedule_bytes.
+        HasOutput (W.contents writer.old) (W.contents writer.new) (IsRunOutput image_bytes schedule_bytes)))) }
     ensures fault { IfErr result (λ fault. IfSome (I.remaining image.old) (λ image_bytes.
         IfSome (R.remaining schedule.old) (λ schedule_bytes.
         IsFaultBy (HasRunFault image_bytes schedule_bytes) fault))) }
-    ensures unread { IfErr result (λ fault. IfSome (I.remaining image.old) (λ image_bytes.
-        HasImageFault image_bytes fault → Keeps (R.remaining schedule.old) (R.remaining schedule.new))) }
-    ensures kept { IfErr result (λ fault. fault ≢ ToolFault.Write
+    // a fault of one input goes by that input's bytes, whatever is known of the other's
+    ensures image_fault { (found : ImageFault) → result ≡ Err (ToolFault.Image found)
+        → IfSome (I.remaining image.old) (λ image_bytes. HasImageFault image_bytes (ToolFault.Image found)) }
+    ensures schedule_fault { (found : ScheduleFault) → result ≡ Err (ToolFault.Schedule found)
+        → IfSome (R.remaining schedule.old) (λ schedule_bytes.
+        HasScheduleFault schedule_bytes (ToolFault.Schedule found)) }
+    // bytes that are no image are refused, and then the schedule's reader is as it was, whatever the answer
+    ensures no_image { (found : ToolFault) → IfSome (I.remaining image.old) (λ image_bytes.
+        HasImageFault image_bytes found
+        → IsErrAnd result (λ fault. (fault ≢ ToolFault.Write) × IsFaultBy (HasImageFault image_bytes) fault)) }
+    ensures schedule_as_before { (found : ToolFault) → IfSome (I.remaining image.old) (λ image_bytes.
+        HasImageFault image_bytes found → Keeps (R.remaining schedule.old) (R.remaining schedule.new)) }
+    ensures writer_as_before { IfErr result (λ fault. fault ≢ ToolFault.Write
         → Keeps (W.contents writer.old) (W.contents writer.new)) }
 {
     let image = read_image_input(alloc, image)?;
@@ -49,14 +63,13 @@ pub fn run_engine<I: Read, R: Read, W: Write>(
     write_output(writer, text.as_bytes())
 }
 
-/// The text of a run. Machines with room for 8 streams a processor take less memory.
+/// The text of a run.
 fn compose_text(alloc: Global, image: &Image, steps: &[Step]) -> Result<String, AllocError>
     ensures { IfOk result (λ text. string_bytes text ≡ run_output image.now steps.now) }
 {
-    if image.slim() <= 8 {
-        run_machine::<8>(alloc, image, steps)
-    } else {
-        run_machine::<128>(alloc, image, steps)
+    match StreamRoom::of(image) {
+        StreamRoom::Small => run_machine::<8>(alloc, image, steps),
+        StreamRoom::Large => run_machine::<128>(alloc, image, steps),
     }
 }
 

@@ -21,19 +21,20 @@ pub enum ToolFault {
     /// A reader had more than [`INPUT_LIMIT`](crate::INPUT_LIMIT) bytes.
     #[error("input too large")]
     TooLarge,
-    /// Memory was refused.
+    /// Memory was refused, here or in a crate below, whose own fault for it is never told. It can come before any later
+    /// fault of an input would be found.
     #[error("no memory")]
     NoMemory,
     /// The line of this number, counted from 1, is the first fault of a text of words.
     #[error("words line {0}")]
     Words(u32),
-    /// A source text has this fault.
+    /// A source text has this fault, which is no want of memory.
     #[error("source line {} fault {}", .0.line, .0.kind.number())]
     Asm(AsmFault),
-    /// The bytes of an image file have this fault.
+    /// The bytes of an image file have this fault, which is no want of memory.
     #[error("image fault {}", .0.number())]
     Image(ImageFault),
-    /// A schedule has this fault.
+    /// A schedule has this fault, which is no want of memory.
     #[error("schedule line {} fault {}", .0.line, .0.kind.number())]
     Schedule(ScheduleFault),
 }

@@ -1,9 +1,10 @@
 //! The engine of the command `words`.
-ghost use Rattle.std.specs.Prelude.{◌≡◌, ◌≢◌, ◌≤◌, length, OnOk, IfOk, IfErr, IfSome, IsOkAnd, string_bytes};
-ghost use Rattle.std.specs.Io.KnownBytes.{Appends, Keeps};
+ghost use Rattle.std.specs.Prelude.{◌≡◌, ◌≢◌, ◌≤◌, length, OnOk, IfOk, IfErr, IfSome, string_bytes};
+ghost use Rattle.std.specs.Io.KnownBytes.{Keeps};
 ghost use Rattle.mta_engines.specs.Faults.{IsFaultOf};
+ghost use Rattle.mta_engines.specs.InputOutput.{HasInput, HasOutput};
 ghost use Rattle.mta_engines.specs.ProgramLines.{program_of};
-ghost use Rattle.mta_engines.specs.WordsOutput.{program_text, text_or_fault, words_output};
+ghost use Rattle.mta_engines.specs.WordsOutput.{IsWordsOutput, program_text, text_or_fault, words_output};
 
 use crate::input::read_input;
 use crate::output::write_output;
@@ -28,11 +29,11 @@ pub fn words_engine<R: Read, W: Write>(
     reader: &mut R,
     writer: &mut W,
 ) -> Result<(), ToolFault>
-    ensures written { OnOk result (IfSome (R.remaining reader.old) (λ input.
-        IsOkAnd (words_output input) (Appends (W.contents writer.old) (W.contents writer.new)))) }
+    ensures output { OnOk result (HasInput (R.remaining reader.old) (λ input.
+        HasOutput (W.contents writer.old) (W.contents writer.new) (IsWordsOutput input))) }
     ensures fault { IfErr result (λ fault. IfSome (R.remaining reader.old) (λ input.
         IsFaultOf (words_output input) fault)) }
-    ensures kept { IfErr result (λ fault. fault ≢ ToolFault.Write
+    ensures writer_as_before { IfErr result (λ fault. fault ≢ ToolFault.Write
         → Keeps (W.contents writer.old) (W.contents writer.new)) }
 {
     let input = read_input(alloc, reader)?;

@@ -6,7 +6,7 @@ use Rattle.clap.specs.declared.error.ErrorKind.TheVariants.{DisplayHelp, Display
 use Rattle.clap.specs.declared.error.ErrorKind.TheVariants.{MissingRequiredArgument, MissingSubcommand}
 use Rattle.clap.specs.declared.error.ErrorKind.TheVariants.{UnknownArgument}
 use Rattle.clap.proofs.OnLiterals.{clap_on_literals}
-use Rattle.mta_sim.specs.CommandLine.{ToolCommand, IsCommand, command_of_line, assemble, list_image, run_image, run_words, tool_app}
+use Rattle.mta_sim.specs.CommandLine.{CommandValue, IsCommand, command_of_line, assemble_source, list_image, run_image, run_words, tool_app}
 
 -- the program's name, and the words after it
 abbrev line : List Text → List Text
@@ -14,14 +14,14 @@ line rest = codes "mta_sim" ∷ rest
 
 -- ---- commands, with what they ask for
 
-abbrev Asks : List Text → ToolCommand → Type 0
+abbrev Asks : List Text → CommandValue → Type 0
 Asks rest wanted = IsCommand (line rest) × (command_of_line (line rest) ≡ Some wanted)
 
 words : Asks (codes "words" ∷ []) run_words
 unfolding clap_on_literals
 words = (refl, refl)
 
-asm : Asks (codes "asm" ∷ codes "a.s" ∷ codes "a.img" ∷ []) (assemble (codes "a.s") (codes "a.img"))
+asm : Asks (codes "asm" ∷ codes "a.s" ∷ codes "a.img" ∷ []) (assemble_source (codes "a.s") (codes "a.img"))
 unfolding clap_on_literals
 asm = (refl, refl)
 
@@ -33,11 +33,11 @@ run : Asks (codes "run" ∷ codes "x" ∷ codes "y" ∷ []) (run_image (codes "x
 unfolding clap_on_literals
 run = (refl, refl)
 
-dashed_paths : Asks (codes "asm" ∷ codes "--" ∷ codes "-a" ∷ codes "b" ∷ []) (assemble (codes "-a") (codes "b"))
+dashed_paths : Asks (codes "asm" ∷ codes "--" ∷ codes "-a" ∷ codes "b" ∷ []) (assemble_source (codes "-a") (codes "b"))
 unfolding clap_on_literals
 dashed_paths = (refl, refl)
 
-dashes_between : Asks (codes "asm" ∷ codes "a" ∷ codes "--" ∷ codes "b" ∷ []) (assemble (codes "a") (codes "b"))
+dashes_between : Asks (codes "asm" ∷ codes "a" ∷ codes "--" ∷ codes "b" ∷ []) (assemble_source (codes "a") (codes "b"))
 unfolding clap_on_literals
 dashes_between = (refl, refl)
 

@@ -1,6 +1,6 @@
-pub mod Asking
-pub mod Stops
-pub mod Filled
-pub mod FilledWalks
+-- what holds for any command line
+pub mod ClapFacts
+-- what is about the tool's commands
+pub mod Matches
 pub mod Commands
 mod CommandLines

@@ -5,8 +5,8 @@ use Rattle.std.specs.Str.{bytes_eq}
 use Rattle.clap.specs.Words.{App, Row, Rule, Shape, Text, fault_of, first_of, new_rule, subcommand_of}
 use Rattle.clap.specs.Simple.{new_shape}
 use Rattle.clap.specs.declared.builder.ArgAction.TheVariants.{Set}
-use Rattle.mta_sim.specs.declared.command_line.Request.{Request}
-use Rattle.mta_sim.specs.declared.command_line.Request.TheVariants as request
+use Rattle.mta_sim.specs.declared.command_line.ToolCommand.{ToolCommand}
+use Rattle.mta_sim.specs.declared.command_line.ToolCommand.TheVariants as command
 
 -- ---- the tool's commands, as the parser of command lines sees them
 
@@ -46,38 +46,38 @@ IsCommand words = fault_of tool_app words ≡ []
 
 -- ---- what a command asks for, with the paths of its files
 
-pub data ToolCommand : Type 0 where
-  run_words : ToolCommand
-  assemble : Text → Text → ToolCommand
-  list_image : Text → ToolCommand
-  run_image : Text → Text → ToolCommand
+pub data CommandValue : Type 0 where
+  run_words : CommandValue
+  assemble_source : Text → Text → CommandValue
+  list_image : Text → CommandValue
+  run_image : Text → Text → CommandValue
 
 -- with two paths, where both are given
-abbrev pub with_paths : (Text → Text → ToolCommand) → Option Text → Option Text → Option ToolCommand
-with_paths request first second = option_and_then (λ path. option_map (request path) second) first
+abbrev pub with_paths : (Text → Text → CommandValue) → Option Text → Option Text → Option CommandValue
+with_paths with_files first second = option_and_then (λ path. option_map (with_files path) second) first
 
 -- what the command of this name asks for, with these values of its arguments
-abbrev pub command_by_name : Text → List Row → Option ToolCommand
+abbrev pub command_by_name : Text → List Row → Option CommandValue
 command_by_name name rows =
     if bytes_eq name (codes "words") then Some run_words
     else (if bytes_eq name (codes "asm")
-    then with_paths assemble (first_of (codes "SOURCE") rows) (first_of (codes "IMAGE") rows)
+    then with_paths assemble_source (first_of (codes "SOURCE") rows) (first_of (codes "IMAGE") rows)
     else (if bytes_eq name (codes "list") then option_map list_image (first_of (codes "IMAGE") rows)
     else (if bytes_eq name (codes "run")
     then with_paths run_image (first_of (codes "IMAGE") rows) (first_of (codes "SCHEDULE") rows)
     else None)))
 
-abbrev pub command_in : Option (Text × List Row) → Option ToolCommand
+abbrev pub command_in : Option (Text × List Row) → Option CommandValue
 command_in = option_and_then (λ entered. command_by_name entered.0 entered.1)
 
 -- what a line asks for, where it is a command
-abbrev pub command_of_line : List Text → Option ToolCommand
+abbrev pub command_of_line : List Text → Option CommandValue
 command_of_line words = command_in (subcommand_of tool_app words)
 
--- ---- a request, as the code has it
+-- ---- a command, as the code has it
 
-abbrev pub command_of_request : Request → ToolCommand
-command_of_request request.Words = run_words
-command_of_request (request.Assemble source image) = assemble source.now image.now
-command_of_request (request.List image) = list_image image.now
-command_of_request (request.Run image schedule) = run_image image.now schedule.now
+abbrev pub value_of_command : ToolCommand → CommandValue
+value_of_command command.Words = run_words
+value_of_command (command.Assemble source image) = assemble_source source.now image.now
+value_of_command (command.List image) = list_image image.now
+value_of_command (command.Run image schedule) = run_image image.now schedule.now

@@ -3,7 +3,8 @@ ghost use Rattle.std.specs.Prelude.{◌≡◌, List, [], ◌∷◌, Some, codes,
 ghost use Rattle.clap.specs.Words.{FailsBy, app_of, fault_of, first_value, found_of, rule_of};
 ghost use Rattle.clap.specs.Words.{subcommand_rows_of};
 ghost use Rattle.clap.specs.declared.builder.command.Command.TheViews.{out-Command as fields_of};
-ghost use Rattle.mta_sim.specs.CommandLine.{command_of_line, command_in, command_app, file_rule, command_of_request, tool_app};
+ghost use Rattle.mta_sim.specs.CommandLine.{command_of_line, command_in, command_app, file_rule};
+ghost use Rattle.mta_sim.specs.CommandLine.{value_of_command, tool_app};
 
 use clap::{Arg, ArgAction, ArgMatches, Command, Error};
 use std::alloc::{AllocError, Global};
@@ -11,7 +12,7 @@ use std::convert::AsStr;
 
 /// What a command line asks for. Files are named by their paths.
 #[derive(Clone, Copy)]
-pub(crate) enum Request<'a> {
+pub(crate) enum ToolCommand<'a> {
     /// Runs a program of words from standard input.
     Words,
     /// Assembles a source text to an image.
@@ -22,38 +23,39 @@ pub(crate) enum Request<'a> {
     Run { image: &'a str, schedule: &'a str },
 }
 
-/// The request that the words of a command line say, the first of which is the program's name.
+/// The command that the words of a line ask for, the first of which is the program's name.
 ///
 /// The error has the text for the user, also where help or the version was asked for, or memory was refused. The
 /// clauses say which kind it has, and nothing of the text.
 pub(crate) fn read_command_line<'a, S: AsStr>(
     alloc: Global,
     words: &'a [S],
-) -> Result<Request<'a>, Error>
-    ensures request { IfOk result (λ request. command_of_line (map S.text words.entry.now) ≡ Some (command_of_request request)) }
+) -> Result<ToolCommand<'a>, Error>
+    ensures command { IfOk result (λ command.
+        command_of_line (map S.text words.entry.now) ≡ Some (value_of_command command)) }
     ensures fault { FailsBy (fault_of tool_app (map S.text words.entry.now)) result }
 {
-    let matches = tool_command(alloc)?.try_get_matches_from(words)?;
-    Ok(requested(&matches))
+    let matches = tool_parser(alloc)?.try_get_matches_from(words)?;
+    Ok(command_of_matches(&matches))
 }
 
-/// The request of the subcommand that stood on the command line, which has all its arguments.
-fn requested<'a>(matches: &ArgMatches<'a>) -> Request<'a>
-    ensures { IfSome (command_in (subcommand_rows_of matches.now)) (λ wanted. command_of_request result ≡ wanted) }
+/// The command that stood on the line, with all its arguments.
+fn command_of_matches<'a>(matches: &ArgMatches<'a>) -> ToolCommand<'a>
+    ensures { IfSome (command_in (subcommand_rows_of matches.now)) (λ wanted. value_of_command result ≡ wanted) }
 {
     match matches.subcommand() {
-        Some(("asm", files)) => Request::Assemble {
+        Some(("asm", files)) => ToolCommand::Assemble {
             source: path(files, "SOURCE"),
             image: path(files, "IMAGE"),
         },
-        Some(("list", files)) => Request::List {
+        Some(("list", files)) => ToolCommand::List {
             image: path(files, "IMAGE"),
         },
-        Some(("run", files)) => Request::Run {
+        Some(("run", files)) => ToolCommand::Run {
             image: path(files, "IMAGE"),
             schedule: path(files, "SCHEDULE"),
         },
-        _ => Request::Words,
+        _ => ToolCommand::Words,
     }
 }
 
@@ -64,22 +66,22 @@ fn path<'a>(matches: &ArgMatches<'a>, argument: &str) -> &'a str
     matches.get_str(argument).unwrap_or("")
 }
 
-/// The tool's commands and their texts.
-fn tool_command<'a>(alloc: Global) -> Result<Command<'a>, AllocError>
+/// The parser of the tool's command lines, with the texts that it prints.
+fn tool_parser<'a>(alloc: Global) -> Result<Command<'a>, AllocError>
     ensures { IfOk result (λ command. app_of command ≡ tool_app) }
 {
     Command::new(alloc, "mta_sim")
         .about("Simulates processors of the Tera MTA")
         .version("0.2.0")
         .subcommand_required(true)
-        .subcommand(words_command(alloc))?
-        .subcommand(asm_command(alloc)?)?
-        .subcommand(list_command(alloc)?)?
-        .subcommand(run_command(alloc)?)
+        .subcommand(words_parser(alloc))?
+        .subcommand(asm_parser(alloc)?)?
+        .subcommand(list_parser(alloc)?)?
+        .subcommand(run_parser(alloc)?)
 }
 
-/// The command `words`.
-fn words_command<'a>(alloc: Global) -> Command<'a>
+/// The parser of `words`.
+fn words_parser<'a>(alloc: Global) -> Command<'a>
     ensures app { app_of result ≡ command_app (codes "words") [] }
     ensures local { (fields_of result).has_globals ≡ false }
 {
@@ -88,8 +90,8 @@ fn words_command<'a>(alloc: Global) -> Command<'a>
     )
 }
 
-/// The command `asm`.
-fn asm_command<'a>(alloc: Global) -> Result<Command<'a>, AllocError>
+/// The parser of `asm`.
+fn asm_parser<'a>(alloc: Global) -> Result<Command<'a>, AllocError>
     ensures app { IfOk result (λ command.
         app_of command ≡ command_app (codes "asm") (codes "SOURCE" ∷ codes "IMAGE" ∷ [])) }
     ensures local { IfOk result (λ command. (fields_of command).has_globals ≡ false) }
@@ -100,8 +102,8 @@ fn asm_command<'a>(alloc: Global) -> Result<Command<'a>, AllocError>
         .arg(file(alloc, "IMAGE"))
 }
 
-/// The command `list`.
-fn list_command<'a>(alloc: Global) -> Result<Command<'a>, AllocError>
+/// The parser of `list`.
+fn list_parser<'a>(alloc: Global) -> Result<Command<'a>, AllocError>
     ensures app { IfOk result (λ command. app_of command ≡ command_app (codes "list") (codes "IMAGE" ∷ [])) }
     ensures local { IfOk result (λ command. (fields_of command).has_globals ≡ false) }
 {
@@ -110,8 +112,8 @@ fn list_command<'a>(alloc: Global) -> Result<Command<'a>, AllocError>
         .arg(file(alloc, "IMAGE"))
 }
 
-/// The command `run`.
-fn run_command<'a>(alloc: Global) -> Result<Command<'a>, AllocError>
+/// The parser of `run`.
+fn run_parser<'a>(alloc: Global) -> Result<Command<'a>, AllocError>
     ensures app { IfOk result (λ command.
         app_of command ≡ command_app (codes "run") (codes "IMAGE" ∷ codes "SCHEDULE" ∷ [])) }
     ensures local { IfOk result (λ command. (fields_of command).has_globals ≡ false) }

@@ -1,36 +1,31 @@
 //! The tool, from its command line to its status.
-ghost use Rattle.std.specs.Prelude.{◌≡◌, ◌≢◌, Some, IfSome, IfErr, OnOk, IsOkAnd, MatchResult, map};
-ghost use Rattle.std.specs.Io.KnownBytes.{Appends, Keeps};
+ghost use Rattle.std.specs.Prelude.{◌≡◌, ◌≢◌, List, ℕ, Some, IfSome, IfErr, OnOk, MatchResult, map};
+ghost use Rattle.std.specs.Io.KnownBytes.{Keeps};
 ghost use Rattle.clap.specs.Words.{Text};
 ghost use Rattle.mta_engines.specs.Faults.{IsFaultOf};
-ghost use Rattle.mta_engines.specs.WordsOutput.{words_output};
-ghost use Rattle.mta_sim.specs.CommandLine.{IsCommand, command_of_line, assemble, command_of_request, run_words};
+ghost use Rattle.mta_engines.specs.InputOutput.{HasInput, HasOutput};
+ghost use Rattle.mta_engines.specs.ListOutput.{IsListOutput};
+ghost use Rattle.mta_engines.specs.RunOutput.{IsRunOutput};
+ghost use Rattle.mta_engines.specs.WordsOutput.{IsWordsOutput, words_output};
+ghost use Rattle.mta_sim.specs.CommandLine.{IsCommand, command_of_line, value_of_command};
+ghost use Rattle.mta_sim.specs.CommandLine.{assemble_source, list_image, run_image, run_words};
 
-use crate::command_line::{Request, read_command_line};
+use crate::command_line::{ToolCommand, read_command_line};
 use crate::files::{create_output, open_input};
+use crate::status::Status;
 use mta_engines::{ToolFault, asm_engine, list_engine, run_engine, words_engine};
 use std::alloc::Global;
 use std::convert::AsStr;
 use std::io::{Read, Write};
 use std::rt::Files;
 
-/// How the tool ended, as the number that the program exits with.
-#[derive(Clone, Copy, Debug, PartialEq, Eq)]
-pub enum Status {
-    /// The command is done.
-    Done = 0,
-    /// The command met a fault.
-    Fault = 1,
-    /// The command line asks for no command; it may ask for help.
-    NoCommand = 2,
-}
-
 /// Runs the command of a command line, whose first word is the program's name, on these files and standard streams
 /// ("The command line", docs/FORMATS.md).
 ///
 /// Standard error gets a fault's line, or where there is no command the text of the command line's parser; no clause
 /// says anything of that text. `NoCommand` also comes where memory was refused while the command line was read, so no
-/// clause says that a command is run; and what files hold stands in none.
+/// clause says that a command is run. Which file a path stands for, and what it holds, is in none: of `list` and `run`
+/// they say that what was written is the listing of some image, or the run of some image by some schedule.
 pub fn run_tool<S: AsStr, F: Files, R: Read, W: Write, E: Write>(
     alloc: Global,
     words: &[S],
@@ -39,18 +34,24 @@ pub fn run_tool<S: AsStr, F: Files, R: Read, W: Write, E: Write>(
     output: &mut W,
     errors: &mut E,
 ) -> Status
-    ensures silent { result ≡ Status.Done → Keeps (E.contents errors.old) (E.contents errors.new) }
-    ensures no_command { result ≡ Status.NoCommand
+    ensures errors_as_before { result ≡ Status.Done → Keeps (E.contents errors.old) (E.contents errors.new) }
+    ensures output_as_before { result ≡ Status.NoCommand
         → Keeps (W.contents output.old) (W.contents output.new) }
-    ensures command { result ≢ Status.NoCommand → IsCommand (map S.text words.now) }
-    ensures program { command_of_line (map S.text words.now) ≡ Some run_words → result ≡ Status.Done
-        → IfSome (R.remaining input.old) (λ bytes.
-        IsOkAnd (words_output bytes) (Appends (W.contents output.old) (W.contents output.new))) }
-    ensures assembly { (source image : Text) → command_of_line (map S.text words.now) ≡ Some (assemble source image)
+    ensures is_command { result ≢ Status.NoCommand → IsCommand (map S.text words.now) }
+    ensures words { command_of_line (map S.text words.now) ≡ Some run_words → result ≡ Status.Done
+        → HasInput (R.remaining input.old) (λ bytes.
+        HasOutput (W.contents output.old) (W.contents output.new) (IsWordsOutput bytes)) }
+    ensures asm { (source image : Text) → command_of_line (map S.text words.now) ≡ Some (assemble_source source image)
         → Keeps (W.contents output.old) (W.contents output.new) }
+    ensures list { (image : Text) → command_of_line (map S.text words.now) ≡ Some (list_image image)
+        → result ≡ Status.Done → (bytes : List ℕ)
+        × HasOutput (W.contents output.old) (W.contents output.new) (IsListOutput bytes) }
+    ensures run { (image schedule : Text) → command_of_line (map S.text words.now) ≡ Some (run_image image schedule)
+        → result ≡ Status.Done → (image_bytes schedule_bytes : List ℕ)
+        × HasOutput (W.contents output.old) (W.contents output.new) (IsRunOutput image_bytes schedule_bytes) }
 {
     match read_command_line(alloc, words) {
-        Ok(request) => report(run_command(alloc, request, files, input, output), errors),
+        Ok(command) => report(run_command(alloc, command, files, input, output), errors),
         Err(error) => {
             let _ = write!(errors, "{error}");
             Status::NoCommand
@@ -62,32 +63,37 @@ pub fn run_tool<S: AsStr, F: Files, R: Read, W: Write, E: Write>(
 /// hold stands in no clause.
 fn run_command<F: Files, R: Read, W: Write>(
     alloc: Global,
-    request: Request,
+    command: ToolCommand,
     files: &F,
     input: &mut R,
     output: &mut W,
 ) -> Result<(), ToolFault>
-    ensures program { command_of_request request.entry ≡ run_words → OnOk result (IfSome (R.remaining input.old) (λ bytes.
-        IsOkAnd (words_output bytes) (Appends (W.contents output.old) (W.contents output.new)))) }
-    ensures fault { command_of_request request.entry ≡ run_words → IfErr result (λ fault.
+    ensures words { value_of_command command.entry ≡ run_words → OnOk result (HasInput (R.remaining input.old) (λ bytes.
+        HasOutput (W.contents output.old) (W.contents output.new) (IsWordsOutput bytes))) }
+    ensures words_fault { value_of_command command.entry ≡ run_words → IfErr result (λ fault.
         IfSome (R.remaining input.old) (λ bytes. IsFaultOf (words_output bytes) fault)) }
-    ensures assembly { (source image : Text) → command_of_request request.entry ≡ assemble source image
+    ensures asm { (source image : Text) → value_of_command command.entry ≡ assemble_source source image
         → Keeps (W.contents output.old) (W.contents output.new) }
-    ensures kept { IfErr result (λ fault. fault ≢ ToolFault.Write
+    ensures list { (image : Text) → value_of_command command.entry ≡ list_image image → OnOk result ((bytes : List ℕ)
+        × HasOutput (W.contents output.old) (W.contents output.new) (IsListOutput bytes)) }
+    ensures run { (image schedule : Text) → value_of_command command.entry ≡ run_image image schedule
+        → OnOk result ((image_bytes schedule_bytes : List ℕ)
+        × HasOutput (W.contents output.old) (W.contents output.new) (IsRunOutput image_bytes schedule_bytes)) }
+    ensures output_as_before { IfErr result (λ fault. fault ≢ ToolFault.Write
         → Keeps (W.contents output.old) (W.contents output.new)) }
 {
-    match request {
-        Request::Words => words_engine(alloc, input, output),
-        Request::Assemble { source, image } => {
+    match command {
+        ToolCommand::Words => words_engine(alloc, input, output),
+        ToolCommand::Assemble { source, image } => {
             let mut source = open_input(files, source)?;
             let mut image = create_output(files, image)?;
             asm_engine(alloc, &mut source, &mut image)
         }
-        Request::List { image } => {
+        ToolCommand::List { image } => {
             let mut image = open_input(files, image)?;
             list_engine(alloc, &mut image, output)
         }
-        Request::Run { image, schedule } => {
+        ToolCommand::Run { image, schedule } => {
             let mut image = open_input(files, image)?;
             let mut schedule = open_input(files, schedule)?;
             run_engine(alloc, &mut image, &mut schedule, output)
@@ -98,7 +104,7 @@ fn run_command<F: Files, R: Read, W: Write>(
 /// The status of a command, whose fault is printed.
 fn report<E: Write>(done: Result<(), ToolFault>, errors: &mut E) -> Status
     ensures status { MatchResult done (λ _. result ≡ Status.Done) (λ _. result ≡ Status.Fault) }
-    ensures silent { OnOk done (Keeps (E.contents errors.old) (E.contents errors.new)) }
+    ensures errors_as_before { OnOk done (Keeps (E.contents errors.old) (E.contents errors.new)) }
 {
     match done {
         Ok(()) => Status::Done,

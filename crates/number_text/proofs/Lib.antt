@@ -1,3 +1,4 @@
+pub mod Filled
 pub mod Printed
 pub mod Read
 pub mod ReadBack

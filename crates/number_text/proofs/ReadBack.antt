@@ -11,13 +11,11 @@ use Rattle.std.proofs.lemmas.List.{length-replicate}
 use Rattle.std.specs.Char.{digit_value, is_digit}
 use Rattle.std.specs.Fmt.{digit_glyph, decimal}
 use Rattle.std.specs.Str.Parse.{digits_value, AllDigits}
-use Rattle.number_text.specs.Columns.{five_digits}
 use Rattle.number_text.specs.Digits.{fixed_digits, hexadecimal_16}
-use Rattle.number_text.specs.Laws.{HexadecimalReadsBack, FixedWidth, ReadsBack8, ReadsBack12, ReadsBackDigit, ReadsBackTwo}
-use Rattle.number_text.specs.Laws.{ReadsBackDecimal, ReadsBackFive, FiveDigitsAre, without_blanks, ReadsBackAligned}
-use Rattle.number_text.specs.Laws.{AlignedWidth}
+use Rattle.number_text.specs.Laws.{HexadecimalReadsBack, FixedWidth, DigitsReadBack}
+use Rattle.number_text.specs.Laws.{DecimalReadsBack, without_blanks, AlignedReadsBack, AlignedWidth}
 use Rattle.number_text.specs.Reading.{all_in_base, number_of_digits}
-use Rattle.number_text.proofs.Printed.{length-fixed_digits, zero_filled-fixed_digits}
+use Rattle.number_text.proofs.Printed.{length-fixed_digits}
 use Rattle.number_text.proofs.Read.{number_from_digits, word_from_digits}
 
 -- Digits of a fixed width.
@@ -58,10 +56,6 @@ reads_fixed base count n some le long =
     number_from_digits base (fixed_digits base count n) has_some (list_all-fixed_digits base count n some le)
     ∙ ap Some (digits_value-fixed_digits base count n some le)
 
-reads_fixed_small : (base count n : ℕ) → 0 < base → base ≤ 16 → 0 < count → n % base ^ count ≡ n
-    → number_of_digits base (fixed_digits base count n) ≡ Some n
-reads_fixed_small base count n some le long same = reads_fixed base count n some le long ∙ ap Some same
-
 pub reads_back : HexadecimalReadsBack
 reads_back n small =
     let same : n % 16 ^ 16 ≡ n = omega arith in
@@ -72,17 +66,8 @@ reads_back n small =
 pub fixed_width : FixedWidth
 fixed_width base count n = length-fixed_digits base count n
 
-pub reads_back_8 : ReadsBack8
-reads_back_8 n small = reads_fixed_small 16 8 n (omega arith) (omega arith) (omega arith) (omega arith)
-
-pub reads_back_12 : ReadsBack12
-reads_back_12 n = reads_fixed 16 12 n (omega arith) (omega arith) (omega arith)
-
-pub reads_back_digit : ReadsBackDigit
-reads_back_digit n small = reads_fixed_small 16 1 n (omega arith) (omega arith) (omega arith) (omega arith)
-
-pub reads_back_two : ReadsBackTwo
-reads_back_two n small = reads_fixed_small 10 2 n (omega arith) (omega arith) (omega arith) (omega arith)
+pub digits_read_back : DigitsReadBack
+digits_read_back base count n some le long = reads_fixed base count n some le long
 
 -- Decimal numbers.
 
@@ -90,34 +75,10 @@ all_digits-list_all : (base : ℕ) (ds : List ℕ) → AllDigits base ds → all
 all_digits-list_all base [] all = refl
 all_digits-list_all base (c ∷ cs) all = rw (lt-ltb (digit_value c) base all.0, all_digits-list_all base cs all.1) refl
 
-pub reads_back_decimal : ReadsBackDecimal
+pub reads_back_decimal : DecimalReadsBack
 reads_back_decimal n small =
     let numeral = decimal_is_IsNumeral n small in
     number_from_digits 10 (decimal n) numeral.0.0 (all_digits-list_all 10 (decimal n) numeral.0.1) ∙ ap Some numeral.1
-
-zeros_say_nothing : (k : ℕ) (ds : List ℕ) → digits_value 10 (replicate k 48 ++ ds) ≡ digits_value 10 ds
-zeros_say_nothing zero ds = refl
-zeros_say_nothing (suc k) ds = zeros_say_nothing k ds
-
-zeros_are_digits : (k : ℕ) (ds : List ℕ) → all_in_base 10 ds ≡ true → all_in_base 10 (replicate k 48 ++ ds) ≡ true
-zeros_are_digits zero ds all = all
-zeros_are_digits (suc k) ds all = zeros_are_digits k ds all
-
-pub reads_back_five : ReadsBackFive
-reads_back_five n small =
-    let numeral = decimal_is_IsNumeral n small in
-    let zeros = 5 - length (decimal n) in
-    let some : 0 < length (five_digits n) = omega (
-      arith,
-      numeral.0.0,
-      length-append (replicate zeros 48) (decimal n),
-    ) in
-    number_from_digits 10 (five_digits n) some
-    (zeros_are_digits zeros (decimal n) (all_digits-list_all 10 (decimal n) numeral.0.1))
-    ∙ ap Some (zeros_say_nothing zeros (decimal n) ∙ numeral.1)
-
-pub five_digits_are : FiveDigitsAre
-five_digits_are n small = zero_filled-fixed_digits 4 n (omega arith) (omega arith)
 
 no_blank_first : (ds : List ℕ) → AllDigits 10 ds → without_blanks ds ≡ ds
 unfolding without_blanks
@@ -132,7 +93,7 @@ unfolding without_blanks
 without_blanks-filled zero ds = refl
 without_blanks-filled (suc k) ds = without_blanks-filled k ds
 
-pub reads_back_aligned : ReadsBackAligned
+pub reads_back_aligned : AlignedReadsBack
 reads_back_aligned width n small =
     let digits = (decimal_is_IsNumeral n small).0.1 in
     rw (without_blanks-filled (width - length (decimal n)) (decimal n), no_blank_first (decimal n) digits)

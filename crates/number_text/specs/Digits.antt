@@ -27,3 +27,7 @@ hexadecimal_digit number = fixed_digits 16 1 number
 -- a number below 100
 abbrev pub two_digits : ℕ → List ℕ
 two_digits number = fixed_digits 10 2 number
+
+-- a number below 100,000
+abbrev pub five_digits : ℕ → List ℕ
+five_digits number = fixed_digits 10 5 number

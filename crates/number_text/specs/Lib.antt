@@ -1,5 +1,6 @@
-pub mod Columns
+-- The definitions that public contracts cite, in the order of reading.
 pub mod Digits
-pub mod Laws
-pub mod Numbers
+pub mod Columns
 pub mod Reading
+pub mod Numbers
+pub mod Laws

@@ -2,16 +2,17 @@
 //! and digits of any length.
 #![tactic(auto)]
 
+mod appended;
+mod digits;
 mod laws;
 mod numbers;
-mod printed_decimal;
-mod printed_hexadecimal;
 mod reading;
-#[cfg(test)]
-mod tests;
 
+pub use appended::{
+    push_five_digits, push_hexadecimal_8, push_hexadecimal_12, push_hexadecimal_16,
+    push_hexadecimal_digit, push_right_aligned, push_two_digits,
+};
+pub use digits::{decimal_digits, hexadecimal_digits};
 pub use laws::{decimal_numbers_read_back, fixed_widths_read_back, printed_digits_read_back};
-pub use numbers::{Base, Number, read_digits};
-pub use printed_decimal::{FiveDigits, RightAligned, TwoDigits};
-pub use printed_hexadecimal::{Hexadecimal, Hexadecimal8, Hexadecimal12, HexadecimalDigit};
+pub use numbers::{Base, Number, read_digits, read_number};
 pub use reading::read_hexadecimal;

@@ -4,7 +4,7 @@ ghost use Rattle.std.specs.Prelude.{◌≡◌, ℕ, ◌+◌, ◌*◌, ◌<◌, S
 ghost use Rattle.std.specs.Char.{digit_value};
 ghost use Rattle.std.specs.Option.{option_map};
 ghost use Rattle.number_text.specs.Numbers.{base_number, number_from, up_to};
-ghost use Rattle.number_text.specs.Reading.{number_of_digits};
+ghost use Rattle.number_text.specs.Reading.{number_of_digits, number_of_text};
 
 /// The base that digits are read in.
 #[derive(Clone, Copy, Debug, PartialEq, Eq)]
@@ -27,7 +27,7 @@ impl Base {
     }
 
     /// What a byte says as a digit of the base.
-    fn value_of_digit(self, byte: u8) -> Option<u64>
+    pub(crate) fn value_of_digit(self, byte: u8) -> Option<u64>
         ensures { SomeIff result (digit_value byte < base_number self) (digit_value byte) }
     {
         char::from(byte).to_digit(self.number()).map(u64::from)
@@ -62,7 +62,7 @@ impl Number {
     {
         match self {
             Number::Word(word) if word <= limit => Some(word),
-            _ => None,
+            Number::Word(_) | Number::TooLarge => None,
         }
     }
 }
@@ -81,4 +81,17 @@ pub fn read_digits(base: Base, digits: &[u8]) -> Option<Number>
         number = number.followed_by(base, value);
     }
     Some(number)
+}
+
+/// The number that a text says: decimal digits, or `0x` and hexadecimal digits of either case, one digit or more.
+/// None for every other text: there is no sign, no `0X`, no `_` and no blank.
+#[tactic(auto, unfolding(crate::specs::Reading::number_of_text))]
+pub fn read_number(text: &[u8]) -> Option<Number>
+    ensures { result ≡ option_map number_from (number_of_text text.now) }
+{
+    if text.starts_with(b"0x") {
+        read_digits(Base::Hexadecimal, &text[2..])
+    } else {
+        read_digits(Base::Decimal, text)
+    }
 }

@@ -17,20 +17,20 @@ use Rattle.stream_core.specs.declared.steps.Fetched.{Fetched}
 use Rattle.stream_core.specs.declared.steps.Fetched.TheVariants as fetch
 use Rattle.processor.specs.Processors.{ProcessorValue, is_idle, is_idle_status, stream_at}
 use Rattle.processor.specs.Row.{lacks_stream, step_fetch_from, step_fetch, step_fetch_at, step_fetch_of, request_on_fetch, request_at}
-use Rattle.processor.specs.Row.{request, next_asking, next_by, next_at, next_of}
-use Rattle.processor.specs.Row.{row_by, row_at, row, memory_reply, row_with_reply, row_over_memory}
+use Rattle.processor.specs.Row.{request, next_asking, next_on_fetch, next_at, next_of}
+use Rattle.processor.specs.Row.{row_on_fetch, row_at, row, memory_reply, row_over_memory}
 use Rattle.processor.specs.declared.steps.Next.TheVariants as next
 
 -- The table by the stream and what its step begins with.
 
 row_seen : (image : ImageValue) (proc : ProcessorValue) (n : ℕ) (r : Option Reply) (o : Option StreamValue)
     (s : StreamValue) → unwrap_or o idle ≡ s
-    → row_at image proc n r o ≡ row_by image proc n r s (step_fetch_at image proc o)
+    → row_at image proc n r o ≡ row_on_fetch image proc n r s (step_fetch_at image proc o)
 row_seen image proc n r None s e = refl
-row_seen image proc n r (Some t) s e = ap (λ x. row_by image proc n r x (step_fetch image proc t)) e
+row_seen image proc n r (Some t) s e = ap (λ x. row_on_fetch image proc n r x (step_fetch image proc t)) e
 
 pub row_is : (image : ImageValue) (proc : ProcessorValue) (n : ℕ) (r : Option Reply)
-    → row image proc n r ≡ row_by image proc n r (stream_at proc.streams n) (step_fetch_of image proc n)
+    → row image proc n r ≡ row_on_fetch image proc n r (stream_at proc.streams n) (step_fetch_of image proc n)
 unfolding row step_fetch_of
 row_is image proc n r =
     row_seen image proc n r (slice_get proc.streams n) (stream_at proc.streams n)
@@ -49,12 +49,12 @@ request_is image proc n =
     (unwrap_or-slice_get proc.streams n idle)
 
 next_seen : (image : ImageValue) (proc : ProcessorValue) (o : Option StreamValue) (s : StreamValue)
-    → unwrap_or o idle ≡ s → next_at image proc o ≡ next_by s (step_fetch_at image proc o)
+    → unwrap_or o idle ≡ s → next_at image proc o ≡ next_on_fetch s (step_fetch_at image proc o)
 next_seen image proc None s e = refl
-next_seen image proc (Some t) s e = ap (λ x. next_by x (step_fetch image proc t)) e
+next_seen image proc (Some t) s e = ap (λ x. next_on_fetch x (step_fetch image proc t)) e
 
 next_is : (image : ImageValue) (proc : ProcessorValue) (n : ℕ)
-    → next_of image proc n ≡ next_by (stream_at proc.streams n) (step_fetch_of image proc n)
+    → next_of image proc n ≡ next_on_fetch (stream_at proc.streams n) (step_fetch_of image proc n)
 unfolding next_of step_fetch_of
 next_is image proc n =
     next_seen image proc (slice_get proc.streams n) (stream_at proc.streams n)
@@ -63,16 +63,16 @@ next_is image proc n =
 -- Where it is known what the step begins with.
 
 pub row_begun : (image : ImageValue) (proc : ProcessorValue) (n : ℕ) (r : Option Reply) (f : Fetched)
-    → step_fetch_of image proc n ≡ f → row_by image proc n r (stream_at proc.streams n) f ≡ row image proc n r
-row_begun image proc n r f e = sym (row_is image proc n r ∙ ap (row_by image proc n r (stream_at proc.streams n)) e)
+    → step_fetch_of image proc n ≡ f → row_on_fetch image proc n r (stream_at proc.streams n) f ≡ row image proc n r
+row_begun image proc n r f e = sym (row_is image proc n r ∙ ap (row_on_fetch image proc n r (stream_at proc.streams n)) e)
 
 pub request_begun : (image : ImageValue) (proc : ProcessorValue) (n : ℕ) (f : Fetched)
     → step_fetch_of image proc n ≡ f → request image proc n ≡ request_on_fetch (stream_at proc.streams n) f
 request_begun image proc n f e = request_is image proc n ∙ ap (request_on_fetch (stream_at proc.streams n)) e
 
 pub next_begun : (image : ImageValue) (proc : ProcessorValue) (n : ℕ) (f : Fetched)
-    → step_fetch_of image proc n ≡ f → next_by (stream_at proc.streams n) f ≡ next_of image proc n
-next_begun image proc n f e = sym (next_is image proc n ∙ ap (next_by (stream_at proc.streams n)) e)
+    → step_fetch_of image proc n ≡ f → next_on_fetch (stream_at proc.streams n) f ≡ next_of image proc n
+next_begun image proc n f e = sym (next_is image proc n ∙ ap (next_on_fetch (stream_at proc.streams n)) e)
 
 -- what the stream that was read asks
 pub asked_there : (proc : ProcessorValue) (n : ℕ) (i : Insn) (s : StreamValue) (o : Option Request)
@@ -85,13 +85,13 @@ pub next_needed : (image : ImageValue) (proc : ProcessorValue) (n : ℕ) (i : In
 next_needed image proc n i s o e is asks =
     ap next_asking (asked_there proc n i s o is asks) ∙ next_begun image proc n (fetch.Runs i) e
 
-pub served_begun : (image : ImageValue) (proc : ProcessorValue) (n : ℕ) (m after : TaggedMemory) (f : Fetched)
+pub row_over_memory_begun : (image : ImageValue) (proc : ProcessorValue) (n : ℕ) (m after : TaggedMemory) (f : Fetched)
     (r : Option Reply) → step_fetch_of image proc n ≡ f → (after, r) ≡ memory_reply m (request_on_fetch (stream_at proc.streams n) f)
-    → (row_by image proc n r (stream_at proc.streams n) f, after) ≡ row_over_memory image proc n m
+    → (row_on_fetch image proc n r (stream_at proc.streams n) f, after) ≡ row_over_memory image proc n m
 unfolding row_over_memory
-served_begun image proc n m after f r e answers =
+row_over_memory_begun image proc n m after f r e answers =
     ap (λ x. (x, after)) (row_begun image proc n r f e)
-    ∙ ap (row_with_reply image proc n) (answers ∙ sym (ap (memory_reply m) (request_begun image proc n f e)))
+    ∙ ap (λ (x : TaggedMemory × Option Reply). (row image proc n x.1, x.0)) (answers ∙ sym (ap (memory_reply m) (request_begun image proc n f e)))
 
 pub is_replied : (m after : TaggedMemory) (o : Option Request) (r : Option Reply) → (after, r) ≡ memory_reply m o
     → is_some r ≡ is_some o
@@ -172,7 +172,7 @@ local_asks : (o : Option Request) → next_asking o ≡ next.Local → o ≡ Non
 local_asks None e = refl
 local_asks (Some q) e = cc
 
-local_by : (s : StreamValue) (f : Fetched) → next_by s f ≡ next.Local → request_on_fetch s f ≡ None
+local_by : (s : StreamValue) (f : Fetched) → next_on_fetch s f ≡ next.Local → request_on_fetch s f ≡ None
 local_by s fetch.Rest e = cc
 local_by s (fetch.Trap k) e = refl
 local_by s (fetch.Runs i) e = local_asks (request_of s i) e
@@ -187,7 +187,7 @@ ask_asks : (o : Option Request) (q : Request) → next_asking o ≡ next.Ask q �
 ask_asks None q e = cc
 ask_asks (Some p) q e = cc
 
-ask_by : (s : StreamValue) (f : Fetched) (q : Request) → next_by s f ≡ next.Ask q → request_on_fetch s f ≡ Some q
+ask_by : (s : StreamValue) (f : Fetched) (q : Request) → next_on_fetch s f ≡ next.Ask q → request_on_fetch s f ≡ Some q
 ask_by s fetch.Rest q e = cc
 ask_by s (fetch.Trap k) q e = cc
 ask_by s (fetch.Runs i) q e = ask_asks (request_of s i) q e

@@ -1,11 +1,9 @@
 -- The counts keep to the streams over each step.
 use Rattle.std.proofs.Common.{◌≡◌, ℕ, zero, suc, ◌+◌, ◌<◌, ◌≤◌, ◌==◌, Bool, true, false, not, refl}
-use Rattle.std.proofs.Common.{sym, ap, ◌∙◌, subst, arith, zero-add, if◌then◌else◌}
-use Rattle.std.proofs.Common.{List, [], ◌∷◌, length, set, replicate, slice_get, slice_index, Option}
-use Rattle.std.proofs.Common.{Some}
-use Rattle.std.proofs.lemmas.Option.{get_or_from_slice_get}
+use Rattle.std.proofs.Common.{sym, ap, ◌∙◌, subst, arith, if◌then◌else◌}
+use Rattle.std.proofs.Common.{List, [], ◌∷◌, length, set, Option}
 use Rattle.std.specs.List.{position_or_len}
-use Rattle.std.proofs.lemmas.List.{length-set, get_or-set_same, length-replicate, get_or-replicate}
+use Rattle.std.proofs.lemmas.List.{length-set, get_or-set_same}
 use Rattle.std.proofs.lemmas.List.Sums.{passes_at_first}
 use Rattle.std.proofs.lemmas.Bool.{eqb-false}
 use Rattle.tag_memory.specs.declared.requests.Reply.{Reply}
@@ -21,14 +19,13 @@ use Rattle.stream_core.specs.declared.steps.Fetched.{Fetched}
 use Rattle.stream_core.specs.declared.steps.Fetched.TheVariants as fetch
 use Rattle.stream_core.specs.declared.steps.Control.{Control}
 use Rattle.stream_core.specs.declared.steps.Control.TheVariants as asks
-use Rattle.processor.specs.Processors.{ProcessorValue, is_idle, count_current, IsCounted, stream_at}
-use Rattle.processor.specs.Processors.{first_stream, opening}
+use Rattle.processor.specs.Processors.{ProcessorValue, is_idle, count_current, IsCounted, IsZeroIfIdle, stream_at}
 use Rattle.processor.specs.Row.{lacks_stream, step_fetch_of, grant_of, with_stream, lowest_idle, after_control, after_control_if_done}
-use Rattle.processor.specs.Row.{row_by, row, request, memory_reply, row_over_memory}
+use Rattle.processor.specs.Row.{row_on_fetch, row, request, memory_reply, row_over_memory}
 use Rattle.processor.proofs.Begun.{rests, awake, free, row_is}
 use Rattle.processor.proofs.Awake.{awake-trapped, awake-row_asking}
 
-abbrev weight : StreamValue → ℕ
+abbrev pub weight : StreamValue → ℕ
 weight s = if is_idle s then 0 else 1
 
 swapped : (a b c : ℕ) → (a + b) + c ≡ (c + b) + a
@@ -37,7 +34,7 @@ swapped a b c = omega arith
 beside : (w a b c d : ℕ) → a + b ≡ c + d → (w + a) + b ≡ (w + c) + d
 beside w a b c d e = omega arith
 
-count-set : (ss : List StreamValue) (n : ℕ) (t : StreamValue) → n < length ss
+pub count-set : (ss : List StreamValue) (n : ℕ) (t : StreamValue) → n < length ss
     → count_current (set ss n t) + weight (stream_at ss n) ≡ count_current ss + weight t
 count-set [] n t below = absurd (omega arith)
 count-set (x ∷ ss) zero t below = swapped (weight t) (count_current ss) (weight x)
@@ -46,10 +43,10 @@ count-set (x ∷ ss) (suc n) t below =
     beside (weight x) (count_current (set ss n t)) (weight (stream_at ss n)) (count_current ss) (weight t)
     (count-set ss n t inner)
 
-weight_awake : (s : StreamValue) → is_idle s ≡ false → weight s ≡ 1
+pub weight_awake : (s : StreamValue) → is_idle s ≡ false → weight s ≡ 1
 weight_awake s e = ap (λ b. if b then 0 else 1) e
 
-weight_idle : (s : StreamValue) → is_idle s ≡ true → weight s ≡ 0
+pub weight_idle : (s : StreamValue) → is_idle s ≡ true → weight s ≡ 0
 weight_idle s e = ap (λ b. if b then 0 else 1) e
 
 some_counted : (ss : List StreamValue) (n : ℕ) → n < length ss → is_idle (stream_at ss n) ≡ false
@@ -80,6 +77,19 @@ idle_there [] less = less
 idle_there (x ∷ ss) less =
     idle_step (is_idle x) (count_current ss) (length ss) (position_or_len is_idle ss) (idle_there ss) less
 
+-- An idle stream holds zeros only.
+
+pub awake-zeros : (s : StreamValue) → is_idle s ≡ false → IsZeroIfIdle s
+awake-zeros s awake rests = cc
+
+pub zeros-set : (ss : List StreamValue) (n : ℕ) (t : StreamValue) → IsZeroIfIdle t
+    → ((k : ℕ) → IsZeroIfIdle (stream_at ss k)) → (k : ℕ) → IsZeroIfIdle (stream_at (set ss n t) k)
+zeros-set [] n t is all k = all k
+zeros-set (x ∷ ss) zero t is all zero = is
+zeros-set (x ∷ ss) zero t is all (suc k) = all (suc k)
+zeros-set (x ∷ ss) (suc n) t is all zero = all zero
+zeros-set (x ∷ ss) (suc n) t is all (suc k) = zeros-set ss n t is (λ j. all (suc j)) k
+
 -- Each change keeps the counts.
 
 counted_with : (proc : ProcessorValue) (n : ℕ) (s : StreamValue) → IsCounted proc → n < length proc.streams
@@ -91,6 +101,7 @@ counted_with proc n s counted there was is =
       counts = omega (arith, counted.counts, change, before, weight_awake s is);
       within_reserved = counted.within_reserved;
       within_slim = omega (arith, counted.within_slim, length-set proc.streams n s);
+      zeros = zeros-set proc.streams n s (awake-zeros s is) counted.zeros;
     }
 
 -- the counts, where stream n becomes idle
@@ -116,43 +127,47 @@ created proc s counted apart is =
       counts = omega (arith, counted.counts, change, before, weight_awake s is);
       within_reserved = omega arith;
       within_slim = omega (arith, counted.within_slim, length-set proc.streams (lowest_idle proc) s);
+      zeros = zeros-set proc.streams (lowest_idle proc) s (awake-zeros s is) counted.zeros;
     }
 
-counted_controlled : (proc : ProcessorValue) (n grant : ℕ) (c : Control) → IsCounted proc → n < length proc.streams
+counted_control : (proc : ProcessorValue) (n grant : ℕ) (c : Control) → IsCounted proc → n < length proc.streams
     → is_idle (stream_at proc.streams n) ≡ false → lacks_stream proc c ≡ false
     → proc.reserved + grant ≤ length proc.streams → IsCounted (after_control proc n grant c)
-counted_controlled proc n grant asks.Plain counted there was free fits = counted
-counted_controlled proc n grant (asks.Reserve asked) counted there was free fits = record {
+counted_control proc n grant asks.Plain counted there was free fits = counted
+counted_control proc n grant (asks.Reserve asked) counted there was free fits = record {
   counts = counted.counts;
   within_reserved = omega (arith, counted.within_reserved);
   within_slim = fits;
+  zeros = counted.zeros;
 }
-counted_controlled proc n grant (asks.Create child) counted there was free fits =
+counted_control proc n grant (asks.Create child) counted there was free fits =
     created proc (child_stream child) counted free refl
-counted_controlled proc n grant asks.Quit counted there was free fits =
+counted_control proc n grant asks.Quit counted there was free fits =
     let without = counted_without proc n counted there was in
     record {
       counts = omega (arith, without);
       within_reserved = omega (arith, counted.within_reserved);
       within_slim = omega (arith, counted.within_slim, length-set proc.streams n idle);
+      zeros = zeros-set proc.streams n idle (λ e. refl) counted.zeros;
     }
-counted_controlled proc n grant asks.QuitKeep counted there was free fits =
+counted_control proc n grant asks.QuitKeep counted there was free fits =
     let without = counted_without proc n counted there was in
     record {
       counts = omega (arith, without);
       within_reserved = omega (arith, counted.within_reserved);
       within_slim = omega (arith, counted.within_slim, length-set proc.streams n idle);
+      zeros = zeros-set proc.streams n idle (λ e. refl) counted.zeros;
     }
 
-counted_settled : (proc : ProcessorValue) (n grant : ℕ) (c : Control) (o : Outcome) → IsCounted proc
+counted_if_done : (proc : ProcessorValue) (n grant : ℕ) (c : Control) (o : Outcome) → IsCounted proc
     → n < length proc.streams → is_idle (stream_at proc.streams n) ≡ false → lacks_stream proc c ≡ false
     → proc.reserved + grant ≤ length proc.streams → IsCounted (after_control_if_done proc n grant c o)
-counted_settled proc n grant c outcome.Skipped counted there was free fits = counted
-counted_settled proc n grant c outcome.Done counted there was free fits =
-    counted_controlled proc n grant c counted there was free fits
-counted_settled proc n grant c outcome.Blocked counted there was free fits = counted
-counted_settled proc n grant c (outcome.Trapped k) counted there was free fits = counted
-counted_settled proc n grant c (outcome.Stopped k) counted there was free fits = counted
+counted_if_done proc n grant c outcome.Skipped counted there was free fits = counted
+counted_if_done proc n grant c outcome.Done counted there was free fits =
+    counted_control proc n grant c counted there was free fits
+counted_if_done proc n grant c outcome.Blocked counted there was free fits = counted
+counted_if_done proc n grant c (outcome.Trapped k) counted there was free fits = counted
+counted_if_done proc n grant c (outcome.Stopped k) counted there was free fits = counted
 
 granted_fits : (image : ImageValue) (proc : ProcessorValue) (c : Control) → image.slim ≡ length proc.streams
     → proc.reserved ≤ length proc.streams → proc.reserved + grant_of image proc c ≤ length proc.streams
@@ -179,12 +194,12 @@ counted_done image proc n s c o slim counted there was is free =
     let fits = granted_fits image proc c slim counted.within_slim in
     let here : is_idle (stream_at (set proc.streams n s) n) ≡ false =
     ap is_idle (get_or-set_same proc.streams n s idle there) ∙ is in
-    counted_settled (with_stream proc n s) n (grant_of image proc c) c o (counted_with proc n s counted there was is)
+    counted_if_done (with_stream proc n s) n (grant_of image proc c) c o (counted_with proc n s counted there was is)
     (omega (arith, there, same)) here (lacks-with_stream proc n s c ∙ free) (omega (arith, fits, same))
 
 counted_by : (image : ImageValue) (proc : ProcessorValue) (n : ℕ) (r : Option Reply) (f : Fetched)
     → image.slim ≡ length proc.streams → IsCounted proc → step_fetch_of image proc n ≡ f
-    → IsCounted (row_by image proc n r (stream_at proc.streams n) f).0
+    → IsCounted (row_on_fetch image proc n r (stream_at proc.streams n) f).0
 counted_by image proc n r fetch.Rest slim counted e = counted
 counted_by image proc n r (fetch.Trap k) slim counted e =
     let found = awake image proc n (ap rests e) in
@@ -206,33 +221,11 @@ counted_row image proc n r slim counted =
     let P : ProcessorValue × Outcome → Type 0 = λ x. IsCounted x.0 in
     subst P (sym (row_is image proc n r)) (counted_by image proc n r (step_fetch_of image proc n) slim counted refl)
 
-pub counted_served : (image : ImageValue) (proc : ProcessorValue) (n : ℕ) (m : TaggedMemory)
+pub counted_row_over_memory : (image : ImageValue) (proc : ProcessorValue) (n : ℕ) (m : TaggedMemory)
     → image.slim ≡ length proc.streams → IsCounted proc → IsCounted (row_over_memory image proc n m).0.0
 unfolding row_over_memory
-counted_served image proc n m slim counted =
+counted_row_over_memory image proc n m slim counted =
     counted_row image proc n (memory_reply m (request image proc n)).1 slim counted
-
--- The counts at the start.
-
-count-idle : (n : ℕ) → count_current (replicate n idle) ≡ 0
-count-idle zero = refl
-count-idle (suc n) = zero-add (count_current (replicate n idle)) ∙ count-idle n
-
-pub counted_opening : (image : ImageValue) (entry : ℕ) → 1 ≤ image.slim → IsCounted (opening image entry)
-unfolding opening
-counted_opening image entry some =
-    let ss = replicate image.slim idle in
-    let all : length ss ≡ image.slim = length-replicate image.slim idle in
-    let there : 0 < length ss = omega (arith, all) in
-    let was : is_idle (stream_at ss 0) ≡ true = ap is_idle (get_or-replicate image.slim 0 idle idle (omega arith)) in
-    let first = first_stream image entry in
-    let change = count-set ss 0 first there in
-    let before = weight_idle (stream_at ss 0) was in
-    record {
-      counts = omega (arith, change, count-idle image.slim, before, weight_awake first refl);
-      within_reserved = omega arith;
-      within_slim = omega (arith, length-set ss 0 first, all);
-    }
 
 -- The same of the parts of a processor.
 
@@ -249,22 +242,4 @@ pub counted_over : (image : ImageValue) (now old new : ProcessorValue) (n : ℕ)
 counted_over image now old new n m after o same slim counted stepped =
     let P : (ProcessorValue × Outcome) × TaggedMemory → Type 0 = λ x. IsCounted x.0.0 in
     let as_many = slim ∙ ap (λ (p : ProcessorValue). length p.streams) (sym same) in
-    subst P (sym stepped) (counted_served image old n m as_many counted)
-
--- a processor made of a table with its first stream
-pub opened : (image : ImageValue) (number entry slim : ℕ) (first : StreamValue) (ss : List StreamValue)
-    → Some entry ≡ slice_get image.entries number → slim ≡ image.slim → first ≡ first_stream image entry
-    → ss ≡ set (replicate slim idle) 0 first
-    → record { streams = ss; current = 1; reserved = 1 } ≡ opening image (slice_index image.entries number)
-unfolding opening
-opened image number entry slim first ss stands same child_stream all =
-    let there = get_or_from_slice_get image.entries number entry 0 (sym stands) in
-    let filled = all ∙ ap (λ f. set (replicate slim idle) 0 f) (child_stream ∙ ap (first_stream image) (sym there))
-    ∙ ap (λ k. set (replicate k idle) 0 (first_stream image (slice_index image.entries number))) same in
-    λ i. record { streams = filled i; current = 1; reserved = 1 }
-
-pub counted_opened : (image : ImageValue) (number : ℕ) (p : ProcessorValue) (slim : ℕ) → 1 ≤ slim → slim ≡ image.slim
-    → p ≡ opening image (slice_index image.entries number) → IsCounted p
-counted_opened image number p slim some same opens =
-    let P : ProcessorValue → Type 0 = λ x. IsCounted x in
-    subst P (sym opens) (counted_opening image (slice_index image.entries number) (omega arith))
+    subst P (sym stepped) (counted_row_over_memory image old n m as_many counted)

@@ -2,4 +2,6 @@ pub mod TableViews
 pub mod Begun
 pub mod Awake
 pub mod Counting
-pub mod Kept
+pub mod Opening
+pub mod OtherStreams
+pub mod World

@@ -15,8 +15,8 @@ use Rattle.stream_core.specs.Effects.{after_instruction, request_of}
 use Rattle.stream_core.specs.StreamRow.{after_reply, row_asking}
 use Rattle.stream_core.specs.declared.steps.Outcome.{Outcome}
 use Rattle.stream_core.specs.declared.steps.Outcome.TheVariants as outcome
-use Rattle.processor.specs.Processors.{is_idle, stream_at, stream_seen, IsRoom}
-use Rattle.processor.specs.Table.{put_in_streams}
+use Rattle.processor.specs.Processors.{is_idle, stream_at, stream_seen}
+use Rattle.processor.specs.StreamTables.{IsRoom, put_in_streams}
 
 -- a used place is one below slim
 pub below_slim : (size slim n : ℕ) (ss now : List StreamValue) → IsRoom size slim ss → take slim ss ≡ now

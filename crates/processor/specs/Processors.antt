@@ -24,34 +24,34 @@ is_idle_status (Stopped k) = false
 abbrev pub is_idle : StreamValue → Bool
 is_idle s = is_idle_status s.status
 
+-- the stream of this number; idle where there is none
+abbrev pub stream_at : List StreamValue → ℕ → StreamValue
+stream_at ss n = slice_index_or ss n idle
+
+-- an idle stream holds zeros only
+abbrev pub IsZeroIfIdle : StreamValue → Type 0
+IsZeroIfIdle s = is_idle s ≡ true → s ≡ idle
+
 -- how many streams are not idle: a stopped stream counts
 abbrev pub count_current : List StreamValue → ℕ
 count_current [] = 0
 count_current (s ∷ ss) = (if is_idle s then 0 else 1) + count_current ss
 
--- the counts keep to the streams
+-- what holds of each processor: the counts keep to the streams, and idle streams hold zeros only
 pub record IsCounted (proc : ProcessorValue) : Type 0 where
   pub counts : proc.current ≡ count_current proc.streams
   pub within_reserved : proc.current ≤ proc.reserved
   pub within_slim : proc.reserved ≤ length proc.streams
+  pub zeros : (n : ℕ) → IsZeroIfIdle (stream_at proc.streams n)
 
 -- the stream that a processor begins with: its t0 is the image's trap entry
 abbrev pub first_stream : ImageValue → ℕ → StreamValue
-first_stream image entry = child_stream (record { pc = entry; value = 0; t0 = status_at image.trap_entry; mask = no_mask })
-
--- the stream of this number; idle where there is none
-abbrev pub stream_at : List StreamValue → ℕ → StreamValue
-stream_at ss n = slice_index_or ss n idle
+first_stream image entry =
+    child_stream (record { pc = entry; value = 0; t0 = status_at image.trap_entry; mask = no_mask })
 
 -- what is seen of a processor that has room for so many streams: none from there on
 abbrev pub stream_seen : ℕ → List StreamValue → ℕ → Option StreamValue
 stream_seen size ss n = if nat_lt n size then Some (stream_at ss n) else None
-
--- the first slim streams of the room, the others being idle
-pub record IsRoom (size slim : ℕ) (ss : List StreamValue) : Type 0 where
-  pub size_is : length ss ≡ size
-  pub within : slim ≤ size
-  pub others_idle : (k : ℕ) → slim ≤ k → stream_at ss k ≡ idle
 
 -- a processor at its start: stream 0 runs from the entry, the others are idle
 unfoldable pub opening : ImageValue → ℕ → ProcessorValue

@@ -1,8 +1,23 @@
--- The operation table: a step of one stream of a processor, given the reply to its request.
+-- The operation table: a step of one stream of a processor, given the reply to its request. The first line that holds
+-- decides, and the words behind it carry it. Those marked * are stream_core's (StreamRow, Effects, Streams).
+--
+--   1 no such stream, or it does not run: all stays; Skipped                            row_at; fetch_if*, row_on_fetch
+--   2 the pc is at or past the program's end: trap PROGRAM                              fetch_word*
+--   3 the word there is no instruction: trap ILLEGAL                                    fetch_instruction*
+--   4 it has CREATE, and scur = sres: trap CREATE                                       step_fetch_from, lacks_stream
+--   5 it has a reference, and the reply is Trap: that trap, at the reply's address      after_reply*
+--   6 the reply is Blocked                                                              after_blocked_reply*
+--       the limit is not 0, the count at or above it, mask bit 2 clear: trap BLOCKED
+--       else: the count grows by 1 where it is below the limit; Blocked
+--   7 else: all writes of the instruction at once; Done                                 row_asking*, after_instruction*
+--       the count becomes 0 where it has a reference
+--       what RESERVE, CREATE, QUIT, QUITP do to scur, sres and streams                  grant_of, after_control
+--
+-- `count` is the retry count and `limit` the image's retry limit. A trap (after_trap*) has the outcome Trapped or
+-- Stopped, and sets the count to 0. Where no reply is given, as no caller does, a reference waits (after_reply_if*).
 use Rattle.std.specs.Prelude.{ℕ, ◌+◌, ◌-◌, ◌==◌, min, Bool, false, Option, Some, None}
 use Rattle.std.specs.Prelude.{if◌then◌else◌, slice_get, slice_set}
 use Rattle.std.specs.List.{position_or_len}
-use Rattle.insn_word.specs.declared.insn.Insn.{Insn}
 use Rattle.tag_memory.specs.declared.requests.Request.{Request}
 use Rattle.tag_memory.specs.declared.requests.Reply.{Reply}
 use Rattle.tag_memory.specs.Storage.{TaggedMemory}
@@ -36,7 +51,8 @@ lacks_stream proc asks.QuitKeep = false
 abbrev pub step_fetch_from : ProcessorValue → StreamValue → Fetched → Fetched
 step_fetch_from proc s fetch.Rest = fetch.Rest
 step_fetch_from proc s (fetch.Trap k) = fetch.Trap k
-step_fetch_from proc s (fetch.Runs i) = if lacks_stream proc (control_of s i) then fetch.Trap kind.Create else fetch.Runs i
+step_fetch_from proc s (fetch.Runs i) =
+    if lacks_stream proc (control_of s i) then fetch.Trap kind.Create else fetch.Runs i
 
 -- rest where the stream does not run; a trap where there is no word, no instruction or no stream for a CREATE, in
 -- this order; else the instruction at the pc
@@ -70,14 +86,14 @@ abbrev pub next_asking : Option Request → Next
 next_asking None = next.Local
 next_asking (Some q) = next.Ask q
 
-abbrev pub next_by : StreamValue → Fetched → Next
-next_by s fetch.Rest = next.Skip
-next_by s (fetch.Trap k) = next.Local
-next_by s (fetch.Runs i) = next_asking (request_of s i)
+abbrev pub next_on_fetch : StreamValue → Fetched → Next
+next_on_fetch s fetch.Rest = next.Skip
+next_on_fetch s (fetch.Trap k) = next.Local
+next_on_fetch s (fetch.Runs i) = next_asking (request_of s i)
 
 abbrev pub next_at : ImageValue → ProcessorValue → Option StreamValue → Next
 next_at image proc None = next.Skip
-next_at image proc (Some s) = next_by s (step_fetch image proc s)
+next_at image proc (Some s) = next_on_fetch s (step_fetch image proc s)
 
 -- what a step of stream n needs
 unfoldable pub next_of : ImageValue → ProcessorValue → ℕ → Next
@@ -121,27 +137,20 @@ after_control_if_done proc n grant asking (outcome.Stopped k) = proc
 abbrev pub put_back : ProcessorValue → ℕ → StreamValue × Outcome → ProcessorValue × Outcome
 put_back proc n e = (with_stream proc n e.0, e.1)
 
--- the instruction left its stream so, with this outcome
-abbrev pub put_after_control : ProcessorValue → ℕ → ℕ → Control → StreamValue × Outcome → ProcessorValue × Outcome
-put_after_control proc n grant asking e = (after_control_if_done (with_stream proc n e.0) n grant asking e.1, e.1)
-
-abbrev pub row_granting : ImageValue → ProcessorValue → ℕ → Option Reply → StreamValue → Insn → Control → ℕ
+-- by what the step of the stream begins with
+abbrev pub row_on_fetch : ImageValue → ProcessorValue → ℕ → Option Reply → StreamValue → Fetched
     → ProcessorValue × Outcome
-row_granting image proc n reply s i asking grant =
-    put_after_control proc n grant asking (row_asking image.retry_limit s i grant reply (request_of s i))
-
-abbrev pub row_controlling : ImageValue → ProcessorValue → ℕ → Option Reply → StreamValue → Insn → Control
-    → ProcessorValue × Outcome
-row_controlling image proc n reply s i asking = row_granting image proc n reply s i asking (grant_of image proc asking)
-
-abbrev pub row_by : ImageValue → ProcessorValue → ℕ → Option Reply → StreamValue → Fetched → ProcessorValue × Outcome
-row_by image proc n reply s fetch.Rest = (proc, outcome.Skipped)
-row_by image proc n reply s (fetch.Trap k) = put_back proc n (after_trap k 0 s)
-row_by image proc n reply s (fetch.Runs i) = row_controlling image proc n reply s i (control_of s i)
+row_on_fetch image proc n reply s fetch.Rest = (proc, outcome.Skipped)
+row_on_fetch image proc n reply s (fetch.Trap k) = put_back proc n (after_trap k 0 s)
+row_on_fetch image proc n reply s (fetch.Runs i) =
+    let asking = control_of s i in
+    let grant = grant_of image proc asking in
+    let e = row_asking image.retry_limit s i grant reply (request_of s i) in
+    (after_control_if_done (with_stream proc n e.0) n grant asking e.1, e.1)
 
 abbrev pub row_at : ImageValue → ProcessorValue → ℕ → Option Reply → Option StreamValue → ProcessorValue × Outcome
 row_at image proc n reply None = (proc, outcome.Skipped)
-row_at image proc n reply (Some s) = row_by image proc n reply s (step_fetch image proc s)
+row_at image proc n reply (Some s) = row_on_fetch image proc n reply s (step_fetch image proc s)
 
 -- the processor after a step of stream n with this reply, none where it asks nothing; and the outcome
 unfoldable pub row : ImageValue → ProcessorValue → ℕ → Option Reply → ProcessorValue × Outcome
@@ -154,10 +163,9 @@ abbrev pub memory_reply : TaggedMemory → Option Request → TaggedMemory × Op
 memory_reply m None = (m, None)
 memory_reply m (Some q) = ((answer m q).0, Some (answer m q).1)
 
-abbrev pub row_with_reply : ImageValue → ProcessorValue → ℕ → TaggedMemory × Option Reply
-    → (ProcessorValue × Outcome) × TaggedMemory
-row_with_reply image proc n e = (row image proc n e.1, e.0)
-
 -- the processor after a step of stream n whose request this memory answers, the outcome, and the memory
-unfoldable pub row_over_memory : ImageValue → ProcessorValue → ℕ → TaggedMemory → (ProcessorValue × Outcome) × TaggedMemory
-row_over_memory image proc n m = row_with_reply image proc n (memory_reply m (request image proc n))
+unfoldable pub row_over_memory : ImageValue → ProcessorValue → ℕ → TaggedMemory
+    → (ProcessorValue × Outcome) × TaggedMemory
+row_over_memory image proc n m =
+    let e = memory_reply m (request image proc n) in
+    (row image proc n e.1, e.0)

@@ -6,7 +6,8 @@ use Rattle.tag_memory.specs.Answer.{answer}
 use Rattle.image_file.specs.ImageValue.{ImageValue}
 use Rattle.stream_core.specs.declared.steps.Outcome.{Outcome}
 use Rattle.stream_core.specs.declared.steps.Outcome.TheVariants as outcome
-use Rattle.processor.specs.Processors.{ProcessorValue, opening}
+use Rattle.stream_core.specs.Streams.{StreamValue}
+use Rattle.processor.specs.Processors.{ProcessorValue, opening, stream_seen}
 use Rattle.processor.specs.Row.{request, row_over_memory}
 use Rattle.processor.specs.declared.steps.Step.{Step}
 use Rattle.processor.specs.declared.steps.Entry.{Entry}
@@ -19,6 +20,24 @@ pub record World : Type 0 where
 -- the world of an image before any step
 unfoldable pub start : ImageValue → World
 start image = record { processors = map (opening image) image.entries; memory = memory_of image.cells }
+
+-- What is seen of it.
+
+abbrev pub stream_seen_at : ℕ → ℕ → Option ProcessorValue → Option StreamValue
+stream_seen_at size s None = None
+stream_seen_at size s (Some proc) = stream_seen size proc.streams s
+
+-- the stream of these numbers, where there is room for so many; none where there is no such processor
+abbrev pub stream_of : ℕ → World → ℕ → ℕ → Option StreamValue
+stream_of size w p s = stream_seen_at size s (slice_get w.processors p)
+
+abbrev pub counts_at : Option ProcessorValue → Option (ℕ × ℕ)
+counts_at None = None
+counts_at (Some proc) = Some (proc.current, proc.reserved)
+
+-- how many streams of the processor are current, and how many are reserved
+abbrev pub counts_of : World → ℕ → Option (ℕ × ℕ)
+counts_of w p = counts_at (slice_get w.processors p)
 
 -- One step.
 

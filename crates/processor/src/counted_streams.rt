@@ -6,7 +6,7 @@ ghost use Rattle.stream_core.specs.StreamRow.{control_of};
 ghost use Rattle.stream_core.specs.Effects.{request_of};
 ghost use Rattle.stream_core.specs.Streams.{StreamValue, idle, after_trap};
 ghost use Rattle.processor.specs.Processors.{stream_at, IsCounted};
-ghost use Rattle.processor.specs.Row.{lacks_stream, grant_of, step_fetch_of, after_control, put_back, row_controlling};
+ghost use Rattle.processor.specs.Row.{lacks_stream, grant_of, step_fetch_of, after_control, put_back, row_on_fetch};
 ghost use Rattle.processor.specs.Row.{request, next_of, row, memory_reply, row_over_memory};
 
 use crate::steps::Next;
@@ -40,30 +40,42 @@ impl<const S: usize> CountedStreams<S> {
     fn lacks_stream(&self, insn: &Insn) -> bool
         ensures { (s : StreamValue) → result ≡ lacks_stream self.now (control_of s insn.now) }
     {
-        let Insn::Normal { c, .. } = insn else {
-            return false;
+        let op = match insn {
+            Insn::Wide { .. } => return false,
+            Insn::Normal { c, .. } => c.op,
         };
-        match c.op {
+        match op {
             ControlOp::Create => self.scur == self.sres,
-            _ => false,
+            ControlOp::Nop
+            | ControlOp::Jump
+            | ControlOp::Skip
+            | ControlOp::Call
+            | ControlOp::Exchange
+            | ControlOp::TargetSet
+            | ControlOp::TargetGet
+            | ControlOp::TrapGet
+            | ControlOp::Reserve
+            | ControlOp::Quit
+            | ControlOp::QuitKeep
+            | ControlOp::Mask => false,
         }
     }
 
     /// The number of streams that a RESERVE is granted.
-    fn granted(&self, image: &Image, control: &Control) -> u64
+    fn grant_of(&self, image: &Image, control: &Control) -> u64
         ensures is { result ≡ grant_of image.now self.now control.now }
         ensures fits { self.now.reserved + result < 65536 }
     {
         let room = image.slim().saturating_sub(self.sres);
         match control {
             Control::Reserve(asked) => (*asked).min(u64::from(room)),
-            _ => 0,
+            Control::Plain | Control::Create(_) | Control::Quit | Control::QuitKeep => 0,
         }
     }
 
     /// What a step of the stream at this place begins with.
     #[tactic(auto, unfolding(crate::specs::Row::step_fetch_of, crate::specs::Row::step_fetch))]
-    fn begun(&self, image: &Image, place: usize) -> Fetched
+    fn step_fetch(&self, image: &Image, place: usize) -> Fetched
         ensures { result ≡ step_fetch_of image.now self.now place }
     {
         let Some(stream) = self.table.used(place) else {
@@ -83,7 +95,7 @@ impl<const S: usize> CountedStreams<S> {
     }
 
     /// Does what the instruction of the stream at this place, which is done, asks of its processor.
-    fn settle(&mut self, place: usize, control: Control, grant: u64)
+    fn apply_control(&mut self, place: usize, control: Control, grant: u64)
         requires some { 1 ≤ self.old.current }
         requires within { self.old.current ≤ self.old.reserved }
         requires free { lacks_stream self.old control ≡ false }
@@ -112,7 +124,7 @@ impl<const S: usize> CountedStreams<S> {
 
     /// The stream of this number.
     fn at(&self, place: usize) -> &Stream
-        requires used { place < length self.now.streams }
+        requires there { place < length self.now.streams }
         ensures { result.now ≡ stream_at self.now.streams place }
     {
         self.table.at(place)
@@ -120,7 +132,7 @@ impl<const S: usize> CountedStreams<S> {
 
     /// A stream takes a trap that has no address.
     fn trap(&mut self, place: usize, kind: TrapKind) -> Outcome
-        requires used { place < length self.old.streams }
+        requires there { place < length self.old.streams }
         ensures { (self.new, result) ≡ put_back self.old place (after_trap kind 0 (stream_at self.old.streams place)) }
     {
         self.table.trap(place, kind)
@@ -136,34 +148,33 @@ impl<const S: usize> CountedStreams<S> {
         insn: &Insn,
         reply: Option<Reply>,
     ) -> Outcome
-        requires used { place < length self.old.streams }
-        requires replied { is_some reply ≡ is_some (request_of (stream_at self.old.streams place) insn.now) }
+        requires there { place < length self.old.streams }
+        requires reply { is_some reply ≡ is_some (request_of (stream_at self.old.streams place) insn.now) }
         requires some { 1 ≤ self.old.current }
         requires within { self.old.current ≤ self.old.reserved }
         requires free { lacks_stream self.old (control_of (stream_at self.old.streams place) insn.now) ≡ false }
-        ensures { (self.new, result) ≡ row_controlling image.now self.old place reply
-            (stream_at self.old.streams place) insn.now (control_of (stream_at self.old.streams place) insn.now) }
+        ensures { (self.new, result) ≡ row_on_fetch image.now self.old place reply (stream_at self.old.streams place)
+            (Fetched.Runs insn.now) }
     {
         let limit = image.retry_limit();
         if asks_nothing(insn) {
             return self.table.complete(place, insn, reply, limit, 0);
         }
         let control = self.at(place).control_of(insn);
-        let grant = self.granted(image, &control);
-        match self.table.complete(place, insn, reply, limit, grant) {
-            Outcome::Done => {
-                self.settle(place, control, grant);
-                Outcome::Done
-            }
-            outcome => outcome,
+        let grant = self.grant_of(image, &control);
+        let outcome = self.table.complete(place, insn, reply, limit, grant);
+        match outcome {
+            Outcome::Done => self.apply_control(place, control, grant),
+            Outcome::Skipped | Outcome::Blocked | Outcome::Trapped(_) | Outcome::Stopped(_) => {}
         }
+        outcome
     }
 
     /// What a step of the stream of this number needs.
     pub(crate) fn next(&self, image: &Image, place: usize) -> Next
         ensures { result ≡ next_of image.now self.now place }
     {
-        match self.begun(image, place) {
+        match self.step_fetch(image, place) {
             Fetched::Rest => Next::Skip,
             Fetched::Trap(_) => Next::Local,
             Fetched::Runs(insn) => match self.at(place).request(&insn) {
@@ -175,11 +186,11 @@ impl<const S: usize> CountedStreams<S> {
 
     /// One step of the stream of this number, with the memory's reply to its request where it has one.
     pub(crate) fn row(&mut self, image: &Image, place: usize, reply: Option<Reply>) -> Outcome
-        requires counted { IsCounted self.old }
-        requires replied { is_some reply ≡ is_some (request image.now self.old place) }
+        requires counts { IsCounted self.old }
+        requires reply { is_some reply ≡ is_some (request image.now self.old place) }
         ensures { (self.new, result) ≡ row image.now self.old place reply }
     {
-        match self.begun(image, place) {
+        match self.step_fetch(image, place) {
             Fetched::Rest => Outcome::Skipped,
             Fetched::Trap(kind) => self.trap(place, kind),
             Fetched::Runs(insn) => self.complete(image, place, &insn, reply),
@@ -187,11 +198,11 @@ impl<const S: usize> CountedStreams<S> {
     }
 
     /// One step of the stream of this number over a memory. It decodes one word and takes no memory.
-    pub(crate) fn served(&mut self, image: &Image, place: usize, memory: &mut Memory) -> Outcome
-        requires counted { IsCounted self.old }
+    pub(crate) fn step_over(&mut self, image: &Image, place: usize, memory: &mut Memory) -> Outcome
+        requires counts { IsCounted self.old }
         ensures { ((self.new, result), memory.new) ≡ row_over_memory image.now self.old place memory.old }
     {
-        match self.begun(image, place) {
+        match self.step_fetch(image, place) {
             Fetched::Rest => Outcome::Skipped,
             Fetched::Trap(kind) => self.trap(place, kind),
             Fetched::Runs(insn) => {
@@ -231,11 +242,20 @@ fn reply_of(memory: &mut Memory, request: Option<Request>) -> Option<Reply>
 fn asks_nothing(insn: &Insn) -> bool
     ensures { (s : StreamValue) → result ≡ true → control_of s insn.now ≡ Control.Plain }
 {
-    let Insn::Normal { c, .. } = insn else {
-        return true;
+    let op = match insn {
+        Insn::Wide { .. } => return true,
+        Insn::Normal { c, .. } => c.op,
     };
-    match c.op {
+    match op {
         ControlOp::Reserve | ControlOp::Create | ControlOp::Quit | ControlOp::QuitKeep => false,
-        _ => true,
+        ControlOp::Nop
+        | ControlOp::Jump
+        | ControlOp::Skip
+        | ControlOp::Call
+        | ControlOp::Exchange
+        | ControlOp::TargetSet
+        | ControlOp::TargetGet
+        | ControlOp::TrapGet
+        | ControlOp::Mask => true,
     }
 }

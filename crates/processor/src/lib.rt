@@ -6,8 +6,6 @@ mod counted_streams;
 mod processors;
 mod steps;
 mod stream_table;
-#[cfg(test)]
-mod tests;
 
 pub use processors::Processor;
 pub use steps::{Entry, Next, Step};

@@ -4,7 +4,7 @@ ghost use Rattle.std.specs.Prelude.{◌≡◌, ◌<◌, ◌≤◌, None, Some, l
 ghost use Rattle.std.specs.Option.{option_copied};
 ghost use Rattle.processor.specs.Processors.{IsCounted, stream_seen, opening};
 ghost use Rattle.processor.specs.Row.{next_of, row, row_over_memory};
-ghost use Rattle.processor.specs.Kept.{KeepsOthers};
+ghost use Rattle.processor.specs.OtherStreams.{KeepsOthers};
 
 use crate::counted_streams::CountedStreams;
 use crate::steps::Next;
@@ -24,7 +24,7 @@ pub struct Processor<const S: usize> {
     streams: CountedStreams<S>,
 }
 
-// Contracts see the used streams and the counts, which keep to them.
+// Contracts see the used streams and the counts, which keep to them. An idle stream holds zeros only.
 impl<const S: usize> Model for Processor<S> {
     ghost use Rattle.processor.specs.Processors.{ProcessorValue, IsCounted};
 
@@ -40,7 +40,8 @@ impl<const S: usize> Processor<S> {
     pub fn new(alloc: Global, image: &Image, number: usize) -> Result<Processor<S>, AllocError>
         requires slim { image.now.slim ≤ S }
         requires stands { number < length image.now.entries }
-        ensures { IfOk result (λ p. p ≡ opening image.now (slice_index image.now.entries number)) }
+        ensures is { IfOk result (λ p. p ≡ opening image.now (slice_index image.now.entries number)) }
+        ensures slim { IfOk result (λ p. length p.streams ≡ image.now.slim) }
     {
         let Some(entry) = image.entry(number) else {
             unreachable!();
@@ -91,10 +92,10 @@ impl<const S: usize> Processor<S> {
     /// A step of stream `s` over a memory, which answers its request. It decodes one word and takes no memory.
     pub fn step(&mut self, image: &Image, s: u8, memory: &mut Memory) -> Outcome
         requires slim { image.now.slim ≡ length self.old.streams }
-        ensures served { ((self.new, result), memory.new) ≡ row_over_memory image.now self.old s memory.old }
+        ensures row { ((self.new, result), memory.new) ≡ row_over_memory image.now self.old s memory.old }
         ensures others { KeepsOthers s self.old self.new }
     {
-        self.streams.served(image, s as usize, memory)
+        self.streams.step_over(image, s as usize, memory)
     }
 
     /// The stream of this number; None from `S` on. From the image's slim on it is idle.
@@ -104,9 +105,10 @@ impl<const S: usize> Processor<S> {
         self.streams.table.stream(s as usize)
     }
 
-    /// The number of used streams, the slim of its image.
+    /// The number of used streams, the slim of its image; at most `S`.
     pub fn slim(&self) -> u16
-        ensures { result ≡ length self.now.streams }
+        ensures is { result ≡ length self.now.streams }
+        ensures within { length self.now.streams ≤ S }
     {
         self.streams.table.slim()
     }
@@ -114,7 +116,7 @@ impl<const S: usize> Processor<S> {
     /// How many streams are not idle; a stopped one counts.
     pub fn scur(&self) -> u16
         ensures is { result ≡ self.now.current }
-        ensures counted { IsCounted self.now }
+        ensures counts { IsCounted self.now }
     {
         self.streams.scur
     }
@@ -122,7 +124,7 @@ impl<const S: usize> Processor<S> {
     /// How many streams are reserved.
     pub fn sres(&self) -> u16
         ensures is { result ≡ self.now.reserved }
-        ensures counted { IsCounted self.now }
+        ensures counts { IsCounted self.now }
     {
         self.streams.sres
     }

@@ -7,7 +7,7 @@ ghost use Rattle.stream_core.specs.Streams.{idle, after_trap};
 ghost use Rattle.stream_core.specs.Effects.{request_of};
 ghost use Rattle.stream_core.specs.StreamRow.{row_asking};
 ghost use Rattle.processor.specs.Processors.{is_idle, stream_at, stream_seen};
-ghost use Rattle.processor.specs.Table.{put_in_streams};
+ghost use Rattle.processor.specs.StreamTables.{put_in_streams};
 
 use insn_word::Insn;
 use std::alloc::{AllocError, Global};
@@ -25,7 +25,7 @@ pub(crate) struct StreamTable<const S: usize> {
 impl<const S: usize> Model for StreamTable<S> {
     ghost use Rattle.std.specs.Prelude.{List, take};
     ghost use Rattle.stream_core.specs.Streams.{StreamValue};
-    ghost use Rattle.processor.specs.Processors.{IsRoom};
+    ghost use Rattle.processor.specs.StreamTables.{IsRoom};
 
     ghost Value = { List StreamValue };
 
@@ -48,7 +48,8 @@ impl<const S: usize> StreamTable<S> {
 
     /// The number of used streams.
     pub(crate) fn slim(&self) -> u16
-        ensures { result ≡ length self.now }
+        ensures is { result ≡ length self.now }
+        ensures within { length self.now ≤ S }
     {
         self.slim
     }
@@ -66,7 +67,7 @@ impl<const S: usize> StreamTable<S> {
 
     /// The used stream at a place.
     pub(crate) fn at(&self, place: usize) -> &Stream
-        requires used { place < length self.now }
+        requires there { place < length self.now }
         ensures { result.now ≡ stream_at self.now place }
     {
         &self.streams[place]
@@ -107,7 +108,7 @@ impl<const S: usize> StreamTable<S> {
 
     /// A used stream takes a trap that has no address.
     pub(crate) fn trap(&mut self, place: usize, kind: TrapKind) -> Outcome
-        requires used { place < length self.old }
+        requires there { place < length self.old }
         ensures { (self.new, result) ≡ put_in_streams self.old place (after_trap kind 0 (stream_at self.old place)) }
     {
         self.streams[place].trap(kind, 0)
@@ -124,8 +125,8 @@ impl<const S: usize> StreamTable<S> {
         limit: u32,
         grant: u64,
     ) -> Outcome
-        requires used { place < length self.old }
-        requires replied { is_some reply ≡ is_some (request_of (stream_at self.old place) insn.now) }
+        requires there { place < length self.old }
+        requires reply { is_some reply ≡ is_some (request_of (stream_at self.old place) insn.now) }
         ensures { (self.new, result) ≡ put_in_streams self.old place
             (row_asking limit (stream_at self.old place) insn.now grant reply
             (request_of (stream_at self.old place) insn.now)) }

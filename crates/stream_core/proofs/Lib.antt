@@ -1,3 +1,4 @@
 pub mod Finishing
+pub mod SignedShifts
 pub mod StatusDigits
 pub mod TextLines

@@ -1,6 +1,6 @@
 -- What the arithmetic operations compute, and the codes that they make.
 use Rattle.std.specs.Prelude.{ℕ, ◌+◌, ◌-◌, ◌*◌, ◌/◌, ◌%◌, ◌^◌, ◌==◌, nat_lt, nat_le, Bool, false, not, if◌then◌else◌}
-use Rattle.std.specs.Prelude.{int_lt, ℤ, pos, negsuc, ◌+ℤ◌, ◌-ℤ◌, ◌*ℤ◌, bit_and, bit_or, bit_xor, count_ones}
+use Rattle.std.specs.Prelude.{int_lt, ℤ, pos, negsuc, ◌+ℤ◌, ◌-ℤ◌, ◌*ℤ◌, ◌≤ℤ◌, ◌<ℤ◌, bit_and, bit_or, bit_xor, count_ones}
 use Rattle.std.specs.Int.{w64, cast_signed}
 use Rattle.insn_word.specs.declared.operations.ArithmeticOp.{ArithmeticOp}
 use Rattle.insn_word.specs.declared.operations.ArithmeticOp.TheVariants as op
@@ -30,7 +30,8 @@ ones_complement n = 2 ^ 64 - 1 - n
 
 -- the sign comes in
 abbrev pub shift_right_signed : ℕ → ℕ → ℕ
-shift_right_signed a b = if nat_lt a (2 ^ 63) then shift_right a b else ones_complement (shift_right (ones_complement a) b)
+shift_right_signed a b =
+    if nat_lt a (2 ^ 63) then shift_right a b else ones_complement (shift_right (ones_complement a) b)
 
 abbrev pub bit_number : Bool → ℕ
 bit_number b = if b then 1 else 0
@@ -54,16 +55,38 @@ result_of op.LessUnsigned a b = bit_number (nat_lt a b)
 result_of op.Pointer a b = b % 2 ^ 5 * 2 ^ 59 + a % 2 ^ 59
 
 abbrev pub carries : ArithmeticOp → ℕ → ℕ → Bool
+carries op.Nop a b = false
 carries op.Add a b = not (fits_unsigned (a + b))
 carries op.Sub a b = nat_lt a b
 carries op.Mul a b = not (fits_unsigned (a * b))
-carries _ a b = false
+carries op.And a b = false
+carries op.Or a b = false
+carries op.Xor a b = false
+carries op.AndNot a b = false
+carries op.ShiftLeft a b = false
+carries op.ShiftRight a b = false
+carries op.ShiftRightSigned a b = false
+carries op.Tally a b = false
+carries op.LessSigned a b = false
+carries op.LessUnsigned a b = false
+carries op.Pointer a b = false
 
 abbrev pub overflows : ArithmeticOp → ℕ → ℕ → Bool
+overflows op.Nop a b = false
 overflows op.Add a b = not (fits_signed (signed a +ℤ signed b))
 overflows op.Sub a b = not (fits_signed (signed a -ℤ signed b))
 overflows op.Mul a b = not (fits_signed (signed a *ℤ signed b))
-overflows _ a b = false
+overflows op.And a b = false
+overflows op.Or a b = false
+overflows op.Xor a b = false
+overflows op.AndNot a b = false
+overflows op.ShiftLeft a b = false
+overflows op.ShiftRight a b = false
+overflows op.ShiftRightSigned a b = false
+overflows op.Tally a b = false
+overflows op.LessSigned a b = false
+overflows op.LessUnsigned a b = false
+overflows op.Pointer a b = false
 
 -- the code that the operation makes
 abbrev pub code_of : ArithmeticOp → ℕ → ℕ → Code
@@ -73,3 +96,7 @@ code_of op a b = record {
   carry = carries op a b;
   overflow = overflows op a b;
 }
+
+-- how often d goes into x: q times, and not once more
+abbrev pub IsQuotientRoundedDown : ℤ → ℕ → ℤ → Type 0
+IsQuotientRoundedDown x d q = ((q *ℤ pos d) ≤ℤ x) × (x <ℤ ((q +ℤ pos 1) *ℤ pos d))

@@ -67,7 +67,11 @@ request_of s (Normal look m a c) = request_by s m m.op
 -- a reference that is done has not been blocked
 abbrev pub retries_after : MemoryOp → ℕ → ℕ
 retries_after memory.Nop n = n
-retries_after _ n = 0
+retries_after memory.Load n = 0
+retries_after memory.Store n = 0
+retries_after memory.FetchAdd n = 0
+retries_after memory.TagGet n = 0
+retries_after memory.TagSet n = 0
 
 -- The arithmetic operation.
 
@@ -103,26 +107,51 @@ control_holds s c = condition_holds c.cond (code_at s.ssw.codes c.code)
 
 -- the status word
 abbrev pub control_ssw : StreamValue → CPart → ControlOp → StatusWord → StatusWord
+control_ssw s c control.Nop l = l
 control_ssw s c control.Jump l = if control_holds s c then record l { pc = (target_at s.targets c.t).pc } else l
 control_ssw s c control.Skip l = if control_holds s c then record l { pc = skip_pc s.ssw.pc c.n } else l
 control_ssw s c control.Call l = record l { pc = (target_at s.targets c.t).pc }
 control_ssw s c control.Exchange l = target_at s.targets c.t
+control_ssw s c control.TargetSet l = l
+control_ssw s c control.TargetGet l = l
+control_ssw s c control.TrapGet l = l
+control_ssw s c control.Reserve l = l
+control_ssw s c control.Create l = l
+control_ssw s c control.Quit l = l
+control_ssw s c control.QuitKeep l = l
 control_ssw s c control.Mask l = record l { mask = mask_from (unsigned_abs c.n) }
-control_ssw s c _ l = l
 
 -- the target registers
 abbrev pub control_targets : StreamValue → CPart → ControlOp → StatusWord → List StatusWord
+control_targets s c control.Nop l = s.targets
+control_targets s c control.Jump l = s.targets
+control_targets s c control.Skip l = s.targets
 control_targets s c control.Call l = with_target s.targets c.u (status_at l.pc)
 control_targets s c control.Exchange l = with_target s.targets c.t l
 control_targets s c control.TargetSet l = with_target s.targets c.t (status_from (register_at s.registers c.ra))
-control_targets s c _ l = s.targets
+control_targets s c control.TargetGet l = s.targets
+control_targets s c control.TrapGet l = s.targets
+control_targets s c control.Reserve l = s.targets
+control_targets s c control.Create l = s.targets
+control_targets s c control.Quit l = s.targets
+control_targets s c control.QuitKeep l = s.targets
+control_targets s c control.Mask l = s.targets
 
 -- what goes to rd
 abbrev pub control_value : StreamValue → CPart → ControlOp → ℕ → ℕ
+control_value s c control.Nop grant = 0
+control_value s c control.Jump grant = 0
+control_value s c control.Skip grant = 0
+control_value s c control.Call grant = 0
+control_value s c control.Exchange grant = 0
+control_value s c control.TargetSet grant = 0
 control_value s c control.TargetGet grant = status_number (target_at s.targets c.t)
 control_value s c control.TrapGet grant = s.xr
 control_value s c control.Reserve grant = grant
-control_value s c _ grant = 0
+control_value s c control.Create grant = 0
+control_value s c control.Quit grant = 0
+control_value s c control.QuitKeep grant = 0
+control_value s c control.Mask grant = 0
 
 -- All of it.
 

@@ -61,6 +61,14 @@ plan_of program s = plan_from s (fetch_of program s)
 -- What the step asks of its processor.
 
 abbrev pub control_by : StreamValue → CPart → ControlOp → Control
+control_by s c control.Nop = asks.Plain
+control_by s c control.Jump = asks.Plain
+control_by s c control.Skip = asks.Plain
+control_by s c control.Call = asks.Plain
+control_by s c control.Exchange = asks.Plain
+control_by s c control.TargetSet = asks.Plain
+control_by s c control.TargetGet = asks.Plain
+control_by s c control.TrapGet = asks.Plain
 control_by s c control.Reserve = asks.Reserve (register_at s.registers c.ra)
 control_by s c control.Create = asks.Create (record {
   pc = (target_at s.targets c.t).pc;
@@ -70,7 +78,7 @@ control_by s c control.Create = asks.Create (record {
 })
 control_by s c control.Quit = asks.Quit
 control_by s c control.QuitKeep = asks.QuitKeep
-control_by s c _ = asks.Plain
+control_by s c control.Mask = asks.Plain
 
 unfoldable pub control_of : StreamValue → Insn → Control
 control_of s (Wide look op reg imm) = asks.Plain

@@ -1,13 +1,18 @@
 //! The arithmetic operations and the codes that they make.
 
-ghost use Rattle.std.specs.Prelude.{◌≡◌, ◌<◌, ◌<ℤ◌, ◌↔◌, IsTrue};
-ghost use Rattle.stream_core.specs.Arithmetic.{signed, result_of, carries, overflows, code_of};
+ghost use Rattle.std.specs.Prelude.{◌≡◌, ◌<◌, ◌≤◌, ◌^◌, ◌<ℤ◌, ◌≤ℤ◌, ◌↔◌, pos, neg_ℤ, IsTrue};
+ghost use Rattle.stream_core.specs.Arithmetic.{signed, result_of, carries, overflows, code_of, IsQuotientRoundedDown};
 ghost use Rattle.stream_core.specs.Arithmetic.{shift_left as shifted_left, shift_right as shifted_right};
 ghost use Rattle.stream_core.specs.Arithmetic.{shift_right_signed as shifted_right_signed};
 ghost use Rattle.stream_core.specs.Conditions.{condition_holds};
 
 use crate::conditions::Code;
 use insn_word::{ArithmeticOp, Condition};
+
+/// Bits 59 to 63 of a pointer: its control and what it disables, which PTR replaces.
+const RIGHTS_PLACE: u32 = 59;
+
+const RIGHTS_WIDTH: u32 = 5;
 
 /// The result of the operation on `a` and `b`, modulo 2^64, and the condition code of it
 /// ("Arithmetic operations", docs/MACHINE.md). NOP answers 0.
@@ -30,6 +35,16 @@ pub fn less_after_subtraction(a: u64, b: u64)
     ensures unsigned { IsTrue (condition_holds Condition.LessUnsigned (code_of ArithmeticOp.Sub a b)) ↔ (a < b) }
 {}
 
+/// SAR divides: its result as a signed number is `a` as one over 2^`b`, rounded down; from `b` = 64 on, where only
+/// sign bits are left, 0 where `a` is not negative and -1 where it is.
+pub fn signed_shift_divides(a: u64, b: u64)
+    ensures quotient { b < 64
+        → IsQuotientRoundedDown (signed a) (2 ^ b) (signed (result_of ArithmeticOp.ShiftRightSigned a b)) }
+    ensures zero { 64 ≤ b → pos 0 ≤ℤ signed a → signed (result_of ArithmeticOp.ShiftRightSigned a b) ≡ pos 0 }
+    ensures minus_one { 64 ≤ b → signed a <ℤ pos 0
+        → signed (result_of ArithmeticOp.ShiftRightSigned a b) ≡ neg_ℤ (pos 1) }
+{}
+
 fn value_of(op: ArithmeticOp, a: u64, b: u64) -> u64
     ensures { result ≡ result_of op a b }
 {
@@ -48,7 +63,9 @@ fn value_of(op: ArithmeticOp, a: u64, b: u64) -> u64
         ArithmeticOp::Tally => u64::from(a.count_ones()),
         ArithmeticOp::LessSigned => u64::from(a.cast_signed() < b.cast_signed()),
         ArithmeticOp::LessUnsigned => u64::from(a < b),
-        ArithmeticOp::Pointer => b % (1 << 5) * (1 << 59) + a % (1 << 59),
+        ArithmeticOp::Pointer => {
+            b % (1 << RIGHTS_WIDTH) * (1 << RIGHTS_PLACE) + a % (1 << RIGHTS_PLACE)
+        }
     }
 }
 
@@ -59,7 +76,18 @@ fn carry_of(op: ArithmeticOp, a: u64, b: u64) -> bool
         ArithmeticOp::Add => a.overflowing_add(b).1,
         ArithmeticOp::Sub => a < b,
         ArithmeticOp::Mul => a.overflowing_mul(b).1,
-        _ => false,
+        ArithmeticOp::Nop
+        | ArithmeticOp::And
+        | ArithmeticOp::Or
+        | ArithmeticOp::Xor
+        | ArithmeticOp::AndNot
+        | ArithmeticOp::ShiftLeft
+        | ArithmeticOp::ShiftRight
+        | ArithmeticOp::ShiftRightSigned
+        | ArithmeticOp::Tally
+        | ArithmeticOp::LessSigned
+        | ArithmeticOp::LessUnsigned
+        | ArithmeticOp::Pointer => false,
     }
 }
 
@@ -72,7 +100,18 @@ fn overflow_of(op: ArithmeticOp, a: u64, b: u64) -> bool
         ArithmeticOp::Add => a.overflowing_add(b).1,
         ArithmeticOp::Sub => a.overflowing_sub(b).1,
         ArithmeticOp::Mul => a.overflowing_mul(b).1,
-        _ => false,
+        ArithmeticOp::Nop
+        | ArithmeticOp::And
+        | ArithmeticOp::Or
+        | ArithmeticOp::Xor
+        | ArithmeticOp::AndNot
+        | ArithmeticOp::ShiftLeft
+        | ArithmeticOp::ShiftRight
+        | ArithmeticOp::ShiftRightSigned
+        | ArithmeticOp::Tally
+        | ArithmeticOp::LessSigned
+        | ArithmeticOp::LessUnsigned
+        | ArithmeticOp::Pointer => false,
     }
 }
 

@@ -6,6 +6,13 @@ ghost use Rattle.stream_core.specs.StatusWords.{code_number, code_from};
 
 use insn_word::Condition;
 
+/// Bit 1: the result is negative. Bit 0 says that it is zero.
+const NEGATIVE_PLACE: u32 = 1;
+/// Bit 2: the unsigned result does not fit.
+const CARRY_PLACE: u32 = 2;
+/// Bit 3: the signed result does not fit.
+const OVERFLOW_PLACE: u32 = 3;
+
 /// The condition code that an arithmetic operation with the test bit makes.
 #[derive(Clone, Copy, Debug, PartialEq, Eq)]
 pub struct Code {
@@ -34,9 +41,9 @@ impl Code {
         ensures below { result < 2 ^ 4 }
     {
         u64::from(self.zero)
-            + u64::from(self.negative) * 2
-            + u64::from(self.carry) * 4
-            + u64::from(self.overflow) * 8
+            + u64::from(self.negative) * (1 << NEGATIVE_PLACE)
+            + u64::from(self.carry) * (1 << CARRY_PLACE)
+            + u64::from(self.overflow) * (1 << OVERFLOW_PLACE)
     }
 
     /// The code that the four low bits say.
@@ -45,9 +52,9 @@ impl Code {
     {
         Code {
             zero: bits & 1 == 1,
-            negative: bits >> 1 & 1 == 1,
-            carry: bits >> 2 & 1 == 1,
-            overflow: bits >> 3 & 1 == 1,
+            negative: bits >> NEGATIVE_PLACE & 1 == 1,
+            carry: bits >> CARRY_PLACE & 1 == 1,
+            overflow: bits >> OVERFLOW_PLACE & 1 == 1,
         }
     }
 }

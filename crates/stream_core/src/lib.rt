@@ -10,11 +10,9 @@ mod status_words;
 mod steps;
 mod stream_texts;
 mod streams;
-#[cfg(test)]
-mod tests;
 mod traps;
 
-pub use arithmetic::{alu, less_after_subtraction};
+pub use arithmetic::{alu, less_after_subtraction, signed_shift_divides};
 pub use conditions::{Code, holds};
 pub use status_words::{Codes, StatusWord, TrapMask, status_words_are_their_digits};
 pub use steps::{Child, Control, Fetched, Outcome, Plan, Status};

@@ -9,6 +9,27 @@ ghost use Rattle.stream_core.specs.StatusWords.{IsKeptInDigits, AreOwnDigits};
 
 use crate::conditions::Code;
 
+/// Bits 0 to 31 of a status word: the pc.
+const PC_WIDTH: u32 = 32;
+/// Bits 32 to 47: the condition codes.
+const CODES_PLACE: u32 = 32;
+/// Bits 48 to 50: the trap mask.
+const MASK_PLACE: u32 = 48;
+/// Bit 56: whether the stream is in a trap.
+const IN_TRAP_PLACE: u32 = 56;
+
+/// Bits 4 to 7 of the condition codes: the second one. Bits 0 to 3 are the newest.
+const SECOND_PLACE: u32 = 4;
+/// Bits 8 to 11: the third code.
+const THIRD_PLACE: u32 = 8;
+/// Bits 12 to 15: the oldest code.
+const OLDEST_PLACE: u32 = 12;
+
+/// Bit 1 of the trap mask: the trap TRAP1. Bit 0 is the trap TRAP0.
+const TRAP1_PLACE: u32 = 1;
+/// Bit 2: the trap BLOCKED.
+const BLOCKED_PLACE: u32 = 2;
+
 /// The last four condition codes.
 #[derive(Clone, Copy, Debug, PartialEq, Eq)]
 pub struct Codes {
@@ -61,9 +82,9 @@ impl Codes {
         ensures below { result < 2 ^ 16 }
     {
         self.newest.number()
-            + self.second.number() * (1 << 4)
-            + self.third.number() * (1 << 8)
-            + self.oldest.number() * (1 << 12)
+            + self.second.number() * (1 << SECOND_PLACE)
+            + self.third.number() * (1 << THIRD_PLACE)
+            + self.oldest.number() * (1 << OLDEST_PLACE)
     }
 
     #[tactic(auto, unfolding(crate::specs::StatusWords::codes_from))]
@@ -72,9 +93,9 @@ impl Codes {
     {
         Codes {
             newest: Code::from_number(bits),
-            second: Code::from_number(bits >> 4),
-            third: Code::from_number(bits >> 8),
-            oldest: Code::from_number(bits >> 12),
+            second: Code::from_number(bits >> SECOND_PLACE),
+            third: Code::from_number(bits >> THIRD_PLACE),
+            oldest: Code::from_number(bits >> OLDEST_PLACE),
         }
     }
 }
@@ -104,8 +125,8 @@ impl TrapMask {
     {
         TrapMask {
             trap0: bits & 1 == 1,
-            trap1: bits >> 1 & 1 == 1,
-            blocked: bits >> 2 & 1 == 1,
+            trap1: bits >> TRAP1_PLACE & 1 == 1,
+            blocked: bits >> BLOCKED_PLACE & 1 == 1,
         }
     }
 
@@ -113,7 +134,9 @@ impl TrapMask {
         ensures is { result ≡ mask_number self }
         ensures below { result < 2 ^ 3 }
     {
-        u64::from(self.trap0) + u64::from(self.trap1) * 2 + u64::from(self.blocked) * 4
+        u64::from(self.trap0)
+            + u64::from(self.trap1) * (1 << TRAP1_PLACE)
+            + u64::from(self.blocked) * (1 << BLOCKED_PLACE)
     }
 }
 
@@ -149,21 +172,22 @@ impl StatusWord {
         ensures { result ≡ status_number self.now }
     {
         u64::from(self.pc)
-            + self.codes.number() * (1 << 32)
-            + self.mask.number() * (1 << 48)
-            + u64::from(self.in_trap) * (1 << 56)
+            + self.codes.number() * (1 << CODES_PLACE)
+            + self.mask.number() * (1 << MASK_PLACE)
+            + u64::from(self.in_trap) * (1 << IN_TRAP_PLACE)
     }
 
-    /// The status word that the bits say; bits that a status word does not have are left out.
+    /// The status word that the bits say ("Status words", docs/MACHINE.md); bits that a status word does not have are
+    /// left out.
     #[tactic(auto, unfolding(crate::specs::StatusWords::status_from))]
     pub fn from_bits(bits: u64) -> StatusWord
         ensures { result ≡ status_from bits }
     {
         StatusWord {
-            pc: (bits % (1 << 32)) as u32,
-            codes: Codes::from_number(bits >> 32),
-            mask: TrapMask::from_number(bits >> 48),
-            in_trap: bits >> 56 & 1 == 1,
+            pc: (bits % (1 << PC_WIDTH)) as u32,
+            codes: Codes::from_number(bits >> CODES_PLACE),
+            mask: TrapMask::from_number(bits >> MASK_PLACE),
+            in_trap: bits >> IN_TRAP_PLACE & 1 == 1,
         }
     }
 }

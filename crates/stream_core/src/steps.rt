@@ -5,7 +5,7 @@ use crate::traps::TrapKind;
 use insn_word::Insn;
 use tag_memory::Request;
 
-/// Whether a stream runs.
+/// Whether a stream runs ("Streams", docs/MACHINE.md).
 #[derive(Clone, Copy, Debug, PartialEq, Eq)]
 pub enum Status {
     /// It is free, and holds zeros only.
@@ -16,7 +16,7 @@ pub enum Status {
     Stopped(TrapKind),
 }
 
-/// How a step came out.
+/// How a step came out ("One step", docs/MACHINE.md).
 #[derive(Clone, Copy, Debug, PartialEq, Eq)]
 pub enum Outcome {
     /// There was no running stream, and nothing changed.
@@ -25,9 +25,9 @@ pub enum Outcome {
     Done,
     /// The reference found the wrong state, and is tried again by the next step.
     Blocked,
-    /// The stream goes on at its handler.
+    /// A trap: the stream goes on at its handler.
     Trapped(TrapKind),
-    /// The stream was stopped.
+    /// A trap that nothing handles: the stream was stopped.
     Stopped(TrapKind),
 }
 
@@ -49,7 +49,7 @@ pub struct Child {
 pub enum Fetched {
     /// The stream does not run.
     Rest,
-    /// It traps: `Program` or `Illegal`.
+    /// It traps: PROGRAM or ILLEGAL.
     Trap(TrapKind),
     /// The instruction.
     Runs(Insn),
@@ -60,25 +60,25 @@ pub enum Fetched {
 pub enum Plan {
     /// Nothing: the stream does not run.
     Rest,
-    /// A trap: `Program` or `Illegal`.
+    /// A trap: PROGRAM or ILLEGAL.
     Trap(TrapKind),
-    /// No memory.
+    /// Nothing but the stream: the instruction has no reference.
     Local,
-    /// The reply to this request.
+    /// The memory's reply to this request.
     Ask(Request),
 }
 
-/// What an instruction asks of the processor.
+/// What an instruction asks of the processor ("Processors", docs/MACHINE.md).
 #[derive(Clone, Copy, Debug, PartialEq, Eq)]
 pub enum Control {
-    /// Nothing.
+    /// Nothing: it has no RESERVE, CREATE, QUIT or QUITP.
     Plain,
-    /// So many more streams to be reserved.
+    /// RESERVE: so many more streams are to be reserved.
     Reserve(u64),
-    /// A stream to be started.
+    /// CREATE: this stream is to be started.
     Create(Child),
-    /// The stream's end, with its reservation.
+    /// QUIT: the stream becomes idle, its reservation is given back.
     Quit,
-    /// The stream's end; its reservation stays.
+    /// QUITP: the stream becomes idle, its reservation is kept.
     QuitKeep,
 }

@@ -1,46 +1,15 @@
 //! How a stream is printed.
 
-ghost use Rattle.std.specs.Prelude.{◌≡◌, ◌++◌, ◌<◌, IfOk, OnOk, string_bytes};
+ghost use Rattle.std.specs.Prelude.{◌≡◌, ◌++◌, IfOk, OnOk, string_bytes};
 ghost use Rattle.stream_core.specs.StatusWords.{status_number};
-ghost use Rattle.stream_core.specs.StreamText.{status_line, register_line, target_line, stream_text_of};
+ghost use Rattle.stream_core.specs.StreamText.{status_text, status_line, register_line, target_line, stream_text_of};
 
 use crate::status_words::StatusWord;
 use crate::steps::Status;
 use crate::streams::Stream;
-use crate::traps::TrapKind;
-use number_text::{Hexadecimal, TwoDigits};
+use number_text::{push_hexadecimal_16, push_two_digits};
 use std::alloc::{AllocError, Global};
-use std::fmt;
 use std::fmt::Write;
-
-impl fmt::Display for TrapKind {
-    ghost use Rattle.std.specs.Prelude.{Some};
-    ghost use Rattle.number_text.specs.Digits.{two_digits};
-    ghost use Rattle.stream_core.specs.Traps.{trap_number};
-
-    ghost output = { λ kind. Some (two_digits (trap_number kind)) };
-
-    fn fmt<W: fmt::Write>(&self, f: &mut fmt::Formatter<W>) -> fmt::Result {
-        let digits = TwoDigits::new(self.number());
-        write!(f, "{digits}")
-    }
-}
-
-impl fmt::Display for Status {
-    ghost use Rattle.std.specs.Prelude.{Some};
-    ghost use Rattle.stream_core.specs.StreamText.{status_text};
-
-    ghost output = { λ status. Some (status_text status) };
-
-    #[tactic(auto, unfolding(crate::specs::StreamText::status_text))]
-    fn fmt<W: fmt::Write>(&self, f: &mut fmt::Formatter<W>) -> fmt::Result {
-        match self {
-            Status::Idle => write!(f, "Idle"),
-            Status::Running => write!(f, "Running"),
-            Status::Stopped(kind) => write!(f, "Stopped {kind}"),
-        }
-    }
-}
 
 /// The text of a stream: a line with its status, status word, trap register and retry count, then a line for each
 /// general and each target register that is not zero ("Stream text", docs/FORMATS.md).
@@ -62,24 +31,42 @@ pub fn stream_text(alloc: Global, stream: &Stream) -> Result<String, AllocError>
 fn write_status(text: &mut String, stream: &Stream) -> Result<(), AllocError>
     ensures { OnOk result (string_bytes text.new ≡ string_bytes text.old ++ status_line stream.now) }
 {
-    let status = stream.status();
-    let ssw = Hexadecimal(stream.ssw().bits());
-    let xr = Hexadecimal(stream.xr());
+    push_status(text, stream.status())?;
+    text.push_str(" ssw ")?;
+    push_hexadecimal_16(text, stream.ssw().bits())?;
+    text.push_str(" xr ")?;
+    push_hexadecimal_16(text, stream.xr())?;
     let retries = stream.retries();
-    writeln!(text, "{status} ssw {ssw} xr {xr} retries {retries}")
+    writeln!(text, " retries {retries}")
+}
+
+/// Appends a status by its name, and a stopped stream's with the number of its trap.
+#[tactic(auto, unfolding(crate::specs::StreamText::status_text))]
+fn push_status(text: &mut String, status: Status) -> Result<(), AllocError>
+    ensures { OnOk result (string_bytes text.new ≡ string_bytes text.old ++ status_text status) }
+{
+    match status {
+        Status::Idle => text.push_str("Idle"),
+        Status::Running => text.push_str("Running"),
+        Status::Stopped(kind) => {
+            text.push_str("Stopped ")?;
+            push_two_digits(text, kind.number())
+        }
+    }
 }
 
 #[tactic(auto, unfolding(crate::specs::StreamText::register_line))]
 fn write_register(text: &mut String, register: u8, value: u64) -> Result<(), AllocError>
-    requires { register < 32 }
     ensures { OnOk result (string_bytes text.new ≡ string_bytes text.old ++ register_line register value) }
 {
     if value == 0 {
         return Ok(());
     }
-    let digits = TwoDigits::new(register);
-    let value = Hexadecimal(value);
-    writeln!(text, "r{digits} {value}")
+    text.push_str("r")?;
+    push_two_digits(text, register)?;
+    text.push_str(" ")?;
+    push_hexadecimal_16(text, value)?;
+    text.push_str("\n")
 }
 
 #[tactic(auto, unfolding(crate::specs::StreamText::target_line))]
@@ -90,6 +77,7 @@ fn write_target(text: &mut String, target: u8, word: StatusWord) -> Result<(), A
     if bits == 0 {
         return Ok(());
     }
-    let value = Hexadecimal(bits);
-    writeln!(text, "t{target} {value}")
+    write!(text, "t{target} ")?;
+    push_hexadecimal_16(text, bits)?;
+    text.push_str("\n")
 }

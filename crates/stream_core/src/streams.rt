@@ -17,6 +17,11 @@ use std::marker::Model;
 /// The pc that names no trap handler.
 const NO_HANDLER: u32 = u32::MAX;
 
+/// Bits 8 to 55 of the trap register: the trap's address. Bits 0 to 7 are its number.
+const TRAP_ADDRESS_PLACE: u32 = 8;
+
+const TRAP_ADDRESS_WIDTH: u32 = 48;
+
 /// One stream of a processor. Contracts see the record of what it holds.
 #[derive(Clone, Copy, Debug, PartialEq, Eq)]
 pub struct Stream {
@@ -67,7 +72,8 @@ impl Stream {
         }
     }
 
-    /// The running stream that CREATE starts: its pc, r1, t0 and mask as given, all else zero.
+    /// The running stream that CREATE starts: its pc, r1, t0 and mask as given, all else zero ("Streams",
+    /// docs/MACHINE.md).
     pub fn born(child: &Child) -> Stream
         ensures { result ≡ child_stream child.now }
     {
@@ -133,7 +139,8 @@ impl Stream {
         ensures { (self.new, result) ≡ after_trap kind address self.old }
     {
         let stops = self.cannot_trap();
-        self.xr = u64::from(kind.number()) + address % (1 << 48) * 256;
+        let address = address % (1 << TRAP_ADDRESS_WIDTH);
+        self.xr = u64::from(kind.number()) + address * (1 << TRAP_ADDRESS_PLACE);
         self.retries = 0;
         if stops {
             self.status = Status::Stopped(kind);

@@ -6,30 +6,30 @@ ghost use Rattle.stream_core.specs.Traps.{trap_number};
 /// Why a stream traps ("Traps", docs/MACHINE.md).
 #[derive(Clone, Copy, Debug, PartialEq, Eq)]
 pub enum TrapKind {
-    /// The pc is at or past the program's end.
+    /// PROGRAM: the pc is at or past the program's end.
     Program = 1,
-    /// The word at the pc spells no instruction.
+    /// ILLEGAL: the word at the pc spells no instruction.
     Illegal = 2,
-    /// CREATE where no stream is reserved.
+    /// CREATE: a CREATE where no stream is reserved.
     Create = 3,
-    /// A pointer that no reference may use.
+    /// POINTER: a pointer that no reference may use.
     Pointer = 4,
-    /// An address that is no multiple of 8.
+    /// ALIGN: an address that is no multiple of 8.
     Align = 5,
-    /// An address past the last word.
+    /// RANGE: an address past the last word.
     Range = 6,
-    /// The word's trap0 bit; mask bit 0 disables it.
+    /// TRAP0: the word's trap0 bit; mask bit 0 disables it.
     Trap0 = 7,
-    /// The word's trap1 bit; mask bit 1 disables it.
+    /// TRAP1: the word's trap1 bit; mask bit 1 disables it.
     Trap1 = 8,
-    /// A ninth forwarding.
+    /// FORWARD: a ninth forwarding.
     Forward = 9,
-    /// A reference that was blocked too often; mask bit 2 disables it.
+    /// BLOCKED: a reference that was blocked too often; mask bit 2 disables it.
     Blocked = 10,
 }
 
 impl TrapKind {
-    /// The trap's number, 1 to 10.
+    /// The trap's number, 1 to 10 ("Traps", docs/MACHINE.md).
     pub fn number(self) -> u8
         ensures is { result ≡ trap_number self }
         ensures below { result < 11 }

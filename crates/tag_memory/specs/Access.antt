@@ -11,7 +11,8 @@ use Rattle.tag_memory.specs.declared.requests.Acc.TheVariants as acc
 
 -- the control that a pointer carries; the reserved one, which no reference gets to use, reads as normal
 abbrev pub pointer_control : ℕ → Control
-pointer_control p = if pointer_control_number p == 2 then Future else if pointer_control_number p == 3 then Sync else Normal
+pointer_control p =
+    if pointer_control_number p == 2 then Future else if pointer_control_number p == 3 then Sync else Normal
 
 -- the control that the access field asks for, of a reference by the pointer p
 abbrev pub access_control : Acc → ℕ → Control

@@ -18,6 +18,3 @@ pub use serving::serving_laws;
 pub use storage::{MAX_WORDS, Memory};
 pub use tag_set::Tags;
 pub use tagged_word::Word;
-
-#[cfg(test)]
-mod tests;

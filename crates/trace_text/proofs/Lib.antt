@@ -1,6 +1,4 @@
 pub mod Counting
-pub mod Fields
-pub mod FirstLine
 pub mod Reading
 pub mod RunsInFront
 pub mod Values

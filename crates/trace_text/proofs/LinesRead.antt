@@ -8,10 +8,10 @@ use Rattle.std.specs.Char.{digit_value}
 use Rattle.std.specs.Fmt.{decimal}
 use Rattle.std.specs.List.{All, onto_first}
 use Rattle.std.specs.Str.Parse.{AllDigits}
-use Rattle.number_text.specs.Laws.{ReadsBackDecimal}
-use Rattle.trace_text.specs.Lines.{lines_of}
+use Rattle.number_text.specs.Laws.{DecimalReadsBack}
+use Rattle.text_parts.specs.Lines.{lines_of}
 use Rattle.trace_text.specs.ScheduleLines.{LineValues, fields_of, decimal_number, values, values_in, values_of}
-use Rattle.trace_text.specs.declared.runs.Run.{Run}
+use Rattle.trace_text.specs.declared.runs.StepRun.{StepRun}
 use Rattle.trace_text.specs.Runs.{schedule_line}
 
 -- digits are neither spaces nor line ends
@@ -35,10 +35,10 @@ lacks-space : (n : ℕ) → n < 2 ^ 64 → All (λ b. (b == 32) ≡ false) (deci
 lacks-space n small = digits-lack 32 space-no_digit (decimal n) (decimal_is_IsNumeral n small).0.1
 
 -- the text of a line, without its end
-abbrev pub body : Run → List ℕ
+abbrev pub body : StepRun → List ℕ
 body r = decimal r.step.p ++ 32 ∷ (decimal r.step.s ++ 32 ∷ decimal r.times)
 
-fields-body : (r : Run) → r.step.p < 2 ^ 64 → r.step.s < 2 ^ 64 → r.times < 2 ^ 64
+fields-body : (r : StepRun) → r.step.p < 2 ^ 64 → r.step.s < 2 ^ 64 → r.times < 2 ^ 64
     → fields_of (body r) ≡ decimal r.step.p ∷ decimal r.step.s ∷ decimal r.times ∷ []
 fields-body r p s n =
     slice_split_at (λ b. b == 32) (decimal r.step.p) 32 (decimal r.step.s ++ 32 ∷ decimal r.times)
@@ -47,10 +47,10 @@ fields-body r p s n =
     (slice_split_at (λ b. b == 32) (decimal r.step.s) 32 (decimal r.times) (lacks-space r.step.s s) refl
     ∙ ap (λ fs. decimal r.step.s ∷ fs) (slice_split_none (λ b. b == 32) (decimal r.times) (lacks-space r.times n)))
 
-abbrev pub said_by : Run → LineValues
+abbrev pub said_by : StepRun → LineValues
 said_by r = record { processor = r.step.p; stream = r.step.s; times = r.times }
 
-pub values-body : ReadsBackDecimal → (r : Run) → r.step.p < 2 ^ 64 → r.step.s < 2 ^ 64 → r.times < 2 ^ 64
+pub values-body : DecimalReadsBack → (r : StepRun) → r.step.p < 2 ^ 64 → r.step.s < 2 ^ 64 → r.times < 2 ^ 64
     → values_of (body r) ≡ Some (said_by r)
 unfolding values_of
 values-body back r p s n =
@@ -76,7 +76,7 @@ lacks-digits (b ∷ bs) all = (other_byte 10 b end-no_digit all.0, lacks-digits 
 lacks-decimal : (n : ℕ) → n < 2 ^ 64 → Lacks (decimal n)
 lacks-decimal n small = lacks-digits (decimal n) (decimal_is_IsNumeral n small).0.1
 
-lacks-body : (r : Run) → r.step.p < 2 ^ 64 → r.step.s < 2 ^ 64 → r.times < 2 ^ 64 → Lacks (body r)
+lacks-body : (r : StepRun) → r.step.p < 2 ^ 64 → r.step.s < 2 ^ 64 → r.times < 2 ^ 64 → Lacks (body r)
 lacks-body r p s n =
     lacks-append (decimal r.step.p) (32 ∷ (decimal r.step.s ++ 32 ∷ decimal r.times)) (lacks-decimal r.step.p p) (
       refl,
@@ -91,10 +91,10 @@ unfolding lines_of
 lines-before [] rest l = refl
 lines-before (b ∷ bs) rest l = rw l.0 (ap (onto_first b) (lines-before bs rest l.1))
 
-line-body : (r : Run) (rest : List ℕ) → schedule_line r ++ rest ≡ body r ++ 10 ∷ rest
+line-body : (r : StepRun) (rest : List ℕ) → schedule_line r ++ rest ≡ body r ++ 10 ∷ rest
 unfolding schedule_line
 line-body r rest = simp append_assoc
 
-pub lines-run : (r : Run) (rest : List ℕ) → r.step.p < 2 ^ 64 → r.step.s < 2 ^ 64 → r.times < 2 ^ 64
+pub lines-run : (r : StepRun) (rest : List ℕ) → r.step.p < 2 ^ 64 → r.step.s < 2 ^ 64 → r.times < 2 ^ 64
     → lines_of (schedule_line r ++ rest) ≡ body r ∷ lines_of rest
 lines-run r rest p s n = ap lines_of (line-body r rest) ∙ lines-before (body r) rest (lacks-body r p s n)

@@ -5,40 +5,40 @@ use Rattle.std.proofs.Common.{Some, None, Ok, ne_eqb, append-nil, map, le-leb, �
 use Rattle.std.proofs.lemmas.Bool.{cases_lt}
 use Rattle.std.proofs.lemmas.List.{length-append, length-replicate}
 use Rattle.std.specs.List.{flat_map}
-use Rattle.number_text.specs.Laws.{ReadsBackDecimal}
-use Rattle.trace_text.specs.Lines.{lines_of}
+use Rattle.number_text.specs.Laws.{DecimalReadsBack}
+use Rattle.text_parts.specs.Lines.{lines_of}
 use Rattle.trace_text.specs.ScheduleLines.{is_within, values_of, steps_on}
 use Rattle.trace_text.specs.ScheduleFaults.{schedule_line_fault, on_line, fault_from}
 use Rattle.trace_text.specs.Schedules.{values_by_line, schedule_fault, schedule_steps, schedule_of, unless_fault}
-use Rattle.trace_text.specs.declared.runs.Run.{Run}
-use Rattle.trace_text.specs.Runs.{run_parts, schedule_line, schedule_run_text, runs_of, schedule_text}
+use Rattle.trace_text.specs.declared.runs.StepRun.{StepRun}
+use Rattle.trace_text.specs.Runs.{run_parts, schedule_line, schedule_run_text, step_runs, schedule_text}
 use Rattle.trace_text.specs.Laws.{ScheduleReadsBack}
 use Rattle.trace_text.proofs.RunsRead.{expanded, IsRun, EachRun, expanded-runs, each-run}
 use Rattle.trace_text.proofs.LinesRead.{said_by, values-body, lines-run}
 
 -- a run of at most 1,000,000 steps is one line
 
-parts-small : (r : Run) → 1 ≤ r.times → r.times < 1000000 → run_parts r ≡ r ∷ []
+parts-small : (r : StepRun) → 1 ≤ r.times → r.times < 1000000 → run_parts r ≡ r ∷ []
 parts-small r some few =
     let none : r.times / 1000000 ≡ 0 = omega arith in
     let all : r.times % 1000000 ≡ r.times = omega arith in
     let not_none = ne_eqb r.times 0 (λ e. omega arith) in
     rw (none, all, not_none) refl
 
-parts-full : (r : Run) → r.times ≡ 1000000 → run_parts r ≡ r ∷ []
+parts-full : (r : StepRun) → r.times ≡ 1000000 → run_parts r ≡ r ∷ []
 parts-full r full =
     let one : r.times / 1000000 ≡ 1 = omega arith in
     let none : r.times % 1000000 ≡ 0 = omega arith in
     rw (one, none) (ap (λ n. record { step = r.step; times = n } ∷ []) (sym full))
 
-text-line : (r : Run) → 1 ≤ r.times → r.times ≤ 1000000 → schedule_run_text r ≡ schedule_line r
+text-line : (r : StepRun) → 1 ≤ r.times → r.times ≤ 1000000 → schedule_run_text r ≡ schedule_line r
 unfolding schedule_run_text
 text-line r some few =
     ap (flat_map schedule_line) (⊎_elim (λ h. parts-small r some h) (λ h. parts-full r (omega arith))
     (cases_lt r.times 1000000))
     ∙ append-nil (schedule_line r)
 
-length-expanded : (r : Run) (rs : List Run) → length (flat_map expanded (r ∷ rs))
+length-expanded : (r : StepRun) (rs : List StepRun) → length (flat_map expanded (r ∷ rs))
     ≡ r.times + length (flat_map expanded rs)
 length-expanded r rs = omega (
   arith,
@@ -48,7 +48,7 @@ length-expanded r rs = omega (
 
 -- what the lines of runs say, one after another
 
-values-written : ReadsBackDecimal → (rs : List Run) → EachRun rs → length (flat_map expanded rs) ≤ 1000000
+values-written : DecimalReadsBack → (rs : List StepRun) → EachRun rs → length (flat_map expanded rs) ≤ 1000000
     → values_by_line (flat_map schedule_run_text rs) ≡ map (λ r. Some (said_by r)) rs
 unfolding lines_of
 values-written back [] each few = refl
@@ -64,7 +64,7 @@ values-written back (r ∷ rs) each few =
     ∙ ap (λ o. o ∷ values_by_line (flat_map schedule_run_text rs)) (values-body back r p s n)
     ∙ ap (λ os. Some (said_by r) ∷ os) (values-written back rs each.1 (omega (arith, count)))
 
-within : (r : Run) → IsRun r → r.times ≤ 1000000 → is_within (said_by r) ≡ true
+within : (r : StepRun) → IsRun r → r.times ≤ 1000000 → is_within (said_by r) ≡ true
 within r one few =
     let p = le-leb r.step.p 255 one.step.0 in
     let s = le-leb r.step.s 255 one.step.1 in
@@ -72,12 +72,12 @@ within r one few =
     let most = le-leb r.times 1000000 few in
     rw (p, s, some, most) refl
 
-no_line_fault : (before : ℕ) (r : Run) → IsRun r → before + r.times ≤ 1000000
+no_line_fault : (before : ℕ) (r : StepRun) → IsRun r → before + r.times ≤ 1000000
     → schedule_line_fault before (Some (said_by r)) ≡ None
 no_line_fault before r one few =
     let room = le-leb (before + r.times) 1000000 few in rw (within r one (omega arith), room) refl
 
-no_fault : (line before : ℕ) (rs : List Run) → EachRun rs → before + length (flat_map expanded rs) ≤ 1000000
+no_fault : (line before : ℕ) (rs : List StepRun) → EachRun rs → before + length (flat_map expanded rs) ≤ 1000000
     → fault_from line before (map (λ r. Some (said_by r)) rs) ≡ None
 no_fault line before [] each few = refl
 no_fault line before (r ∷ rs) each few =
@@ -86,14 +86,14 @@ no_fault line before (r ∷ rs) each few =
     (no_line_fault before r each.0 (omega (arith, count)))
     ∙ no_fault (line + 1) (before + r.times) rs each.1 (omega (arith, count))
 
-steps-said : (rs : List Run) → flat_map steps_on (map (λ r. Some (said_by r)) rs) ≡ flat_map expanded rs
+steps-said : (rs : List StepRun) → flat_map steps_on (map (λ r. Some (said_by r)) rs) ≡ flat_map expanded rs
 steps-said [] = refl
 steps-said (r ∷ rs) = ap (λ ts. expanded r ++ ts) (steps-said rs)
 
-pub reads_back : ReadsBackDecimal → ScheduleReadsBack
+pub reads_back : DecimalReadsBack → ScheduleReadsBack
 unfolding schedule_of schedule_fault schedule_steps schedule_text
 reads_back back steps all few =
-    let rs = runs_of steps in
+    let rs = step_runs steps in
     let whole : flat_map expanded rs ≡ steps = expanded-runs steps in
     let count : length (flat_map expanded rs) ≤ 1000000 = omega (arith, ap length whole) in
     let values = values-written back rs (each-run steps all) count in

@@ -7,15 +7,15 @@ use Rattle.std.proofs.lemmas.Bool.{eqb-true, eqb-false}
 use Rattle.std.proofs.lemmas.List.{length-replicate, length-drop}
 use Rattle.std.specs.List.{flat_map, before_first, after_first, position_or_len}
 use Rattle.processor.specs.declared.steps.Step.{Step}
-use Rattle.trace_text.specs.Lines.{is_line_end, lines_of}
+use Rattle.text_parts.specs.Lines.{is_line_end, lines_of}
 use Rattle.trace_text.specs.ScheduleLines.{LineValues, values_of, steps_on, times_on, step_of}
 use Rattle.trace_text.specs.ScheduleFaults.{fault_from, schedule_line_fault, on_line}
 use Rattle.trace_text.specs.Schedules.{values_by_line, schedule_fault, schedule_steps, schedule_of, unless_fault}
 use Rattle.trace_text.specs.LineNumbers.{run_of}
-use Rattle.trace_text.specs.declared.runs.Run.{Run}
+use Rattle.trace_text.specs.declared.runs.StepRun.{StepRun}
 use Rattle.trace_text.specs.declared.schedule_fault.ScheduleFault.{ScheduleFault}
 use Rattle.trace_text.specs.declared.schedule_fault.ScheduleFaultKind.{ScheduleFaultKind}
-use Rattle.trace_text.proofs.FirstLine.{lines-first}
+use Rattle.text_parts.proofs.FirstLine.{lines-first}
 
 abbrev said : ℕ → List Step → List (Option LineValues) → Result (List Step) ScheduleFault
 said line steps vs = unless_fault (fault_from line (length steps) vs) (steps ++ flat_map steps_on vs)
@@ -83,7 +83,7 @@ at_fault line steps rest kind some e =
     (values_by_line (after_first is_line_end rest)) kind e
 
 -- a line with a run
-pub at_run : (line : ℕ) (steps more : List Step) (rest : List ℕ) (run : Run) (x : LineValues)
+pub at_run : (line : ℕ) (steps more : List Step) (rest : List ℕ) (run : StepRun) (x : LineValues)
     → (length rest == 0) ≡ false
     → schedule_line_fault (length steps) (values_of (before_first is_line_end rest)) ≡ None
     → values_of (before_first is_line_end rest) ≡ Some x → run_of x ≡ run

@@ -5,8 +5,8 @@ use Rattle.std.proofs.Common.{Some, None, ◌==◌, ◌&&◌, drop, append_assoc
 use Rattle.std.proofs.lemmas.Bool.{eqb-true, eq-eqb, cond-true, cond-false}
 use Rattle.std.specs.List.{flat_map, slice_get}
 use Rattle.processor.specs.declared.steps.Step.{Step}
-use Rattle.trace_text.specs.declared.runs.Run.{Run}
-use Rattle.trace_text.specs.Runs.{same_step, step_before_runs, runs_of, same_run, schedule_run_text, schedule_text}
+use Rattle.trace_text.specs.declared.runs.StepRun.{StepRun}
+use Rattle.trace_text.specs.Runs.{same_step, step_before_runs, step_runs, step_run_length, schedule_run_text, schedule_text}
 
 first-true : (a b : Bool) → (a && b) ≡ true → a ≡ true
 first-true true b e = refl
@@ -25,48 +25,48 @@ step-same t u e =
 pub same-step : (t : Step) → same_step t t ≡ true
 same-step t = rw (eq-eqb t.p t.p refl, eq-eqb t.s t.s refl) refl
 
-abbrev run : Step → ℕ → Run
+abbrev run : Step → ℕ → StepRun
 run t n = record { step = t; times = n }
 
 -- the run of a step before steps
 abbrev Front : Step → List Step → Type 0
-Front t ts = runs_of (t ∷ ts) ≡ run t (1 + same_run t ts) ∷ runs_of (drop (same_run t ts) ts)
+Front t ts = step_runs (t ∷ ts) ≡ run t (1 + step_run_length t ts) ∷ step_runs (drop (step_run_length t ts) ts)
 
 -- a step before a run of the same, and before another
 front-cons : (t u : Step) (us : List Step) (same : Bool) → same_step u t ≡ same → Front u us → Front t (u ∷ us)
 front-cons t u us true e front =
     let equal : u ≡ t = step-same u t e in
-    let k : 1 + same_run u us + 1 ≡ 1 + (1 + same_run t us) = omega (arith, ap (λ v. same_run v us) equal) in
-    let one_more : 1 + same_run t us ≡ suc (same_run t us) = omega arith in
+    let k : 1 + step_run_length u us + 1 ≡ 1 + (1 + step_run_length t us) = omega (arith, ap (λ v. step_run_length v us) equal) in
+    let one_more : 1 + step_run_length t us ≡ suc (step_run_length t us) = omega arith in
     ap (step_before_runs t) front
     ∙ cond-true _ _ _ e
-    ∙ ap (λ n. run t n ∷ runs_of (drop (same_run u us) us)) k
-    ∙ ap (λ v. run t (1 + (1 + same_run t us)) ∷ runs_of (drop (same_run v us) us)) equal
-    ∙ ap (λ n. run t (1 + (1 + same_run t us)) ∷ runs_of (drop n (u ∷ us))) (sym one_more)
-    ∙ ap (λ n. run t (1 + n) ∷ runs_of (drop n (u ∷ us))) (sym (cond-true _ _ _ e))
+    ∙ ap (λ n. run t n ∷ step_runs (drop (step_run_length u us) us)) k
+    ∙ ap (λ v. run t (1 + (1 + step_run_length t us)) ∷ step_runs (drop (step_run_length v us) us)) equal
+    ∙ ap (λ n. run t (1 + (1 + step_run_length t us)) ∷ step_runs (drop n (u ∷ us))) (sym one_more)
+    ∙ ap (λ n. run t (1 + n) ∷ step_runs (drop n (u ∷ us))) (sym (cond-true _ _ _ e))
 front-cons t u us false e front =
     ap (step_before_runs t) front
     ∙ cond-false _ _ _ e
     ∙ ap (λ rs. run t 1 ∷ rs) (sym front)
-    ∙ ap (λ n. run t (1 + n) ∷ runs_of (drop n (u ∷ us))) (sym (cond-false _ _ _ e))
+    ∙ ap (λ n. run t (1 + n) ∷ step_runs (drop n (u ∷ us))) (sym (cond-false _ _ _ e))
 
 front : (t : Step) (ts : List Step) → Front t ts
 front t [] = refl
 front t (u ∷ us) = front-cons t u us (same_step u t) refl (front u us)
 
 -- the same with the step itself
-same_run-whole : (t : Step) (ts : List Step) → same_run t (t ∷ ts) ≡ 1 + same_run t ts
+same_run-whole : (t : Step) (ts : List Step) → step_run_length t (t ∷ ts) ≡ 1 + step_run_length t ts
 same_run-whole t ts = cond-true _ _ _ (same-step t)
 
-runs-front : (t : Step) (ts : List Step) → runs_of (t ∷ ts)
-    ≡ run t (same_run t (t ∷ ts)) ∷ runs_of (drop (same_run t (t ∷ ts)) (t ∷ ts))
+runs-front : (t : Step) (ts : List Step) → step_runs (t ∷ ts)
+    ≡ run t (step_run_length t (t ∷ ts)) ∷ step_runs (drop (step_run_length t (t ∷ ts)) (t ∷ ts))
 runs-front t ts =
-    let one_more : 1 + same_run t ts ≡ suc (same_run t ts) = omega arith in
-    front t ts ∙ ap (λ n. run t (1 + same_run t ts) ∷ runs_of (drop n (t ∷ ts))) (sym one_more)
-    ∙ ap (λ n. run t n ∷ runs_of (drop n (t ∷ ts))) (sym (same_run-whole t ts))
+    let one_more : 1 + step_run_length t ts ≡ suc (step_run_length t ts) = omega arith in
+    front t ts ∙ ap (λ n. run t (1 + step_run_length t ts) ∷ step_runs (drop n (t ∷ ts))) (sym one_more)
+    ∙ ap (λ n. run t n ∷ step_runs (drop n (t ∷ ts))) (sym (same_run-whole t ts))
 
-written-cons : (t : Step) (ts : List Step) → schedule_text (t ∷ ts) ≡ schedule_run_text (run t (same_run t (t ∷ ts)))
-    ++ schedule_text (drop (same_run t (t ∷ ts)) (t ∷ ts))
+written-cons : (t : Step) (ts : List Step) → schedule_text (t ∷ ts) ≡ schedule_run_text (run t (step_run_length t (t ∷ ts)))
+    ++ schedule_text (drop (step_run_length t (t ∷ ts)) (t ∷ ts))
 unfolding schedule_text
 written-cons t ts = ap (flat_map schedule_run_text) (runs-front t ts)
 
@@ -75,25 +75,25 @@ at_first : (t u : Step) (ts : List Step) → Some u ≡ Some t → (P : Step →
 at_first t u ts e P all = let same : u ≡ t = cc in subst (λ v. P v (u ∷ ts)) same (all u)
 
 pub written-front : (t : Step) (rest : List Step) → slice_get rest 0 ≡ Some t
-    → schedule_text rest ≡ schedule_run_text (run t (same_run t rest)) ++ schedule_text (drop (same_run t rest) rest)
+    → schedule_text rest ≡ schedule_run_text (run t (step_run_length t rest)) ++ schedule_text (drop (step_run_length t rest) rest)
 written-front t [] e = cc
 written-front t (u ∷ us) e =
-    at_first t u us e (λ v ts. schedule_text ts ≡ schedule_run_text (run v (same_run v ts)) ++ schedule_text (drop (same_run v ts) ts))
+    at_first t u us e (λ v ts. schedule_text ts ≡ schedule_run_text (run v (step_run_length v ts)) ++ schedule_text (drop (step_run_length v ts) ts))
     (λ v. written-cons v us)
 
-pub some-front : (t : Step) (rest : List Step) → slice_get rest 0 ≡ Some t → (0 < same_run t rest) × (0 < length rest)
+pub some-front : (t : Step) (rest : List Step) → slice_get rest 0 ≡ Some t → (0 < step_run_length t rest) × (0 < length rest)
 some-front t [] e = cc
 some-front t (u ∷ us) e =
-    at_first t u us e (λ v ts. (0 < same_run v ts) × (0 < length ts))
+    at_first t u us e (λ v ts. (0 < step_run_length v ts) × (0 < length ts))
     (λ v. (omega (arith, same_run-whole v us), omega arith))
 
 -- one more run in the text is one less to come
 pub run_written : (t : Step) (rest : List Step) (text new all : List ℕ) → slice_get rest 0 ≡ Some t
-    → new ≡ text ++ schedule_run_text (run t (same_run t rest)) → text ++ schedule_text rest ≡ all
-    → new ++ schedule_text (drop (same_run t rest) rest) ≡ all
+    → new ≡ text ++ schedule_run_text (run t (step_run_length t rest)) → text ++ schedule_text rest ≡ all
+    → new ++ schedule_text (drop (step_run_length t rest) rest) ≡ all
 run_written t rest text new all first e whole =
-    let after = schedule_text (drop (same_run t rest) rest) in
-    ap (λ xs. xs ++ after) e ∙ append_assoc text (schedule_run_text (run t (same_run t rest))) after
+    let after = schedule_text (drop (step_run_length t rest) rest) in
+    ap (λ xs. xs ++ after) e ∙ append_assoc text (schedule_run_text (run t (step_run_length t rest))) after
     ∙ ap (λ xs. text ++ xs) (sym (written-front t rest first)) ∙ whole
 
 pub all_written : (rest : List Step) (text all : List ℕ) → slice_get rest 0 ≡ None → text ++ schedule_text rest ≡ all

@@ -1,7 +1,8 @@
 -- The numbers of a line, field by field.
 use Rattle.std.proofs.Common.{◌≡◌, ℕ, ◌+◌, ◌<◌, true, false, List, [], ◌∷◌, length, drop, refl, sym, ap, ◌∙◌}
-use Rattle.std.proofs.Common.{Option, Some, None, ◌==◌, nat_lt, inl, inr, get_or, arith}
-use Rattle.std.proofs.lemmas.Bool.{ltb-true, ltb-false, cases_Bool, eqb-true}
+use Rattle.std.proofs.Common.{Option, Some, None, ◌==◌, nat_lt, inl, inr, get_or, ⊎_elim}
+use Rattle.std.proofs.lemmas.Bool.{cases_Bool, cases_lt, eqb-true}
+use Rattle.std.proofs.lemmas.List.Splits.{slice_split_first}
 use Rattle.std.proofs.lemmas.List.Folds.{list_all_at}
 use Rattle.std.proofs.lemmas.List.Sums.{passes_at_first}
 use Rattle.std.specs.Char.{is_digit}
@@ -11,9 +12,10 @@ use Rattle.number_text.specs.Reading.{number_of_digits, all_in_base}
 use Rattle.number_text.specs.Numbers.{number_from}
 use Rattle.number_text.specs.declared.numbers.Number.{Number}
 use Rattle.trace_text.specs.ScheduleLines.{fields_of, decimal_number, values, values_in, values_of}
-use Rattle.trace_text.specs.Fields.{rest_fields, times_in}
+use Rattle.trace_text.specs.Fields.{times_in}
 use Rattle.trace_text.specs.LineNumbers.{numbers_from}
-use Rattle.trace_text.proofs.Fields.{slice_split-whole, fields-found}
+use Rattle.text_parts.specs.Parts.{rest_parts}
+use Rattle.text_parts.proofs.Pieces.{parts_cut, one_part}
 
 values-none_last : (p s : Option ℕ) → values p s None ≡ None
 values-none_last None s = refl
@@ -38,13 +40,6 @@ no_number-space digits h =
     no_number digits (list_all_at (λ b. is_digit b 10) digits (position_or_len (λ b. b == 32) digits) 0 h
     (rw is refl))
 
--- one field or more
-fields-some : (text : List ℕ) → (field : List ℕ) × (fields : List (List ℕ)) × (fields_of text ≡ field ∷ fields)
-fields-some text = elim (cases_Bool (nat_lt (position_or_len (λ b. b == 32) text) (length text))) [
-  | inl h ↦ (_, _, fields-found text (ltb-true _ _ h))
-  | inr h ↦ (_, _, slice_split-whole (λ b. b == 32) text (λ lt. let not_lt = ltb-false _ _ h in omega arith))
-]
-
 third-found : (p s digits field : List ℕ) (fields : List (List ℕ)) → decimal_number digits ≡ None
     → fields_of digits ≡ field ∷ fields
     → (more : List ℕ) (others : List (List ℕ)) → fields ≡ more ∷ others
@@ -56,19 +51,15 @@ third-found p s digits field fields none e more others e' =
 
 third : (p s digits : List ℕ)
     → values_in (p ∷ s ∷ fields_of digits) ≡ values (decimal_number p) (decimal_number s) (decimal_number digits)
-third p s digits = elim (cases_Bool (nat_lt (position_or_len (λ b. b == 32) digits) (length digits))) [
-  | inl h ↦
-      let lt = ltb-true _ _ h in
-      let rest = fields-some (drop (position_or_len (λ b. b == 32) digits + 1) digits) in
-      third-found p s digits _ _ (no_number-space digits lt) (fields-found digits lt) rest.0 rest.1 rest.2
-  | inr h ↦
-      ap (λ fs. values_in (p ∷ s ∷ fs))
-      (slice_split-whole (λ b. b == 32) digits (λ lt. let not_lt = ltb-false _ _ h in omega arith))
-]
+third p s digits = ⊎_elim
+    (λ h. third-found p s digits _ _ (no_number-space digits h) (slice_split_first (λ b. b == 32) digits 0 h) _ _
+    (parts_cut 32 (drop (position_or_len (λ b. b == 32) digits + 1) digits)))
+    (λ h. ap (λ fs. values_in (p ∷ s ∷ fs)) (one_part 32 digits h))
+    (cases_lt (position_or_len (λ b. b == 32) digits) (length digits))
 
 -- a line of two fields, with a third or not
 values_of-two : (line rest p s : List ℕ) (third_field : Option (List ℕ)) → fields_of line ≡ p ∷ fields_of rest
-    → fields_of rest ≡ s ∷ rest_fields third_field
+    → fields_of rest ≡ s ∷ rest_parts 32 third_field
     → values_of line ≡ values (decimal_number p) (decimal_number s) (times_in third_field)
 unfolding values_of
 values_of-two line rest p s None e e' = ap values_in (e ∙ ap (λ fs. p ∷ fs) e')
@@ -94,7 +85,7 @@ three_numbers (Some p) (Some s) (Some n) x y z a b c = cc
 -- What is read of a line of two fields, with a third or not.
 
 module _ (line rest p s : List ℕ) (third_field : Option (List ℕ)) (first : fields_of line ≡ p ∷ fields_of rest)
-    (second : fields_of rest ≡ s ∷ rest_fields third_field) where
+    (second : fields_of rest ≡ s ∷ rest_parts 32 third_field) where
   two : option_map numbers_from (values_of line)
       ≡ option_map numbers_from (values (decimal_number p) (decimal_number s) (times_in third_field))
   two = ap (option_map numbers_from) (values_of-two line rest p s third_field first second)

@@ -10,8 +10,8 @@ use Rattle.tag_memory.specs.Cell.{Cell}
 use Rattle.tag_memory.specs.Storage.{TaggedMemory, cell_at}
 use Rattle.stream_core.specs.Streams.{StreamValue, idle}
 use Rattle.processor.specs.Processors.{ProcessorValue, stream_at}
-use Rattle.processor.specs.World.{World}
-use Rattle.machine.specs.MachineValue.{MachineValue, IsMachine, stream_of, stream_seen_at}
+use Rattle.processor.specs.World.{World, stream_of, stream_seen_at}
+use Rattle.machine.specs.MachineValue.{MachineValue, IsMachine}
 use Rattle.trace_text.specs.WorldTexts.{stream_part, stream_parts, processor_parts, change, changes}
 use Rattle.trace_text.specs.WorldParts.{stream_part_at, processor_part_at, streams_at, streams_of}
 

@@ -10,4 +10,5 @@ IsStep t = (t.p ≤ 255) × (t.s ≤ 255)
 
 -- no more steps than a schedule has
 abbrev pub ScheduleReadsBack : Type 0
-ScheduleReadsBack = (steps : List Step) → All IsStep steps → length steps ≤ 1000000 → schedule_of (schedule_text steps) ≡ Ok steps
+ScheduleReadsBack =
+    (steps : List Step) → All IsStep steps → length steps ≤ 1000000 → schedule_of (schedule_text steps) ≡ Ok steps

@@ -1,5 +1,4 @@
 -- The definitions, in the order of reading.
-pub mod Lines
 pub mod ScheduleLines
 pub mod ScheduleFaults
 pub mod Schedules

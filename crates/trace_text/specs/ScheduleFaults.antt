@@ -28,4 +28,5 @@ on_line line (Some kind) later = Some (record { line = line; kind = kind })
 -- the fault of lines of which the first has this number, and before which so many steps stand
 abbrev pub fault_from : ℕ → ℕ → List (Option LineValues) → Option ScheduleFault
 fault_from line before [] = None
-fault_from line before (v ∷ vs) = on_line line (schedule_line_fault before v) (fault_from (line + 1) (before + times_on v) vs)
+fault_from line before (v ∷ vs) =
+    on_line line (schedule_line_fault before v) (fault_from (line + 1) (before + times_on v) vs)

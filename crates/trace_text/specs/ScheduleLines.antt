@@ -1,6 +1,6 @@
 -- A line of a schedule: `p s` or `p s n`.
-use Rattle.std.specs.Prelude.{ℕ, Bool, nat_le, ◌==◌, ◌&&◌, List, [], ◌∷◌, Option, Some, None, replicate}
-use Rattle.std.specs.List.{slice_split}
+use Rattle.std.specs.Prelude.{ℕ, Bool, nat_le, ◌&&◌, List, [], ◌∷◌, Option, Some, None, replicate}
+use Rattle.text_parts.specs.Parts.{parts}
 use Rattle.number_text.specs.Reading.{number_of_digits}
 use Rattle.processor.specs.declared.steps.Step.{Step}
 
@@ -12,7 +12,7 @@ pub record LineValues : Type 0 where
 
 -- the parts between single spaces
 abbrev pub fields_of : List ℕ → List (List ℕ)
-fields_of line = slice_split (λ byte. byte == 32) line
+fields_of line = parts 32 line
 
 -- decimal digits, and nothing else
 abbrev pub decimal_number : List ℕ → Option ℕ

@@ -2,7 +2,7 @@
 use Rattle.std.specs.Prelude.{ℕ, List, Option, Some, None, Result, Ok, Err, map}
 use Rattle.std.specs.List.{flat_map}
 use Rattle.processor.specs.declared.steps.Step.{Step}
-use Rattle.trace_text.specs.Lines.{lines_of}
+use Rattle.text_parts.specs.Lines.{lines_of}
 use Rattle.trace_text.specs.ScheduleLines.{LineValues, values_of, steps_on}
 use Rattle.trace_text.specs.ScheduleFaults.{fault_from}
 use Rattle.trace_text.specs.declared.schedule_fault.ScheduleFault.{ScheduleFault}

@@ -3,19 +3,15 @@
 
 mod laws;
 mod line_numbers;
-mod lines;
 mod rounds;
 mod runs;
 mod schedule_fault;
 mod schedules;
-#[cfg(test)]
-mod tests;
 mod trace_lines;
 mod world_texts;
 mod written_schedules;
 
 pub use laws::written_schedules_are_read_back;
-pub use lines::split_line;
 pub use rounds::round_schedule;
 pub use schedule_fault::{ScheduleFault, ScheduleFaultKind};
 pub use schedules::read_schedule;

@@ -7,10 +7,10 @@ ghost use Rattle.trace_text.specs.ScheduleLines.{LineValues, values_of};
 ghost use Rattle.trace_text.specs.Fields.{times_in};
 ghost use Rattle.trace_text.specs.LineNumbers.{numbers_from, run_within};
 
-use crate::lines::split_field;
-use crate::runs::{MAX_STEPS, Run};
+use crate::runs::{MAX_STEPS, StepRun};
 use number_text::{Base, Number, read_digits};
 use processor::Step;
+use text_parts::cut;
 
 /// The numbers of a line, of any size.
 #[derive(Clone, Copy, Debug, PartialEq, Eq)]
@@ -25,8 +25,8 @@ impl LineNumbers {
     pub(crate) fn read(line: &[u8]) -> Option<LineNumbers>
         ensures { result ≡ option_map numbers_from (values_of line.now) }
     {
-        let (processor, rest) = split_field(line);
-        let (stream, rest) = split_field(rest?);
+        let (processor, rest) = cut(line, b' ');
+        let (stream, rest) = cut(rest?, b' ');
         let processor = read_digits(Base::Decimal, processor)?;
         let stream = read_digits(Base::Decimal, stream)?;
         let times = read_times(rest)?;
@@ -38,7 +38,7 @@ impl LineNumbers {
     }
 
     /// The run that the numbers say, and None where one of them is out of its limits.
-    pub(crate) fn run(self) -> Option<Run>
+    pub(crate) fn run(self) -> Option<StepRun>
         ensures { (v : LineValues) → self ≡ numbers_from v → result ≡ run_within v }
     {
         let processor = self.processor.up_to(255)?;
@@ -51,7 +51,7 @@ impl LineNumbers {
             p: u8::try_from(processor).ok()?,
             s: u8::try_from(stream).ok()?,
         };
-        Some(Run {
+        Some(StepRun {
             step,
             times: times as usize,
         })

@@ -7,7 +7,7 @@ pub(crate) const MAX_STEPS: usize = 1_000_000;
 
 /// A step, so many times in a row.
 #[derive(Clone, Copy, Debug, PartialEq, Eq)]
-pub(crate) struct Run {
+pub(crate) struct StepRun {
     /// The step.
     pub(crate) step: Step,
     /// How many times it is taken.

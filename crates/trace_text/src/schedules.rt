@@ -7,11 +7,11 @@ ghost use Rattle.trace_text.specs.ScheduleLines.{values_of};
 ghost use Rattle.trace_text.specs.declared.schedule_fault.ScheduleFaultKind.TheVariants.{NoMemory};
 
 use crate::line_numbers::LineNumbers;
-use crate::lines::split_line;
-use crate::runs::{MAX_STEPS, Run};
+use crate::runs::{MAX_STEPS, StepRun};
 use crate::schedule_fault::{ScheduleFault, ScheduleFaultKind};
 use processor::Step;
 use std::alloc::{AllocError, Global};
+use text_parts::split_line;
 
 /// The steps that a text says, line by line ("Schedules", docs/FORMATS.md).
 ///
@@ -38,7 +38,7 @@ pub fn read_schedule(alloc: Global, text: &[u8]) -> Result<Vec<Step>, ScheduleFa
 }
 
 /// The steps of a line before which so many steps stand, or its first fault.
-fn read_run(line: &[u8], before: usize) -> Result<Run, ScheduleFaultKind>
+fn read_run(line: &[u8], before: usize) -> Result<StepRun, ScheduleFaultKind>
     requires { before ≤ 1000000 }
     ensures { IsLineRun before (values_of line.now) result }
 {
@@ -51,7 +51,7 @@ fn read_run(line: &[u8], before: usize) -> Result<Run, ScheduleFaultKind>
 }
 
 /// Appends the steps of a run.
-fn append_run(steps: &mut Vec<Step>, run: Run) -> Result<(), AllocError>
+fn append_run(steps: &mut Vec<Step>, run: StepRun) -> Result<(), AllocError>
     requires { vec_len steps.old + run.times ≤ 1000000 }
     ensures items { OnOk result (steps.new.items ≡ steps.old.items ++ replicate run.times run.step) }
     ensures len { OnOk result (vec_len steps.new ≡ vec_len steps.old + run.times) }

@@ -1,36 +1,12 @@
 //! The lines of a trace.
 
 ghost use Rattle.std.specs.Prelude.{◌≡◌, ◌++◌, IfOk, OnOk, string_bytes};
-ghost use Rattle.trace_text.specs.TraceLines.{place_text, result_text, trace_line_of};
+ghost use Rattle.trace_text.specs.TraceLines.{outcome_text, place_text, result_text, trace_line_of};
 
-use number_text::{Hexadecimal8, RightAligned};
+use number_text::{push_hexadecimal_8, push_right_aligned, push_two_digits};
 use processor::Step;
 use std::alloc::{AllocError, Global};
-use std::fmt;
-use std::fmt::Write;
 use stream_core::Outcome;
-
-/// How a step came out, as a trace says it.
-#[derive(Clone, Copy, Debug, PartialEq, Eq)]
-struct OutcomeName(Outcome);
-
-impl fmt::Display for OutcomeName {
-    ghost use Rattle.std.specs.Prelude.{Some};
-    ghost use Rattle.trace_text.specs.TraceLines.{outcome_text};
-
-    ghost output = { λ name. Some (outcome_text name.0) };
-
-    #[tactic(auto, unfolding(crate::specs::TraceLines::outcome_text))]
-    fn fmt<W: fmt::Write>(&self, f: &mut fmt::Formatter<W>) -> fmt::Result {
-        match self.0 {
-            Outcome::Skipped => write!(f, "SKIPPED"),
-            Outcome::Done => write!(f, "DONE"),
-            Outcome::Blocked => write!(f, "BLOCKED"),
-            Outcome::Trapped(kind) => write!(f, "TRAPPED {kind}"),
-            Outcome::Stopped(kind) => write!(f, "STOPPED {kind}"),
-        }
-    }
-}
 
 /// The line of a step in a trace: its number, counted from 1, its processor and stream, the pc that the stream had
 /// before it, and how it came out ("Traces", docs/FORMATS.md).
@@ -60,24 +36,47 @@ pub fn push_trace_line(
     ensures { OnOk result (string_bytes text.new ≡ string_bytes text.old ++ trace_line_of number step pc outcome) }
 {
     push_place(text, number, step)?;
-    push_outcome(text, pc, outcome)
+    push_result(text, pc, outcome)
 }
 
 /// Appends where a line stands in the trace, and whose step it is.
 fn push_place(text: &mut String, number: u64, step: Step) -> Result<(), AllocError>
     ensures { OnOk result (string_bytes text.new ≡ string_bytes text.old ++ place_text number step) }
 {
-    let number = RightAligned::<7>(number);
-    let p = RightAligned::<3>(u64::from(step.p));
-    let s = RightAligned::<3>(u64::from(step.s));
-    write!(text, "{number} {p} {s} ")
+    push_right_aligned::<7>(text, number)?;
+    text.push_str(" ")?;
+    push_right_aligned::<3>(text, u64::from(step.p))?;
+    text.push_str(" ")?;
+    push_right_aligned::<3>(text, u64::from(step.s))?;
+    text.push_str(" ")
 }
 
-/// Appends how a step came out, and the line's end.
-fn push_outcome(text: &mut String, pc: u32, outcome: Outcome) -> Result<(), AllocError>
+/// Appends the pc before a step and how it came out, and the line's end.
+fn push_result(text: &mut String, pc: u32, outcome: Outcome) -> Result<(), AllocError>
     ensures { OnOk result (string_bytes text.new ≡ string_bytes text.old ++ result_text pc outcome) }
 {
-    let pc = Hexadecimal8(pc);
-    let outcome = OutcomeName(outcome);
-    writeln!(text, "{pc} {outcome}")
+    push_hexadecimal_8(text, pc)?;
+    text.push_str(" ")?;
+    push_outcome(text, outcome)?;
+    text.push_str("\n")
+}
+
+/// Appends how a step came out, and a trap with its number.
+#[tactic(auto, unfolding(crate::specs::TraceLines::outcome_text))]
+fn push_outcome(text: &mut String, outcome: Outcome) -> Result<(), AllocError>
+    ensures { OnOk result (string_bytes text.new ≡ string_bytes text.old ++ outcome_text outcome) }
+{
+    match outcome {
+        Outcome::Skipped => text.push_str("SKIPPED"),
+        Outcome::Done => text.push_str("DONE"),
+        Outcome::Blocked => text.push_str("BLOCKED"),
+        Outcome::Trapped(kind) => {
+            text.push_str("TRAPPED ")?;
+            push_two_digits(text, kind.number())
+        }
+        Outcome::Stopped(kind) => {
+            text.push_str("STOPPED ")?;
+            push_two_digits(text, kind.number())
+        }
+    }
 }

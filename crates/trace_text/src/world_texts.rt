@@ -2,12 +2,12 @@
 
 ghost use Rattle.std.specs.Prelude.{◌≡◌, ◌++◌, ◌<◌, ◌≤◌, length, slice_get, IfOk, OnOk, string_bytes};
 ghost use Rattle.std.specs.Option.{option_copied};
-ghost use Rattle.trace_text.specs.WorldTexts.{stream_parts, processor_parts, change, changes, world_text_of};
+ghost use Rattle.trace_text.specs.WorldTexts.{stream_parts, processor_parts, cell_line, change, changes, world_text_of};
 ghost use Rattle.trace_text.specs.WorldParts.{stream_part_at, processor_part_at, streams_of};
 
 use image_file::Image;
 use machine::Machine;
-use number_text::{Hexadecimal, Hexadecimal12, HexadecimalDigit};
+use number_text::{push_hexadecimal_12, push_hexadecimal_16, push_hexadecimal_digit};
 use std::alloc::{AllocError, Global};
 use std::fmt::Write;
 use stream_core::{Status, Stream, stream_text};
@@ -124,7 +124,6 @@ fn push_changes<const S: usize>(
 }
 
 /// Appends the word at an address, unless it is this cell.
-#[tactic(auto, unfolding(crate::specs::WorldTexts::cell_line))]
 fn push_change(
     text: &mut String,
     address: u64,
@@ -139,8 +138,19 @@ fn push_change(
     if word == cell {
         return Ok(());
     }
-    let address = Hexadecimal12(address);
-    let value = Hexadecimal(word.value());
-    let tags = HexadecimalDigit::new(word.tag_number());
-    writeln!(text, "cell {address} {value} {tags}")
+    push_cell(text, address, word)
+}
+
+/// Appends the line of a word at an address.
+#[tactic(auto, unfolding(crate::specs::WorldTexts::cell_line))]
+fn push_cell(text: &mut String, address: u64, word: Word) -> Result<(), AllocError>
+    ensures { OnOk result (string_bytes text.new ≡ string_bytes text.old ++ cell_line address word) }
+{
+    text.push_str("cell ")?;
+    push_hexadecimal_12(text, address)?;
+    text.push_str(" ")?;
+    push_hexadecimal_16(text, word.value())?;
+    text.push_str(" ")?;
+    push_hexadecimal_digit(text, word.tag_number())?;
+    text.push_str("\n")
 }

@@ -1,9 +1,9 @@
 //! Schedules as written text.
 
 ghost use Rattle.std.specs.Prelude.{◌≡◌, ◌++◌, ◌<◌, ◌≤◌, IfOk, OnOk, length, string_bytes};
-ghost use Rattle.trace_text.specs.Runs.{same_run, schedule_line, schedule_run_text, schedule_text};
+ghost use Rattle.trace_text.specs.Runs.{step_run_length, schedule_line, schedule_run_text, schedule_text};
 
-use crate::runs::{MAX_STEPS, Run};
+use crate::runs::{MAX_STEPS, StepRun};
 use processor::Step;
 use std::alloc::{AllocError, Global};
 use std::fmt::Write;
@@ -19,7 +19,7 @@ pub fn write_schedule(alloc: Global, steps: &[Step]) -> Result<String, AllocErro
         let times = run_length(rest, *first);
         write_run(
             &mut text,
-            Run {
+            StepRun {
                 step: *first,
                 times,
             },
@@ -32,7 +32,7 @@ pub fn write_schedule(alloc: Global, steps: &[Step]) -> Result<String, AllocErro
 
 /// How many steps in front are this one.
 fn run_length(steps: &[Step], step: Step) -> usize
-    ensures count { result ≡ same_run step steps.now }
+    ensures count { result ≡ step_run_length step steps.now }
     ensures bound { result ≤ length steps.now }
 {
     let mut times = 0;
@@ -46,14 +46,14 @@ fn run_length(steps: &[Step], step: Step) -> usize
 }
 
 #[tactic(auto, unfolding(crate::specs::Runs::schedule_run_text))]
-fn write_run(text: &mut String, run: Run) -> Result<(), AllocError>
+fn write_run(text: &mut String, run: StepRun) -> Result<(), AllocError>
     ensures { OnOk result (string_bytes text.new ≡ string_bytes text.old ++ schedule_run_text run) }
 {
     let step = run.step;
     for _full in 0..run.times / MAX_STEPS {
         write_line(
             text,
-            Run {
+            StepRun {
                 step,
                 times: MAX_STEPS,
             },
@@ -61,13 +61,13 @@ fn write_run(text: &mut String, run: Run) -> Result<(), AllocError>
     }
     let times = run.times % MAX_STEPS;
     if times != 0 {
-        write_line(text, Run { step, times })?;
+        write_line(text, StepRun { step, times })?;
     }
     Ok(())
 }
 
 #[tactic(auto, unfolding(crate::specs::Runs::schedule_line))]
-fn write_line(text: &mut String, run: Run) -> Result<(), AllocError>
+fn write_line(text: &mut String, run: StepRun) -> Result<(), AllocError>
     ensures { OnOk result (string_bytes text.new ≡ string_bytes text.old ++ schedule_line run) }
 {
     let p = run.step.p;

@@ -1,57 +1,42 @@
-//! Commands that are done: which files they read, and what they write.
+//! Commands over files in memory.
 
-use super::examples::{BLOCKED, BLOCKED_IMAGE, LISTING, LISTING_IMAGE, TRACE, example_files};
+use super::cases::{Case, DONE, FAULTY, UNREADABLE, UNWRITABLE};
+use super::examples::example_files;
 use super::fake_files::FakeFolder;
 use super::tool_runs::ToolRun;
+use std::alloc::Global;
+use std::process::Abort;
 use std::test::Fail;
 
 #[test]
-fn a_source_text_is_assembled_to_its_image(rt: HostRuntime) -> Result<(), Fail> {
-    let alloc = rt.alloc();
-    for (line, image, bytes) in [
-        (
-            "mta_sim asm listing.s made.img",
-            "made.img",
-            LISTING_IMAGE.as_slice(),
-        ),
-        (
-            "mta_sim asm blocked.s made.img",
-            "made.img",
-            BLOCKED_IMAGE.as_slice(),
-        ),
-        (
-            "mta_sim asm listing.s old.img",
-            "old.img",
-            LISTING_IMAGE.as_slice(),
-        ),
-    ] {
-        let files = example_files(alloc)?;
-        let folder = FakeFolder { files: &files };
-        ToolRun::new(alloc, &folder, line, "")?.assert_done(&rt, "");
-        assert!(rt; folder.holds(image, bytes), "{line}");
-        assert!(rt; folder.holds("listing.s", LISTING.as_bytes()), "{line}");
-        assert!(rt; folder.holds("blocked.s", BLOCKED.as_bytes()), "{line}");
+fn commands_open_change_and_print_what_they_should(rt: HostRuntime) -> Result<(), Fail> {
+    for case in &DONE {
+        assert_case(&rt, rt.alloc(), case)?;
+    }
+    for case in &FAULTY {
+        assert_case(&rt, rt.alloc(), case)?;
+    }
+    for case in &UNREADABLE {
+        assert_case(&rt, rt.alloc(), case)?;
+    }
+    for case in &UNWRITABLE {
+        assert_case(&rt, rt.alloc(), case)?;
     }
     Ok(())
 }
 
-#[test]
-fn an_image_is_listed(rt: HostRuntime) -> Result<(), Fail> {
-    let alloc = rt.alloc();
+fn assert_case(rt: &impl Abort, alloc: Global, case: &Case) -> Result<(), Fail> {
+    let (line, opened, changed, printed) = *case;
     let files = example_files(alloc)?;
     let folder = FakeFolder { files: &files };
-    ToolRun::new(alloc, &folder, "mta_sim list listing.img", "")?.assert_done(&rt, LISTING);
-    assert!(rt; folder.holds("listing.img", &LISTING_IMAGE));
-    Ok(())
-}
-
-#[test]
-fn an_image_is_run_by_a_schedule(rt: HostRuntime) -> Result<(), Fail> {
-    let alloc = rt.alloc();
-    let files = example_files(alloc)?;
-    let folder = FakeFolder { files: &files };
-    ToolRun::new(alloc, &folder, "mta_sim run blocked.img four.steps", "")?.assert_done(&rt, TRACE);
-    assert!(rt; folder.holds("blocked.img", &BLOCKED_IMAGE));
-    assert!(rt; folder.holds("four.steps", b"0 0 4"));
+    let run = ToolRun::new(alloc, &folder, line, "")?;
+    match printed {
+        Ok(output) => run.assert_done(rt, output),
+        Err(fault) => run.assert_fault(rt, fault),
+    }
+    for file in &files {
+        assert!(rt; file.was_only_changed_to(changed), "{line}");
+        assert_eq!(rt; file.was_opened(), opened.contains(&file.name()), "{line}");
+    }
     Ok(())
 }

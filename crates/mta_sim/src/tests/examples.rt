@@ -4,80 +4,51 @@ use super::fake_files::{FakeFile, Refusal};
 use std::alloc::{AllocError, Global};
 
 /// A listing, which is a source text too.
-pub const LISTING: &str = ".profile 1
+pub const QUIT_TEXT: &str = ".profile 1
 .slim 1
-.retry 2
+.retry 0
 .entry 0
-LIT r1, 5 ; 00000 8010000000000005
-.word 0x0000000000000001 ; 00001 0000000000000001
-LOAD.S r3, r2, 1 ; 00002 038C408000000000
-QUIT ; 00003 0000000000028000
-.fill 2, 0x0000000000000000, 1
-.fill 1, 0x0000000000000007, 11
+QUIT ; 00000 0000000000028000
+.fill 1, 0x0000000000000000, 1
 ";
 
-/// The bytes of its image: the header, the entry, the program and the cells.
-pub const LISTING_IMAGE: [u8; 89] = [
-    0x4D, 0x54, 0x41, 0x50, 0, 1, 0, 1, 0, 1, 0, 0, 0, 2, 0xFF, 0xFF, 0xFF, 0xFF, 0, 0, 0, 4, 0, 0,
-    0, 3, //
+/// The bytes of its image: the header, the entry, the program and the cell.
+pub const QUIT_IMAGE: [u8; 47] = [
+    0x4D, 0x54, 0x41, 0x50, 0, 1, 0, 1, 0, 1, 0, 0, 0, 0, 0xFF, 0xFF, 0xFF, 0xFF, 0, 0, 0, 1, 0, 0,
+    0, 1, //
     0, 0, 0, 0, //
-    0x80, 0x10, 0, 0, 0, 0, 0, 5, //
-    0, 0, 0, 0, 0, 0, 0, 1, //
-    0x03, 0x8C, 0x40, 0x80, 0, 0, 0, 0, //
     0, 0, 0, 0, 0, 2, 0x80, 0, //
-    0, 0, 0, 0, 0, 0, 0, 0, 1, //
-    0, 0, 0, 0, 0, 0, 0, 0, 1, //
-    0, 0, 0, 0, 0, 0, 0, 7, 11,
+    0, 0, 0, 0, 0, 0, 0, 0, 1,
 ];
 
-/// A load that is blocked and traps after two retries.
-pub const BLOCKED: &str = ".slim 1
-.retry 2
-.trap h
-.entry 0
-LOAD.S r3, r2, 1
-QUIT
-h: XGET r4
-QUIT
-.data 0
-.data 0, 0
+/// What one step of it prints.
+pub const QUIT_TRACE: &str = "      1   0   0 00000000 DONE
+processor 0 scur 0 sres 0
 ";
+
+/// Another source text.
+const WORD_TEXT: &str = ".slim 1\n.retry 0\n.entry 0\n.word 0x0000000000000001\n.data 7\n";
 
 /// The bytes of its image, in the same order.
-pub const BLOCKED_IMAGE: [u8; 80] = [
-    0x4D, 0x54, 0x41, 0x50, 0, 1, 0, 1, 0, 1, 0, 0, 0, 2, 0, 0, 0, 2, 0, 0, 0, 4, 0, 0, 0, 2, //
+pub const WORD_IMAGE: [u8; 47] = [
+    0x4D, 0x54, 0x41, 0x50, 0, 1, 0, 1, 0, 1, 0, 0, 0, 0, 0xFF, 0xFF, 0xFF, 0xFF, 0, 0, 0, 1, 0, 0,
+    0, 1, //
     0, 0, 0, 0, //
-    0x03, 0x8C, 0x40, 0x80, 0, 0, 0, 0, //
-    0, 0, 0, 0, 0, 2, 0x80, 0, //
-    0, 0, 0, 0, 0, 1, 0xC1, 0, //
-    0, 0, 0, 0, 0, 2, 0x80, 0, //
-    0, 0, 0, 0, 0, 0, 0, 0, 1, //
-    0, 0, 0, 0, 0, 0, 0, 0, 0,
+    0, 0, 0, 0, 0, 0, 0, 1, //
+    0, 0, 0, 0, 0, 0, 0, 7, 1,
 ];
 
-/// What four steps of it print.
-pub const TRACE: &str = "      1   0   0 00000000 BLOCKED
-      2   0   0 00000000 BLOCKED
-      3   0   0 00000000 TRAPPED 10
-      4   0   0 00000002 DONE
-processor 0 scur 1 sres 1
-stream 0 0
-Running ssw 0100000000000003 xr 000000000000080A retries 0
-r04 000000000000080A
-";
+/// The bytes that a file has which a command does not come to write.
+const OLD: &[u8] = b"old";
 
-/// The bytes that `old.img` has at first.
-pub const OLD: &[u8] = b"old";
-
-/// The examples' files; those with a fault in them; one that is there before the tool writes it, and the name of one
-/// that is not; and one for each refusal.
+/// The examples' files; those with a fault in them; one that is there before the tool writes it, and the names of two
+/// that are not; and one for each refusal.
 pub fn example_files(alloc: Global) -> Result<Vec<FakeFile>, AllocError> {
     let files = vec![in alloc;
-        FakeFile::new(alloc, "listing.s", LISTING.as_bytes())?,
-        FakeFile::new(alloc, "listing.img", &LISTING_IMAGE)?,
-        FakeFile::new(alloc, "blocked.s", BLOCKED.as_bytes())?,
-        FakeFile::new(alloc, "blocked.img", &BLOCKED_IMAGE)?,
-        FakeFile::new(alloc, "four.steps", b"0 0 4")?,
+        FakeFile::new(alloc, "quit.s", QUIT_TEXT.as_bytes())?,
+        FakeFile::new(alloc, "quit.img", &QUIT_IMAGE)?,
+        FakeFile::new(alloc, "word.s", WORD_TEXT.as_bytes())?,
+        FakeFile::new(alloc, "one.steps", b"0 0")?,
         FakeFile::new(alloc, "unknown.s", b".entry 0\nFOO\n.data 0\n")?,
         FakeFile::new(alloc, "empty.img", b"")?,
         FakeFile::new(alloc, "short.steps", b"0 0\n1\n")?,

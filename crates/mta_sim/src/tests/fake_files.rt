@@ -17,19 +17,24 @@ pub enum Refusal {
     Writing,
 }
 
-/// A name, and the bytes of its file, where there is one; and whether it was ever opened.
+/// A name, and the bytes of its file, at first and now, where there is one; and whether it was ever opened.
 #[derive(Drop)]
 pub struct FakeFile {
     alloc: Global,
     name: &'static str,
     refusal: Refusal,
+    first: Option<&'static [u8]>,
     bytes: RefCell<Option<Vec<u8>>>,
     opened: Cell<bool>,
 }
 
 impl FakeFile {
     /// A file with these bytes.
-    pub fn new(alloc: Global, name: &'static str, bytes: &[u8]) -> Result<FakeFile, AllocError> {
+    pub fn new(
+        alloc: Global,
+        name: &'static str,
+        bytes: &'static [u8],
+    ) -> Result<FakeFile, AllocError> {
         FakeFile::refusing(alloc, name, bytes, Refusal::Nothing)
     }
 
@@ -37,13 +42,14 @@ impl FakeFile {
     pub fn refusing(
         alloc: Global,
         name: &'static str,
-        bytes: &[u8],
+        bytes: &'static [u8],
         refusal: Refusal,
     ) -> Result<FakeFile, AllocError> {
         Ok(FakeFile {
             alloc,
             name,
             refusal,
+            first: Some(bytes),
             bytes: RefCell::new(Some(Vec::from_slice(alloc, bytes)?)),
             opened: Cell::new(false),
         })
@@ -55,8 +61,32 @@ impl FakeFile {
             alloc,
             name,
             refusal: Refusal::Nothing,
+            first: None,
             bytes: RefCell::new(None),
             opened: Cell::new(false),
+        }
+    }
+
+    pub fn name(&self) -> &'static str {
+        self.name
+    }
+
+    pub fn was_opened(&self) -> bool {
+        self.opened.get()
+    }
+
+    /// Whether the file has the bytes that are said where it is named, and else is as it was at first.
+    pub fn was_only_changed_to(&self, changed: Option<(&str, &[u8])>) -> bool {
+        let wanted = match changed {
+            Some((name, bytes)) if name == self.name => Some(bytes),
+            _ => self.first,
+        };
+        match self.bytes.try_borrow() {
+            Ok(bytes) => match (bytes.as_ref(), wanted) {
+                (Some(bytes), Some(wanted)) => bytes.as_slice() == wanted,
+                (bytes, wanted) => bytes.is_none() && wanted.is_none(),
+            },
+            Err(_) => false,
         }
     }
 }
@@ -70,35 +100,6 @@ pub struct FakeFolder<'a> {
 impl<'a> FakeFolder<'a> {
     fn find(&self, name: &str) -> Option<&'a FakeFile> {
         self.files.iter().find(|file| file.name == name)
-    }
-
-    /// Whether the name has a file, which has just these bytes.
-    pub fn holds(&self, name: &str, wanted: &[u8]) -> bool {
-        let Some(file) = self.find(name) else {
-            return false;
-        };
-        match file.bytes.try_borrow() {
-            Ok(bytes) => bytes
-                .as_ref()
-                .is_some_and(|bytes| bytes.as_slice() == wanted),
-            Err(_) => false,
-        }
-    }
-
-    /// Whether the name has no file.
-    pub fn is_missing(&self, name: &str) -> bool {
-        let Some(file) = self.find(name) else {
-            return true;
-        };
-        match file.bytes.try_borrow() {
-            Ok(bytes) => bytes.is_none(),
-            Err(_) => false,
-        }
-    }
-
-    /// Whether the name has a file that was opened.
-    pub fn was_opened(&self, name: &str) -> bool {
-        self.find(name).is_some_and(|file| file.opened.get())
     }
 }
 

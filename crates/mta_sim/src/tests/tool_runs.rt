@@ -1,6 +1,7 @@
 //! Runs of the tool on a command line.
 
-use crate::tool::{Status, run_tool};
+use crate::status::Status;
+use crate::tool::run_tool;
 use std::alloc::{AllocError, Global};
 use std::process::Abort;
 use std::rt::Files;
@@ -15,14 +16,18 @@ pub struct ToolRun<'a> {
 }
 
 impl<'a> ToolRun<'a> {
-    /// Runs the tool on the words of a line, which stand apart by spaces, with this standard input.
+    /// Runs the tool on the words of a line, which stand apart by spaces behind the program's name, with this standard
+    /// input.
     pub fn new<F: Files>(
         alloc: Global,
         files: &F,
         line: &'a str,
         input: &str,
     ) -> Result<ToolRun<'a>, AllocError> {
-        let words = line.split(' ').collect::<Vec<&str>>(alloc)?;
+        let mut words = vec![in alloc; "mta_sim"]?;
+        for word in line.split(' ').filter(|word| !word.is_empty()) {
+            words.push(word)?;
+        }
         let mut output = Vec::new(alloc);
         let mut errors = Vec::new(alloc);
         let status = run_tool(

@@ -17,10 +17,15 @@ use crate::traps::TrapKind;
 use insn_word::{APart, CPart, ControlOp, Insn, MPart, MemoryOp, WideOp};
 use tag_memory::Reply;
 
+/// Bits 0 to 31 of a register: what LITH keeps. Bits 32 to 63 become the immediate.
+const LOW_WIDTH: u32 = 32;
+/// How many digits a pc has.
+const PC_WIDTH: u32 = 32;
+
 impl Stream {
-    /// Executes the instruction, where the memory answered `value` (it counts only where the instruction has a
-    /// reference that answers) and the processor granted so many streams (only for RESERVE). QUIT, QUITP and CREATE
-    /// do here what NOP does; the processor completes them.
+    /// Executes the instruction ("What each operation does", docs/MACHINE.md), where the memory answered `value` (it
+    /// counts only where the instruction has a reference that answers) and the processor granted so many streams
+    /// (only for RESERVE). QUIT, QUITP and CREATE do here what NOP does; the processor completes them.
     #[tactic(auto, unfolding(crate::specs::Effects::after_instruction))]
     #[inline(always)]
     pub fn execute(&mut self, insn: &Insn, value: u64, grant: u64)
@@ -39,8 +44,8 @@ impl Stream {
         match op {
             WideOp::Literal => self.registers.set(reg, imm_value),
             WideOp::LiteralHigh => {
-                let low = self.registers.value(reg) % (1 << 32);
-                self.registers.set(reg, imm_value * (1 << 32) + low);
+                let low = self.registers.value(reg) % (1 << LOW_WIDTH);
+                self.registers.set(reg, imm_value * (1 << LOW_WIDTH) + low);
             }
             WideOp::TargetLiteral => self.targets.set(reg, StatusWord::at(imm)),
         }
@@ -91,26 +96,14 @@ impl Stream {
         ensures { result ≡ control_ssw self.now c.now c.now.op left }
     {
         match c.op {
-            ControlOp::Jump => {
-                if self.goes(c) {
-                    StatusWord {
-                        pc: self.targets.word(c.t).pc,
-                        ..left
-                    }
-                } else {
-                    left
-                }
-            }
-            ControlOp::Skip => {
-                if self.goes(c) {
-                    StatusWord {
-                        pc: skipped(self.ssw.pc, c.n),
-                        ..left
-                    }
-                } else {
-                    left
-                }
-            }
+            ControlOp::Jump if self.goes(c) => StatusWord {
+                pc: self.targets.word(c.t).pc,
+                ..left
+            },
+            ControlOp::Skip if self.goes(c) => StatusWord {
+                pc: skipped(self.ssw.pc, c.n),
+                ..left
+            },
             ControlOp::Call => StatusWord {
                 pc: self.targets.word(c.t).pc,
                 ..left
@@ -120,7 +113,16 @@ impl Stream {
                 mask: TrapMask::from_number(u64::from(c.n.unsigned_abs())),
                 ..left
             },
-            _ => left,
+            ControlOp::Jump
+            | ControlOp::Skip
+            | ControlOp::Nop
+            | ControlOp::TargetSet
+            | ControlOp::TargetGet
+            | ControlOp::TrapGet
+            | ControlOp::Reserve
+            | ControlOp::Create
+            | ControlOp::Quit
+            | ControlOp::QuitKeep => left,
         }
     }
 
@@ -142,7 +144,16 @@ impl Stream {
                 let word = StatusWord::from_bits(self.registers.value(c.ra));
                 self.targets.set(c.t, word);
             }
-            _ => {}
+            ControlOp::Nop
+            | ControlOp::Jump
+            | ControlOp::Skip
+            | ControlOp::TargetGet
+            | ControlOp::TrapGet
+            | ControlOp::Reserve
+            | ControlOp::Create
+            | ControlOp::Quit
+            | ControlOp::QuitKeep
+            | ControlOp::Mask => {}
         }
     }
 
@@ -154,7 +165,16 @@ impl Stream {
             ControlOp::TargetGet => self.targets.word(c.t).bits(),
             ControlOp::TrapGet => self.xr,
             ControlOp::Reserve => grant,
-            _ => 0,
+            ControlOp::Nop
+            | ControlOp::Jump
+            | ControlOp::Skip
+            | ControlOp::Call
+            | ControlOp::Exchange
+            | ControlOp::TargetSet
+            | ControlOp::Create
+            | ControlOp::Quit
+            | ControlOp::QuitKeep
+            | ControlOp::Mask => 0,
         }
     }
 
@@ -189,8 +209,8 @@ impl Stream {
         self.trap(TrapKind::Blocked, address)
     }
 
-    /// Completes a step that needs no memory, with so many streams granted to RESERVE. QUIT, QUITP and CREATE do here
-    /// what NOP does; the processor completes them.
+    /// Completes a step that needs no memory ("One step", docs/MACHINE.md), with so many streams granted to RESERVE.
+    /// QUIT, QUITP and CREATE do here what NOP does; the processor completes them.
     pub fn finish_local(&mut self, program: &[u64], grant: u64)
         requires local { plan_of program.now self.old ≡ Plan.Local }
         ensures { (limit : ℕ) → (self.new, Outcome.Done) ≡ stream_row program.now limit self.old grant None }
@@ -219,7 +239,11 @@ fn retries_after(op: MemoryOp, retries: u32) -> u32
 {
     match op {
         MemoryOp::Nop => retries,
-        _ => 0,
+        MemoryOp::Load
+        | MemoryOp::Store
+        | MemoryOp::FetchAdd
+        | MemoryOp::TagGet
+        | MemoryOp::TagSet => 0,
     }
 }
 
@@ -230,9 +254,9 @@ fn skipped(pc: u32, words: i8) -> u32
     let next = u64::from(pc) + 1;
     let distance = u64::from(words.unsigned_abs());
     let sum = if words < 0 {
-        next + ((1 << 32) - distance)
+        next + ((1 << PC_WIDTH) - distance)
     } else {
         next + distance
     };
-    (sum % (1 << 32)) as u32
+    (sum % (1 << PC_WIDTH)) as u32
 }

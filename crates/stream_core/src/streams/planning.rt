@@ -11,10 +11,17 @@ use crate::traps::TrapKind;
 use insn_word::{ControlOp, Insn, MPart, MemoryOp, decode};
 use tag_memory::{Masked, MemOp, Pointer, Request};
 
+/// Bits 0 to 3 of a register: the tags that TAGSET writes.
+const TAGS_WIDTH: u32 = 4;
+/// Bits 0 to 47 of a pointer: the byte address.
+const ADDRESS_WIDTH: u32 = 48;
+/// How many bytes a word has.
+const WORD_BYTES: u64 = 8;
+
 impl Stream {
     /// What stands at the pc of this program: nothing where the stream does not run, else the instruction or the trap
-    /// `Program` or `Illegal`. One step needs one call: `request`, `control_of`, `execute` and `reply` go by its
-    /// instruction.
+    /// PROGRAM or ILLEGAL ("Traps", docs/MACHINE.md). One step needs one call: `request`, `control_of`, `execute` and
+    /// `reply` go by its instruction.
     #[tactic(auto, unfolding(crate::specs::StreamRow::fetch_of))]
     pub fn fetch(&self, program: &[u64]) -> Fetched
         ensures { result ≡ fetch_of program.now self.now }
@@ -31,7 +38,8 @@ impl Stream {
         }
     }
 
-    /// What the instruction asks of the memory, if it has a reference.
+    /// What the instruction asks of the memory, with the values at entry; None where it has no reference ("Memory
+    /// operations", docs/MACHINE.md).
     #[tactic(auto, unfolding(crate::specs::Effects::request_of))]
     pub fn request(&self, insn: &Insn) -> Option<Request>
         ensures { result ≡ request_of self.now insn.now }
@@ -41,15 +49,20 @@ impl Stream {
         };
         match m.op {
             MemoryOp::Nop => None,
-            MemoryOp::Load => Some(self.asked(m, MemOp::Load, 0)),
-            MemoryOp::Store => Some(self.asked(m, MemOp::Store, self.register(m.rd))),
-            MemoryOp::FetchAdd => Some(self.asked(m, MemOp::Fadd, self.register(m.rd))),
-            MemoryOp::TagGet => Some(self.asked(m, MemOp::TagGet, 0)),
-            MemoryOp::TagSet => Some(self.asked(m, MemOp::TagSet, self.register(m.rd) % 16)),
+            MemoryOp::Load => Some(self.request_with(m, MemOp::Load, 0)),
+            MemoryOp::Store => Some(self.request_with(m, MemOp::Store, self.register(m.rd))),
+            MemoryOp::FetchAdd => Some(self.request_with(m, MemOp::Fadd, self.register(m.rd))),
+            MemoryOp::TagGet => Some(self.request_with(m, MemOp::TagGet, 0)),
+            MemoryOp::TagSet => Some(self.request_with(
+                m,
+                MemOp::TagSet,
+                self.register(m.rd) % (1 << TAGS_WIDTH),
+            )),
         }
     }
 
-    fn asked(&self, m: &MPart, op: MemOp, value: u64) -> Request
+    /// The request of this operation with this value, over the pointer that the part names.
+    fn request_with(&self, m: &MPart, op: MemOp, value: u64) -> Request
         ensures { result ≡ request_with self.now m.now op value }
     {
         Request {
@@ -64,7 +77,7 @@ impl Stream {
         }
     }
 
-    /// What the instruction asks of the processor, with the values at entry.
+    /// What the instruction asks of the processor, with the values at entry ("Processors", docs/MACHINE.md).
     #[tactic(auto, unfolding(crate::specs::StreamRow::control_of))]
     pub fn control_of(&self, insn: &Insn) -> Control
         ensures { result ≡ control_of self.now insn.now }
@@ -82,12 +95,20 @@ impl Stream {
             }),
             ControlOp::Quit => Control::Quit,
             ControlOp::QuitKeep => Control::QuitKeep,
-            _ => Control::Plain,
+            ControlOp::Nop
+            | ControlOp::Jump
+            | ControlOp::Skip
+            | ControlOp::Call
+            | ControlOp::Exchange
+            | ControlOp::TargetSet
+            | ControlOp::TargetGet
+            | ControlOp::TrapGet
+            | ControlOp::Mask => Control::Plain,
         }
     }
 
-    /// What the next step needs: nothing where the stream does not run, a trap `Program` or `Illegal`, a reply of the
-    /// memory, or nothing but the stream.
+    /// What the next step needs: nothing where the stream does not run, a trap PROGRAM or ILLEGAL, a reply of the
+    /// memory, or nothing but the stream ("One step", docs/MACHINE.md).
     #[tactic(auto, unfolding(crate::specs::StreamRow::plan_of))]
     pub fn plan(&self, program: &[u64]) -> Plan
         ensures { result ≡ plan_of program.now self.now }
@@ -119,12 +140,13 @@ impl Stream {
 fn moved(pointer: u64, words: i8) -> Pointer
     ensures { result ≡ displaced_pointer pointer words }
 {
-    let address = pointer % (1 << 48);
-    let bytes = u64::from(words.unsigned_abs()) * 8;
+    let address = pointer % (1 << ADDRESS_WIDTH);
+    let bytes = u64::from(words.unsigned_abs()) * WORD_BYTES;
     let sum = if words < 0 {
-        address + ((1 << 48) - bytes)
+        address + ((1 << ADDRESS_WIDTH) - bytes)
     } else {
         address + bytes
     };
-    Pointer::new(pointer / (1 << 48) * (1 << 48) + sum % (1 << 48))
+    let upper = pointer / (1 << ADDRESS_WIDTH) * (1 << ADDRESS_WIDTH);
+    Pointer::new(upper + sum % (1 << ADDRESS_WIDTH))
 }

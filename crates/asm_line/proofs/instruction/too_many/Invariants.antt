@@ -1,10 +1,11 @@
 use Rattle.std.proofs.Common.{◌≡◌, map}
 use Rattle.std.specs.List.{list_all}
 use Rattle.std.specs.Option.{option_copied}
-use Rattle.asm_line.specs.Text.{trim, parts, head}
+use Rattle.asm_line.specs.Text.{trim, head}
+use Rattle.text_parts.specs.Parts.{parts}
 use Rattle.asm_line.specs.Heads.{operation_of}
 use Rattle.asm_line.specs.Instructions.{is_ok}
-use Rattle.asm_line.specs.Cutting.{rest_parts, rest_length}
+use Rattle.text_parts.specs.Parts.{rest_parts, rest_length}
 use Rattle.asm_line.proofs.instruction.too_many.Given as goal
 
 abbrev pub invariant-loop-rest : goal.invariant-loop-rest

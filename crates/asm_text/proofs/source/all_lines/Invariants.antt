@@ -1,8 +1,8 @@
 use Rattle.std.proofs.Common.{◌≡◌, ◌+◌, ◌≤◌, length}
 use Rattle.std.specs.Option.{option_copied}
-use Rattle.asm_line.specs.Lines.{lines}
+use Rattle.asm_line.specs.Lines.{lines, rest_lines}
 use Rattle.asm_line.specs.Labels.{places_of}
-use Rattle.asm_line.specs.Cutting.{rest_lines, rest_length}
+use Rattle.text_parts.specs.Parts.{rest_length}
 use Rattle.asm_text.specs.Drafts.{empty}
 use Rattle.asm_text.specs.Limits.{IsKept}
 use Rattle.asm_text.specs.Sources.{with_lines}

@@ -1,6 +1,7 @@
 use Rattle.std.proofs.Common.{◌≡◌, ◌+◌, ◌∷◌, cond, sym, ◌∙◌, ap, arith}
 use Rattle.std.specs.Option.{option_copied}
-use Rattle.asm_line.specs.Cutting.{rest_lines, rest_length}
+use Rattle.asm_line.specs.Lines.{rest_lines}
+use Rattle.text_parts.specs.Parts.{rest_length}
 use Rattle.asm_line.specs.Seen.{line_seen}
 use Rattle.asm_text.proofs.Standing.{labels_taken, labels_end, words_taken, one_word, few_more, then_one, else_none}
 use Rattle.asm_text.proofs.source.places.Goals as goal

@@ -1,8 +1,8 @@
 use Rattle.std.proofs.Common.{◌≡◌, ℕ, ◌+◌, ◌≤◌, List, length}
 use Rattle.std.specs.Option.{option_copied, option_or}
-use Rattle.asm_line.specs.Lines.{lines, place, count_words}
+use Rattle.asm_line.specs.Lines.{lines, place, count_words, rest_lines}
 use Rattle.asm_line.specs.Labels.{places_of}
-use Rattle.asm_line.specs.Cutting.{rest_lines, rest_length}
+use Rattle.text_parts.specs.Parts.{rest_length}
 use Rattle.asm_text.proofs.Standing.{moved}
 use Rattle.asm_text.proofs.source.places.Given as goal
 

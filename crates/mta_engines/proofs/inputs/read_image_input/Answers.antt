@@ -1,7 +1,11 @@
-use Rattle.std.proofs.Common.{rules, ◌∙◌}
+use Rattle.std.proofs.Common.{rules, ◌∙◌, ◌≢◌, ◌≤◌, length, subst, IsErrAnd}
+use Rattle.image_file.specs.Spelling.{Stands}
+use Rattle.mta_engines.specs.declared.tool_fault.ToolFault.TheVariants.{Write}
+use Rattle.mta_engines.specs.Input.{input_limit}
 use Rattle.mta_engines.specs.Faults.{IsFaultBy}
 use Rattle.mta_engines.specs.Images.{HasImageFault}
-use Rattle.mta_engines.proofs.ReadBytes.{told}
+use Rattle.mta_engines.proofs.ReadBytes.{told, of_reader}
+use Rattle.mta_engines.proofs.ImageFaults.{image_without_fault}
 use Rattle.mta_engines.proofs.inputs.read_image_input.Goals as goal
 
 pub returns-in_err-read_image-clause-fault : goal.returns-in_err-read_image-clause-fault
@@ -9,3 +13,21 @@ returns-in_err-read_image-clause-fault g c =
     told c.from_residual-in_err-read_image.result (g.R.Read.remaining c.args.reader.now) c.in_ok-bytes.bytes.items
     (λ input. IsFaultBy (HasImageFault input))
     c.in_ok-bytes.ensures.whole (λ input e. let same = c.deref.ensures.value ∙ e in search rules)
+
+pub returns-in_err-read_image-clause-no_image : goal.returns-in_err-read_image-clause-no_image
+returns-in_err-read_image-clause-no_image g c = λ found.
+    of_reader (g.R.Read.remaining c.args.reader.now) c.in_ok-bytes.bytes.items
+    (λ input. HasImageFault input found → IsErrAnd c.from_residual-in_err-read_image.result
+    (λ fault. (fault ≢ Write) × IsFaultBy (HasImageFault input) fault))
+    c.in_ok-bytes.ensures.whole (λ input e has. let same = c.deref.ensures.value ∙ e in search rules)
+
+pub returns-clause-no_image : goal.returns-clause-no_image
+returns-clause-no_image g c = λ found.
+    of_reader (g.R.Read.remaining c.args.reader.now) c.in_ok-bytes.bytes.items
+    (λ input. HasImageFault input found → ⊥) c.in_ok-bytes.ensures.whole
+    (λ input e has.
+    let same = c.deref.ensures.value ∙ e in
+    let within : length c.in_ok-bytes.bytes.items ≤ input_limit = search rules in
+    let image = c.in_ok-read_image.field-0 in
+    image_without_fault input image found (subst (λ b. length b ≤ input_limit) e within)
+    (subst (λ b. Stands b image) same c.in_ok-read_image.ensures.found) has)

@@ -1,5 +1,5 @@
 use Rattle.std.proofs.Common.{◌≡◌, ◌≤◌, length, vec_len}
-use Rattle.trace_text.specs.Lines.{lines_of}
+use Rattle.text_parts.specs.Lines.{lines_of}
 use Rattle.mta_engines.specs.ProgramLines.{most_program_words, program_of}
 use Rattle.mta_engines.proofs.ProgramText.{read_on}
 use Rattle.mta_engines.proofs.program_lines.read_program.Given as goal

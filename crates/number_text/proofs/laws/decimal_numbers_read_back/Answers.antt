@@ -1,16 +1,13 @@
 -- Decimal numbers are read back.
-use Rattle.number_text.proofs.ReadBack.{reads_back_decimal, reads_back_five, five_digits_are}
-use Rattle.number_text.proofs.ReadBack.{reads_back_aligned, aligned_width}
+use Rattle.number_text.proofs.Printed.{zeros_in_front}
+use Rattle.number_text.proofs.ReadBack.{reads_back_decimal, reads_back_aligned, aligned_width}
 use Rattle.number_text.proofs.laws.decimal_numbers_read_back.Goals as goal
 
 pub returns-clause-plain : goal.returns-clause-plain
 returns-clause-plain c = reads_back_decimal
 
-pub returns-clause-five : goal.returns-clause-five
-returns-clause-five c = reads_back_five
-
-pub returns-clause-five_digits : goal.returns-clause-five_digits
-returns-clause-five_digits c = five_digits_are
+pub returns-clause-zeros : goal.returns-clause-zeros
+returns-clause-zeros c = zeros_in_front
 
 pub returns-clause-aligned : goal.returns-clause-aligned
 returns-clause-aligned c = reads_back_aligned

@@ -1,6 +1,6 @@
 use Rattle.std.proofs.Common.{rules, ◌≡◌, ◌∙◌, ◌+◌, ◌==◌, false, length, None, ◌≤◌, ap, sym, arith}
 use Rattle.std.specs.List.{before_first}
-use Rattle.trace_text.specs.Lines.{is_line_end}
+use Rattle.text_parts.specs.Lines.{is_line_end}
 use Rattle.trace_text.specs.ScheduleFaults.{schedule_line_fault}
 use Rattle.trace_text.specs.ScheduleLines.{values_of}
 use Rattle.trace_text.proofs.Reading.{reading-begins, read_on, at_fault, at_run, at_end, after-shorter}

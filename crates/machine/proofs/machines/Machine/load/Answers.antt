@@ -8,8 +8,8 @@ invariant_of-result g c =
     (all_opened c.args.image.now c.loop-number.processors.items c.loop-number.number c.loop-number.invariant
     (search rules))
 
-pub returns-clause-loaded : goal.returns-clause-loaded
-returns-clause-loaded g c =
+pub returns-clause-is : goal.returns-clause-is
+returns-clause-is g c =
     at_start c.args.image.now c.loop-number.processors.items c.in_ok-memory.memory c.cells.result.now
     (all_opened c.args.image.now c.loop-number.processors.items c.loop-number.number c.loop-number.invariant
     (search rules))

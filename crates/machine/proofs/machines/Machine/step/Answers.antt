@@ -11,4 +11,4 @@ pub returns-clause-world : goal.returns-clause-world
 returns-clause-world g c =
     present c.args.self.now c.self.inside.image.now c.self.inside.processors.items c.self.inside.memory
     c.step.new.memory (record { p = c.args.p; s = c.args.s }) c.len.result c.index_mut.result.now c.step.new.self
-    c.step.result c.self.view_is (search rules) (search rules) c.index_mut.ensures.value c.step.ensures.served
+    c.step.result c.self.view_is (search rules) (search rules) c.index_mut.ensures.value c.step.ensures.row

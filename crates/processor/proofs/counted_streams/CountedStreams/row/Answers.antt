@@ -18,10 +18,10 @@ complete-requires g c =
       (
         (awake image proc n (ap rests found)).0,
         (
-          c.requires.replied ∙ ap is_some (request_begun image proc n (Runs c.in-Runs.insn) found),
+          c.requires.reply ∙ ap is_some (request_begun image proc n (Runs c.in-Runs.insn) found),
           (
-            some_current image proc n c.requires.counted (ap rests found),
-            (c.requires.counted.within_reserved, free image proc n c.in-Runs.insn found),
+            some_current image proc n c.requires.counts (ap rests found),
+            (c.requires.counts.within_reserved, free image proc n c.in-Runs.insn found),
           ),
         ),
       ),

@@ -1,7 +1,7 @@
 use Rattle.std.proofs.Common.{lit<, None}
 use Rattle.processor.proofs.Begun.{unasked}
 use Rattle.processor.proofs.Counting.{counted_new}
-use Rattle.processor.proofs.Kept.{kept_new}
+use Rattle.processor.proofs.OtherStreams.{kept_new}
 use Rattle.processor.proofs.processors.Processor.step_local.Goals as goal
 
 pub row-requires : goal.row-requires

@@ -1,7 +1,7 @@
 use Rattle.std.proofs.Common.{lit<, Some}
 use Rattle.processor.proofs.Begun.{asked}
 use Rattle.processor.proofs.Counting.{counted_new}
-use Rattle.processor.proofs.Kept.{kept_new}
+use Rattle.processor.proofs.OtherStreams.{kept_new}
 use Rattle.processor.proofs.processors.Processor.step_reply.Goals as goal
 
 pub row-requires : goal.row-requires

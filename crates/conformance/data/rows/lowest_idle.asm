@@ -1,0 +1,11 @@
+; Stream 0 reserves two streams and starts both; stream 1 quits and keeps its reservation, and its place is taken again.
+.slim 4
+.entry 0
+LIT r2, 2
+RESERVE r3, r2
+TLIT t1, 6
+CREATE t1, r2
+CREATE t1, r2
+CREATE t1, r2
+QUITP
+.data 0

@@ -1,0 +1,90 @@
+//! The memory part of a normal word, to and from its 21 digits.
+
+ghost use Rattle.std.specs.Prelude.{◌≡◌, ◌<◌, ◌^◌, ◌↔◌, IsTrue, IfSome};
+ghost use Rattle.insn_word.specs.Fields.{number_of_fields, AreInRange};
+ghost use Rattle.insn_word.specs.Words.{memory_fields, used_memory, memory_destination};
+ghost use Rattle.insn_word.specs.Parts.{IsMemoryPart};
+ghost use Rattle.insn_word.specs.declared.insn.MPart.{MPart};
+
+use super::REGISTER_WIDTH;
+use crate::fields::{digits_6, field, signed_6, small_field, with_field};
+use crate::insn::MPart;
+use crate::operations::{Access, MemoryOp};
+
+/// Bits 18 to 20: the operation.
+const OPERATION_PLACE: u32 = 18;
+
+const OPERATION_WIDTH: u32 = 3;
+/// Bits 16 and 17: the access.
+const ACCESS_PLACE: u32 = 16;
+
+const ACCESS_WIDTH: u32 = 2;
+/// Bits 11 to 15: the register that is loaded, stored or added.
+const RD_PLACE: u32 = 11;
+/// Bits 6 to 10: the register that holds the pointer.
+const BASE_PLACE: u32 = 6;
+/// Bits 0 to 5: the displacement.
+const DISPLACEMENT_WIDTH: u32 = 6;
+
+impl MPart {
+    /// The part that 21 digits spell.
+    pub(crate) fn from_bits(bits: u64) -> Option<MPart>
+        requires { bits < 2 ^ 21 }
+        ensures { (m : MPart) → (result ≡ Some m) ↔ IsMemoryPart bits m }
+    {
+        if bits == 0 {
+            return Some(MPart::NOP);
+        }
+        let part = MPart::read(bits)?;
+        if part.is_bare() { Some(part) } else { None }
+    }
+
+    /// The part whose fields the digits are, also where a field that its operation does not use is not zero.
+    fn read(bits: u64) -> Option<MPart>
+        requires { bits < 2 ^ 21 }
+        ensures in_range { IfSome result (λ m. AreInRange (memory_fields m)) }
+        ensures number { IfSome result (λ m. number_of_fields (memory_fields m) ≡ bits) }
+        ensures only { (m : MPart) → AreInRange (memory_fields m) → number_of_fields (memory_fields m) ≡ bits
+            → result ≡ Some m }
+    {
+        Some(MPart {
+            op: MemoryOp::from_number(field(bits, OPERATION_PLACE, OPERATION_WIDTH))?,
+            acc: Access::from_number(field(bits, ACCESS_PLACE, ACCESS_WIDTH))?,
+            rd: small_field(bits, RD_PLACE, REGISTER_WIDTH),
+            base: small_field(bits, BASE_PLACE, REGISTER_WIDTH),
+            disp: signed_6(small_field(bits, 0, DISPLACEMENT_WIDTH)),
+        })
+    }
+
+    /// The 21 digits of the part.
+    pub(crate) fn bits(&self) -> u64
+        ensures { AreInRange (memory_fields self.now) → result ≡ number_of_fields (memory_fields self.now) }
+    {
+        let bits = with_field(self.op.number(), ACCESS_WIDTH, self.acc.number());
+        let bits = with_field(bits, REGISTER_WIDTH, u64::from(self.rd));
+        let bits = with_field(bits, REGISTER_WIDTH, u64::from(self.base));
+        with_field(bits, DISPLACEMENT_WIDTH, digits_6(self.disp))
+    }
+
+    /// Whether each field that the operation does not use is zero.
+    fn is_bare(&self) -> bool
+        ensures { IsTrue result ↔ (used_memory self.now.op self.now ≡ self.now) }
+    {
+        match self.op {
+            MemoryOp::Nop => *self == MPart::NOP,
+            MemoryOp::Load | MemoryOp::Store | MemoryOp::FetchAdd => true,
+            MemoryOp::TagGet | MemoryOp::TagSet => self.acc == Access::FromPointer,
+        }
+    }
+
+    /// The register that the part writes, 0 to 31 in a valid part; r0, whose writes are discarded, where it writes
+    /// none ("What each operation does", docs/MACHINE.md).
+    pub fn destination(&self) -> u8
+        ensures { result ≡ memory_destination self.now.op self.now.rd }
+    {
+        match self.op {
+            MemoryOp::Load | MemoryOp::FetchAdd | MemoryOp::TagGet => self.rd,
+            MemoryOp::Nop | MemoryOp::Store | MemoryOp::TagSet => 0,
+        }
+    }
+}

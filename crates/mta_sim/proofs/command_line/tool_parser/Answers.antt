@@ -1,0 +1,24 @@
+use Rattle.std.proofs.Common.{rules, ◌≡◌, ◌∙◌, ap, ap₂, codes, true, []}
+use Rattle.std.proofs.lemmas.Result.{IfOk-weaker}
+use Rattle.clap.specs.Words.{App, app_of, with_subcommand}
+use Rattle.clap.specs.Simple.{new_shape}
+use Rattle.mta_sim.proofs.command_line.tool_parser.Goals as goal
+
+-- the tool, before its commands
+abbrev bare_app : App
+bare_app = record {
+  top = record (new_shape (codes "mta_sim")) { has_version = true; subcommand_required = true };
+  subs = [];
+}
+
+pub returns : goal.returns
+returns c =
+    let bare : app_of c.subcommand_required.result ≡ bare_app = search rules in
+    let words = c.in_ok-subcommand.ensures.shape c.words_parser.ensures.local
+    ∙ ap₂ with_subcommand bare (ap (λ (a : App). a.top) c.words_parser.ensures.app) in
+    let asm = c.in_ok-subcommand-2.ensures.shape c.in_ok-asm_parser.ensures.local
+    ∙ ap₂ with_subcommand words (ap (λ (a : App). a.top) c.in_ok-asm_parser.ensures.app) in
+    let list = c.in_ok-subcommand-3.ensures.shape c.in_ok-list_parser.ensures.local
+    ∙ ap₂ with_subcommand asm (ap (λ (a : App). a.top) c.in_ok-list_parser.ensures.app) in
+    IfOk-weaker c.subcommand-4.result _ _ (λ command added. added.shape c.in_ok-run_parser.ensures.local
+    ∙ ap₂ with_subcommand list (ap (λ (a : App). a.top) c.in_ok-run_parser.ensures.app)) c.subcommand-4.ensures

@@ -1,0 +1,3 @@
+-- The definitions, in the order of reading. Contracts of public functions cite them.
+pub mod Parts
+pub mod Lines

@@ -1,0 +1,28 @@
+//! A text cut at a byte.
+
+ghost use Rattle.std.specs.Prelude.{◌≡◌, ◌≤◌, ◌∷◌, ◌==◌, length};
+ghost use Rattle.std.specs.List.{position};
+ghost use Rattle.std.specs.Option.{option_copied};
+ghost use Rattle.text_parts.specs.Parts.{parts, text_before, text_after, rest_parts, rest_length};
+
+/// What stands before the first of a byte, and what stands after it. Where the byte stands nowhere, the first is the
+/// whole text, and the second is None.
+#[tactic(auto, unfolding(crate::specs::Parts::text_after), using(crate::proofs::Pieces::parts_cut))]
+pub fn cut(text: &[u8], byte: u8) -> (&[u8], Option<&[u8]>)
+    ensures before { result.0.now ≡ text_before byte text.now }
+    ensures after { option_copied result.1 ≡ text_after byte text.now }
+    ensures parts { parts byte text.now ≡ result.0.now ∷ rest_parts byte (option_copied result.1) }
+    ensures shorter { rest_length (option_copied result.1) ≤ length text.now }
+{
+    match find(text, byte) {
+        Some(place) => (&text[..place], Some(&text[place + 1..])),
+        None => (text, None),
+    }
+}
+
+/// Where a byte stands first.
+fn find(text: &[u8], byte: u8) -> Option<usize>
+    ensures { result ≡ position (λ b. b == byte) text.now }
+{
+    text.iter().position(|b| *b == byte)
+}
