@@ -3,3 +3,4 @@ pub mod Numbers
 pub mod Read
 pub mod Same
 pub mod WordParts
+pub mod ShortParts

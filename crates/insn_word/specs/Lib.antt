@@ -4,5 +4,6 @@ pub mod Fields
 pub mod Words
 pub mod Reading
 pub mod Laws
+pub mod ShortInsns
 -- What the code has of them on its way: only private contracts and proofs cite this.
 pub mod Parts

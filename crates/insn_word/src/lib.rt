@@ -8,7 +8,7 @@ mod operations;
 mod parts;
 mod words;
 
-pub use insn::{APart, CPart, Insn, MPart};
+pub use insn::{APart, CPart, Insn, MPart, ShortInsn};
 pub use laws::spelling_is_one_to_one;
 pub use operations::{Access, ArithmeticOp, Condition, ControlOp, MemoryOp, WideOp};
-pub use words::{decode, encode};
+pub use words::{decode, decode_short, encode};

@@ -20,13 +20,19 @@ pub fn alu(op: ArithmeticOp, a: u64, b: u64) -> (u64, Code)
     ensures { result ≡ (result_of op a b, code_of op a b) }
 {
     let value = value_of(op, a, b);
-    let code = Code {
+    (value, code_of(op, a, b, value))
+}
+
+/// The condition code of the operation, whose result is `value`.
+pub(crate) fn code_of(op: ArithmeticOp, a: u64, b: u64, value: u64) -> Code
+    ensures { value ≡ result_of op a b → result ≡ code_of op a b }
+{
+    Code {
         zero: value == 0,
         negative: value >= 1 << 63,
         carry: carry_of(op, a, b),
         overflow: overflow_of(op, a, b),
-    };
-    (value, code)
+    }
 }
 
 /// After a subtraction LT holds exactly where `a` is below `b` as signed numbers, and LTU as unsigned ones.
@@ -45,7 +51,7 @@ pub fn signed_shift_divides(a: u64, b: u64)
         → signed (result_of ArithmeticOp.ShiftRightSigned a b) ≡ neg_ℤ (pos 1) }
 {}
 
-fn value_of(op: ArithmeticOp, a: u64, b: u64) -> u64
+pub(crate) fn value_of(op: ArithmeticOp, a: u64, b: u64) -> u64
     ensures { result ≡ result_of op a b }
 {
     match op {

@@ -20,8 +20,8 @@ pub(crate) fn acc_of(access: Access) -> Acc
     }
 }
 
-/// The trap that the memory's reply asks for.
-pub(crate) fn trap_of(trap: MemTrap) -> TrapKind
+/// The trap of a stream whose reference the memory refuses ("Traps", docs/MACHINE.md).
+pub fn trap_of(trap: MemTrap) -> TrapKind
     ensures { result ≡ memory_trap trap }
 {
     match trap {

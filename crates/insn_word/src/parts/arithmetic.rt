@@ -33,6 +33,15 @@ impl APart {
         if bits == 0 {
             return Some(APart::NOP);
         }
+        APart::read(bits)
+    }
+
+    /// The same, with no test for NOP before the others.
+    #[inline(always)]
+    pub(crate) fn read(bits: u64) -> Option<APart>
+        requires { bits < 2 ^ 21 }
+        ensures { (a : APart) → (result ≡ Some a) ↔ IsArithmeticPart bits a }
+    {
         let part = APart {
             op: ArithmeticOp::from_number(field(bits, OPERATION_PLACE, OPERATION_WIDTH))?,
             test: field(bits, TEST_PLACE, 1) == 1,

@@ -1,20 +1,21 @@
 //! What a step does to its stream: each operand is read as it stood before, and all is written at once.
 
 ghost use Rattle.std.specs.Prelude.{◌≡◌, ℕ};
-ghost use Rattle.stream_core.specs.Effects.{arithmetic_value, ssw_before_control, control_holds, skip_pc, retries_after};
+ghost use Rattle.insn_word.specs.ShortInsns.{short_instruction};
+ghost use Rattle.stream_core.specs.Effects.{arithmetic_value, ssw_before_control, control_holds, skip_pc, next_pc, retries_after};
 ghost use Rattle.stream_core.specs.Effects.{control_ssw, control_targets, control_value};
 ghost use Rattle.stream_core.specs.Effects.{after_wide, after_parts, after_instruction};
 ghost use Rattle.stream_core.specs.StreamRow.{plan_of, after_blocked_reply, after_reply, stream_row};
 ghost use Rattle.tag_memory.specs.declared.requests.Request.{Request};
 
 use super::Stream;
-use crate::arithmetic::alu;
+use crate::arithmetic::{alu, code_of, value_of};
 use crate::conditions::holds;
 use crate::conversions::trap_of;
 use crate::status_words::{StatusWord, TrapMask};
 use crate::steps::{Fetched, Outcome, Plan};
 use crate::traps::TrapKind;
-use insn_word::{APart, CPart, ControlOp, Insn, MPart, MemoryOp, WideOp};
+use insn_word::{APart, CPart, Condition, ControlOp, Insn, MPart, MemoryOp, ShortInsn, WideOp};
 use tag_memory::Reply;
 
 /// Bits 0 to 31 of a register: what LITH keeps. Bits 32 to 63 become the immediate.
@@ -35,6 +36,71 @@ impl Stream {
             Insn::Wide { op, reg, imm, .. } => self.execute_wide(*op, *reg, *imm),
             Insn::Normal { m, a, c, .. } => self.execute_parts(m, a, c, value, grant),
         }
+    }
+
+    /// The same for an instruction that `fetch_short` found, in fewer steps.
+    #[tactic(auto, unfolding(crate::specs::Effects::after_instruction))]
+    #[inline(always)]
+    pub fn execute_short(&mut self, short: &ShortInsn)
+        ensures { self.new ≡ after_instruction self.old (short_instruction short.now) 0 0 }
+    {
+        let pc = match short.c.op {
+            ControlOp::Nop => self.ssw.pc.wrapping_add(1),
+            ControlOp::Skip => self.pc_after_skip(&short.c),
+            ControlOp::Jump
+            | ControlOp::Call
+            | ControlOp::Exchange
+            | ControlOp::TargetSet
+            | ControlOp::TargetGet
+            | ControlOp::TrapGet
+            | ControlOp::Reserve
+            | ControlOp::Create
+            | ControlOp::Quit
+            | ControlOp::QuitKeep
+            | ControlOp::Mask => {
+                self.execute_parts(&MPart::NOP, &short.a, &short.c, 0, 0);
+                return;
+            }
+        };
+        let made = self.compute(&short.a);
+        self.ssw.pc = pc;
+        self.registers.set(short.a.destination(), made);
+    }
+
+    /// The pc after SKIP.
+    #[inline(always)]
+    fn pc_after_skip(&self, c: &CPart) -> u32
+        ensures { result ≡ (control_ssw self.now c.now ControlOp.Skip (record self.now.ssw {
+          pc = next_pc self.now.ssw.pc;
+        })).pc }
+    {
+        if self.goes(c) {
+            skipped(self.ssw.pc, c.n)
+        } else {
+            self.ssw.pc.wrapping_add(1)
+        }
+    }
+
+    /// The result of the arithmetic operation, whose code is pushed where the part asks for it.
+    #[inline(always)]
+    fn compute(&mut self, a: &APart) -> u64
+        ensures value { result ≡ arithmetic_value self.old a.now }
+        ensures codes { self.new ≡ record self.old {
+          ssw = record self.old.ssw { codes = (ssw_before_control self.old a.now).codes };
+        } }
+    {
+        let first = self.register(a.ra);
+        let second = if a.imm {
+            u64::from(a.rb)
+        } else {
+            self.register(a.rb)
+        };
+        let made = value_of(a.op, first, second);
+        if a.test {
+            let code = code_of(a.op, first, second, made);
+            self.ssw.codes = self.ssw.codes.pushed(code);
+        }
+        made
     }
 
     fn execute_wide(&mut self, op: WideOp, reg: u8, imm: u32)
@@ -127,10 +193,14 @@ impl Stream {
     }
 
     /// Whether the condition of a jump or skip holds on the code that it asks.
+    #[inline(always)]
     fn goes(&self, c: &CPart) -> bool
         ensures { result ≡ control_holds self.now c.now }
     {
-        holds(c.cond, self.ssw.codes.at(c.code))
+        match c.cond {
+            Condition::Always => true,
+            cond => holds(cond, self.ssw.codes.at(c.code)),
+        }
     }
 
     /// Writes the target register that the control operation writes, if any.
@@ -251,12 +321,6 @@ fn retries_after(op: MemoryOp, retries: u32) -> u32
 fn skipped(pc: u32, words: i8) -> u32
     ensures { result ≡ skip_pc pc words }
 {
-    let next = u64::from(pc) + 1;
-    let distance = u64::from(words.unsigned_abs());
-    let sum = if words < 0 {
-        next + ((1 << PC_WIDTH) - distance)
-    } else {
-        next + distance
-    };
-    (sum % (1 << PC_WIDTH)) as u32
+    pc.wrapping_add(1)
+        .wrapping_add(i32::from(words).cast_unsigned())
 }

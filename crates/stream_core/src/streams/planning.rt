@@ -1,6 +1,7 @@
 //! What the next step of a stream finds and needs. It reads the stream and changes nothing.
 
-ghost use Rattle.std.specs.Prelude.{◌≡◌};
+ghost use Rattle.std.specs.Prelude.{◌≡◌, IfSome};
+ghost use Rattle.insn_word.specs.ShortInsns.{short_instruction};
 ghost use Rattle.stream_core.specs.Effects.{displaced_pointer, request_with, request_of};
 ghost use Rattle.stream_core.specs.StreamRow.{fetch_of, plan_of, control_of, control_at};
 
@@ -8,7 +9,7 @@ use super::Stream;
 use crate::conversions::acc_of;
 use crate::steps::{Child, Control, Fetched, Plan, Status};
 use crate::traps::TrapKind;
-use insn_word::{ControlOp, Insn, MPart, MemoryOp, decode};
+use insn_word::{ControlOp, Insn, MPart, MemoryOp, ShortInsn, decode, decode_short};
 use tag_memory::{Masked, MemOp, Pointer, Request};
 
 /// Bits 0 to 3 of a register: the tags that TAGSET writes.
@@ -36,6 +37,20 @@ impl Stream {
                 Some(insn) => Fetched::Runs(insn),
             },
         }
+    }
+
+    /// The instruction at the pc of this program, where the stream runs and `decode_short` reads it; None where `fetch`
+    /// has to say what stands there.
+    #[tactic(auto, unfolding(crate::specs::StreamRow::fetch_of))]
+    #[inline(always)]
+    pub fn fetch_short(&self, program: &[u64]) -> Option<ShortInsn>
+        ensures { IfSome result (λ short. fetch_of program.now self.now ≡ Fetched.Runs (short_instruction short)) }
+    {
+        if self.status != Status::Running {
+            return None;
+        }
+        let word = program.get(self.ssw.pc as usize)?;
+        decode_short(*word)
     }
 
     /// What the instruction asks of the memory, with the values at entry; None where it has no reference ("Memory
