@@ -17,9 +17,11 @@ use Rattle.stream_core.specs.declared.steps.Fetched.{Fetched}
 use Rattle.stream_core.specs.declared.steps.Fetched.TheVariants as fetch
 use Rattle.processor.specs.Processors.{ProcessorValue, is_idle, is_idle_status, stream_at}
 use Rattle.processor.specs.Row.{lacks_stream, step_fetch_from, step_fetch, step_fetch_at, step_fetch_of, request_on_fetch, request_at}
-use Rattle.processor.specs.Row.{request, next_asking, next_on_fetch, next_at, next_of}
+use Rattle.processor.specs.Row.{request, next_asking, next_on_fetch, next_at, next_of, next_step_of}
 use Rattle.processor.specs.Row.{row_on_fetch, row_at, row, memory_reply, row_over_memory}
+use Rattle.processor.specs.declared.steps.Next.{Next}
 use Rattle.processor.specs.declared.steps.Next.TheVariants as next
+use Rattle.processor.specs.declared.steps.NextStep.{NextStep}
 
 -- The table by the stream and what its step begins with.
 
@@ -209,3 +211,14 @@ pub asked : (image : ImageValue) (now old : ProcessorValue) (n : ℕ) (q : Reque
     → next_of image now n ≡ next.Ask q → true ≡ is_some (request image old n)
 asked image now old n q same e =
     sym (ap is_some (ask_request image old n q (ap (λ p. next_of image p n) same ∙ e)))
+
+-- What a caller was told of a step.
+
+pub told_fetch : (image : ImageValue) (now old : ProcessorValue) (n : ℕ) (t : NextStep) → old ≡ now
+    → t ≡ next_step_of image now n → t.fetched ≡ step_fetch_of image old n
+told_fetch image now old n t same e =
+    ap (λ (x : NextStep). x.fetched) e ∙ ap (λ p. step_fetch_of image p n) (sym same)
+
+pub told_next : (image : ImageValue) (now : ProcessorValue) (n : ℕ) (t : NextStep) (x : Next)
+    → t ≡ next_step_of image now n → t.next ≡ x → next_of image now n ≡ x
+told_next image now n t x e f = sym (ap (λ (y : NextStep). y.next) e) ∙ f

@@ -1,10 +1,10 @@
 -- What is seen of a table when one of its streams is read or written.
 use Rattle.std.proofs.Common.{◌≡◌, ℕ, ◌<◌, ◌≤◌, Bool, true, false, refl, sym, ap, ◌∙◌, arith, List, length}
-use Rattle.std.proofs.Common.{take, get_or, set, replicate}
+use Rattle.std.proofs.Common.{take, drop, get_or, set, replicate, ◌+◌, ◌∷◌, if◌then◌else◌}
 use Rattle.std.proofs.Common.{inl, inr, Option, Some, None, is_some}
 use Rattle.std.proofs.Math.Seq.{take-set-lt}
 use Rattle.std.proofs.lemmas.Bool.{lt-ltb, cases_lt}
-use Rattle.std.proofs.lemmas.List.{get_or-take, get_or_past, get_or_read, length-take-le, take-replicate}
+use Rattle.std.proofs.lemmas.List.{get_or-take, get_or_past, get_or_read, length-take-le, take-replicate, drop_more}
 use Rattle.std.proofs.lemmas.List.Sums.{position_or_len_is}
 use Rattle.std.specs.List.{position_or_len}
 use Rattle.insn_word.specs.declared.insn.Insn.{Insn}
@@ -16,6 +16,8 @@ use Rattle.stream_core.specs.StreamRow.{after_reply, row_asking}
 use Rattle.stream_core.specs.declared.steps.Outcome.{Outcome}
 use Rattle.stream_core.specs.declared.steps.Outcome.TheVariants as outcome
 use Rattle.processor.specs.Processors.{is_idle, stream_at, stream_seen}
+use Rattle.processor.specs.Records.{is_running}
+use Rattle.processor.specs.Turns.{first_running}
 use Rattle.processor.specs.StreamTables.{IsRoom, put_in_streams}
 
 -- a used place is one below slim
@@ -44,6 +46,14 @@ step_seen size slim n ss now x y o f room seen used e stepped =
     let below = below_slim size slim n ss now room seen used in
     ap (λ v. (v, o)) (put_seen slim n ss now y seen below)
     ∙ ap (put_in_streams now n) (stepped ∙ ap f (read_seen size slim n ss now x room seen below e))
+
+pub execute_seen : (size slim n : ℕ) (ss now : List StreamValue) (x y : StreamValue) (f : StreamValue → StreamValue)
+    → IsRoom size slim ss → take slim ss ≡ now → n < length now → x ≡ get_or ss n x → y ≡ f x
+    → take slim (set ss n y) ≡ set now n (f (stream_at now n))
+execute_seen size slim n ss now x y f room seen used e stepped =
+    let below = below_slim size slim n ss now room seen used in
+    put_seen slim n ss now y seen below
+    ∙ ap (set now n) (stepped ∙ ap f (read_seen size slim n ss now x room seen below e))
 
 -- the completion of an instruction without and with a reply
 pub unasked : (limit : ℕ) (s : StreamValue) (i : Insn) (grant : ℕ) (r : Option Reply) (o : Option Request)
@@ -130,3 +140,14 @@ pub new_seen : (size slim : ℕ) (ss : List StreamValue) (x y : StreamValue) →
 new_seen size slim ss x y some within zero all =
     take-set-lt slim ss 0 x (omega arith)
     ∙ ap (λ v. set v 0 x) (ap (take slim) (all ∙ ap (replicate size) zero) ∙ take-replicate slim size idle within)
+
+-- the running stream, where the search from a place ends
+pub running_here : (size slim n : ℕ) (ss now : List StreamValue) (x : StreamValue) (b : Bool) → IsRoom size slim ss
+    → take slim ss ≡ now → n < slim → x ≡ get_or ss n x → b ≡ is_running x → b ≡ true
+    → Some n ≡ first_running (drop n now) n
+running_here size slim n ss now x b room seen below e is found =
+    let within : slim ≤ length ss = omega (arith, room.size_is, room.within) in
+    let inside : n < length now = omega (arith, ap length seen, length-take-le slim ss within) in
+    let here = ap is_running (sym (read_seen size slim n ss now x room seen below e)) ∙ sym is ∙ found in
+    sym (ap (λ l. first_running l n) (drop_more now n idle inside)
+    ∙ ap (λ t. if t then Some n else first_running (drop (n + 1) now) (n + 1)) here)

@@ -7,5 +7,15 @@ pub mod Row
 pub mod OtherStreams
 -- all processors over one memory, and the table folded over a schedule
 pub mod World
+-- what was asked of the memory, and the memory that it leaves
+pub mod Histories
+-- what a processor does by itself, given the replies
+pub mod OwnSteps
+-- a schedule that holds each processor's steps and makes a history
+pub mod Weave
+-- a processor beside the record of what it did
+pub mod Records
+-- whose turn it is
+pub mod Turns
 -- What only the code below the processor cites:
 pub mod StreamTables

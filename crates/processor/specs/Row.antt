@@ -36,6 +36,7 @@ use Rattle.stream_core.specs.declared.steps.Control.{Control}
 use Rattle.stream_core.specs.declared.steps.Control.TheVariants as asks
 use Rattle.processor.specs.Processors.{ProcessorValue, is_idle}
 use Rattle.processor.specs.declared.steps.Next.{Next}
+use Rattle.processor.specs.declared.steps.NextStep.{NextStep}
 use Rattle.processor.specs.declared.steps.Next.TheVariants as next
 
 -- What a step begins with.
@@ -98,6 +99,10 @@ next_at image proc (Some s) = next_on_fetch s (step_fetch image proc s)
 -- what a step of stream n needs
 unfoldable pub next_of : ImageValue → ProcessorValue → ℕ → Next
 next_of image proc n = next_at image proc (slice_get proc.streams n)
+
+-- the same, with what the step begins with
+abbrev pub next_step_of : ImageValue → ProcessorValue → ℕ → NextStep
+next_step_of image proc n = record { next = next_of image proc n; fetched = step_fetch_of image proc n }
 
 -- What it leaves.
 

@@ -4,8 +4,12 @@
 
 mod counted_streams;
 mod processors;
+mod recorded;
+mod recorded_steps;
 mod steps;
 mod stream_table;
 
 pub use processors::Processor;
-pub use steps::{Entry, Next, Step};
+pub use recorded::Recorded;
+pub use recorded_steps::Steps;
+pub use steps::{Asked, Entry, Next, NextStep, Step};

@@ -3,11 +3,13 @@
 ghost use Rattle.std.specs.Prelude.{◌≡◌, ◌<◌, ◌≤◌, None, Some, length, slice_index, IfOk};
 ghost use Rattle.std.specs.Option.{option_copied};
 ghost use Rattle.processor.specs.Processors.{IsCounted, stream_seen, opening};
-ghost use Rattle.processor.specs.Row.{next_of, row, row_over_memory};
+ghost use Rattle.processor.specs.Row.{next_of, next_step_of, row, row_over_memory};
 ghost use Rattle.processor.specs.OtherStreams.{KeepsOthers};
+ghost use Rattle.processor.specs.Records.{any_runs};
+ghost use Rattle.processor.specs.Turns.{turn_after};
 
 use crate::counted_streams::CountedStreams;
-use crate::steps::Next;
+use crate::steps::{Next, NextStep};
 use crate::stream_table::StreamTable;
 use image_file::Image;
 use std::alloc::{AllocError, Global};
@@ -66,7 +68,45 @@ impl<const S: usize> Processor<S> {
     pub fn next(&self, image: &Image, s: u8) -> Next
         ensures { result ≡ next_of image.now self.now s }
     {
-        self.streams.next(image, s as usize)
+        self.streams.next_step(image, s as usize).next
+    }
+
+    /// The same, with what the step's fetch found. A caller that finishes the step with it decodes its word once.
+    pub fn next_step(&self, image: &Image, s: u8) -> NextStep
+        ensures { result ≡ next_step_of image.now self.now s }
+    {
+        self.streams.next_step(image, s as usize)
+    }
+
+    /// Finishes a step of stream `s` that needs no memory; `step` is what `next_step` said of it.
+    pub fn finish_local(&mut self, image: &Image, s: u8, step: &NextStep) -> Outcome
+        requires slim { image.now.slim ≡ length self.old.streams }
+        requires step { step.now ≡ next_step_of image.now self.old s }
+        requires local { step.now.next ≡ Next.Local }
+        ensures row { (self.new, result) ≡ row image.now self.old s None }
+        ensures others { KeepsOthers s self.old self.new }
+    {
+        self.streams.finish(image, s as usize, &step.fetched, None)
+    }
+
+    /// Finishes a step of stream `s` whose request got this reply; `step` is what `next_step` said of it. Any reply is
+    /// taken.
+    pub fn finish_reply(
+        &mut self,
+        image: &Image,
+        s: u8,
+        step: &NextStep,
+        request: &Request,
+        reply: Reply,
+    ) -> Outcome
+        requires slim { image.now.slim ≡ length self.old.streams }
+        requires step { step.now ≡ next_step_of image.now self.old s }
+        requires asks { step.now.next ≡ Next.Ask request.now }
+        ensures row { (self.new, result) ≡ row image.now self.old s (Some reply) }
+        ensures others { KeepsOthers s self.old self.new }
+    {
+        self.streams
+            .finish(image, s as usize, &step.fetched, Some(reply))
     }
 
     /// A step of stream `s` that needs no memory.
@@ -127,6 +167,28 @@ impl<const S: usize> Processor<S> {
         ensures counts { IsCounted self.now }
     {
         self.streams.sres
+    }
+
+    /// Whether any of its streams runs.
+    pub fn any_running(&self) -> bool
+        ensures { result ≡ any_runs self.now }
+    {
+        self.streams.table.any_running()
+    }
+
+    /// The stream whose turn it is after this one, if any came before: the least running one above it, else the least
+    /// running one; None where no stream runs.
+    pub fn turn_after(&self, last: Option<u8>) -> Option<usize>
+        ensures { result ≡ turn_after self.now last }
+    {
+        let table = &self.streams.table;
+        let Some(last) = last else {
+            return table.running_from(0);
+        };
+        match table.running_from(usize::from(last) + 1) {
+            Some(s) => Some(s),
+            None => table.running_from(0),
+        }
     }
 
     /// A processor equal to this one.

@@ -1,15 +1,18 @@
 //! The streams of a processor by number: those below slim are used, the others stay idle.
 
-ghost use Rattle.std.specs.Prelude.{◌≡◌, ◌<◌, ◌≤◌, length, replicate, slice_get, slice_set, IfOk, is_some};
-ghost use Rattle.std.specs.List.{position_or_len};
+ghost use Rattle.std.specs.Prelude.{◌≡◌, ◌<◌, ◌≤◌, length, drop, replicate, slice_get, slice_set, IfOk, is_some};
+ghost use Rattle.std.specs.List.{list_any, position_or_len};
 ghost use Rattle.std.specs.Option.{option_copied};
 ghost use Rattle.stream_core.specs.Streams.{idle, after_trap};
-ghost use Rattle.stream_core.specs.Effects.{request_of};
+ghost use Rattle.insn_word.specs.ShortInsns.{short_instruction};
+ghost use Rattle.stream_core.specs.Effects.{request_of, after_instruction};
 ghost use Rattle.stream_core.specs.StreamRow.{row_asking};
 ghost use Rattle.processor.specs.Processors.{is_idle, stream_at, stream_seen};
+ghost use Rattle.processor.specs.Records.{is_running};
+ghost use Rattle.processor.specs.Turns.{first_running};
 ghost use Rattle.processor.specs.StreamTables.{put_in_streams};
 
-use insn_word::Insn;
+use insn_word::{Insn, ShortInsn};
 use std::alloc::{AllocError, Global};
 use std::marker::Model;
 use stream_core::{Outcome, Status, Stream, TrapKind};
@@ -97,6 +100,27 @@ impl<const S: usize> StreamTable<S> {
         slim
     }
 
+    /// Whether any used stream runs.
+    pub(crate) fn any_running(&self) -> bool
+        ensures { result ≡ list_any is_running self.now }
+    {
+        self.streams[..usize::from(self.slim)]
+            .iter()
+            .any(|s| is_running(s))
+    }
+
+    /// The least used stream from this number on that runs.
+    pub(crate) fn running_from(&self, from: usize) -> Option<usize>
+        ensures { result ≡ first_running (drop from self.now) from }
+    {
+        for place in from..usize::from(self.slim) {
+            if is_running(&self.streams[place]) {
+                return Some(place);
+            }
+        }
+        None
+    }
+
     /// Puts a stream in the place of a used one; nothing changes where the place is not used.
     pub(crate) fn put(&mut self, place: usize, stream: Stream)
         ensures { self.new ≡ slice_set self.old place stream }
@@ -140,6 +164,16 @@ impl<const S: usize> StreamTable<S> {
         }
     }
 
+    /// A used stream executes an instruction that asks nothing.
+    #[inline(always)]
+    pub(crate) fn execute_short(&mut self, place: usize, short: &ShortInsn)
+        requires there { place < length self.old }
+        ensures { self.new ≡ slice_set self.old place
+            (after_instruction (stream_at self.old place) (short_instruction short.now) 0 0) }
+    {
+        self.streams[place].execute_short(short);
+    }
+
     /// A table with the same streams.
     pub(crate) fn try_clone(&self) -> Result<StreamTable<S>, AllocError>
         ensures { IfOk result (λ t. t ≡ self.now) }
@@ -158,5 +192,14 @@ fn is_idle(stream: &Stream) -> bool
     match stream.status() {
         Status::Idle => true,
         Status::Running | Status::Stopped(_) => false,
+    }
+}
+
+fn is_running(stream: &Stream) -> bool
+    ensures { result ≡ is_running stream.now }
+{
+    match stream.status() {
+        Status::Running => true,
+        Status::Idle | Status::Stopped(_) => false,
     }
 }

@@ -2,8 +2,20 @@ use Rattle.std.proofs.Common.{◌∙◌, ap, sym, refl, lit<, is_some}
 use Rattle.stream_core.specs.declared.steps.Fetched.TheVariants.{Rest, Trap, Runs}
 use Rattle.processor.specs.Row.{memory_reply}
 use Rattle.processor.proofs.Begun.{rests, awake, free, row_over_memory_begun, is_replied, asked_there}
+use Rattle.stream_core.specs.declared.steps.Outcome.TheVariants.{Done}
+use Rattle.processor.proofs.ShortRow.{short_row}
 use Rattle.processor.proofs.Counting.{some_current}
 use Rattle.processor.proofs.counted_streams.CountedStreams.step_over.Goals as goal
+
+pub execute_short-requires : goal.execute_short-requires
+execute_short-requires g c =
+    (lit< tt, (awake c.args.image.now c.args.self.now c.args.place (ap rests c.in-Some.ensures.runs)).0)
+
+pub returns-in-Some : goal.returns-in-Some
+returns-in-Some g c =
+    ap (λ proc. ((proc, Done), c.args.memory.now)) c.execute_short.ensures
+    ∙ short_row c.args.image.now c.args.self.now c.args.place c.args.memory.now c.in-Some.short c.in-Some.ensures.runs
+    c.in-Some.ensures.plain
 
 pub trap-requires : goal.trap-requires
 trap-requires g c =

@@ -2,18 +2,19 @@ use Rattle.std.proofs.Common.{◌∙◌, ap, sym, lit<, is_some}
 use Rattle.stream_core.specs.declared.steps.Fetched.TheVariants.{Rest, Trap, Runs}
 use Rattle.processor.proofs.Begun.{rests, awake, free, row_begun, request_begun}
 use Rattle.processor.proofs.Counting.{some_current}
-use Rattle.processor.proofs.counted_streams.CountedStreams.row.Goals as goal
+use Rattle.processor.proofs.counted_streams.CountedStreams.finish.Goals as goal
 
 pub trap-requires : goal.trap-requires
 trap-requires g c =
-    (lit< tt, (awake c.args.image.now c.args.self.now c.args.place (ap rests (sym c.in-Trap.ensures))).0)
+    let found = sym c.requires.fetch ∙ c.in-Trap.is in
+    (lit< tt, (awake c.args.image.now c.args.self.now c.args.place (ap rests found)).0)
 
 pub complete-requires : goal.complete-requires
 complete-requires g c =
     let image = c.args.image.now in
     let proc = c.args.self.now in
     let n = c.args.place in
-    let found = sym c.in-Runs.ensures in (
+    let found = sym c.requires.fetch ∙ c.in-Runs.is in (
       lit< tt,
       (
         (awake image proc n (ap rests found)).0,
@@ -29,16 +30,16 @@ complete-requires g c =
 
 pub returns-in-Rest : goal.returns-in-Rest
 returns-in-Rest g c =
-    row_begun c.args.image.now c.args.self.now c.args.place c.args.reply Rest (sym c.in-Rest.ensures)
+    row_begun c.args.image.now c.args.self.now c.args.place c.args.reply Rest (sym c.requires.fetch ∙ c.in-Rest.is)
 
 pub returns-in-Trap : goal.returns-in-Trap
 returns-in-Trap g c =
     c.trap.ensures
     ∙ row_begun c.args.image.now c.args.self.now c.args.place c.args.reply (Trap c.in-Trap.kind)
-    (sym c.in-Trap.ensures)
+    (sym c.requires.fetch ∙ c.in-Trap.is)
 
 pub returns-in-Runs : goal.returns-in-Runs
 returns-in-Runs g c =
     c.complete.ensures
     ∙ row_begun c.args.image.now c.args.self.now c.args.place c.args.reply (Runs c.in-Runs.insn)
-    (sym c.in-Runs.ensures)
+    (sym c.requires.fetch ∙ c.in-Runs.is)
