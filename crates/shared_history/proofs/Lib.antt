@@ -1,0 +1,12 @@
+pub mod Places
+pub mod Sharing
+pub mod NewParts
+pub mod Entries
+pub mod SoFar
+pub mod Room
+pub mod Pushes
+pub mod Turns
+pub mod Endings
+pub mod Lengths
+pub mod Belonging
+pub mod Comparing

@@ -1,0 +1,5 @@
+-- What public contracts promise, in the order of reading.
+pub mod SharedMemory
+pub mod Parts
+pub mod Schedule
+pub mod Gathering

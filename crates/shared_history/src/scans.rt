@@ -1,0 +1,117 @@
+//! What is wrong with the parts of a run, by one scan of its records for each fault.
+
+ghost use Rattle.std.specs.Prelude.{◌≡◌, ◌↔◌, ℕ, MatchOption, IsTrue, slice_get};
+ghost use Rattle.processor.specs.Histories.{pairs_of, pair_of};
+ghost use Rattle.shared_history.specs.Parts.{AllBelong, AllHaveEntries, Belongs, HasFinished, HasEntries};
+ghost use Rattle.shared_history.specs.Parts.{FailsFirst};
+
+use crate::SharedMemory;
+use image_file::Image;
+use processor::{Asked, Entry, Recorded};
+use tag_memory::{Reply, Request};
+
+/// The least place where there is a record but no processor of the memory's image, or a processor but no record, or
+/// a record of another processor or image.
+pub(crate) fn first_foreign<const S: usize>(
+    shared: &SharedMemory,
+    records: &[Recorded<S>],
+) -> Option<usize>
+    ensures { MatchOption result (AllBelong shared.now records.now)
+        (λ p. FailsFirst (λ q. Belongs shared.now.image q (slice_get records.now q)) p) }
+{
+    let image = shared.image();
+    let count = image.processors();
+    for p in 0..records.len() {
+        let record = &records[p];
+        if p >= count
+            || usize::from(record.number()) != p
+            || !is_same_image(record.image(), image)
+        {
+            return Some(p);
+        }
+    }
+    if records.len() < count {
+        return Some(records.len());
+    }
+    None
+}
+
+/// The first record with fewer steps than it was to take, of which a stream runs.
+pub(crate) fn first_short<const S: usize>(fuel: usize, records: &[Recorded<S>]) -> Option<usize>
+    ensures { MatchOption result ((q : ℕ) → HasFinished fuel (slice_get records.now q))
+        (λ p. FailsFirst (λ q. HasFinished fuel (slice_get records.now q)) p) }
+{
+    for p in 0..records.len() {
+        let record = &records[p];
+        if record.steps().len() < fuel && record.any_running() {
+            return Some(p);
+        }
+    }
+    None
+}
+
+/// The first record whose pairs are not its processor's entries.
+pub(crate) fn first_torn<const S: usize>(
+    shared: &SharedMemory,
+    records: &[Recorded<S>],
+) -> Option<usize>
+    requires { AllBelong shared.now records.now }
+    ensures { MatchOption result (AllHaveEntries shared.now records.now)
+        (λ p. FailsFirst (λ q. HasEntries shared.now.history q (slice_get records.now q)) p) }
+{
+    let entries = shared.entries();
+    for p in 0..records.len() {
+        let record = &records[p];
+        if !are_entries_of(record.pairs(), entries, record.number()) {
+            return Some(p);
+        }
+    }
+    None
+}
+
+/// Whether these pairs are a processor's entries, in order.
+fn are_entries_of(pairs: &[Asked], entries: &[Entry], p: u8) -> bool
+    ensures { IsTrue result ↔ (pairs.now ≡ pairs_of p entries.now) }
+{
+    let mut taken: usize = 0;
+    for entry in entries {
+        if entry.p == p {
+            if taken >= pairs.len() {
+                return false;
+            }
+            if !is_pair_of(&pairs[taken], entry) {
+                return false;
+            }
+            taken += 1;
+        }
+    }
+    taken == pairs.len()
+}
+
+/// Whether a pair is an entry without its processor.
+fn is_pair_of(pair: &Asked, entry: &Entry) -> bool
+    ensures { IsTrue result ↔ (pair.now ≡ pair_of entry.now) }
+{
+    pair.s == entry.s
+        && is_same_request(&pair.request, &entry.request)
+        && is_same_reply(&pair.reply, &entry.reply)
+}
+
+fn is_same_request(a: &Request, b: &Request) -> bool
+    ensures { IsTrue result ↔ (a.now ≡ b.now) }
+{
+    a == b
+}
+
+fn is_same_reply(a: &Reply, b: &Reply) -> bool
+    ensures { IsTrue result ↔ (a.now ≡ b.now) }
+{
+    a == b
+}
+
+#[tactic(auto, using(image_file::specs::SameLaws::same_image_decides))]
+fn is_same_image(one: &Image, other: &Image) -> bool
+    ensures { IsTrue result ↔ (one.now ≡ other.now) }
+{
+    one == other
+}
