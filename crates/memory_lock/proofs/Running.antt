@@ -1,0 +1,69 @@
+-- What a run of all records leaves.
+use Rattle.std.proofs.Common.{ℕ, zero, suc, subst, ◌≡◌, ◌<◌, ◌≤◌, List, [], ◌∷◌, Option, Some, length, refl, sym, ◌∙◌, ap}
+use Rattle.std.proofs.Common.{arith, get_or}
+use Rattle.std.specs.Prelude.{slice_get}
+use Rattle.std.proofs.lemmas.Option.{slice_get_within, get_or_from_slice_get}
+use Rattle.image_file.specs.ImageValue.{ImageValue}
+use Rattle.processor.specs.Records.{RecordValue}
+use Rattle.shared_history.specs.SharedMemory.{SharedValue}
+use Rattle.shared_history.specs.Parts.{PartsValue, AreNewParts, Belongs, PartBelongs, HasFinished}
+use Rattle.shared_history.specs.Schedule.{WovenValue}
+use Rattle.shared_history.specs.Gathering.{IsGathered}
+use Rattle.memory_lock.specs.Driving.{IsGrown}
+use Rattle.memory_lock.specs.Runs.{IsRun, IsThreaded}
+
+pub is-run : (old new : PartsValue) (fuel : ℕ) (before after : List RecordValue) → fuel ≡ old.fuel → new.fuel ≡ fuel
+    → before ≡ old.records → new.records ≡ after → length after ≡ length before
+    → ((p : ℕ) (d : RecordValue) → p < length before → IsGrown fuel (get_or before p d) (get_or after p d))
+    → IsRun old new
+is-run old new fuel before after f g b a len grown = record {
+  fuel = g ∙ f;
+  one_each = ap length a ∙ len ∙ ap length b;
+  each = λ p r x h k.
+      let at : slice_get before p ≡ Some r = ap (λ l. slice_get l p) b ∙ h in
+      let to : slice_get after p ≡ Some x = ap (λ l. slice_get l p) (sym a) ∙ k in
+      let one = grown p r (omega (arith, slice_get_within before p r at)) in
+      let P : ℕ → Type 0 = λ n. IsGrown n r x in
+      subst P f (rw (← get_or_from_slice_get before p r r at, ← get_or_from_slice_get after p x r to) one);
+}
+
+there-in : (records : List RecordValue) (p : ℕ) → p < length records
+    → (r : RecordValue) × (slice_get records p ≡ Some r)
+there-in [] p h = absurd (omega arith)
+there-in (r ∷ rs) zero h = (r, refl)
+there-in (r ∷ rs) (suc p) h = there-in rs p (omega arith)
+
+-- where the parts that a run left belong together, their image is the one that it began with
+image-same : (image : ImageValue) (fuel : ℕ) (before parts : PartsValue) → AreNewParts image fuel before
+    → IsRun before parts → PartBelongs parts 0 → parts.shared.image ≡ image
+image-same image fuel before parts new run belongs =
+    let old = there-in before.records 0 new.some in
+    let now = there-in parts.records 0 (omega (arith, run.one_each, new.some)) in
+    let P : Option RecordValue → Type 0 = λ o. Belongs parts.shared.image 0 o in
+    let b : Belongs parts.shared.image 0 (Some now.0) = subst P now.1 belongs in
+    sym b.1 ∙ (run.each 0 old.0 now.0 old.1 now.1).image ∙ (new.records_are 0 old.0 old.1).image_is
+
+-- a record of the run took at most so many steps
+bounded : (image : ImageValue) (fuel : ℕ) (before parts : PartsValue) (p : ℕ) (x : RecordValue)
+    → AreNewParts image fuel before → IsRun before parts → slice_get parts.records p ≡ Some x
+    → length x.steps ≤ fuel
+bounded image fuel before parts p x new run there =
+    let at = there-in before.records p (omega (arith, slice_get_within parts.records p x there, run.one_each)) in
+    let grown = run.each p at.0 x at.1 there in
+    let none : length at.0.steps ≡ 0 = ap (λ (l : List ℕ). length l) (new.records_are p at.0 at.1).steps in
+    omega (arith, grown.bound, none, new.fuel_is)
+
+pub is-threaded : (image : ImageValue) (fuel : ℕ) (before parts : PartsValue) (w : WovenValue)
+    → AreNewParts image fuel before → IsRun before parts → IsGathered parts w → IsThreaded image fuel w
+is-threaded image fuel before parts w new run g =
+    let fuel_is : parts.fuel ≡ fuel = run.fuel ∙ new.fuel_is in
+    let F : ℕ → List RecordValue → Type 0 = λ n l. (p : ℕ) → HasFinished n (slice_get l p) in
+    let G : List RecordValue → Type 0 = λ l. F fuel l in
+    let H : ℕ → Type 0 = λ n. F n parts.records in
+    record {
+      image_is = ap (λ (s : SharedValue). s.image) g.shared_is ∙ image-same image fuel before parts new run (g.belong 0);
+      woven = g.woven;
+      bound = λ p r h.
+          bounded image fuel before parts p r new run (ap (λ l. slice_get l p) (sym g.records_are) ∙ h);
+      finished = subst G (sym g.records_are) (subst H fuel_is g.finished);
+    }

@@ -1,0 +1,3 @@
+-- The definitions: what a record and a port come to while a processor is driven, and what a run of all leaves.
+pub mod Driving
+pub mod Runs

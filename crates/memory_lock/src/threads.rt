@@ -1,0 +1,98 @@
+//! The run of all processors at once.
+
+ghost use Rattle.std.specs.Prelude.{◌≡◌, ◌<◌, ◌≤◌, ◌+◌, ℕ, All, length, slice_index_or};
+ghost use Rattle.processor.specs.Records.{RecordValue};
+ghost use Rattle.memory_lock.specs.Driving.{IsGrown};
+ghost use Rattle.memory_lock.specs.Runs.{HaveRoom, IsRun};
+
+use crate::driving::drive;
+use crate::gates::Gate;
+use crate::lock_ports::LockPort;
+use processor::Recorded;
+use shared_history::{Parts, SharedMemory};
+use std::sync::{Mutex, Wait};
+use std::thread;
+use std::thread::Threads;
+
+/// Drives each processor up to the parts' fuel, as many at once as threads can be had; where a thread can't be started
+/// its processor is driven by another or by the caller. Each goes through a port of its own to the one memory behind a
+/// lock, which no local step takes.
+///
+/// Which processor asks first is not known, nor that the records match the history: `gather` tells.
+pub fn run_threads<'i, R: Threads + Wait + Sync, G: Gate + Sync, const S: usize>(
+    rt: &R,
+    parts: Parts<'i, S>,
+    gate: &G,
+) -> Parts<'i, S>
+    requires room { HaveRoom parts }
+    ensures { IsRun parts.entry result }
+{
+    let (fuel, shared, mut records) = parts.into_parts();
+    let memory = Mutex::new(shared);
+    run_records(rt, records.as_mut_slice(), &memory, fuel, gate);
+    Parts::of(fuel, memory.into_inner(), records)
+}
+
+/// The same of the records.
+fn run_records<'i, R: Threads + Wait + Sync, G: Gate + Sync, const S: usize>(
+    rt: &R,
+    records: &mut [Recorded<'i, S>],
+    memory: &Mutex<SharedMemory<'i>>,
+    fuel: usize,
+    gate: &G,
+)
+    requires room { All (λ (r : RecordValue). fuel ≤ length r.steps + r.spare) records.old }
+    ensures { (p : ℕ) (d : RecordValue) → p < length records.old
+        → IsGrown fuel (slice_index_or records.old p d) (slice_index_or records.new p d) }
+{
+    run_workers(rt, records, memory, fuel, gate);
+}
+
+/// What a thread drives. The kit proves a run of threads over values of a type parameter, and none over values whose
+/// type has a number as a parameter: records are driven through this trait.
+trait Worker {
+    /// The record that it is.
+    ghost value: { Self → RecordValue };
+
+    /// Drives it.
+    fn go<R: Wait, G: Gate>(&mut self, rt: &R, memory: &Mutex<SharedMemory>, fuel: usize, gate: &G)
+        requires { fuel ≤ length (value self.old).steps + (value self.old).spare }
+        ensures { IsGrown fuel (value self.old) (value self.new) };
+}
+
+impl<'i, const S: usize> Worker for Recorded<'i, S> {
+    ghost value = { λ r. r };
+
+    fn go<R: Wait, G: Gate>(
+        &mut self,
+        rt: &R,
+        memory: &Mutex<SharedMemory>,
+        fuel: usize,
+        gate: &G,
+    ) {
+        let mut port = LockPort::new(memory);
+        let _ = drive(rt, self, &mut port, fuel, gate);
+    }
+}
+
+/// Drives each worker, as many at once as threads can be had.
+fn run_workers<W: Worker + Send, R: Threads + Wait + Sync, G: Gate + Sync>(
+    rt: &R,
+    workers: &mut [W],
+    memory: &Mutex<SharedMemory>,
+    fuel: usize,
+    gate: &G,
+)
+    requires { All (λ w. fuel ≤ length (W.value w).steps + (W.value w).spare) workers.old }
+    ensures { (p : ℕ) (d : W) → p < length workers.old
+        → IsGrown fuel (W.value (slice_index_or workers.old p d)) (W.value (slice_index_or workers.new p d)) }
+{
+    let count = workers.len();
+    if count > 0 {
+        let go = |_p: usize, worker: &mut W|
+            requires { fuel ≤ length (W.value worker.now).steps + (W.value worker.now).spare }
+            ensures { IsGrown fuel (W.value worker.entry.now) (W.value worker.exit.now) }
+        { worker.go(rt, memory, fuel, gate) };
+        thread::for_each_mut(rt, workers, count, &go);
+    }
+}
