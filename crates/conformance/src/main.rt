@@ -6,6 +6,7 @@ mod commands;
 mod conditions;
 mod escapes;
 mod fields;
+mod histories;
 mod images;
 mod instruction_words;
 mod memory_requests;

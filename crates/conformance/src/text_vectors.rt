@@ -1,5 +1,5 @@
 //! The files of test vectors of the text crates and of the engines, and what a line of each says.
-use crate::{commands, instruction_words, numbers, schedules, source_lines, sources};
+use crate::{commands, histories, instruction_words, numbers, schedules, source_lines, sources};
 use anyhow::Result;
 use std::alloc::Global;
 
@@ -26,6 +26,8 @@ pub(crate) enum TextVectors {
     Schedules,
     /// Rounds of processors and streams, their number of steps, and the start of their text.
     Rounds,
+    /// The line of an entry of a history, and the entry.
+    HistoryLines,
     /// A command, its inputs, and what it writes.
     Commands,
     /// A source text, two schedules, and the length and the end of their trace.
@@ -46,6 +48,7 @@ impl TextVectors {
             TextVectors::LargeSources => "large_sources.tsv",
             TextVectors::Schedules => "schedules.tsv",
             TextVectors::Rounds => "rounds.tsv",
+            TextVectors::HistoryLines => "history_lines.tsv",
             TextVectors::Commands => "commands.tsv",
             TextVectors::LongTraces => "long_traces.tsv",
         }
@@ -64,6 +67,7 @@ impl TextVectors {
             TextVectors::LargeSources => "large sources",
             TextVectors::Schedules => "schedules",
             TextVectors::Rounds => "rounds",
+            TextVectors::HistoryLines => "history lines",
             TextVectors::Commands => "commands",
             TextVectors::LongTraces => "long traces",
         }
@@ -81,6 +85,7 @@ impl TextVectors {
             TextVectors::LargeSources => sources::has_size(alloc, line),
             TextVectors::Schedules => schedules::comes_to(alloc, line),
             TextVectors::Rounds => schedules::are_rounds(alloc, line),
+            TextVectors::HistoryLines => histories::is_line(alloc, line),
             TextVectors::Commands => commands::writes(alloc, line),
             TextVectors::LongTraces => commands::is_traced(alloc, line),
         }

@@ -29,7 +29,7 @@ pub(crate) enum Vectors {
 
 impl Vectors {
     /// All files, in the order in which they are compared.
-    pub(crate) const ALL: [Vectors; 20] = [
+    pub(crate) const ALL: [Vectors; 21] = [
         Vectors::InstructionWords,
         Vectors::NotInstructions,
         Vectors::Arithmetic,
@@ -37,6 +37,7 @@ impl Vectors {
         Vectors::StreamSteps,
         Vectors::StreamRequests,
         Vectors::MemoryRequests,
+        Vectors::Text(TextVectors::HistoryLines),
         Vectors::Images,
         Vectors::Text(TextVectors::PrintedNumbers),
         Vectors::Text(TextVectors::ReadNumbers),

@@ -5,6 +5,7 @@ pub mod Schedules
 pub mod Runs
 pub mod Rounds
 pub mod TraceLines
+pub mod HistoryLines
 pub mod WorldTexts
 pub mod Laws
 -- What the code has of them on its way.

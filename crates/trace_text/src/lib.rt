@@ -1,6 +1,7 @@
-//! Schedules and traces as text ("Schedules", "Traces", "World text", docs/FORMATS.md).
+//! Schedules, traces and histories as text ("Schedules", "Traces", "Histories", "World text", docs/FORMATS.md).
 #![tactic(auto)]
 
+mod history_lines;
 mod laws;
 mod line_numbers;
 mod rounds;
@@ -11,6 +12,7 @@ mod trace_lines;
 mod world_texts;
 mod written_schedules;
 
+pub use history_lines::{history_line, push_history_line};
 pub use laws::written_schedules_are_read_back;
 pub use rounds::round_schedule;
 pub use schedule_fault::{ScheduleFault, ScheduleFaultKind};

@@ -39,8 +39,8 @@ pub fn push_trace_line(
     push_result(text, pc, outcome)
 }
 
-/// Appends where a line stands in the trace, and whose step it is.
-fn push_place(text: &mut String, number: u64, step: Step) -> Result<(), AllocError>
+/// Appends where a line stands in the trace or the history, and whose step it is.
+pub(crate) fn push_place(text: &mut String, number: u64, step: Step) -> Result<(), AllocError>
     ensures { OnOk result (string_bytes text.new ≡ string_bytes text.old ++ place_text number step) }
 {
     push_right_aligned::<7>(text, number)?;
