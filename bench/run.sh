@@ -56,6 +56,18 @@ steps() {
     "$(peak "$parts" "$1" 1)"
 }
 
+# gathered: a schedule of 1,000,000 recorded steps, by the difference of a run that is gathered and one that is not
+gathered() {
+  local alone both once twice count
+  alone=$(best 3 "$parts" record 11)
+  both=$(best 3 "$parts" gather 11)
+  count=$(sed 's/.* of //' "$work/out")
+  once=$(instructions "$parts" record 1)
+  twice=$(instructions "$parts" gather 1)
+  report "gather, $count steps and entries of 16 processors" $(((both - alone) / 11)) $((twice - once)) "$count" each \
+    $(($(peak "$parts" gather 1) - $(peak "$parts" record 1)))
+}
+
 # rounds WHAT: the time of one round, by the difference of 11 rounds and 1
 rounds() {
   local one many once twice bytes
@@ -65,6 +77,17 @@ rounds() {
   once=$(instructions "$parts" "$1" 1)
   twice=$(instructions "$parts" "$1" 2)
   report "$1, $bytes bytes" $(((many - one) / 10)) $((twice - once)) "$bytes" byte "$(peak "$parts" "$1" 1)"
+}
+
+# sessions WHAT: 1,000,000 steps of a session of the debugger, by the difference of 11 rounds and 1
+sessions() {
+  local one many once twice
+  one=$(best 3 "$parts" "$1" 1)
+  many=$(best 3 "$parts" "$1" 11)
+  once=$(instructions "$parts" "$1" 1)
+  twice=$(instructions "$parts" "$1" 2)
+  report "$1, 1000000 steps of the fetch_add loop" $(((many - one) / 10)) $((twice - once)) 1000000 step \
+    "$(peak "$parts" "$1" 1)"
 }
 
 command -v valgrind >/dev/null || echo "valgrind is not installed: no instructions are counted, and 0 is printed for them"
@@ -78,6 +101,10 @@ report "words, $lines lines" "$(best 10 words)" "$(instructions "$tool" words <"
 
 steps arithmetic
 steps fetch_add
+gathered
+for what in go continue 1_breakpoint 64_breakpoints 1_watch 64_watches; do
+  sessions "debug_$what"
+done
 rounds write_image
 rounds read_image
 

@@ -33,7 +33,7 @@ pub(crate) fn run_rounds(alloc: Global, program: &[u64], rounds: u32) -> Result<
 }
 
 /// The steps of a round: stream 0 of each processor in turn.
-fn turns(alloc: Global) -> Result<Vec<Step>, AllocError> {
+pub(crate) fn turns(alloc: Global) -> Result<Vec<Step>, AllocError> {
     let mut steps = Vec::with_capacity(alloc, STEPS)?;
     for step in 0..STEPS {
         let p = (step % PROCESSORS) as u8;
@@ -43,7 +43,7 @@ fn turns(alloc: Global) -> Result<Vec<Step>, AllocError> {
 }
 
 /// All processors begin at word 0 over one full word.
-fn image_of(alloc: Global, program: &[u64]) -> Result<Option<Image>, AllocError> {
+pub(crate) fn image_of(alloc: Global, program: &[u64]) -> Result<Option<Image>, AllocError> {
     let mut entries = vec![in alloc; 0; PROCESSORS]?;
     let mut program = program.to_vec(alloc)?;
     let mut cells = Vec::from_slice(alloc, &[Word::new(0, Tags::FULL)])?;

@@ -1,13 +1,17 @@
-//! Does one thing again and again, without any text, so that bench/run.sh can time it: steps of a machine, or the
-//! bytes of the largest image.
+//! Does one thing again and again, without any text, so that bench/run.sh can time it: steps of a machine, recorded
+//! runs and the schedules that are gathered of them, or the bytes of the largest image.
 #![tactic(auto)]
 
+mod debugger_runs;
 mod image_bytes;
 mod machine_steps;
+mod recorded_runs;
 
 use anyhow::{Context, Result};
+use debugger_runs::{continue_rounds, go_rounds, watch_rounds};
 use image_bytes::{read_images, write_images};
 use machine_steps::{ARITHMETIC, FETCH_ADD, run_rounds};
+use recorded_runs::{gather_rounds, record_rounds};
 use std::env;
 
 fn main(rt: HostRuntime) -> Result<()> {
@@ -18,6 +22,14 @@ fn main(rt: HostRuntime) -> Result<()> {
     let count = match what {
         "arithmetic" => run_rounds(alloc, &ARITHMETIC, rounds)?,
         "fetch_add" => run_rounds(alloc, &FETCH_ADD, rounds)?,
+        "record" => record_rounds(alloc, rounds)?,
+        "gather" => gather_rounds(alloc, rounds)?,
+        "debug_go" => go_rounds(alloc, rounds)?,
+        "debug_continue" => continue_rounds(alloc, 0, rounds)?,
+        "debug_1_breakpoint" => continue_rounds(alloc, 1, rounds)?,
+        "debug_64_breakpoints" => continue_rounds(alloc, 64, rounds)?,
+        "debug_1_watch" => watch_rounds(alloc, 1, rounds)?,
+        "debug_64_watches" => watch_rounds(alloc, 64, rounds)?,
         "write_image" => write_images(alloc, rounds)?,
         "read_image" => read_images(alloc, rounds)?,
         _ => 0,

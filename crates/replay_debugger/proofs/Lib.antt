@@ -1,0 +1,9 @@
+pub mod PlaceOrder
+pub mod NoPoints
+pub mod Entries
+pub mod StreamsSeen
+pub mod LooksAgain
+pub mod Meeting
+pub mod Replaying
+pub mod Finding
+pub mod WordsInTurn

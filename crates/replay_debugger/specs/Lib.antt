@@ -1,0 +1,11 @@
+-- The definitions, in the order of reading. What public contracts promise:
+-- the points of a session
+pub mod Points
+-- a session, its positions, and which of them are stops
+pub mod Sessions
+pub mod Stops
+-- what each command answers, and where it is refused
+pub mod Table
+-- What only private contracts cite: a machine at a position, and what a run to a stop looks at.
+pub mod Places
+pub mod Looks

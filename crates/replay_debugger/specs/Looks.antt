@@ -1,0 +1,82 @@
+-- What a run to a stop looks at after each step: the breakpoints as a set, and the watched words as they were last
+-- seen.
+use Rattle.std.specs.Prelude.{◌≡◌, ℕ, ◌==◌, ◌&&◌, Bool, true, false, if◌then◌else◌, List, [], ◌∷◌, ◌++◌, Option, Some, None}
+use Rattle.std.specs.List.{list_any}
+use Rattle.tag_memory.specs.Storage.{TaggedMemory, cell_at}
+use Rattle.replay_debugger.specs.declared.points.Point.{Point}
+use Rattle.replay_debugger.specs.declared.points.Point.TheVariants.{Break, Watch, WatchTags}
+use Rattle.replay_debugger.specs.declared.watched_words.WatchedWord.{WatchedWord}
+use Rattle.replay_debugger.specs.declared.stops.Stops.{Stops}
+use Rattle.machine.specs.MachineValue.{MachineValue}
+use Rattle.processor.specs.declared.steps.Step.{Step}
+use Rattle.replay_debugger.specs.Places.{StandsAt}
+use Rattle.replay_debugger.specs.Stops.{word_differs, tags_differ, IsLeastAbove, NoneAbove, IsGreatestBelow, NoneBelow}
+
+-- Breakpoints.
+
+abbrev pub breaks_at : ℕ → ℕ → Point → Bool
+breaks_at p pc (Break q at) = (p == q) && (pc == at)
+breaks_at p pc (Watch a) = false
+breaks_at p pc (WatchTags a) = false
+
+abbrev pub slot_breaks_at : ℕ → ℕ → Option Point → Bool
+slot_breaks_at p pc None = false
+slot_breaks_at p pc (Some point) = breaks_at p pc point
+
+-- whether a list of places has this one
+abbrev pub has_place : List (ℕ × ℕ) → ℕ → ℕ → Bool
+has_place places p pc = list_any (λ place. (p == place.0) && (pc == place.1)) places
+
+-- the places of the breakpoints, and no others
+abbrev pub AreBreakpoints : List (Option Point) → List (ℕ × ℕ) → Type 0
+AreBreakpoints points places = (p pc : ℕ) → has_place places p pc ≡ list_any (slot_breaks_at p pc) points
+
+-- Watched words.
+
+abbrev pub watch_of : TaggedMemory → Point → List WatchedWord
+watch_of m (Break p pc) = []
+watch_of m (Watch a) = record { address = a; tags_alone = false; seen = cell_at m a } ∷ []
+watch_of m (WatchTags a) = record { address = a; tags_alone = true; seen = cell_at m a } ∷ []
+
+abbrev pub slot_watch_of : TaggedMemory → Option Point → List WatchedWord
+slot_watch_of m None = []
+slot_watch_of m (Some point) = watch_of m point
+
+-- the watched words of points, as a memory shows them
+abbrev pub watches_of : TaggedMemory → List (Option Point) → List WatchedWord
+watches_of m [] = []
+watches_of m (slot ∷ slots) = slot_watch_of m slot ++ watches_of m slots
+
+-- whether what is watched of a word is otherwise at a later look
+abbrev pub differs_at : WatchedWord → WatchedWord → Bool
+differs_at w later = if w.tags_alone then tags_differ w.seen later.seen else word_differs w.seen later.seen
+
+abbrev pub seen_again : TaggedMemory → WatchedWord → WatchedWord
+seen_again m w = record w { seen = cell_at m w.address }
+
+-- whether a watched word is not as it was last seen
+abbrev pub has_changed : TaggedMemory → WatchedWord → Bool
+has_changed m w = differs_at w (seen_again m w)
+
+-- Both.
+
+-- the breakpoints are those of the points, and the watched words were last seen in this memory
+pub record LooksFor (points : List (Option Point)) (m : TaggedMemory) (s : Stops) : Type 0 where
+  pub breakpoints : AreBreakpoints points s.breakpoints
+  pub words : s.words.items ≡ watches_of m points
+
+-- a machine stands at a position, and what is looked for are these points, with the words as the machine shows them
+pub record IsLooking (schedule : List Step) (points : List (Option Point)) (m : MachineValue) (k : ℕ) (s : Stops)
+    : Type 0 where
+  pub stands : StandsAt schedule m k
+  pub looks : LooksFor points m.world.memory s
+
+-- A run ends at k, the least number above low that passes, or at high where none does.
+pub record IsRunToStop (test : ℕ → Bool) (low high k : ℕ) (found : Bool) : Type 0 where
+  pub stop : found ≡ true → IsLeastAbove test low high k
+  pub end : found ≡ false → (k ≡ high) × NoneAbove test low high
+
+-- the greatest number below high that passes, if there is one
+abbrev pub IsLastBelow : (ℕ → Bool) → ℕ → Option ℕ → Type 0
+IsLastBelow test high None = NoneBelow test high
+IsLastBelow test high (Some k) = IsGreatestBelow test high k

@@ -1,0 +1,17 @@
+-- A machine at a position of a schedule.
+use Rattle.std.specs.Prelude.{◌≡◌, ℕ, ◌≤◌, List, length, Option}
+use Rattle.image_file.specs.ImageValue.{ImageValue}
+use Rattle.machine.specs.MachineValue.{MachineValue}
+use Rattle.processor.specs.declared.steps.Step.{Step}
+use Rattle.replay_debugger.specs.declared.points.Point.{Point}
+use Rattle.replay_debugger.specs.Sessions.{SessionValue, world_at}
+
+-- the position is one of the schedule, and the machine shows its world
+pub record StandsAt (schedule : List Step) (m : MachineValue) (k : ℕ) : Type 0 where
+  pub within : k ≤ length schedule
+  pub world : m.world ≡ world_at m.image schedule k
+
+-- the session of these parts
+abbrev pub session_of : ImageValue → List Step → ℕ → List (Option Point) → SessionValue
+session_of image schedule position points =
+    record { image = image; schedule = schedule; position = position; points = points }

@@ -1,0 +1,131 @@
+-- What a session answers to each command, and where it refuses one.
+use Rattle.std.specs.Prelude.{◌≡◌, ℕ, zero, suc, ◌+◌, ◌^◌, ◌&&◌, Bool, nat_lt, nat_le, if◌then◌else◌, List, [], ◌∷◌, length}
+use Rattle.std.specs.Prelude.{Option, Some, None, is_some, Result, Ok, Err}
+use Rattle.tag_memory.specs.Cell.{Cell}
+use Rattle.tag_memory.specs.Storage.{TaggedMemory, cell_at}
+use Rattle.debug_commands.specs.declared.answers.Answer.{Answer}
+use Rattle.debug_commands.specs.declared.answers.Answer.TheVariants as answer
+use Rattle.debug_commands.specs.declared.answers.Why.{Why}
+use Rattle.debug_commands.specs.declared.answers.Why.TheVariants.{Moved, Stop, End, Start}
+use Rattle.debug_commands.specs.declared.commands.Command.{Command}
+use Rattle.debug_commands.specs.declared.commands.Command.TheVariants.{Forward, Continue, Back, Go, Break}
+use Rattle.debug_commands.specs.declared.commands.Command.TheVariants.{Watch, WatchTags, Delete, Registers, Show}
+use Rattle.debug_commands.specs.declared.debug_fault.DebugFault.{DebugFault}
+use Rattle.debug_commands.specs.declared.debug_fault.DebugFault.TheVariants as fault
+use Rattle.replay_debugger.specs.declared.points.Point.{Point}
+use Rattle.replay_debugger.specs.declared.points.Point.TheVariants as point
+use Rattle.replay_debugger.specs.Points.{point_at, AddsPoint, TakesPoint}
+use Rattle.replay_debugger.specs.Sessions.{SessionValue, world_of}
+use Rattle.replay_debugger.specs.Stops.{stream_named, is_stop, IsLeastAbove, NoneAbove, IsGreatestBelow, NoneBelow}
+
+-- Words of the memory.
+
+-- the word at a byte address; none where it is missing. No address has more than 64 bits.
+abbrev pub shown_word : TaggedMemory → ℕ → Option Cell
+shown_word m a = if nat_lt a (2 ^ 64) then cell_at m a else None
+
+-- a word and its address
+abbrev pub with_address : ℕ → Option Cell → Option (ℕ × Cell)
+with_address a None = None
+with_address a (Some c) = Some (a, c)
+
+abbrev pub onto_words : ℕ → Option Cell → Option (List (ℕ × Cell)) → Option (List (ℕ × Cell))
+onto_words a (Some c) (Some ws) = Some ((a, c) ∷ ws)
+onto_words a (Some c) None = None
+onto_words a None ws = None
+
+-- so many words from a byte address on, each with its address; none where one of them is missing
+abbrev pub words_from : TaggedMemory → ℕ → ℕ → Option (List (ℕ × Cell))
+words_from m a zero = Some []
+words_from m a (suc n) = onto_words a (shown_word m a) (words_from m (a + 8) n)
+
+-- Moves.
+
+-- the session goes to a position, and all else stays
+pub record GoesTo (old : SessionValue) (k : ℕ) (why : Why) (result : Answer) (new : SessionValue) : Type 0 where
+  pub says : result ≡ answer.At k why
+  pub goes : new ≡ record old { position = k }
+
+-- the stops of a session
+abbrev pub stops_of : SessionValue → ℕ → Bool
+stops_of s k = is_stop s.image s.schedule s.points k
+
+-- where `c` goes: to the least stop above, else to the end
+abbrev pub IsNext : SessionValue → ℕ → Why → Type 0
+IsNext s k Stop = IsLeastAbove (stops_of s) s.position (length s.schedule) k
+IsNext s k End = (k ≡ length s.schedule) × NoneAbove (stops_of s) s.position (length s.schedule)
+IsNext s k Moved = ⊥
+IsNext s k Start = ⊥
+
+-- where `back` goes: to the greatest stop below, else to the start
+abbrev pub IsLast : SessionValue → ℕ → Why → Type 0
+IsLast s k Stop = IsGreatestBelow (stops_of s) s.position k
+IsLast s k Start = (k ≡ 0) × NoneBelow (stops_of s) s.position
+IsLast s k Moved = ⊥
+IsLast s k End = ⊥
+
+-- Points.
+
+-- the session has this point more, under the key that it answers, and all else stays
+pub record Adds (old : SessionValue) (p : Point) (result : Answer) (new : SessionValue) : Type 0 where
+  pub key : ℕ
+  pub says : result ≡ answer.Point key
+  pub adds : AddsPoint old.points new.points key p
+  pub kept : new ≡ record old { points = new.points }
+
+-- the session has the point of this key less, and all else stays
+pub record Takes (old : SessionValue) (key : ℕ) (result : Answer) (new : SessionValue) : Type 0 where
+  pub says : result ≡ answer.Gone key
+  pub takes : TakesPoint old.points new.points key
+  pub kept : new ≡ record old { points = new.points }
+
+-- The table: the answer of each command, and the session after it.
+
+abbrev pub IsAnswerTo : SessionValue → Command → Answer → SessionValue → Type 0
+IsAnswerTo old (Forward n) result new = GoesTo old (old.position + n) Moved result new
+IsAnswerTo old Continue result new = (k : ℕ) × (why : Why) × IsNext old k why × GoesTo old k why result new
+IsAnswerTo old Back result new = (k : ℕ) × (why : Why) × IsLast old k why × GoesTo old k why result new
+IsAnswerTo old (Go k) result new = GoesTo old k Moved result new
+IsAnswerTo old (Break p pc) result new = Adds old (point.Break p pc) result new
+IsAnswerTo old (Watch a) result new = Adds old (point.Watch a) result new
+IsAnswerTo old (WatchTags a) result new = Adds old (point.WatchTags a) result new
+IsAnswerTo old (Delete n) result new = Takes old n result new
+IsAnswerTo old (Registers p s) result new =
+    (result ≡ answer.Stream (stream_named (world_of old) (record { p = p; s = s }))) × (new ≡ old)
+IsAnswerTo old (Show a n) result new =
+    (ws : List (ℕ × Cell)) × (words_from (world_of old).memory a n ≡ Some ws) × (result ≡ answer.Words ws) × (new ≡ old)
+
+-- Refusals.
+
+abbrev pub unless : Bool → DebugFault → Option DebugFault
+unless test f = if test then None else Some f
+
+-- the fault of a command, want of memory aside
+abbrev pub refusal_of : SessionValue → Command → Option DebugFault
+refusal_of s (Forward n) = unless (nat_le (s.position + n) (length s.schedule)) fault.Past
+refusal_of s Continue = None
+refusal_of s Back = None
+refusal_of s (Go k) = unless (nat_le k (length s.schedule)) fault.Past
+refusal_of s (Break p pc) = unless (nat_lt p (length s.image.entries)) fault.NoSuchStream
+refusal_of s (Watch a) = unless (is_some (cell_at (world_of s).memory a)) fault.NoSuchWord
+refusal_of s (WatchTags a) = unless (is_some (cell_at (world_of s).memory a)) fault.NoSuchWord
+refusal_of s (Delete n) = unless (is_some (point_at s.points n)) fault.NoSuchPoint
+refusal_of s (Registers p q) =
+    unless (nat_lt p (length s.image.entries) && nat_lt q s.image.slim) fault.NoSuchStream
+refusal_of s (Show a n) =
+    if nat_le 1 n && nat_le n 64 then unless (is_some (words_from (world_of s).memory a n)) fault.NoSuchWord
+    else Some fault.Syntax
+
+-- want of memory is answered only where the command has no fault
+abbrev pub told : DebugFault → Option DebugFault
+told fault.Syntax = Some fault.Syntax
+told fault.NoSuchStream = Some fault.NoSuchStream
+told fault.NoSuchWord = Some fault.NoSuchWord
+told fault.NoSuchPoint = Some fault.NoSuchPoint
+told fault.Past = Some fault.Past
+told fault.NoMemory = None
+
+-- The result of a command. A refusal leaves the session as it was.
+abbrev pub IsResultOf : SessionValue → Command → Result Answer DebugFault → SessionValue → Type 0
+IsResultOf old command (Ok result) new = (refusal_of old command ≡ None) × IsAnswerTo old command result new
+IsResultOf old command (Err f) new = (refusal_of old command ≡ told f) × (new ≡ old)

@@ -1,0 +1,15 @@
+//! Sessions of the debugger, which replays a schedule to any position and looks at the world there
+//! ("Debugger", docs/FORMATS.md).
+#![tactic(auto)]
+
+mod begin_fault;
+mod breakpoints;
+mod points;
+mod replay;
+mod session;
+mod stops;
+mod watched_words;
+
+pub use begin_fault::BeginFault;
+pub use points::Point;
+pub use session::Session;

@@ -1,0 +1,91 @@
+//! A session of the debugger.
+
+mod moving;
+mod pointing;
+mod showing;
+
+ghost use Rattle.std.specs.Prelude.{◌≡◌, ◌<◌, ◌↔◌, IfOk, IfErr, IsErrAnd};
+ghost use Rattle.replay_debugger.specs.Sessions.{session_at_start};
+ghost use Rattle.replay_debugger.specs.Table.{IsResultOf};
+
+use crate::begin_fault::BeginFault;
+use crate::points::{Point, Points};
+use crate::replay::Replay;
+use debug_commands::{Answer, Command, DebugFault};
+use image_file::Image;
+use machine::LoadFault;
+use processor::Step;
+use std::alloc::Global;
+use std::marker::Model;
+
+/// A session of the debugger over an image and a schedule of its own ("Debugger", docs/FORMATS.md).
+///
+/// It stands at a position from 0 to the schedule's length: position k is the world after the first k steps. Its points
+/// stand under keys, and say which positions are stops.
+#[derive(Drop)]
+pub struct Session<'i, const S: usize> {
+    schedule: Vec<Step>,
+    replay: Replay<'i, S>,
+    points: Points,
+}
+
+impl<'i, const S: usize> Model for Session<'i, S> {
+    ghost use Rattle.replay_debugger.specs.Sessions.{SessionValue};
+    ghost use Rattle.replay_debugger.specs.Places.{StandsAt, session_of};
+
+    ghost Value = { SessionValue };
+
+    ghost view = { λ s. session_of s.replay.machine.image s.schedule.items s.replay.position s.points };
+
+    ghost invariant = { λ s. StandsAt s.schedule.items s.replay.machine s.replay.position };
+}
+
+impl<'i, const S: usize> Session<'i, S> {
+    /// A session at position 0, with no points. Where it can't begin, the schedule is handed back.
+    ///
+    /// `Streams` exactly where the image's slim is above `S`: it comes before any want of memory.
+    pub fn begin(
+        alloc: Global,
+        image: &'i Image,
+        schedule: Vec<Step>,
+    ) -> Result<Session<'i, S>, BeginFault>
+        ensures is { IfOk result (λ s. s ≡ session_at_start image.entry.now schedule.items) }
+        ensures streams { IsErrAnd result (λ f. f.kind ≡ LoadFault.Streams) ↔ (S < image.entry.now.slim) }
+        ensures handed_back { IfErr result (λ f. f.schedule ≡ schedule) }
+    {
+        match Replay::start(alloc, image) {
+            Ok(replay) => Ok(Session {
+                schedule,
+                replay,
+                points: Points::new(alloc),
+            }),
+            Err(kind) => Err(BeginFault { kind, schedule }),
+        }
+    }
+
+    /// The position that the session stands at.
+    pub fn position(&self) -> u64
+        ensures { result ≡ self.now.position }
+    {
+        self.replay.position as u64
+    }
+
+    /// Does a command, and answers it from the world at the position that it leads to. A refusal leaves the session as
+    /// it was. How a position is reached is nowhere told.
+    pub fn command(&mut self, command: &Command) -> Result<Answer, DebugFault>
+        ensures { IsResultOf self.old command.now result self.new }
+    {
+        match *command {
+            Command::Forward(count) => self.forward(count),
+            Command::Continue => self.go_on(),
+            Command::Back => self.back(),
+            Command::Go(goal) => self.go(goal),
+            Command::Break(p, pc) => self.break_at(p, pc),
+            Command::Watch(address) => self.watch(address),
+            Command::WatchTags(address) => self.watch_tags(address),
+            Command::Delete(key) => self.delete(key),
+            Command::Registers(p, s) => self.registers(p, s),
+            Command::Show(address, count) => self.show(address, count),
+        }
+    }
+}

@@ -1,0 +1,112 @@
+//! Watched words, as they were last seen.
+
+ghost use Rattle.std.specs.Prelude.{◌≡◌, map, IfOk};
+ghost use Rattle.std.specs.List.{list_any};
+ghost use Rattle.std.specs.Option.{option_to_list};
+ghost use Rattle.replay_debugger.specs.Looks.{watches_of, watch_of, has_changed, seen_again, differs_at};
+ghost use Rattle.replay_debugger.specs.Stops.{word_differs, tags_differ};
+
+use crate::points::{Point, Points};
+use machine::Machine;
+use std::alloc::{AllocError, Global};
+use tag_memory::Word;
+
+/// A watched word, as it was last seen.
+#[derive(Clone, Copy, Debug, PartialEq, Eq)]
+pub(crate) struct WatchedWord {
+    address: u64,
+    tags_alone: bool,
+    seen: Option<Word>,
+}
+
+impl WatchedWord {
+    /// The word that a point watches, if it does.
+    fn of<const S: usize>(machine: &Machine<S>, point: Point) -> Option<WatchedWord>
+        ensures { option_to_list result ≡ watch_of machine.now.world.memory point }
+    {
+        let (address, tags_alone) = match point {
+            Point::Break(..) => return None,
+            Point::Watch(address) => (address, false),
+            Point::WatchTags(address) => (address, true),
+        };
+        Some(WatchedWord {
+            address,
+            tags_alone,
+            seen: machine.word(address),
+        })
+    }
+
+    /// The watched word as a machine shows it.
+    fn again<const S: usize>(&self, machine: &Machine<S>) -> WatchedWord
+        ensures { result ≡ seen_again machine.now.world.memory self.now }
+    {
+        WatchedWord {
+            seen: machine.word(self.address),
+            ..*self
+        }
+    }
+
+    /// Whether what is watched of the word is otherwise at a later look.
+    fn differs(&self, later: &WatchedWord) -> bool
+        ensures { result ≡ differs_at self.now later.now }
+    {
+        if self.tags_alone {
+            tags_differ(self.seen, later.seen)
+        } else {
+            word_differs(self.seen, later.seen)
+        }
+    }
+}
+
+/// The watched words of points, as a machine shows them.
+pub(crate) fn watched_words<const S: usize>(
+    alloc: Global,
+    points: &Points,
+    machine: &Machine<S>,
+) -> Result<Vec<WatchedWord>, AllocError>
+    ensures { IfOk result (λ words. words.items ≡ watches_of machine.now.world.memory points.now) }
+{
+    let mut words = Vec::new(alloc);
+    for (_key, point) in points.slots.iter() {
+        if let Some(word) = WatchedWord::of(machine, *point) {
+            words.push(word)?;
+        }
+    }
+    Ok(words)
+}
+
+/// Looks at all watched words again, and says whether one has changed.
+pub(crate) fn look_again<const S: usize>(words: &mut [WatchedWord], machine: &Machine<S>) -> bool
+    ensures seen { words.new ≡ map (seen_again machine.now.world.memory) words.old }
+    ensures changed { result ≡ list_any (has_changed machine.now.world.memory) words.old }
+{
+    let mut changed = false;
+    for place in 0..words.len() {
+        let word = words[place].again(machine);
+        changed = words[place].differs(&word) || changed;
+        words[place] = word;
+    }
+    changed
+}
+
+/// Whether a word has another value or other tags.
+fn word_differs(before: Option<Word>, now: Option<Word>) -> bool
+    ensures { result ≡ word_differs before now }
+{
+    match (before, now) {
+        (Some(before), Some(now)) => before != now,
+        (None, None) => false,
+        (Some(_), None) | (None, Some(_)) => true,
+    }
+}
+
+/// Whether a word has other tags.
+fn tags_differ(before: Option<Word>, now: Option<Word>) -> bool
+    ensures { result ≡ tags_differ before now }
+{
+    match (before, now) {
+        (Some(before), Some(now)) => before.tag_number() != now.tag_number(),
+        (None, None) => false,
+        (Some(_), None) | (None, Some(_)) => true,
+    }
+}
