@@ -104,7 +104,8 @@ target_set_range (x ∷ y ∷ z ∷ os) = tt
 
 create_range : (os : List (List ℕ)) → IfOk (to_target control.Create os) IsGoodControl
 create_range (x ∷ y ∷ []) =
-    ok_map (λ v. record (only_control control.Create) { t = v.0; ra = v.1 }) (λ v. (v.0 < 8) × (v.1 < 32)) IsGoodControl
+    ok_map (λ v. record (only_control control.Create) { t = v.0; ra = v.1 })
+    (λ v. (v.0 < 8) × (v.1 < 32)) IsGoodControl
     (both (target x) (register y))
     (λ v r. record {
       ranges = (omega arith, (r.0, (r.1, (omega arith, tt))));

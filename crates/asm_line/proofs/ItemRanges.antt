@@ -185,15 +185,18 @@ unfolding item_of_directive
 directed_range places words directive.Data os = data_range words os
 directed_range places words directive.Fill os = fill_range words os
 directed_range places words directive.Profile (x ∷ []) =
-    ok_map (λ n. item.Profile) (λ _. ⊤) (IsItemInRange words) (count_within 1 x) (λ n h. tt) (ok_any (count_within 1 x))
+    ok_map (λ n. item.Profile) (λ _. ⊤) (IsItemInRange words) (count_within 1 x) (λ n h. tt)
+    (ok_any (count_within 1 x))
 directed_range places words directive.Slim (x ∷ []) =
     ok_map item.Slim (λ n. (1 ≤ n) × (n ≤ 128)) (IsItemInRange words) (count_within 128 x) (λ n h. h)
     (count_within_range 128 x)
 directed_range places words directive.Retry (x ∷ []) =
-    ok_map item.Retry (λ n. n ≤ 2 ^ 32 - 1) (IsItemInRange words) (number_within (2 ^ 32 - 1) x) (λ n h. omega (arith, h))
+    ok_map item.Retry (λ n. n ≤ 2 ^ 32 - 1) (IsItemInRange words) (number_within (2 ^ 32 - 1) x)
+    (λ n h. omega (arith, h))
     (number_within_range (2 ^ 32 - 1) x)
 directed_range places words directive.Trap (x ∷ []) =
-    ok_map item.Trap (λ n. n < 2 ^ 32) (IsItemInRange words) (immediate places x) (λ n h. h) (immediate_range places x)
+    ok_map item.Trap (λ n. n < 2 ^ 32) (IsItemInRange words) (immediate places x) (λ n h. h)
+    (immediate_range places x)
 directed_range places words directive.Entry (x ∷ []) =
     ok_map item.Entry (λ n. n < words) (IsItemInRange words) (entry_number places words x) (λ n h. h)
     (entry_number_range places words x)
@@ -220,9 +223,11 @@ unfolding statement_item
 statement_range law places words here text =
     ok_either (length text == 0) (Ok item.Nothing) _ (IsItemInRange words) tt
     (ok_either (slice_index text 0 == 46) (directive_item places words text) _ (IsItemInRange words)
-    (ok_then (λ d. item_of_directive places words d (operands text)) (λ _. ⊤) (IsItemInRange words) (directive_of (head text))
+    (ok_then (λ d. item_of_directive places words d (operands text)) (λ _. ⊤) (IsItemInRange words)
+    (directive_of (head text))
     (λ d h. directed_range places words d (operands text)) (ok_any (directive_of (head text))))
-    (ok_map item.Instruction IsGood (IsItemInRange words) (instruction_of_text places here text) (λ i h. valid law i h)
+    (ok_map item.Instruction IsGood (IsItemInRange words) (instruction_of_text places here text)
+    (λ i h. valid law i h)
     (instruction_range places here text)))
 
 pub item_range : IsValidByFields → (places : Places) (words k here : ℕ) (l : Line)

@@ -13,7 +13,8 @@ use Rattle.asm_line.specs.Text.{is_name}
 use Rattle.asm_line.specs.Faults.{map_ok, ◌>>=◌}
 use Rattle.asm_line.specs.Numbers.{within, number_within, at_least_one, count_within}
 use Rattle.asm_line.specs.Numbers.{signed_within, has_minus}
-use Rattle.asm_line.specs.Operands.{number_behind_letter, is_register, register, is_target, target, Places, label_value, value_within}
+use Rattle.asm_line.specs.Operands.{number_behind_letter, is_register, register, is_target, target, Places}
+use Rattle.asm_line.specs.Operands.{label_value, value_within}
 use Rattle.asm_line.specs.Operands.{distance, offset, displacement, source_of, source_number}
 use Rattle.asm_line.specs.Parts.{immediate}
 use Rattle.asm_line.specs.declared.fault.Fault.{Fault}

@@ -23,7 +23,8 @@ use Rattle.asm_line.specs.declared.operation.Operation.{Operation}
 use Rattle.asm_line.specs.declared.operation.Operation.TheVariants as operation
 use Rattle.asm_line.specs.declared.operation.Directive.{Directive}
 
--- Names. NOP, the first operation of each part of a normal word, is named by no part: it is an instruction of its own.
+-- Names. NOP, the first operation of each part of a normal word, is named by no part: it is an instruction of its
+-- own.
 
 unfoldable pub wide_named : List ℕ → Option WideOp
 wide_named name = find (λ o. bytes_eq name (wide_name o)) wide_operations

@@ -84,22 +84,57 @@ full_word m a c =
     >>= λ v. unless_two (memory_control_apart v.0.0 v.1 && arithmetic_control_apart v.0.1 v.1)
     (insn.Normal 0 v.0.0 v.0.1 v.1)
 
--- two operations
-unfoldable pub double : Places → ℕ → Operation → Operation → List (List ℕ) → List (List ℕ) → Result Insn Fault
-double places here (operation.Memory o acc) (operation.Arithmetic p test) xs ys =
-    memory_arithmetic_word (memory_part o acc xs) (arithmetic_part p test ys)
-double places here (operation.Memory o acc) (operation.Control q) xs ys =
-    memory_control_word (memory_part o acc xs) (control_part places here q ys)
-double places here (operation.Arithmetic p test) (operation.Control q) xs ys =
-    arithmetic_control_word (arithmetic_part p test xs) (control_part places here q ys)
-double places here _ _ xs ys = Err fault.Operand
+-- Two operations: a memory operation and then an arithmetic or a control one, or an arithmetic one and then a control
+-- one.
 
--- three operations
+abbrev pub memory_and : Places → ℕ → Result MPart Fault → Operation → List (List ℕ) → Result Insn Fault
+memory_and places here m operation.Nop ys = Err fault.Operand
+memory_and places here m (operation.Wide p) ys = Err fault.Operand
+memory_and places here m (operation.Memory p acc) ys = Err fault.Operand
+memory_and places here m (operation.Arithmetic p test) ys = memory_arithmetic_word m (arithmetic_part p test ys)
+memory_and places here m (operation.Control p) ys = memory_control_word m (control_part places here p ys)
+
+abbrev pub arithmetic_and : Places → ℕ → Result APart Fault → Operation → List (List ℕ) → Result Insn Fault
+arithmetic_and places here a operation.Nop ys = Err fault.Operand
+arithmetic_and places here a (operation.Wide p) ys = Err fault.Operand
+arithmetic_and places here a (operation.Memory p acc) ys = Err fault.Operand
+arithmetic_and places here a (operation.Arithmetic p test) ys = Err fault.Operand
+arithmetic_and places here a (operation.Control p) ys = arithmetic_control_word a (control_part places here p ys)
+
+unfoldable pub double : Places → ℕ → Operation → Operation → List (List ℕ) → List (List ℕ) → Result Insn Fault
+double places here operation.Nop p xs ys = Err fault.Operand
+double places here (operation.Wide o) p xs ys = Err fault.Operand
+double places here (operation.Memory o acc) p xs ys = memory_and places here (memory_part o acc xs) p ys
+double places here (operation.Arithmetic o test) p xs ys = arithmetic_and places here (arithmetic_part o test xs) p ys
+double places here (operation.Control o) p xs ys = Err fault.Operand
+
+-- Three operations: a memory, an arithmetic and a control one.
+
+abbrev pub both_and : Places → ℕ → Result MPart Fault → Result APart Fault → Operation → List (List ℕ)
+    → Result Insn Fault
+both_and places here m a operation.Nop zs = Err fault.Operand
+both_and places here m a (operation.Wide q) zs = Err fault.Operand
+both_and places here m a (operation.Memory q acc) zs = Err fault.Operand
+both_and places here m a (operation.Arithmetic q test) zs = Err fault.Operand
+both_and places here m a (operation.Control q) zs = full_word m a (control_part places here q zs)
+
+abbrev pub memory_and_two : Places → ℕ → Result MPart Fault → Operation → Operation → List (List ℕ) → List (List ℕ)
+    → Result Insn Fault
+memory_and_two places here m operation.Nop q ys zs = Err fault.Operand
+memory_and_two places here m (operation.Wide p) q ys zs = Err fault.Operand
+memory_and_two places here m (operation.Memory p acc) q ys zs = Err fault.Operand
+memory_and_two places here m (operation.Arithmetic p test) q ys zs =
+    both_and places here m (arithmetic_part p test ys) q zs
+memory_and_two places here m (operation.Control p) q ys zs = Err fault.Operand
+
 unfoldable pub triple : Places → ℕ → Operation → Operation → Operation
     → List (List ℕ) → List (List ℕ) → List (List ℕ) → Result Insn Fault
-triple places here (operation.Memory o acc) (operation.Arithmetic p test) (operation.Control q) xs ys zs =
-    full_word (memory_part o acc xs) (arithmetic_part p test ys) (control_part places here q zs)
-triple places here _ _ _ xs ys zs = Err fault.Operand
+triple places here operation.Nop p q xs ys zs = Err fault.Operand
+triple places here (operation.Wide o) p q xs ys zs = Err fault.Operand
+triple places here (operation.Memory o acc) p q xs ys zs =
+    memory_and_two places here (memory_part o acc xs) p q ys zs
+triple places here (operation.Arithmetic o test) p q xs ys zs = Err fault.Operand
+triple places here (operation.Control o) p q xs ys zs = Err fault.Operand
 
 abbrev pub is_ok : {A : Type 0} → Result A Fault → Bool
 is_ok (Ok _) = true

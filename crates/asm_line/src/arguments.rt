@@ -1,6 +1,5 @@
 //! The operands of a statement, separated by commas.
 
-ghost use Rattle.std.specs.Prelude.{◌≡◌, ℕ, List};
 ghost use Rattle.asm_line.specs.Text.{operands_of};
 ghost use Rattle.asm_line.specs.OperandsSeen.{AreOperands};
 

@@ -5,7 +5,7 @@ ghost use Rattle.asm_line.specs.Labels.{places_of};
 ghost use Rattle.asm_line.specs.OperandsSeen.{AreOperands};
 ghost use Rattle.asm_line.specs.Instructions.{nop_word, single, double, triple, memory_arithmetic, full_word};
 ghost use Rattle.asm_line.specs.Instructions.{memory_arithmetic_word, memory_control_word, arithmetic_control_word};
-ghost use Rattle.asm_line.specs.Instructions.{unless_two};
+ghost use Rattle.asm_line.specs.Instructions.{unless_two, memory_and, arithmetic_and, memory_and_two, both_and};
 ghost use Rattle.insn_word.specs.Reading.{are_apart};
 
 use crate::arguments::Arguments;
@@ -75,20 +75,52 @@ pub(crate) fn double(
     ensures { (os ps : List (List ℕ)) → AreOperands xs.now os → AreOperands ys.now ps
         → result ≡ double (places_of labels.now) here first second os ps }
 {
-    match (first, second) {
-        (Operation::Memory(o, acc), Operation::Arithmetic(p, test)) => {
-            memory_arithmetic_word(memory_part(o, acc, xs), arithmetic_part(p, test, ys))
+    match first {
+        Operation::Memory(o, acc) => {
+            memory_and(labels, here, memory_part(o, acc, xs), second, ys)
         }
-        (Operation::Memory(o, acc), Operation::Control(q)) => {
-            memory_control_word(memory_part(o, acc, xs), control_part(labels, here, q, ys))
+        Operation::Arithmetic(o, test) => {
+            arithmetic_and(labels, here, arithmetic_part(o, test, xs), second, ys)
         }
-        (Operation::Arithmetic(p, test), Operation::Control(q)) => {
-            arithmetic_control_word(
-                arithmetic_part(p, test, xs),
-                control_part(labels, here, q, ys),
-            )
-        }
-        _ => Err(Fault::Operand),
+        Operation::Nop | Operation::Wide(_) | Operation::Control(_) => Err(Fault::Operand),
+    }
+}
+
+/// A memory operation and the one behind it, an arithmetic or a control one.
+fn memory_and(
+    labels: &Labels,
+    here: usize,
+    m: Result<MPart, Fault>,
+    second: Operation,
+    ys: &Arguments,
+) -> Result<Insn, Fault>
+    ensures { (ps : List (List ℕ)) → AreOperands ys.now ps
+        → result ≡ memory_and (places_of labels.now) here m second ps }
+{
+    match second {
+        Operation::Arithmetic(p, test) => memory_arithmetic_word(m, arithmetic_part(p, test, ys)),
+        Operation::Control(p) => memory_control_word(m, control_part(labels, here, p, ys)),
+        Operation::Nop | Operation::Wide(_) | Operation::Memory(_, _) => Err(Fault::Operand),
+    }
+}
+
+/// An arithmetic operation and the one behind it, a control one.
+fn arithmetic_and(
+    labels: &Labels,
+    here: usize,
+    a: Result<APart, Fault>,
+    second: Operation,
+    ys: &Arguments,
+) -> Result<Insn, Fault>
+    ensures { (ps : List (List ℕ)) → AreOperands ys.now ps
+        → result ≡ arithmetic_and (places_of labels.now) here a second ps }
+{
+    match second {
+        Operation::Control(p) => arithmetic_control_word(a, control_part(labels, here, p, ys)),
+        Operation::Nop
+        | Operation::Wide(_)
+        | Operation::Memory(_, _)
+        | Operation::Arithmetic(_, _) => Err(Fault::Operand),
     }
 }
 
@@ -105,14 +137,63 @@ pub(crate) fn triple(
     ensures { (os ps qs : List (List ℕ)) → AreOperands xs.now os → AreOperands ys.now ps → AreOperands zs.now qs
         → result ≡ triple (places_of labels.now) here operations.0 operations.1 operations.2 os ps qs }
 {
-    match operations {
-        (Operation::Memory(o, acc), Operation::Arithmetic(p, test), Operation::Control(q)) =>
-            full_word(
+    let (first, second, third) = operations;
+    match first {
+        Operation::Memory(o, acc) => {
+            memory_and_two(
+                labels,
+                here,
                 memory_part(o, acc, xs),
-                arithmetic_part(p, test, ys),
-                control_part(labels, here, q, zs),
-            ),
-        _ => Err(Fault::Operand),
+                (second, third),
+                ys,
+                zs,
+            )
+        }
+        Operation::Nop | Operation::Wide(_) | Operation::Arithmetic(_, _) | Operation::Control(_) =>
+            Err(Fault::Operand),
+    }
+}
+
+/// A memory operation and the two behind it, an arithmetic and a control one.
+fn memory_and_two(
+    labels: &Labels,
+    here: usize,
+    m: Result<MPart, Fault>,
+    operations: (Operation, Operation),
+    ys: &Arguments,
+    zs: &Arguments,
+) -> Result<Insn, Fault>
+    ensures { (ps qs : List (List ℕ)) → AreOperands ys.now ps → AreOperands zs.now qs
+        → result ≡ memory_and_two (places_of labels.now) here m operations.0 operations.1 ps qs }
+{
+    let (second, third) = operations;
+    match second {
+        Operation::Arithmetic(p, test) => {
+            both_and(labels, here, m, arithmetic_part(p, test, ys), third, zs)
+        }
+        Operation::Nop | Operation::Wide(_) | Operation::Memory(_, _) | Operation::Control(_) =>
+            Err(Fault::Operand),
+    }
+}
+
+/// A memory and an arithmetic operation and the one behind them, a control one.
+fn both_and(
+    labels: &Labels,
+    here: usize,
+    m: Result<MPart, Fault>,
+    a: Result<APart, Fault>,
+    third: Operation,
+    zs: &Arguments,
+) -> Result<Insn, Fault>
+    ensures { (qs : List (List ℕ)) → AreOperands zs.now qs
+        → result ≡ both_and (places_of labels.now) here m a third qs }
+{
+    match third {
+        Operation::Control(q) => full_word(m, a, control_part(labels, here, q, zs)),
+        Operation::Nop
+        | Operation::Wide(_)
+        | Operation::Memory(_, _)
+        | Operation::Arithmetic(_, _) => Err(Fault::Operand),
     }
 }
 

@@ -1,6 +1,6 @@
 //! What a directive says.
 
-ghost use Rattle.std.specs.Prelude.{◌≡◌, ◌^◌, ◌-◌, ℕ, List};
+ghost use Rattle.std.specs.Prelude.{◌≡◌, ◌-◌, ℕ, List};
 ghost use Rattle.asm_line.specs.Labels.{places_of};
 ghost use Rattle.asm_line.specs.OperandsSeen.{AreOperands};
 ghost use Rattle.asm_line.specs.Directives.{profile, slim, retry, trap, entry_item, word, data_cell, fill, cells};
@@ -84,7 +84,8 @@ fn trap(labels: &Labels, operands: &Arguments) -> Result<Item, Fault>
 
 /// `.entry`: a number or label, below the number of words
 fn entry(labels: &Labels, words: usize, operands: &Arguments) -> Result<Item, Fault>
-    ensures { (os : List (List ℕ)) → AreOperands operands.now os → result ≡ entry_item (places_of labels.now) words os }
+    ensures { (os : List (List ℕ)) → AreOperands operands.now os
+        → result ≡ entry_item (places_of labels.now) words os }
 {
     let Arguments::One(x) = *operands else {
         return Err(Fault::Operand);

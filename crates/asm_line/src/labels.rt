@@ -12,7 +12,7 @@ pub struct Labels<'t> {
 }
 
 impl<'t> Labels<'t> {
-    ghost use Rattle.std.specs.Prelude.{◌≡◌, ℕ, List, None, OnOk};
+    ghost use Rattle.std.specs.Prelude.{◌≡◌, ℕ, List, None, OnOk, OnErr};
     ghost use Rattle.std.specs.Option.{option_copied, option_or};
     ghost use Rattle.asm_line.specs.Operands.{label_value};
     ghost use Rattle.asm_line.specs.Labels.{places_of, standing};
@@ -45,11 +45,13 @@ impl<'t> Labels<'t> {
         }
     }
 
-    /// Adds a line's label, if it has one, at its place. A label that stands already keeps its place.
+    /// Adds a line's label, if it has one, at its place. A label that stands already keeps its place. Where memory is
+    /// refused, the labels stay as they were.
     #[tactic(auto, unfolding(crate::specs::Labels::places_of))]
     pub fn note(&mut self, label: Option<&'t [u8]>, place: Place) -> Result<(), AllocError>
-        ensures { OnOk result ((name : List ℕ) → places_of self.new name
+        ensures takes { OnOk result ((name : List ℕ) → places_of self.new name
             ≡ option_or (places_of self.old name) (standing name (option_copied label.entry) place)) }
+        ensures kept { OnErr result ((name : List ℕ) → places_of self.new name ≡ places_of self.old name) }
     {
         let Some(name) = label else {
             return Ok(());
@@ -64,8 +66,9 @@ impl<'t> Labels<'t> {
     #[tactic(auto, unfolding(crate::specs::Labels::places_of))]
     fn insert(&mut self, label: &'t [u8], place: Place) -> Result<(), AllocError>
         requires { places_of self.old label.now ≡ None }
-        ensures { OnOk result ((name : List ℕ) → places_of self.new name
+        ensures takes { OnOk result ((name : List ℕ) → places_of self.new name
             ≡ option_or (places_of self.old name) (standing name (Some label.entry.now) place)) }
+        ensures kept { OnErr result ((name : List ℕ) → places_of self.new name ≡ places_of self.old name) }
     {
         self.places.insert(label, place)?;
         Ok(())

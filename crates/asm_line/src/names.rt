@@ -1,7 +1,7 @@
 //! The names of operations, conditions and directives ("Source text", docs/FORMATS.md). Texts are read and listed by
 //! these.
 
-ghost use Rattle.std.specs.Prelude.{◌≡◌};
+ghost use Rattle.std.specs.Prelude.{◌≡◌, ◌≤◌, length};
 ghost use Rattle.asm_line.specs.Names.{wide_name, memory_name, arithmetic_name, control_name, condition_name};
 ghost use Rattle.asm_line.specs.Names.{access_suffix, test_suffix, directive_name};
 
@@ -10,7 +10,8 @@ use insn_word::{Access, ArithmeticOp, Condition, ControlOp, MemoryOp, WideOp};
 
 /// The name of a wide operation.
 pub fn wide(op: WideOp) -> &'static str
-    ensures { result.now ≡ wide_name op }
+    ensures name { result.now ≡ wide_name op }
+    ensures short { length result.now ≤ 4 }
 {
     match op {
         WideOp::Literal => "LIT",
@@ -21,7 +22,8 @@ pub fn wide(op: WideOp) -> &'static str
 
 /// The name of a memory operation, without a suffix.
 pub fn memory(op: MemoryOp) -> &'static str
-    ensures { result.now ≡ memory_name op }
+    ensures name { result.now ≡ memory_name op }
+    ensures short { length result.now ≤ 6 }
 {
     match op {
         MemoryOp::Nop => "NOP",
@@ -35,7 +37,8 @@ pub fn memory(op: MemoryOp) -> &'static str
 
 /// What stands behind the name of a memory operation with this access.
 pub fn access(access: Access) -> &'static str
-    ensures { result.now ≡ access_suffix access }
+    ensures name { result.now ≡ access_suffix access }
+    ensures short { length result.now ≤ 2 }
 {
     match access {
         Access::FromPointer => "",
@@ -47,7 +50,8 @@ pub fn access(access: Access) -> &'static str
 
 /// The name of an arithmetic operation, without a suffix.
 pub fn arithmetic(op: ArithmeticOp) -> &'static str
-    ensures { result.now ≡ arithmetic_name op }
+    ensures name { result.now ≡ arithmetic_name op }
+    ensures short { length result.now ≤ 5 }
 {
     match op {
         ArithmeticOp::Nop => "NOP",
@@ -70,14 +74,16 @@ pub fn arithmetic(op: ArithmeticOp) -> &'static str
 
 /// What stands behind the name of an arithmetic operation that makes a condition code, or makes none.
 pub fn test(test: bool) -> &'static str
-    ensures { result.now ≡ test_suffix test }
+    ensures name { result.now ≡ test_suffix test }
+    ensures short { length result.now ≤ 2 }
 {
     if test { ".T" } else { "" }
 }
 
 /// The name of a control operation.
 pub fn control(op: ControlOp) -> &'static str
-    ensures { result.now ≡ control_name op }
+    ensures name { result.now ≡ control_name op }
+    ensures short { length result.now ≤ 7 }
 {
     match op {
         ControlOp::Nop => "NOP",
@@ -98,7 +104,8 @@ pub fn control(op: ControlOp) -> &'static str
 
 /// The name of a condition.
 pub fn condition(condition: Condition) -> &'static str
-    ensures { result.now ≡ condition_name condition }
+    ensures name { result.now ≡ condition_name condition }
+    ensures short { length result.now ≤ 6 }
 {
     match condition {
         Condition::Always => "ALWAYS",
@@ -121,7 +128,8 @@ pub fn condition(condition: Condition) -> &'static str
 
 /// The name of a directive, with its dot.
 pub fn directive(directive: Directive) -> &'static str
-    ensures { result.now ≡ directive_name directive }
+    ensures name { result.now ≡ directive_name directive }
+    ensures short { length result.now ≤ 8 }
 {
     match directive {
         Directive::Profile => ".profile",

@@ -1,6 +1,6 @@
 //! What the text of an operand says.
 
-ghost use Rattle.std.specs.Prelude.{◌≡◌, ◌^◌, ◌-◌};
+ghost use Rattle.std.specs.Prelude.{◌≡◌, ◌-◌};
 ghost use Rattle.asm_line.specs.Operands.{register, target, value_within, distance, offset, displacement, source_of};
 ghost use Rattle.asm_line.specs.Operands.{condition};
 ghost use Rattle.asm_line.specs.Labels.{places_of};

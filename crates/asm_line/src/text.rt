@@ -1,8 +1,7 @@
 //! Bytes of a line: blanks, heads, names.
 
-ghost use Rattle.std.specs.Prelude.{◌≡◌, ◌≤◌, ◌∷◌, ◌==◌, length, reverse, drop, slice_index, ◌<◌};
-ghost use Rattle.std.specs.List.{position, before_first, list_all};
-ghost use Rattle.std.specs.Option.{option_copied};
+ghost use Rattle.std.specs.Prelude.{◌≡◌, ◌==◌, reverse, drop, slice_index, ◌<◌};
+ghost use Rattle.std.specs.List.{position, list_all};
 ghost use Rattle.asm_line.specs.Text.{is_blank, skip_blanks, trim, head, behind_head};
 ghost use Rattle.asm_line.specs.Text.{is_first, is_further, is_name};
 

@@ -56,7 +56,8 @@ second (Err d) (Ok y) v e = absurd cc
 second (Err d) (Err f) v e = absurd cc
 
 not_word : (profile slim retry trap entry datum fill : Bool) (d : Directive)
-    → unless_unknown (cond profile (Some directive.Profile) (cond slim (Some directive.Slim) (cond retry (Some directive.Retry)
+    → unless_unknown
+    (cond profile (Some directive.Profile) (cond slim (Some directive.Slim) (cond retry (Some directive.Retry)
     (cond trap (Some directive.Trap) (cond entry (Some directive.Entry) (cond false (Some directive.Word)
     (cond datum (Some directive.Data) (cond fill (Some directive.Fill) None)))))))) ≡ Ok d
     → is_word_directive d ≡ false

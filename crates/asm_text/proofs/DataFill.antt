@@ -1,6 +1,7 @@
 -- A line .data v adds what .fill 1, v, 1 adds.
 use Rattle.std.proofs.Common.{◌≡◌, ◌≢◌, ℕ, ◌+◌, Bool, true, false, not, cond, eqb, List, [], ◌∷◌, ◌++◌, map, length}
-use Rattle.std.proofs.Common.{reverse, codes, All, Option, Some, None, Ok, Err, option_map, refl, sym, ◌∙◌, ap, subst, arith}
+use Rattle.std.proofs.Common.{reverse, codes, All, Option, Some, None, Ok, Err, option_map, refl, sym, ◌∙◌, ap, subst}
+use Rattle.std.proofs.Common.{arith}
 use Rattle.std.proofs.Common.{ne_eqb}
 use Rattle.std.specs.Prelude.{◌&&◌, ◌||◌, ⊤, nat_lt}
 use Rattle.std.specs.List.{list_any}

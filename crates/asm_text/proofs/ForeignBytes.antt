@@ -1,6 +1,7 @@
 -- The line of the first byte that is not ASCII is the least line with such a byte.
 use Rattle.std.proofs.Common.{◌≡◌, ℕ, zero, suc, ◌+◌, ◌<◌, Bool, true, false, not, cond, eqb, ltb, leb, List, [], ◌∷◌}
-use Rattle.std.proofs.Common.{length, take, slice_get, Option, Some, None, option_map, refl, sym, ◌∙◌, ap, subst, arith}
+use Rattle.std.proofs.Common.{length, take, slice_get, Option, Some, None, option_map, refl, sym, ◌∙◌, ap, subst}
+use Rattle.std.proofs.Common.{arith}
 use Rattle.std.proofs.Common.{◌↔◌, ◌++◌, lt-ltb, true≢false}
 use Rattle.std.specs.Prelude.{◌||◌}
 use Rattle.std.specs.Str.{IsAscii, IsNotAscii}
@@ -166,7 +167,8 @@ none_more (Some n) = same_some n (0 + n) (omega arith)
 
 parts_side : (x : ℕ) (ps : List (List ℕ)) (b c : Bool) → foreign x ≡ b → eqb x 10 ≡ c
     → option_map (λ (k : ℕ). k + 1) (first_at has_foreign (cond c ([] ∷ ps) (onto_first x ps)))
-    ≡ cond b (Some 1) (option_map (λ (k : ℕ). cond c 1 0 + k) (option_map (λ (k : ℕ). k + 1) (first_at has_foreign ps)))
+    ≡ cond b (Some 1)
+    (option_map (λ (k : ℕ). cond c 1 0 + k) (option_map (λ (k : ℕ). k + 1) (first_at has_foreign ps)))
 parts_side x ps true true e f = absurd (omega (arith, leb-true 128 x e, eqb-true x 10 f))
 parts_side x [] true false e f =
     ap (λ t. option_map (λ (k : ℕ). k + 1) (cond (t || false) (Some 0) None)) e

@@ -22,7 +22,7 @@ use Rattle.asm_text.specs.Settings.{set_once, profile_set, slim_set, retry_set, 
 use Rattle.asm_line.specs.Ranges.{IsItemInRange}
 use Rattle.asm_text.specs.Drafts.{DraftValue, empty, add, with_settings, with_entry, with_word, with_cells, has_all}
 use Rattle.asm_text.specs.Drafts.{image_of_draft}
-use Rattle.asm_text.specs.Limits.{IsKept, IsReady}
+use Rattle.asm_text.specs.Limits.{KeepsLimits, IsReady}
 
 pub ready : (words : ℕ) (i : Item) → IsItemInRange words i → IsReady i
 ready words item.Nothing h = tt
@@ -38,11 +38,11 @@ ready words (item.Cells count value tags) h = h.3
 abbrev HasSlim : Settings → Type 0
 HasSlim s = IfSome s.slim (λ n. (1 ≤ n) × (n ≤ 128))
 
-settings_kept : (words : ℕ) (d e : DraftValue) (r : Result Settings Fault) → IsKept words d
-    → ((s : Settings) → r ≡ Ok s → HasSlim s) → with_settings d r ≡ Ok e → IsKept words e
+settings_kept : (words : ℕ) (d e : DraftValue) (r : Result Settings Fault) → KeepsLimits words d
+    → ((s : Settings) → r ≡ Ok s → HasSlim s) → with_settings d r ≡ Ok e → KeepsLimits words e
 settings_kept words d e (Ok s) k h is =
     let at : record d { settings = s } ≡ e = cc in
-    subst (IsKept words) at (record {
+    subst (KeepsLimits words) at (record {
       slim = h s refl;
       few_entries = k.few_entries;
       entries_stand = k.entries_stand;
@@ -83,12 +83,12 @@ retry_kept s t n h is = subst HasSlim (mapped (λ o. record s { retry = o }) (se
 trap_kept : (s t : Settings) (n : ℕ) → HasSlim s → trap_set s n ≡ Ok t → HasSlim t
 trap_kept s t n h is = subst HasSlim (mapped (λ o. record s { trap = o }) (set_once s.trap n) t is).2 h
 
-entry_kept : (words : ℕ) (d e : DraftValue) (n : ℕ) → IsKept words d → n < words → with_entry d n ≡ Ok e
-    → IsKept words e
+entry_kept : (words : ℕ) (d e : DraftValue) (n : ℕ) → KeepsLimits words d → n < words → with_entry d n ≡ Ok e
+    → KeepsLimits words e
 entry_kept words d e n k h is =
     let p = passed (ltb (length d.entries) 16) (record d { entries = d.entries ++ n ∷ [] }) e fault.Limit is in
     let room = ltb-true (length d.entries) 16 p.0 in
-    subst (IsKept words) p.1 (record {
+    subst (KeepsLimits words) p.1 (record {
       slim = k.slim;
       few_entries = omega (arith, length-append d.entries (n ∷ []));
       entries_stand = All-push (λ m. m < words) d.entries n k.entries_stand h;
@@ -96,11 +96,11 @@ entry_kept words d e n k h is =
       few_cells = k.few_cells;
     })
 
-word_kept : (words : ℕ) (d e : DraftValue) (w : ℕ) → IsKept words d → with_word d w ≡ Ok e → IsKept words e
+word_kept : (words : ℕ) (d e : DraftValue) (w : ℕ) → KeepsLimits words d → with_word d w ≡ Ok e → KeepsLimits words e
 word_kept words d e w k is =
     let p = passed (ltb (length d.words) 65536) (record d { words = d.words ++ w ∷ [] }) e fault.Limit is in
     let room = ltb-true (length d.words) 65536 p.0 in
-    subst (IsKept words) p.1 (record {
+    subst (KeepsLimits words) p.1 (record {
       slim = k.slim;
       few_entries = k.few_entries;
       entries_stand = k.entries_stand;
@@ -108,13 +108,13 @@ word_kept words d e w k is =
       few_cells = k.few_cells;
     })
 
-cells_kept : (words : ℕ) (d e : DraftValue) (n : ℕ) (c : Cell) → IsKept words d → with_cells d n c ≡ Ok e
-    → IsKept words e
+cells_kept : (words : ℕ) (d e : DraftValue) (n : ℕ) (c : Cell) → KeepsLimits words d → with_cells d n c ≡ Ok e
+    → KeepsLimits words e
 cells_kept words d e n c k is =
     let p = passed (leb (length d.cells + n) 262144) (record d { cells = d.cells ++ replicate n c }) e
     fault.Limit is in
     let room = leb-true (length d.cells + n) 262144 p.0 in
-    subst (IsKept words) p.1 (record {
+    subst (KeepsLimits words) p.1 (record {
       slim = k.slim;
       few_entries = k.few_entries;
       entries_stand = k.entries_stand;
@@ -123,10 +123,10 @@ cells_kept words d e n c k is =
     })
 
 -- what a line adds keeps the limits
-pub add_kept : (words : ℕ) (d e : DraftValue) (i : Item) → IsKept words d → IsItemInRange words i → add d i ≡ Ok e
-    → IsKept words e
+pub add_kept : (words : ℕ) (d e : DraftValue) (i : Item) → KeepsLimits words d → IsItemInRange words i
+    → add d i ≡ Ok e → KeepsLimits words e
 unfolding add
-add_kept words d e item.Nothing k h is = let at : d ≡ e = cc in subst (IsKept words) at k
+add_kept words d e item.Nothing k h is = let at : d ≡ e = cc in subst (KeepsLimits words) at k
 add_kept words d e item.Profile k h is =
     settings_kept words d e (profile_set d.settings) k (λ s. profile_kept d.settings s k.slim) is
 add_kept words d e (item.Slim n) k h is =
@@ -140,7 +140,7 @@ add_kept words d e (item.Instruction i) k h is = word_kept words d e (number_of_
 add_kept words d e (item.Word w) k h is = word_kept words d e w k is
 add_kept words d e (item.Cells count value tags) k h is = cells_kept words d e count (cell_of value tags) k is
 
-pub empty_kept : (words : ℕ) → IsKept words empty
+pub empty_kept : (words : ℕ) → KeepsLimits words empty
 empty_kept words = record {
   slim = tt;
   few_entries = omega arith;
@@ -154,7 +154,7 @@ some_slim None h = (omega arith, omega arith)
 some_slim (Some n) h = h
 
 -- a whole draft is an image
-pub within : (words : ℕ) (d : DraftValue) → IsKept words d → length d.words ≡ words → has_all d ≡ true
+pub within : (words : ℕ) (d : DraftValue) → KeepsLimits words d → length d.words ≡ words → has_all d ≡ true
     → IsWithin (image_of_draft d)
 unfolding image_of_draft
 within words d k count all =
@@ -173,6 +173,7 @@ within words d k count all =
     }
 
 pub add_keeps : (words : ℕ) (d e : DraftValue) (i : Item) (r : Result (Unit {0}) Fault) (Refused : Fault → Type 0)
-    → IsItemInRange words i → MatchResult r (λ _. add d i ≡ Ok e) Refused → IsKept words d → OnOk r (IsKept words e)
+    → IsItemInRange words i → MatchResult r (λ _. add d i ≡ Ok e) Refused → KeepsLimits words d
+    → OnOk r (KeepsLimits words e)
 add_keeps words d e i (Ok x) refused h is k = add_kept words d e i k h is
 add_keeps words d e i (Err f) refused h is k = tt

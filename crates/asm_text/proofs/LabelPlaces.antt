@@ -71,7 +71,8 @@ first_by l ls name p false (Some q) test is rest =
 is_first : (ls : List Line) (name : List ℕ) (p : Place) → place ls name ≡ Some p → IsFirstPlace ls name p
 is_first [] name p is = let no : ◌≡◌ {A = Option Place} None (Some p) = sym (place-none name) ∙ is in absurd cc
 is_first (l ∷ ls) name p is =
-    first_by l ls name p (stands name l.label) (place ls name) refl (sym (place-cons l ls name) ∙ is) (is_first ls name)
+    first_by l ls name p (stands name l.label) (place ls name) refl
+    (sym (place-cons l ls name) ∙ is) (is_first ls name)
 
 nowhere_by : (l : Line) (ls : List Line) (name : List ℕ) (here : Bool) (o : Option Place) (k : ℕ)
     → stands name l.label ≡ here

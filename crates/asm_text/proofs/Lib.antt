@@ -1,10 +1,10 @@
+pub mod Ascii
 pub mod WordOfFields
 pub mod Standing
 pub mod Kept
 pub mod Counted
 pub mod Assembly
 pub mod Listed
-pub mod RunFronts
 pub mod RunCells
 pub mod ReadLines
 pub mod Sections

@@ -1,5 +1,6 @@
 -- A text has the fault of the least line that has one.
-use Rattle.std.proofs.Common.{◌≡◌, ℕ, suc, ◌+◌, ◌⊎◌, Bool, true, false, cond, List, length, Option, Some, None, Result, Ok, Err}
+use Rattle.std.proofs.Common.{◌≡◌, ℕ, suc, ◌+◌, ◌⊎◌, Bool, true, false, cond, List, length, Option, Some, None}
+use Rattle.std.proofs.Common.{Result, Ok, Err}
 use Rattle.std.proofs.Common.{refl, sym, ◌∙◌, ap, arith, inl, inr, ⊎_elim}
 use Rattle.std.specs.Str.{IsAscii}
 use Rattle.image_file.specs.ImageValue.{ImageValue}
@@ -13,7 +14,8 @@ use Rattle.asm_text.specs.FaultLaws.{AddUpTo, IsFirstFault, IsNotAsciiFault, IsL
 use Rattle.asm_text.specs.FaultLaws.{FaultsAreFirst, LinesAddUp}
 use Rattle.asm_text.proofs.Assembly.{with_byte, by_lines}
 use Rattle.asm_text.proofs.ForeignBytes.{foreign_line, line_foreign, all_ascii, ascii_all}
-use Rattle.asm_text.proofs.LineSteps.{Adds, Fails, at_line, lines_add, added_lines, lines_fail, failed_lines, fault_is}
+use Rattle.asm_text.proofs.LineSteps.{Adds, Fails, at_line, lines_add, added_lines, lines_fail, failed_lines}
+use Rattle.asm_text.proofs.LineSteps.{fault_is}
 
 -- Lines counted from the first.
 

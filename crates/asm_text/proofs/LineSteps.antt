@@ -9,7 +9,8 @@ use Rattle.asm_text.specs.Drafts.{DraftValue}
 use Rattle.asm_text.specs.Sources.{with_line, with_lines, going}
 
 -- the first k of these lines, of which the first is line n, add to a draft and give another
-pub record Adds (places : Places) (words n : ℕ) (d : DraftValue) (ls : List Line) (k : ℕ) (e : DraftValue) : Type 0 where
+pub record Adds (places : Places) (words n : ℕ) (d : DraftValue) (ls : List Line)
+    (k : ℕ) (e : DraftValue) : Type 0 where
   pub drafts : ℕ → DraftValue
   pub first : drafts 0 ≡ d
   pub each : (j : ℕ) (l : Line) → j < k → slice_get ls j ≡ Some l
@@ -98,7 +99,8 @@ added_lines places words n d e (l ∷ ls) a =
     ∙ added_lines places words (n + 1) (a.drafts 1) e ls (tail_adds places words n d e l ls (length ls) a)
 
 -- line k of these has a fault, and none before it
-pub record Fails (places : Places) (words n : ℕ) (d : DraftValue) (ls : List Line) (k : ℕ) (kind : Fault) : Type 0 where
+pub record Fails (places : Places) (words n : ℕ) (d : DraftValue) (ls : List Line)
+    (k : ℕ) (kind : Fault) : Type 0 where
   pub draft : DraftValue
   pub before : Adds places words n d ls k draft
   pub line : Line

@@ -11,8 +11,10 @@ use Rattle.tag_memory.specs.Cell.{Cell}
 use Rattle.image_file.specs.ImageValue.{ImageValue}
 use Rattle.listing_line.specs.WordText.{word_line}
 use Rattle.listing_line.specs.DirectiveLines.{entry_line}
-use Rattle.asm_text.specs.Runs.{CellRun, cell_runs}
-use Rattle.asm_text.specs.Listing.{setting_lines, word_lines, cell_run_line, listing_lines, with_line_end, text_of_lines, listing}
+use Rattle.text_parts.specs.Runs.{Run}
+use Rattle.asm_text.specs.Runs.{cell_runs}
+use Rattle.asm_text.specs.Listing.{setting_lines, word_lines, cell_run_line, listing_lines, with_line_end}
+use Rattle.asm_text.specs.Listing.{text_of_lines, listing}
 
 -- one line more in the text is one less to come
 pushed : (before line rest whole now : List ℕ) → now ≡ before ++ line → before ++ (line ++ rest) ≡ whole
@@ -31,7 +33,8 @@ pub entry_pushed : (entries : List ℕ) (k entry : ℕ) (before whole now : List
     → before ++ text_of_lines (map entry_line (drop k entries)) ≡ whole
     → now ++ text_of_lines (map entry_line (drop (k + 1) entries)) ≡ whole
 entry_pushed entries k entry before whole now here at is h =
-    pushed before (with_line_end (entry_line entry)) (text_of_lines (map entry_line (drop (k + 1) entries))) whole now is
+    pushed before (with_line_end (entry_line entry)) (text_of_lines (map entry_line (drop (k + 1) entries))) whole now
+    is
     (sym (ap (λ es. before ++ text_of_lines (map entry_line es)) (entries_at entries k entry here at)) ∙ h)
 
 pub entries_end : (entries : List ℕ) (k : ℕ) (now whole : List ℕ) → length entries ≤ k
@@ -51,7 +54,8 @@ pub word_pushed : (program : List ℕ) (k word : ℕ) (before whole now : List �
     → before ++ text_of_lines (word_lines k (drop k program)) ≡ whole
     → now ++ text_of_lines (word_lines (k + 1) (drop (k + 1) program)) ≡ whole
 word_pushed program k word before whole now here at is h =
-    pushed before (with_line_end (word_line k word)) (text_of_lines (word_lines (k + 1) (drop (k + 1) program))) whole now is
+    pushed before (with_line_end (word_line k word)) (text_of_lines (word_lines (k + 1) (drop (k + 1) program))) whole
+    now is
     (sym (ap (λ ws. before ++ text_of_lines (word_lines k ws)) (words_at program k word here at)) ∙ h)
 
 pub words_end : (program : List ℕ) (k : ℕ) (now whole : List ℕ) → length program ≤ k
@@ -61,7 +65,8 @@ words_end program k now whole past h =
 
 -- the four parts of a listing, one after another
 pub parts_joined : (i : ImageValue)
-    → ((text_of_lines (setting_lines i) ++ text_of_lines (map entry_line i.entries)) ++ text_of_lines (word_lines 0 i.program))
+    → ((text_of_lines (setting_lines i) ++ text_of_lines (map entry_line i.entries))
+    ++ text_of_lines (word_lines 0 i.program))
     ++ text_of_lines (map cell_run_line (cell_runs i.cells)) ≡ listing i
 unfolding listing listing_lines
 parts_joined i =
@@ -88,15 +93,18 @@ all_parts i t0 t1 t2 t3 t4 cells e0 e1 e2 e3 ec e4 =
     ∙ ap (λ t. t ++ c) (e3 ∙ ap (λ t. t ++ w) (e2 ∙ ap (λ t. t ++ e) (e1 ∙ ap (λ t. t ++ s) e0)))
     ∙ parts_joined i
 
-pub run_pushed : (rs following : List CellRun) (count : ℕ) (cell : Cell) (before whole now : List ℕ)
-    → rs ≡ record { count = count; cell = cell } ∷ following
-    → now ≡ before ++ with_line_end (cell_run_line (record { count = count; cell = cell }))
-    → before ++ text_of_lines (map cell_run_line rs) ≡ whole → now ++ text_of_lines (map cell_run_line following) ≡ whole
+pub run_pushed : (rs following : List (Run Cell)) (count : ℕ) (cell : Cell) (before whole now : List ℕ)
+    → rs ≡ record { thing = cell; times = count } ∷ following
+    → now ≡ before ++ with_line_end (cell_run_line (record { thing = cell; times = count }))
+    → before ++ text_of_lines (map cell_run_line rs) ≡ whole
+    → now ++ text_of_lines (map cell_run_line following) ≡ whole
 run_pushed rs following count cell before whole now first is h =
-    pushed before (with_line_end (cell_run_line (record { count = count; cell = cell }))) (text_of_lines (map cell_run_line following))
+    pushed before (with_line_end (cell_run_line (record { thing = cell; times = count })))
+    (text_of_lines (map cell_run_line following))
     whole now is
     (sym (ap (λ xs. before ++ text_of_lines (map cell_run_line xs)) first) ∙ h)
 
-pub runs_end : (rs : List CellRun) (now whole : List ℕ) → rs ≡ [] → now ++ text_of_lines (map cell_run_line rs) ≡ whole → now ≡ whole
+pub runs_end : (rs : List (Run Cell)) (now whole : List ℕ) → rs ≡ []
+    → now ++ text_of_lines (map cell_run_line rs) ≡ whole → now ≡ whole
 runs_end rs now whole none h =
     sym (append-nil now) ∙ sym (ap (λ xs. now ++ text_of_lines (map cell_run_line xs)) none) ∙ h

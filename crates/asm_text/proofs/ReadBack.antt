@@ -17,9 +17,10 @@ use Rattle.listing_line.specs.DirectiveLines.{entry_line}
 use Rattle.asm_text.specs.declared.fault.AsmFault.{AsmFault}
 use Rattle.asm_text.specs.Drafts.{DraftValue, empty, has_all, image_of_draft}
 use Rattle.asm_text.specs.Sources.{with_lines, image_or_incomplete}
+use Rattle.text_parts.specs.Runs.{run_things}
 use Rattle.asm_text.specs.Runs.{cell_runs}
 use Rattle.asm_text.specs.Listing.{setting_lines, word_lines, cell_run_line, listing_lines, text_of_lines, listing}
-use Rattle.asm_text.specs.Laws.{OneMeaning, ListingsReadBack, cells_of}
+use Rattle.asm_text.specs.Laws.{OneMeaning, ListingsReadBack}
 use Rattle.asm_text.proofs.Assembly.{IsFound, draft_whole}
 use Rattle.asm_text.proofs.RunCells.{runs_are_cells, runs_fit}
 use Rattle.asm_text.proofs.ReadLines.{AreRead, read_both, add_all, lines_added, last_line, count_items, lines_counted}
@@ -69,7 +70,7 @@ draft_of i = record {
   settings = (with_settings_of i).settings;
   entries = i.entries;
   words = i.program;
-  cells = flat_map cells_of (cell_runs i.cells);
+  cells = flat_map run_things (cell_runs i.cells);
 }
 
 items_added : (i : ImageValue) → IsWithin i → add_all empty (items i) ≡ Ok (draft_of i)
@@ -111,12 +112,12 @@ all_there i w =
     let cells = ap length (runs_are_cells i.cells) in
     let entries : 0 < length i.entries = omega (arith, w.some_processors) in
     let words : 0 < length i.program = omega (arith, w.some_words) in
-    let some : 0 < length (flat_map cells_of (cell_runs i.cells)) = omega (arith, cells, w.some_cells) in
+    let some : 0 < length (flat_map run_things (cell_runs i.cells)) = omega (arith, cells, w.some_cells) in
     and_from (ltb 0 (length i.entries))
-    (ltb 0 (length i.program) && ltb 0 (length (flat_map cells_of (cell_runs i.cells))))
+    (ltb 0 (length i.program) && ltb 0 (length (flat_map run_things (cell_runs i.cells))))
     (lt-ltb 0 (length i.entries) entries)
-    (and_from (ltb 0 (length i.program)) (ltb 0 (length (flat_map cells_of (cell_runs i.cells))))
-    (lt-ltb 0 (length i.program) words) (lt-ltb 0 (length (flat_map cells_of (cell_runs i.cells))) some))
+    (and_from (ltb 0 (length i.program)) (ltb 0 (length (flat_map run_things (cell_runs i.cells))))
+    (lt-ltb 0 (length i.program) words) (lt-ltb 0 (length (flat_map run_things (cell_runs i.cells))) some))
 
 passes : (b : Bool) (x y : ImageValue) (e : AsmFault) → b ≡ true → x ≡ y
     → ◌≡◌ {A = Result ImageValue AsmFault} (cond b (Ok x) (Err e)) (Ok y)

@@ -1,110 +1,91 @@
--- Runs are the cells, as long as they can be.
-use Rattle.std.proofs.Common.{◌≡◌, ℕ, suc, ◌+◌, ◌<◌, ◌≤◌, Bool, true, false, cond, List, [], ◌∷◌, ◌++◌, length}
-use Rattle.std.proofs.Common.{replicate}
-use Rattle.std.proofs.Common.{refl, sym, ◌∙◌, ap, subst, arith, add-one}
-use Rattle.std.specs.Prelude.{◌≢◌, ◌^◌}
-use Rattle.std.specs.List.{flat_map, All, AllByRecursion}
-use Rattle.std.proofs.lemmas.Bool.{false≢true}
-use Rattle.std.proofs.lemmas.List.Elements.{All-head, All-tail, All-append, All-nil, All-replicate}
-use Rattle.tag_memory.specs.Cell.{Cell}
+-- Runs are the cells, as long as they can be; the first one, as it is cut off.
+use Rattle.std.proofs.Common.{◌≡◌, ℕ, ◌-◌, ◌<◌, ◌≤◌, true, eqb, List, [], ◌∷◌, ◌++◌, length, take, drop, replicate}
+use Rattle.std.proofs.Common.{get_or, Option, Some, None, refl, sym, ◌∙◌, ap, subst, arith}
+use Rattle.std.specs.Prelude.{MatchOption, ◌^◌}
+use Rattle.std.specs.List.{flat_map, slice_get, All, AllByRecursion}
+use Rattle.std.proofs.lemmas.Bool.{and_parts, and_from, eqb-true, eq-eqb}
+use Rattle.std.proofs.lemmas.List.{nil_from_length}
+use Rattle.std.proofs.lemmas.List.Elements.{All-append, All-nil, All-replicate}
+use Rattle.std.proofs.lemmas.Slice.{between_to_end}
+use Rattle.text_parts.specs.Runs.{runs_of, run_length, run_things}
+use Rattle.text_parts.proofs.RunLaws.{IsEquality, IsRunOf, first_run, some_first, runs_whole, each_run, some_run}
+use Rattle.text_parts.proofs.RunLaws.{neighbours_differ}
+use Rattle.tag_memory.specs.Cell.{Cell, cell_of, tag_number}
 use Rattle.image_file.specs.Same.{same_cell}
-use Rattle.asm_text.specs.Runs.{CellRun, cell_before_runs, cell_runs}
-use Rattle.asm_text.specs.Laws.{cells_of, NeighboursDiffer, RunsAreCells, RunsHaveCells, RunsAreMaximal}
-use Rattle.asm_text.proofs.RunFronts.{same_is, same_self}
+use Rattle.image_file.specs.SameLaws.{cell_of-tag_number}
+use Rattle.asm_text.specs.Runs.{cell_runs}
+use Rattle.asm_text.specs.Laws.{RunsAreCells, RunsHaveCells, RunsAreMaximal}
 
-by_test : (b : Bool) (xs ys : List CellRun) (P : List CellRun → Type 0) → (b ≡ true → P xs) → (b ≡ false → P ys)
-    → P (cond b xs ys)
-by_test true xs ys P p q = p refl
-by_test false xs ys P p q = q refl
+same_is : (c d : Cell) → same_cell c d ≡ true → c ≡ d
+same_is c d e =
+    let p = and_parts (eqb c.value d.value) (eqb (tag_number c) (tag_number d)) e in
+    let v = eqb-true c.value d.value p.0 in
+    let t = eqb-true (tag_number c) (tag_number d) p.1 in
+    sym (cell_of-tag_number c) ∙ (λ i. cell_of (v i) (t i)) ∙ cell_of-tag_number d
 
--- a cell before other runs makes the first longer, or is a run of its own
-by_cell : (c : Cell) (r : CellRun) (rs : List CellRun) (P : List CellRun → Type 0)
-    → (same_cell c r.cell ≡ true → P (record r { count = r.count + 1 } ∷ rs))
-    → (same_cell c r.cell ≡ false → P (record { count = 1; cell = c } ∷ r ∷ rs))
-    → P (cell_before_runs c (r ∷ rs))
-by_cell c r rs P p q =
-    by_test (same_cell c r.cell) (record r { count = r.count + 1 } ∷ rs)
-    (record { count = 1; cell = c } ∷ r ∷ rs) P p q
+same_self : (c : Cell) → same_cell c c ≡ true
+same_self c =
+    and_from (eqb c.value c.value) (eqb (tag_number c) (tag_number c))
+    (eq-eqb c.value c.value refl) (eq-eqb (tag_number c) (tag_number c) refl)
 
-joined_cells : (c : Cell) (rs : List CellRun) → flat_map cells_of (cell_before_runs c rs) ≡ c ∷ flat_map cells_of rs
-joined_cells c [] = refl
-joined_cells c (r ∷ rs) =
-    by_cell c r rs (λ ss. flat_map cells_of ss ≡ c ∷ flat_map cells_of (r ∷ rs))
-    (λ e. ap (λ n. replicate n r.cell ++ flat_map cells_of rs) (add-one r.count)
-    ∙ ap (λ d. d ∷ (replicate r.count r.cell ++ flat_map cells_of rs)) (sym (same_is c r.cell e)))
-    (λ e. refl)
+cells_equal : IsEquality Cell same_cell
+cells_equal = record { is = same_is; self = same_self }
 
 pub runs_are_cells : RunsAreCells
-unfolding cell_runs
-runs_are_cells [] = refl
-runs_are_cells (c ∷ cs) = joined_cells c (cell_runs cs) ∙ ap (λ ds. c ∷ ds) (runs_are_cells cs)
-
--- of what the runs of so many cells are made
-abbrev IsRunOf : ℕ → CellRun → Type 0
-IsRunOf n r = (1 ≤ r.count) × (r.count ≤ n) × (r.cell.value < 2 ^ 64)
-
-weaker : (n : ℕ) (rs : List CellRun) → AllByRecursion (IsRunOf n) rs → AllByRecursion (IsRunOf (n + 1)) rs
-weaker n [] h = tt
-weaker n (r ∷ rs) h = ((h.0.0, omega arith, h.0.2), weaker n rs h.1)
-
-joined_runs : (n : ℕ) (c : Cell) (rs : List CellRun) → c.value < 2 ^ 64 → AllByRecursion (IsRunOf n) rs
-    → AllByRecursion (IsRunOf (n + 1)) (cell_before_runs c rs)
-joined_runs n c [] v h = ((omega arith, omega arith, v), tt)
-joined_runs n c (r ∷ rs) v h =
-    by_cell c r rs (AllByRecursion (IsRunOf (n + 1)))
-    (λ e. ((omega arith, omega arith, h.0.2), weaker n rs h.1))
-    (λ e. ((omega arith, omega arith, v), weaker n (r ∷ rs) h))
-
-pub runs_fit : (cells : List Cell) → All (λ (c : Cell). c.value < 2 ^ 64) cells
-    → AllByRecursion (IsRunOf (length cells)) (cell_runs cells)
-unfolding cell_runs
-runs_fit [] h = tt
-runs_fit (c ∷ cs) h =
-    let more : suc (length cs) ≡ length cs + 1 = omega arith in
-    subst (λ n. AllByRecursion (IsRunOf n) (cell_before_runs c (cell_runs cs))) (sym more)
-    (joined_runs (length cs) c (cell_runs cs) (All-head (λ (d : Cell). d.value < 2 ^ 64) c cs h)
-    (runs_fit cs (All-tail (λ (d : Cell). d.value < 2 ^ 64) c cs h)))
-
-some_joined : (c : Cell) (rs : List CellRun) → AllByRecursion (λ (r : CellRun). 1 ≤ r.count) rs
-    → AllByRecursion (λ (r : CellRun). 1 ≤ r.count) (cell_before_runs c rs)
-some_joined c [] h = (omega arith, tt)
-some_joined c (r ∷ rs) h =
-    by_cell c r rs (AllByRecursion (λ (s : CellRun). 1 ≤ s.count)) (λ e. (omega arith, h.1)) (λ e. (omega arith, h))
+runs_are_cells cells = runs_whole same_cell cells_equal cells
 
 pub runs_have_cells : RunsHaveCells
-unfolding cell_runs
-runs_have_cells [] = tt
-runs_have_cells (c ∷ cs) = some_joined c (cell_runs cs) (runs_have_cells cs)
-
-differ : (c d : Cell) → same_cell c d ≡ false → c ≢ d
-differ c d e is = false≢true (sym e ∙ ap (λ x. same_cell x d) is ∙ same_self d)
-
-joined_differ : (c : Cell) (rs : List CellRun) → NeighboursDiffer rs → NeighboursDiffer (cell_before_runs c rs)
-joined_differ c [] h = tt
-joined_differ c (r ∷ []) h =
-    by_cell c r [] NeighboursDiffer (λ e. tt) (λ e. (differ c r.cell e, tt))
-joined_differ c (r ∷ s ∷ rs) h =
-    by_cell c r (s ∷ rs) NeighboursDiffer (λ e. h) (λ e. (differ c r.cell e, h))
+runs_have_cells cells = some_run same_cell cells_equal cells
 
 pub runs_are_maximal : RunsAreMaximal
-unfolding cell_runs
-runs_are_maximal [] = tt
-runs_are_maximal (c ∷ cs) = joined_differ c (cell_runs cs) (runs_are_maximal cs)
+runs_are_maximal cells = neighbours_differ same_cell cells_equal cells
+
+-- of what the runs of cells are made
+pub runs_fit : (cells : List Cell) → All (λ (c : Cell). c.value < 2 ^ 64) cells
+    → AllByRecursion (IsRunOf (λ (c : Cell). c.value < 2 ^ 64) (length cells)) (cell_runs cells)
+runs_fit cells h = each_run same_cell cells_equal (λ (c : Cell). c.value < 2 ^ 64) cells h
+
+-- The first run, as it is cut off.
+
+pub no_cells : (cells : List Cell) → length cells ≤ 0 → cell_runs cells ≡ []
+unfolding runs_of
+no_cells cells none = ap cell_runs (nil_from_length cells (omega arith))
+
+at_get : (cells : List Cell) (c : Cell) → 0 < length cells → c ≡ get_or cells 0 c → slice_get cells 0 ≡ Some c
+at_get [] c some first = absurd (omega arith)
+at_get (d ∷ ds) c some first = ap Some (sym first)
+
+pub run_cut : (cells : List Cell) (c : Cell) (n : ℕ) → 0 < length cells → c ≡ get_or cells 0 c
+    → n ≡ run_length same_cell c cells
+    → cell_runs cells ≡ record { thing = c; times = n } ∷ cell_runs (take (length cells - n) (drop n cells))
+run_cut cells c n some first e =
+    first_run same_cell cells_equal c cells (at_get cells c some first)
+    ∙ ap (λ m. record { thing = c; times = m } ∷ cell_runs (drop m cells)) (sym e)
+    ∙ ap (λ xs. record { thing = c; times = n } ∷ cell_runs xs)
+    (sym (between_to_end cells n (length cells) (omega arith)))
+
+pub run_some : (cells : List Cell) (c : Cell) → 0 < length cells → c ≡ get_or cells 0 c
+    → 0 < run_length same_cell c cells
+run_some cells c some first = (some_first same_cell cells_equal c cells (at_get cells c some first)).0
+
+pub at_none : {T : Type 0} (r : Option T) (P : Type 0) (Q : T → Type 0) → r ≡ None → MatchOption r P Q → P
+at_none None P Q e h = h
+at_none (Some x) P Q e h = absurd cc
 
 -- A run and what is behind it, and all cells that they are.
 
-pub run_fits : (cells following : List Cell) (count : ℕ) (cell : Cell)
-    → cell_runs cells ≡ record { count = count; cell = cell } ∷ cell_runs following → cell.value < 2 ^ 64
+pub run_fits : (cells following : List Cell) (times : ℕ) (cell : Cell)
+    → cell_runs cells ≡ record { thing = cell; times = times } ∷ cell_runs following → cell.value < 2 ^ 64
     → All (λ (c : Cell). c.value < 2 ^ 64) following → All (λ (c : Cell). c.value < 2 ^ 64) cells
-run_fits cells following count cell first v more =
+run_fits cells following times cell first v more =
     let Fit : Cell → Type 0 = λ c. c.value < 2 ^ 64 in
-    let split : replicate count cell ++ following ≡ cells =
-    ap (λ cs. replicate count cell ++ cs) (sym (runs_are_cells following))
-    ∙ sym (ap (λ rs. flat_map cells_of rs) first) ∙ runs_are_cells cells in
+    let split : replicate times cell ++ following ≡ cells =
+    ap (λ cs. replicate times cell ++ cs) (sym (runs_are_cells following))
+    ∙ sym (ap (λ rs. flat_map run_things rs) first) ∙ runs_are_cells cells in
     subst (All Fit) split
-    (All-append Fit (replicate count cell) following (All-replicate Fit count cell v) more)
+    (All-append Fit (replicate times cell) following (All-replicate Fit times cell v) more)
 
 pub no_runs_fit : (cells : List Cell) → cell_runs cells ≡ [] → All (λ (c : Cell). c.value < 2 ^ 64) cells
 no_runs_fit cells none =
     let Fit : Cell → Type 0 = λ c. c.value < 2 ^ 64 in
-    subst (All Fit) (sym (ap (λ rs. flat_map cells_of rs) none) ∙ runs_are_cells cells) (All-nil Fit)
+    subst (All Fit) (sym (ap (λ rs. flat_map run_things rs) none) ∙ runs_are_cells cells) (All-nil Fit)

@@ -24,9 +24,8 @@ use Rattle.listing_line.specs.Laws.{IsReadAs, word_item, item_of}
 use Rattle.listing_line.specs.Laws.{WordLinesReadBack, ProfileLinesReadBack, SlimLinesReadBack, RetryLinesReadBack}
 use Rattle.listing_line.specs.Laws.{TrapLinesReadBack, EntryLinesReadBack, FillLinesReadBack}
 use Rattle.asm_text.specs.Drafts.{DraftValue, empty, add, with_word, with_cells}
-use Rattle.asm_text.specs.Runs.{CellRun}
+use Rattle.text_parts.specs.Runs.{Run, run_things}
 use Rattle.asm_text.specs.Listing.{setting_lines, word_lines, cell_run_line}
-use Rattle.asm_text.specs.Laws.{cells_of}
 use Rattle.asm_text.proofs.WordOfFields.{number_of_spelt}
 use Rattle.asm_text.proofs.Counted.{bound}
 use Rattle.asm_text.proofs.ReadLines.{counts, AreRead, add_all, count_items}
@@ -200,8 +199,8 @@ words_count (w ∷ ws) = omega (arith, one_word w, words_count ws)
 abbrev with_data : DraftValue → List Cell → Result DraftValue Fault
 with_data d cells = Ok (record d { cells = cells })
 
-abbrev pub run_item : CellRun → Item
-run_item r = item.Cells r.count r.cell.value (tag_number r.cell)
+abbrev pub run_item : Run Cell → Item
+run_item r = item.Cells r.times r.thing.value (tag_number r.thing)
 
 four : (full forward trap0 trap1 : Bool)
     → cond full 1 0 + cond forward 2 0 + cond trap0 4 0 + cond trap1 8 0 < 16
@@ -225,35 +224,35 @@ four false false false false = omega arith
 few_tags : (c : Cell) → tag_number c < 16
 few_tags c = four c.full c.forward c.trap0 c.trap1
 
-pub runs_read : (laws : Laws) (words n : ℕ) (rs : List CellRun) → n ≤ 262144
-    → AllByRecursion (λ (r : CellRun). (1 ≤ r.count) × (r.count ≤ n) × (r.cell.value < 2 ^ 64)) rs
+pub runs_read : (laws : Laws) (words n : ℕ) (rs : List (Run Cell)) → n ≤ 262144
+    → AllByRecursion (λ (r : Run Cell). (1 ≤ r.times) × (r.times ≤ n) × (r.thing.value < 2 ^ 64)) rs
     → AreRead words (map cell_run_line rs) (map run_item rs)
 runs_read laws words n [] few h = tt
 runs_read laws words n (r ∷ rs) few h = (
-  laws.fill r.count r.cell.value (tag_number r.cell) words h.0.0 (omega arith) h.0.2 (few_tags r.cell),
+  laws.fill r.times r.thing.value (tag_number r.thing) words h.0.0 (omega arith) h.0.2 (few_tags r.thing),
   runs_read laws words n rs few h.1,
 )
 
-run_added : (d : DraftValue) (r : CellRun) → length d.cells + r.count ≤ 262144
-    → add d (run_item r) ≡ Ok (record d { cells = d.cells ++ cells_of r })
+run_added : (d : DraftValue) (r : Run Cell) → length d.cells + r.times ≤ 262144
+    → add d (run_item r) ≡ Ok (record d { cells = d.cells ++ run_things r })
 unfolding add
 run_added d r room =
-    ap (λ c. with_cells d r.count c) (cell_of-tag_number r.cell)
-    ∙ ap (λ b. cond b (Ok (record d { cells = d.cells ++ cells_of r })) (Err fault.Limit))
-    (le-leb (length d.cells + r.count) 262144 room)
+    ap (λ c. with_cells d r.times c) (cell_of-tag_number r.thing)
+    ∙ ap (λ b. cond b (Ok (record d { cells = d.cells ++ run_things r })) (Err fault.Limit))
+    (le-leb (length d.cells + r.times) 262144 room)
 
-pub runs_added : (d : DraftValue) (rs : List CellRun) → length d.cells + length (flat_map cells_of rs) ≤ 262144
-    → add_all d (map run_item rs) ≡ Ok (record d { cells = d.cells ++ flat_map cells_of rs })
+pub runs_added : (d : DraftValue) (rs : List (Run Cell)) → length d.cells + length (flat_map run_things rs) ≤ 262144
+    → add_all d (map run_item rs) ≡ Ok (record d { cells = d.cells ++ flat_map run_things rs })
 runs_added d [] room = ap (with_data d) (sym (append-nil d.cells))
 runs_added d (r ∷ rs) room =
-    let f : DraftValue = record d { cells = d.cells ++ cells_of r } in
-    let one = length-replicate r.count r.cell in
-    let both = length-append (cells_of r) (flat_map cells_of rs) in
-    let now = length-append d.cells (cells_of r) in
+    let f : DraftValue = record d { cells = d.cells ++ run_things r } in
+    let one = length-replicate r.times r.thing in
+    let both = length-append (run_things r) (flat_map run_things rs) in
+    let now = length-append d.cells (run_things r) in
     ap (λ x. x >>= λ g. add_all g (map run_item rs)) (run_added d r (omega arith))
     ∙ runs_added f rs (omega arith)
-    ∙ ap (with_data d) (append_assoc d.cells (cells_of r) (flat_map cells_of rs))
+    ∙ ap (with_data d) (append_assoc d.cells (run_things r) (flat_map run_things rs))
 
-pub runs_count : (rs : List CellRun) → count_items (map run_item rs) ≡ 0
+pub runs_count : (rs : List (Run Cell)) → count_items (map run_item rs) ≡ 0
 runs_count [] = refl
 runs_count (r ∷ rs) = let rest = runs_count rs in omega arith

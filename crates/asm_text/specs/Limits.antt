@@ -6,7 +6,7 @@ use Rattle.asm_line.specs.declared.item.Item.TheVariants as item
 use Rattle.asm_text.specs.Drafts.{DraftValue}
 
 -- the limits of an image, for a text of so many instruction lines
-pub record IsKept (words : ℕ) (d : DraftValue) : Type 0 where
+pub record KeepsLimits (words : ℕ) (d : DraftValue) : Type 0 where
   pub slim : IfSome d.settings.slim (λ n. (1 ≤ n) × (n ≤ 128))
   pub few_entries : length d.entries ≤ 16
   pub entries_stand : All (λ e. e < words) d.entries

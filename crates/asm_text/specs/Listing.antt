@@ -1,11 +1,12 @@
 -- The listing of an image.
 use Rattle.std.specs.Prelude.{ℕ, ◌+◌, ◌==◌, if◌then◌else◌, List, [], ◌∷◌, ◌++◌, map, codes}
 use Rattle.std.specs.List.{flat_map}
-use Rattle.tag_memory.specs.Cell.{tag_number}
+use Rattle.tag_memory.specs.Cell.{Cell, tag_number}
 use Rattle.image_file.specs.ImageValue.{ImageValue}
 use Rattle.listing_line.specs.WordText.{word_line}
 use Rattle.listing_line.specs.DirectiveLines.{profile_line, slim_line, retry_line, trap_line, entry_line, fill_line}
-use Rattle.asm_text.specs.Runs.{CellRun, cell_runs}
+use Rattle.text_parts.specs.Runs.{Run}
+use Rattle.asm_text.specs.Runs.{cell_runs}
 
 -- no line where there is no trap entry
 abbrev pub trap_lines : ℕ → List (List ℕ)
@@ -19,8 +20,8 @@ abbrev pub word_lines : ℕ → List ℕ → List (List ℕ)
 word_lines place [] = []
 word_lines place (w ∷ ws) = word_line place w ∷ word_lines (place + 1) ws
 
-abbrev pub cell_run_line : CellRun → List ℕ
-cell_run_line r = fill_line r.count r.cell.value (tag_number r.cell)
+abbrev pub cell_run_line : Run Cell → List ℕ
+cell_run_line r = fill_line r.times r.thing.value (tag_number r.thing)
 
 -- the lines, without their ends
 unfoldable pub listing_lines : ImageValue → List (List ℕ)

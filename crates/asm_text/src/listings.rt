@@ -43,7 +43,8 @@ pub fn listing(alloc: Global, image: &Image) -> Result<String, AllocError>
 
 /// Appends the directives that stand once.
 fn push_settings(text: &mut String, image: &Image) -> Result<(), AllocError>
-    ensures is { OnOk result (string_bytes text.new ≡ string_bytes text.old ++ text_of_lines (setting_lines image.now)) }
+    ensures is { OnOk result (string_bytes text.new
+        ≡ string_bytes text.old ++ text_of_lines (setting_lines image.now)) }
     ensures fit { OnOk result ((image.now.retry_limit < 2 ^ 32) × (image.now.trap_entry < 2 ^ 32)) }
 {
     push_profile(text)?;

@@ -1,8 +1,7 @@
 //! The directives that may stand once.
 
-ghost use Rattle.std.specs.Prelude.{◌≡◌, None, Some, MatchResult};
-ghost use Rattle.asm_line.specs.Faults.{map_ok};
-ghost use Rattle.asm_text.specs.Settings.{no_settings, set_once, profile_set, slim_set, retry_set, trap_set};
+ghost use Rattle.std.specs.Prelude.{◌≡◌, None, Some};
+ghost use Rattle.asm_text.specs.Settings.{set_once, profile_set, slim_set, retry_set, trap_set};
 
 use asm_line::Fault;
 

@@ -6,7 +6,7 @@ ghost use Rattle.asm_line.specs.Lines.{line, lines, place, count_words};
 ghost use Rattle.asm_line.specs.Labels.{places_of};
 ghost use Rattle.asm_line.specs.declared.fault.Fault.TheVariants.{NoMemory};
 ghost use Rattle.asm_text.specs.Drafts.{empty};
-ghost use Rattle.asm_text.specs.Limits.{IsKept};
+ghost use Rattle.asm_text.specs.Limits.{KeepsLimits};
 ghost use Rattle.asm_text.specs.Faults.{asm_no_memory, Told, ToldAt};
 ghost use Rattle.asm_text.specs.Sources.{with_line, with_lines, not_ascii, Means, HasFault};
 
@@ -25,9 +25,13 @@ fn not_ascii(text: &[u8]) -> Option<usize>
     Some(line_ends(&text[..at]) + 1)
 }
 
+#[tactic(auto, using(crate::proofs::Ascii::none_foreign))]
 fn first_not_ascii(text: &[u8]) -> Option<usize>
     ensures { result ≡ position (λ b. nat_le 128 b) text.now }
 {
+    if text.is_ascii() {
+        return None;
+    }
     text.iter().position(|b| *b >= 128)
 }
 
@@ -78,7 +82,7 @@ fn take_line(
     ensures takes { MatchResult result
         (λ _. with_line (places_of labels.now) words number draft.old (line bytes.now) ≡ Ok draft.new)
         (λ e. Told e (with_line (places_of labels.now) words number draft.old (line bytes.now))) }
-    ensures kept { IsKept words draft.old → OnOk result (IsKept words draft.new) }
+    ensures kept { KeepsLimits words draft.old → OnOk result (KeepsLimits words draft.new) }
 {
     let item = read_line(labels, words, number, draft.words(), &cut_line(bytes))?;
     draft.add(item)
@@ -89,7 +93,7 @@ fn all_lines(alloc: Global, labels: &Labels, words: usize, text: &[u8]) -> Resul
     ensures takes { MatchResult result
         (λ d. with_lines (places_of labels.now) words 0 empty (lines text.now) ≡ Ok d)
         (λ e. ToldAt e (with_lines (places_of labels.now) words 0 empty (lines text.now))) }
-    ensures kept { IfOk result (IsKept words) }
+    ensures kept { IfOk result (KeepsLimits words) }
     ensures no_memory { IfErr result (λ e. e.kind ≡ NoMemory → e ≡ asm_no_memory) }
 {
     let mut draft = Draft::new(alloc);

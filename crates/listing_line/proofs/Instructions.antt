@@ -31,11 +31,13 @@ use Rattle.asm_line.specs.Names.{wide_name}
 use Rattle.asm_line.specs.Heads.{operation_of, operation_named, plain_named, wide_named, memory_named}
 use Rattle.asm_line.specs.Heads.{arithmetic_named, control_named}
 use Rattle.asm_line.specs.Operands.{Places}
-use Rattle.asm_line.specs.Instructions.{instruction_of_text, operations, single, double, triple, looking, no_operation}
+use Rattle.asm_line.specs.Instructions.{instruction_of_text, operations, single, double, triple, looking}
+use Rattle.asm_line.specs.Instructions.{no_operation}
 use Rattle.asm_line.specs.Instructions.{memory_arithmetic_word, memory_control_word, arithmetic_control_word}
 use Rattle.asm_line.specs.Instructions.{full_word}
 use Rattle.asm_line.specs.declared.operation.Operation.TheVariants as operation
-use Rattle.listing_line.specs.WordText.{statement_text, bar_separated, operation_texts, unless, lookahead_text, insn_text}
+use Rattle.listing_line.specs.WordText.{statement_text, bar_separated, operation_texts, unless, lookahead_text}
+use Rattle.listing_line.specs.WordText.{insn_text}
 use Rattle.listing_line.specs.WordText.{wide_text, wide_operands}
 use Rattle.listing_line.specs.WordText.{memory_text, arithmetic_text, control_text, is_no_memory, is_no_arithmetic}
 use Rattle.listing_line.specs.WordText.{is_no_control}
@@ -134,7 +136,8 @@ control_alone places here c t =
 
 memory_and_arithmetic : (places : Places) (here : ℕ) (m : MPart) (a : APart) → IsMemoryText m → IsArithmeticText a
     → AreApart (memory_destination m.op m.rd) (arithmetic_destination a.op a.rd)
-    → IsOperations places here (bar_separated (memory_text m ∷ arithmetic_text a ∷ [])) (insn.Normal 0 m a no_operation)
+    → IsOperations places here (bar_separated (memory_text m ∷ arithmetic_text a ∷ []))
+    (insn.Normal 0 m a no_operation)
 unfolding operations double memory_arithmetic_word
 memory_and_arithmetic places here m a t v h =
     let texts : AreTexts (memory_text m ∷ arithmetic_text a ∷ []) =
@@ -156,7 +159,8 @@ memory_and_arithmetic places here m a t v h =
 memory_and_control : (places : Places) (here : ℕ) (m : MPart) (c : CPart) → IsMemoryText m
     → IsControlText places here c
     → AreApart (memory_destination m.op m.rd) (control_destination c.op c.rd)
-    → IsOperations places here (bar_separated (memory_text m ∷ control_text c ∷ [])) (insn.Normal 0 m arithmetic_nop c)
+    → IsOperations places here (bar_separated (memory_text m ∷ control_text c ∷ []))
+    (insn.Normal 0 m arithmetic_nop c)
 unfolding operations double memory_control_word
 memory_and_control places here m c t v h =
     let texts : AreTexts (memory_text m ∷ control_text c ∷ []) = (t.operation.is_text, (v.operation.is_text, tt)) in
@@ -177,7 +181,8 @@ memory_and_control places here m c t v h =
 arithmetic_and_control : (places : Places) (here : ℕ) (a : APart) (c : CPart) → IsArithmeticText a
     → IsControlText places here c
     → AreApart (arithmetic_destination a.op a.rd) (control_destination c.op c.rd)
-    → IsOperations places here (bar_separated (arithmetic_text a ∷ control_text c ∷ [])) (insn.Normal 0 memory_nop a c)
+    → IsOperations places here (bar_separated (arithmetic_text a ∷ control_text c ∷ []))
+    (insn.Normal 0 memory_nop a c)
 unfolding operations double arithmetic_control_word
 arithmetic_and_control places here a c t v h =
     let texts : AreTexts (arithmetic_text a ∷ control_text c ∷ []) =
@@ -275,16 +280,19 @@ normal-operations places here m a c p =
         along places here (arithmetic_text a) memory_nop m a a no_operation c (mn e) refl (cn g)
         (arithmetic_alone places here a (at f))
     go true false false e f g =
-        along places here (bar_separated (arithmetic_text a ∷ control_text c ∷ [])) memory_nop m a a c c (mn e) refl refl
+        along places here (bar_separated (arithmetic_text a ∷ control_text c ∷ [])) memory_nop m a a c c (mn e) refl
+        refl
         (arithmetic_and_control places here a c (at f) (ct g) p.apart.arithmetic_control)
     go false true true e f g =
         along places here (memory_text m) m m arithmetic_nop a no_operation c refl (an f) (cn g)
         (memory_alone places here m (mt e))
     go false true false e f g =
-        along places here (bar_separated (memory_text m ∷ control_text c ∷ [])) m m arithmetic_nop a c c refl (an f) refl
+        along places here (bar_separated (memory_text m ∷ control_text c ∷ [])) m m arithmetic_nop a c c refl (an f)
+        refl
         (memory_and_control places here m c (mt e) (ct g) p.apart.memory_control)
     go false false true e f g =
-        along places here (bar_separated (memory_text m ∷ arithmetic_text a ∷ [])) m m a a no_operation c refl refl (cn g)
+        along places here (bar_separated (memory_text m ∷ arithmetic_text a ∷ [])) m m a a no_operation c refl refl
+        (cn g)
         (memory_and_arithmetic places here m a (mt e) (at f) p.apart.memory_arithmetic)
     go false false false e f g = all_operations places here m a c (mt e) (at f) (ct g) p.apart
 

@@ -31,7 +31,8 @@ AreTexts (x ∷ xs) = IsText x × AreTexts xs
 
 -- cut at the bars and trimmed, also behind a blank
 pub joined-parts : (x : List ℕ) (xs : List (List ℕ)) → AreTexts (x ∷ xs)
-    → (map trim (parts 124 (bar_separated (x ∷ xs))) ≡ x ∷ xs) × (map trim (parts 124 (32 ∷ bar_separated (x ∷ xs))) ≡ x ∷ xs)
+    → (map trim (parts 124 (bar_separated (x ∷ xs))) ≡ x ∷ xs)
+    × (map trim (parts 124 (32 ∷ bar_separated (x ∷ xs))) ≡ x ∷ xs)
 joined-parts x [] e =
     let lone = split-lacks (λ b. b == 124) x (ink-lacks_bar x e.0.ink) in
     (rw (lone, trim-trimmed x e.0.trimmed), rw (lone, trim-blank_before x e.0.trimmed))

@@ -23,7 +23,8 @@ use Rattle.asm_line.specs.declared.operation.Directive.{Directive}
 use Rattle.asm_line.specs.declared.operation.Directive.TheVariants as directive
 use Rattle.asm_line.specs.declared.item.Item.{Item}
 use Rattle.asm_line.specs.declared.item.Item.TheVariants as item
-use Rattle.listing_line.specs.WordText.{statement_text, digits_text, insn_text, raw_text, instruction_or_raw_text, word_text}
+use Rattle.listing_line.specs.WordText.{statement_text, digits_text, insn_text, raw_text, instruction_or_raw_text}
+use Rattle.listing_line.specs.WordText.{word_text}
 use Rattle.listing_line.specs.WordText.{place_comment, word_line}
 use Rattle.listing_line.specs.Laws.{is_line_byte, IsReadAs, item_of, word_item, WordLinesReadBack}
 use Rattle.listing_line.proofs.Bytes.{list_all-imp, list_all-both, position-lacks, before-at, before-lacks, IsTrimmed}
@@ -166,7 +167,8 @@ comment-cut : (text : List ℕ) (place word : ℕ) → IsShown text
 unfolding place_comment
 comment-cut text place word s = line-commented text (32 ∷ (five_digits place ++ (32 ∷ hexadecimal_16 word))) s
 
-commented-line : HexadecimalReadsBack → (text : List ℕ) (place word words : ℕ) (added : Item) → place < 2 ^ 16 → word < 2 ^ 64
+commented-line : HexadecimalReadsBack → (text : List ℕ) (place word words : ℕ) (added : Item) → place < 2 ^ 16
+    → word < 2 ^ 64
     → IsShown text → is_word text ≡ true
     → ((places : Places) (here : ℕ) → statement_item places words here text ≡ Ok added)
     → IsReadAs (text ++ place_comment place word) true words added

@@ -114,7 +114,8 @@ listed-ink (x ∷ y ∷ ys) e =
 
 -- cut at the commas and trimmed, also behind a blank
 cut : (x : List ℕ) (xs : List (List ℕ)) → all_terms (x ∷ xs) ≡ true
-    → (map trim (parts 44 (comma_separated (x ∷ xs))) ≡ x ∷ xs) × (map trim (parts 44 (32 ∷ comma_separated (x ∷ xs))) ≡ x ∷ xs)
+    → (map trim (parts 44 (comma_separated (x ∷ xs))) ≡ x ∷ xs)
+    × (map trim (parts 44 (32 ∷ comma_separated (x ∷ xs))) ≡ x ∷ xs)
 cut x [] e =
     let term = (and_parts (is_term x) true e).0 in
     let lone = split-lacks (λ b. b == 44) x (atoms-lack_comma x (term-atoms x term)) in
@@ -122,7 +123,8 @@ cut x [] e =
     (rw (lone, trim-trimmed x t), rw (lone, trim-blank_before x t))
 cut x (y ∷ ys) e =
     let both = and_parts (is_term x) (all_terms (y ∷ ys)) e in
-    let first = split-at (λ b. b == 44) x 44 (32 ∷ comma_separated (y ∷ ys)) (atoms-lack_comma x (term-atoms x both.0)) refl in
+    let first = split-at (λ b. b == 44) x 44 (32 ∷ comma_separated (y ∷ ys))
+    (atoms-lack_comma x (term-atoms x both.0)) refl in
     let t = term-trimmed x both.0 in
     let rest = (cut y ys both.1).1 in
     (rw (first, trim-trimmed x t, rest), rw (first, trim-blank_before x t, rest))

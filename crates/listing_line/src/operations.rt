@@ -1,45 +1,60 @@
 //! The operations of a word as text.
 
-ghost use Rattle.std.specs.Prelude.{◌≡◌, ◌++◌, OnOk, string_bytes};
+ghost use Rattle.std.specs.Prelude.{◌≡◌, ◌+◌, ◌≤◌, ◌++◌, codes};
+ghost use Rattle.std.specs.Fmt.{decimal, signed_decimal};
+ghost use Rattle.arrayvec.specs.ArrayString.{array_string_len};
 ghost use Rattle.asm_line.specs.Names.{condition_name};
+ghost use Rattle.listing_line.specs.WordText.{register_text, target_text, source_text};
 ghost use Rattle.listing_line.specs.WordText.{wide_text, memory_text, arithmetic_text, control_text};
 
+use arrayvec::ArrayString;
 use asm_line::names;
-use insn_word::{APart, ArithmeticOp, CPart, ControlOp, MPart, WideOp};
-use std::alloc::AllocError;
-use std::fmt::Write;
+use insn_word::{APart, ArithmeticOp, CPart, Condition, ControlOp, MPart, WideOp};
+use number_text::add_decimal;
+
+/// Room for a line: more than its longest parts need.
+pub(crate) const LINE: usize = 192;
 
 #[tactic(auto, unfolding(crate::specs::WordText::wide_text))]
-pub(crate) fn push_wide(text: &mut String, op: WideOp, reg: u8, imm: u32) -> Result<(), AllocError>
-    ensures { OnOk result (string_bytes text.new ≡ string_bytes text.old ++ wide_text op reg imm) }
+pub(crate) fn add_wide(line: &mut ArrayString<LINE>, op: WideOp, reg: u8, imm: u32)
+    requires { array_string_len line.old ≤ 13 }
+    ensures bytes { line.new.bytes ≡ line.old.bytes ++ wide_text op reg imm }
+    ensures len { array_string_len line.new ≤ array_string_len line.old + 32 }
 {
-    let name = names::wide(op);
+    line.push_str(names::wide(op));
+    line.push_str(" ");
     match op {
-        WideOp::Literal | WideOp::LiteralHigh => write!(text, "{name} r{reg}, {imm}"),
-        WideOp::TargetLiteral => write!(text, "{name} t{reg}, {imm}"),
+        WideOp::Literal | WideOp::LiteralHigh => add_register(line, reg),
+        WideOp::TargetLiteral => add_target(line, reg),
     }
+    line.push_str(", ");
+    add_decimal(line, imm);
 }
 
 #[tactic(auto, unfolding(crate::specs::WordText::memory_text))]
-pub(crate) fn push_memory(text: &mut String, part: &MPart) -> Result<(), AllocError>
-    ensures { OnOk result (string_bytes text.new ≡ string_bytes text.old ++ memory_text part.now) }
+pub(crate) fn add_memory(line: &mut ArrayString<LINE>, part: &MPart)
+    requires { array_string_len line.old ≤ 13 }
+    ensures bytes { line.new.bytes ≡ line.old.bytes ++ memory_text part.now }
+    ensures len { array_string_len line.new ≤ array_string_len line.old + 47 }
 {
-    let name = names::memory(part.op);
-    let suffix = names::access(part.acc);
-    let (rd, base, disp) = (part.rd, part.base, part.disp);
-    write!(text, "{name}{suffix} r{rd}, r{base}, {disp}")
+    line.push_str(names::memory(part.op));
+    line.push_str(names::access(part.acc));
+    add_registers(line, part.rd, part.base);
+    line.push_str(", ");
+    add_signed(line, part.disp);
 }
 
 #[tactic(auto, unfolding(crate::specs::WordText::arithmetic_text))]
-pub(crate) fn push_arithmetic(text: &mut String, part: &APart) -> Result<(), AllocError>
-    ensures { OnOk result (string_bytes text.new ≡ string_bytes text.old ++ arithmetic_text part.now) }
+pub(crate) fn add_arithmetic(line: &mut ArrayString<LINE>, part: &APart)
+    requires { array_string_len line.old ≤ 63 }
+    ensures bytes { line.new.bytes ≡ line.old.bytes ++ arithmetic_text part.now }
+    ensures len { array_string_len line.new ≤ array_string_len line.old + 45 }
 {
-    let name = names::arithmetic(part.op);
-    let suffix = names::test(part.test);
-    let (rd, ra, rb) = (part.rd, part.ra, part.rb);
+    line.push_str(names::arithmetic(part.op));
+    line.push_str(names::test(part.test));
     match part.op {
-        ArithmeticOp::Nop => write!(text, "{name}{suffix}"),
-        ArithmeticOp::Tally => write!(text, "{name}{suffix} r{rd}, r{ra}"),
+        ArithmeticOp::Nop => {}
+        ArithmeticOp::Tally => add_registers(line, part.rd, part.ra),
         ArithmeticOp::Add
         | ArithmeticOp::Sub
         | ArithmeticOp::Mul
@@ -53,32 +68,130 @@ pub(crate) fn push_arithmetic(text: &mut String, part: &APart) -> Result<(), All
         | ArithmeticOp::LessSigned
         | ArithmeticOp::LessUnsigned
         | ArithmeticOp::Pointer => {
-            if part.imm {
-                write!(text, "{name}{suffix} r{rd}, r{ra}, {rb}")
-            } else {
-                write!(text, "{name}{suffix} r{rd}, r{ra}, r{rb}")
-            }
+            add_registers(line, part.rd, part.ra);
+            line.push_str(", ");
+            add_source(line, part.imm, part.rb);
         }
     }
 }
 
 #[tactic(auto, unfolding(crate::specs::WordText::control_text))]
-pub(crate) fn push_control(text: &mut String, part: &CPart) -> Result<(), AllocError>
-    ensures { OnOk result (string_bytes text.new ≡ string_bytes text.old ++ control_text part.now) }
+pub(crate) fn add_control(line: &mut ArrayString<LINE>, part: &CPart)
+    requires { array_string_len line.old ≤ 111 }
+    ensures bytes { line.new.bytes ≡ line.old.bytes ++ control_text part.now }
+    ensures len { array_string_len line.new ≤ array_string_len line.old + 40 }
 {
-    let name = names::control(part.op);
-    let condition = names::condition(part.cond);
-    let (code, t, u, rd, ra, n) = (part.code, part.t, part.u, part.rd, part.ra, part.n);
+    line.push_str(names::control(part.op));
     match part.op {
-        ControlOp::Nop | ControlOp::Quit | ControlOp::QuitKeep => write!(text, "{name}"),
-        ControlOp::Jump => write!(text, "{name} {condition}, {code}, t{t}"),
-        ControlOp::Skip => write!(text, "{name} {condition}, {code}, {n}"),
-        ControlOp::Call => write!(text, "{name} t{t}, t{u}"),
-        ControlOp::Exchange => write!(text, "{name} t{t}"),
-        ControlOp::TargetSet | ControlOp::Create => write!(text, "{name} t{t}, r{ra}"),
-        ControlOp::TargetGet => write!(text, "{name} r{rd}, t{t}"),
-        ControlOp::TrapGet => write!(text, "{name} r{rd}"),
-        ControlOp::Reserve => write!(text, "{name} r{rd}, r{ra}"),
-        ControlOp::Mask => write!(text, "{name} {n}"),
+        ControlOp::Nop | ControlOp::Quit | ControlOp::QuitKeep => {}
+        ControlOp::Jump => {
+            add_tested(line, part.cond, part.code);
+            add_target(line, part.t);
+        }
+        ControlOp::Skip => {
+            add_tested(line, part.cond, part.code);
+            add_signed(line, part.n);
+        }
+        ControlOp::Call => {
+            line.push_str(" ");
+            add_target(line, part.t);
+            line.push_str(", ");
+            add_target(line, part.u);
+        }
+        ControlOp::Exchange => {
+            line.push_str(" ");
+            add_target(line, part.t);
+        }
+        ControlOp::TargetSet | ControlOp::Create => {
+            line.push_str(" ");
+            add_target(line, part.t);
+            line.push_str(", ");
+            add_register(line, part.ra);
+        }
+        ControlOp::TargetGet => {
+            line.push_str(" ");
+            add_register(line, part.rd);
+            line.push_str(", ");
+            add_target(line, part.t);
+        }
+        ControlOp::TrapGet => {
+            line.push_str(" ");
+            add_register(line, part.rd);
+        }
+        ControlOp::Reserve => add_registers(line, part.rd, part.ra),
+        ControlOp::Mask => {
+            line.push_str(" ");
+            add_signed(line, part.n);
+        }
     }
+}
+
+/// Appends a blank, a condition and the number of the code that it is asked of, and a comma.
+fn add_tested(line: &mut ArrayString<LINE>, condition: Condition, code: u8)
+    requires { array_string_len line.old ≤ 118 }
+    ensures bytes { line.new.bytes ≡ line.old.bytes
+        ++ (codes " " ++ (condition_name condition ++ (codes ", " ++ (decimal code ++ codes ", ")))) }
+    ensures len { array_string_len line.new ≤ array_string_len line.old + 21 }
+{
+    line.push_str(" ");
+    line.push_str(names::condition(condition));
+    line.push_str(", ");
+    add_decimal(line, u32::from(code));
+    line.push_str(", ");
+}
+
+/// Appends a blank and two registers.
+fn add_registers(line: &mut ArrayString<LINE>, first: u8, second: u8)
+    requires { array_string_len line.old ≤ 118 }
+    ensures bytes { line.new.bytes ≡ line.old.bytes
+        ++ (codes " " ++ (register_text first ++ (codes ", " ++ register_text second))) }
+    ensures len { array_string_len line.new ≤ array_string_len line.old + 25 }
+{
+    line.push_str(" ");
+    add_register(line, first);
+    line.push_str(", ");
+    add_register(line, second);
+}
+
+fn add_register(line: &mut ArrayString<LINE>, number: u8)
+    requires { array_string_len line.old ≤ 150 }
+    ensures bytes { line.new.bytes ≡ line.old.bytes ++ register_text number }
+    ensures len { array_string_len line.new ≤ array_string_len line.old + 11 }
+{
+    line.push_str("r");
+    add_decimal(line, u32::from(number));
+}
+
+fn add_target(line: &mut ArrayString<LINE>, number: u8)
+    requires { array_string_len line.old ≤ 150 }
+    ensures bytes { line.new.bytes ≡ line.old.bytes ++ target_text number }
+    ensures len { array_string_len line.new ≤ array_string_len line.old + 11 }
+{
+    line.push_str("t");
+    add_decimal(line, u32::from(number));
+}
+
+/// Appends a number, or the register of that number.
+fn add_source(line: &mut ArrayString<LINE>, is_number: bool, number: u8)
+    requires { array_string_len line.old ≤ 150 }
+    ensures bytes { line.new.bytes ≡ line.old.bytes ++ source_text is_number number }
+    ensures len { array_string_len line.new ≤ array_string_len line.old + 11 }
+{
+    if is_number {
+        add_decimal(line, u32::from(number));
+    } else {
+        add_register(line, number);
+    }
+}
+
+/// Appends a number with its sign, where it is negative.
+fn add_signed(line: &mut ArrayString<LINE>, number: i8)
+    requires { array_string_len line.old ≤ 150 }
+    ensures bytes { line.new.bytes ≡ line.old.bytes ++ signed_decimal number }
+    ensures len { array_string_len line.new ≤ array_string_len line.old + 11 }
+{
+    if number < 0 {
+        line.push_str("-");
+    }
+    add_decimal(line, u32::from(number.unsigned_abs()));
 }

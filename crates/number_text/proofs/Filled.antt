@@ -1,7 +1,8 @@
 -- Digits are put in place from the last one on.
-use Rattle.std.proofs.Common.{◌≡◌, ℕ, zero, suc, ◌+◌, ◌-◌, ◌/◌, ◌%◌, ◌<◌, ◌≤◌, true, List, [], ◌∷◌, ◌++◌, length, drop}
+use Rattle.std.proofs.Common.{◌≡◌, ℕ, zero, suc, ◌+◌, ◌-◌, ◌/◌, ◌%◌, ◌<◌, ◌≤◌, true, List, [], ◌∷◌, ◌++◌, length}
+use Rattle.std.proofs.Common.{drop}
 use Rattle.std.proofs.Common.{set, refl, sym, ◌∙◌, arith, append_assoc, append-nil}
-use Rattle.std.specs.Prelude.{Result, Ok, Err, IsOk, MatchResult}
+use Rattle.std.specs.Prelude.{codes, slice_index_or}
 use Rattle.std.specs.Fmt.{digit_glyph}
 use Rattle.std.specs.Str.{IsAscii, IsUtf8}
 use Rattle.std.proofs.lemmas.Bool.Decides.{nat_tests}
@@ -9,6 +10,7 @@ use Rattle.std.proofs.lemmas.List.{drop-set, at_drop_all}
 use Rattle.std.proofs.lemmas.Str.{IsUtf8-from_ascii}
 use Rattle.std.proofs.lemmas.Str.Ascii.{IsAscii-nil, IsAscii-push}
 use Rattle.number_text.specs.Digits.{fixed_digits}
+use Rattle.number_text.specs.Text.{IsText}
 
 pub none_filled : (base count n : ℕ) (ds : List ℕ) → length ds ≡ count
     → fixed_digits base count n ++ drop count ds ≡ fixed_digits base count n
@@ -50,10 +52,30 @@ text-fixed_digits : (base count n : ℕ) → 0 < base → base ≤ 16 → IsUtf8
 text-fixed_digits base count n some le =
     IsUtf8-from_ascii (fixed_digits base count n) (ascii-fixed_digits base count n some le)
 
--- a test of digits for UTF-8 finds no error
-pub digits_are_text : {T E : Type 0} (r : Result T E) (bs : List ℕ) (base count n : ℕ) (A : T → Type 0) (B : E → Type 0)
-    → 0 < base → base ≤ 16 → bs ≡ fixed_digits base count n
-    → MatchResult r A (λ e. (IsUtf8 bs → ⊥) × B e) → IsOk r
-digits_are_text (Ok x) bs base count n A B some le e m = refl
-digits_are_text (Err x) bs base count n A B some le e m =
-    absurd (m.0 (rw e (text-fixed_digits base count n some le)))
+pub hexadecimal_text : (count n : ℕ) (bs : List ℕ) → bs ≡ fixed_digits 16 count n → IsText bs
+hexadecimal_text count n bs e = record { utf8 = rw e (text-fixed_digits 16 count n (omega arith) (omega arith)) }
+
+pub decimal_text : (count n : ℕ) (bs : List ℕ) → bs ≡ fixed_digits 10 count n → IsText bs
+decimal_text count n bs e = record { utf8 = rw e (text-fixed_digits 10 count n (omega arith) (omega arith)) }
+
+-- The table of digits.
+
+pub glyph_at : (d : ℕ) → d < 16 → slice_index_or (codes "0123456789ABCDEF") d 0 ≡ digit_glyph true d
+glyph_at zero small = refl
+glyph_at (suc zero) small = refl
+glyph_at (suc (suc zero)) small = refl
+glyph_at (suc (suc (suc zero))) small = refl
+glyph_at (suc (suc (suc (suc zero)))) small = refl
+glyph_at (suc (suc (suc (suc (suc zero))))) small = refl
+glyph_at (suc (suc (suc (suc (suc (suc zero)))))) small = refl
+glyph_at (suc (suc (suc (suc (suc (suc (suc zero))))))) small = refl
+glyph_at (suc (suc (suc (suc (suc (suc (suc (suc zero)))))))) small = refl
+glyph_at (suc (suc (suc (suc (suc (suc (suc (suc (suc zero))))))))) small = refl
+glyph_at (suc (suc (suc (suc (suc (suc (suc (suc (suc (suc zero)))))))))) small = refl
+glyph_at (suc (suc (suc (suc (suc (suc (suc (suc (suc (suc (suc zero))))))))))) small = refl
+glyph_at (suc (suc (suc (suc (suc (suc (suc (suc (suc (suc (suc (suc zero)))))))))))) small = refl
+glyph_at (suc (suc (suc (suc (suc (suc (suc (suc (suc (suc (suc (suc (suc zero))))))))))))) small = refl
+glyph_at (suc (suc (suc (suc (suc (suc (suc (suc (suc (suc (suc (suc (suc (suc zero)))))))))))))) small = refl
+glyph_at (suc (suc (suc (suc (suc (suc (suc (suc (suc (suc (suc (suc (suc (suc (suc zero))))))))))))))) small = refl
+glyph_at (suc (suc (suc (suc (suc (suc (suc (suc (suc (suc (suc (suc (suc (suc (suc (suc d)))))))))))))))) small =
+    absurd (omega arith)

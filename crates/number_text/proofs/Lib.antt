@@ -1,4 +1,5 @@
 pub mod Filled
+pub mod Column
 pub mod Printed
 pub mod Read
 pub mod ReadBack

@@ -31,7 +31,8 @@ fixed_digits-zero base (suc k) some =
 digit_glyph-decimal : (d : ℕ) → d < 10 → digit_glyph true d ≡ 48 + d
 digit_glyph-decimal d small = rw (lt-ltb d 10 small)
 
-one_decimal_digit : (k n : ℕ) → n < 10 → replicate (suc k - length (decimal n)) 48 ++ decimal n ≡ fixed_digits 10 (suc k) n
+one_decimal_digit : (k n : ℕ) → n < 10
+    → replicate (suc k - length (decimal n)) 48 ++ decimal n ≡ fixed_digits 10 (suc k) n
 unfolding fixed_digits
 one_decimal_digit k n small =
     let front : n / 10 ≡ 0 = omega arith in

@@ -4,3 +4,5 @@ pub mod Columns
 pub mod Reading
 pub mod Numbers
 pub mod Laws
+-- What the code has of them on its way.
+pub mod Text

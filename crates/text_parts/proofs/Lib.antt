@@ -1,2 +1,3 @@
 pub mod Pieces
 pub mod FirstLine
+pub mod RunLaws

@@ -3,6 +3,8 @@
 
 mod cutting;
 mod lines;
+mod runs;
 
 pub use cutting::cut;
 pub use lines::split_line;
+pub use runs::run_length;

@@ -11,7 +11,8 @@ use Rattle.std.specs.Str.Parse.{AllDigits}
 use Rattle.number_text.specs.Laws.{DecimalReadsBack}
 use Rattle.text_parts.specs.Lines.{lines_of}
 use Rattle.trace_text.specs.ScheduleLines.{LineValues, fields_of, decimal_number, values, values_in, values_of}
-use Rattle.trace_text.specs.declared.runs.StepRun.{StepRun}
+use Rattle.text_parts.specs.Runs.{Run}
+use Rattle.processor.specs.declared.steps.Step.{Step}
 use Rattle.trace_text.specs.Runs.{schedule_line}
 
 -- digits are neither spaces nor line ends
@@ -35,29 +36,29 @@ lacks-space : (n : ℕ) → n < 2 ^ 64 → All (λ b. (b == 32) ≡ false) (deci
 lacks-space n small = digits-lack 32 space-no_digit (decimal n) (decimal_is_IsNumeral n small).0.1
 
 -- the text of a line, without its end
-abbrev pub body : StepRun → List ℕ
-body r = decimal r.step.p ++ 32 ∷ (decimal r.step.s ++ 32 ∷ decimal r.times)
+abbrev pub body : Run Step → List ℕ
+body r = decimal r.thing.p ++ 32 ∷ (decimal r.thing.s ++ 32 ∷ decimal r.times)
 
-fields-body : (r : StepRun) → r.step.p < 2 ^ 64 → r.step.s < 2 ^ 64 → r.times < 2 ^ 64
-    → fields_of (body r) ≡ decimal r.step.p ∷ decimal r.step.s ∷ decimal r.times ∷ []
+fields-body : (r : Run Step) → r.thing.p < 2 ^ 64 → r.thing.s < 2 ^ 64 → r.times < 2 ^ 64
+    → fields_of (body r) ≡ decimal r.thing.p ∷ decimal r.thing.s ∷ decimal r.times ∷ []
 fields-body r p s n =
-    slice_split_at (λ b. b == 32) (decimal r.step.p) 32 (decimal r.step.s ++ 32 ∷ decimal r.times)
-    (lacks-space r.step.p p) refl
-    ∙ ap (λ fs. decimal r.step.p ∷ fs)
-    (slice_split_at (λ b. b == 32) (decimal r.step.s) 32 (decimal r.times) (lacks-space r.step.s s) refl
-    ∙ ap (λ fs. decimal r.step.s ∷ fs) (slice_split_none (λ b. b == 32) (decimal r.times) (lacks-space r.times n)))
+    slice_split_at (λ b. b == 32) (decimal r.thing.p) 32 (decimal r.thing.s ++ 32 ∷ decimal r.times)
+    (lacks-space r.thing.p p) refl
+    ∙ ap (λ fs. decimal r.thing.p ∷ fs)
+    (slice_split_at (λ b. b == 32) (decimal r.thing.s) 32 (decimal r.times) (lacks-space r.thing.s s) refl
+    ∙ ap (λ fs. decimal r.thing.s ∷ fs) (slice_split_none (λ b. b == 32) (decimal r.times) (lacks-space r.times n)))
 
-abbrev pub said_by : StepRun → LineValues
-said_by r = record { processor = r.step.p; stream = r.step.s; times = r.times }
+abbrev pub said_by : Run Step → LineValues
+said_by r = record { processor = r.thing.p; stream = r.thing.s; times = r.times }
 
-pub values-body : DecimalReadsBack → (r : StepRun) → r.step.p < 2 ^ 64 → r.step.s < 2 ^ 64 → r.times < 2 ^ 64
+pub values-body : DecimalReadsBack → (r : Run Step) → r.thing.p < 2 ^ 64 → r.thing.s < 2 ^ 64 → r.times < 2 ^ 64
     → values_of (body r) ≡ Some (said_by r)
 unfolding values_of
 values-body back r p s n =
     ap values_in (fields-body r p s n)
-    ∙ ap (λ o. values o (decimal_number (decimal r.step.s)) (decimal_number (decimal r.times))) (back r.step.p p)
-    ∙ ap (λ o. values (Some r.step.p) o (decimal_number (decimal r.times))) (back r.step.s s)
-    ∙ ap (λ o. values (Some r.step.p) (Some r.step.s) o) (back r.times n)
+    ∙ ap (λ o. values o (decimal_number (decimal r.thing.s)) (decimal_number (decimal r.times))) (back r.thing.p p)
+    ∙ ap (λ o. values (Some r.thing.p) o (decimal_number (decimal r.times))) (back r.thing.s s)
+    ∙ ap (λ o. values (Some r.thing.p) (Some r.thing.s) o) (back r.times n)
 
 -- Lines one after another.
 
@@ -76,11 +77,11 @@ lacks-digits (b ∷ bs) all = (other_byte 10 b end-no_digit all.0, lacks-digits 
 lacks-decimal : (n : ℕ) → n < 2 ^ 64 → Lacks (decimal n)
 lacks-decimal n small = lacks-digits (decimal n) (decimal_is_IsNumeral n small).0.1
 
-lacks-body : (r : StepRun) → r.step.p < 2 ^ 64 → r.step.s < 2 ^ 64 → r.times < 2 ^ 64 → Lacks (body r)
+lacks-body : (r : Run Step) → r.thing.p < 2 ^ 64 → r.thing.s < 2 ^ 64 → r.times < 2 ^ 64 → Lacks (body r)
 lacks-body r p s n =
-    lacks-append (decimal r.step.p) (32 ∷ (decimal r.step.s ++ 32 ∷ decimal r.times)) (lacks-decimal r.step.p p) (
+    lacks-append (decimal r.thing.p) (32 ∷ (decimal r.thing.s ++ 32 ∷ decimal r.times)) (lacks-decimal r.thing.p p) (
       refl,
-      lacks-append (decimal r.step.s) (32 ∷ decimal r.times) (lacks-decimal r.step.s s) (
+      lacks-append (decimal r.thing.s) (32 ∷ decimal r.times) (lacks-decimal r.thing.s s) (
         refl,
         lacks-decimal r.times n,
       ),
@@ -91,10 +92,10 @@ unfolding lines_of
 lines-before [] rest l = refl
 lines-before (b ∷ bs) rest l = rw l.0 (ap (onto_first b) (lines-before bs rest l.1))
 
-line-body : (r : StepRun) (rest : List ℕ) → schedule_line r ++ rest ≡ body r ++ 10 ∷ rest
+line-body : (r : Run Step) (rest : List ℕ) → schedule_line r ++ rest ≡ body r ++ 10 ∷ rest
 unfolding schedule_line
 line-body r rest = simp append_assoc
 
-pub lines-run : (r : StepRun) (rest : List ℕ) → r.step.p < 2 ^ 64 → r.step.s < 2 ^ 64 → r.times < 2 ^ 64
+pub lines-run : (r : Run Step) (rest : List ℕ) → r.thing.p < 2 ^ 64 → r.thing.s < 2 ^ 64 → r.times < 2 ^ 64
     → lines_of (schedule_line r ++ rest) ≡ body r ∷ lines_of rest
 lines-run r rest p s n = ap lines_of (line-body r rest) ∙ lines-before (body r) rest (lacks-body r p s n)

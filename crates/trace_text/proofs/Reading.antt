@@ -49,7 +49,8 @@ next_line line steps rest some =
 
 said-fault : (line : ℕ) (steps : List Step) (v : Option LineValues) (vs : List (Option LineValues))
     (kind : ScheduleFaultKind)
-    → schedule_line_fault (length steps) v ≡ Some kind → said line steps (v ∷ vs) ≡ Err (record { line = line; kind = kind })
+    → schedule_line_fault (length steps) v ≡ Some kind
+    → said line steps (v ∷ vs) ≡ Err (record { line = line; kind = kind })
 said-fault line steps v vs kind e =
     ap (λ k. unless_fault (on_line line k (fault_from (line + 1) (length steps + times_on v) vs))
     (steps ++ flat_map steps_on (v ∷ vs))) e

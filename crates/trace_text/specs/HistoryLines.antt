@@ -1,5 +1,5 @@
 -- The line of an entry in a history.
-use Rattle.std.specs.Prelude.{ℕ, ◌+◌, ◌-◌, Bool, true, false, List, ◌++◌, codes, length, replicate, if◌then◌else◌}
+use Rattle.std.specs.Prelude.{ℕ, ◌+◌, ◌-◌, List, ◌++◌, codes, length, replicate, if◌then◌else◌}
 use Rattle.number_text.specs.Digits.{hexadecimal_16, hexadecimal_12, hexadecimal_digit, two_digits}
 use Rattle.insn_word.specs.declared.operations.MemoryOp.{MemoryOp}
 use Rattle.insn_word.specs.declared.operations.MemoryOp.TheVariants as memory
@@ -17,12 +17,12 @@ use Rattle.processor.specs.declared.steps.Entry.{Entry}
 use Rattle.trace_text.specs.TraceLines.{place_text}
 
 -- the operation of a program that makes such a request
-abbrev pub operation_of : MemOp → MemoryOp
-operation_of op.Load = memory.Load
-operation_of op.Store = memory.Store
-operation_of op.Fadd = memory.FetchAdd
-operation_of op.TagGet = memory.TagGet
-operation_of op.TagSet = memory.TagSet
+abbrev pub program_operation : MemOp → MemoryOp
+program_operation op.Load = memory.Load
+program_operation op.Store = memory.Store
+program_operation op.Fadd = memory.FetchAdd
+program_operation op.TagGet = memory.TagGet
+program_operation op.TagSet = memory.TagSet
 
 -- with blanks behind, up to the width
 abbrev pub left_aligned : ℕ → List ℕ → List ℕ
@@ -30,7 +30,7 @@ left_aligned width text = text ++ replicate (width - length text) 32
 
 -- its name in the assembler, in six places
 unfoldable pub operation_column : MemOp → List ℕ
-operation_column o = left_aligned 6 (memory_name (operation_of o))
+operation_column o = left_aligned 6 (memory_name (program_operation o))
 
 -- the access field as a number
 unfoldable pub acc_number : Acc → ℕ
@@ -46,8 +46,8 @@ masked_number m = (if m.trap0 then 1 else 0) + (if m.trap1 then 2 else 0)
 -- the operation, the pointer and the access field
 abbrev pub reference_text : Request → List ℕ
 reference_text q =
-    operation_column q.op ++ codes " " ++ hexadecimal_16 q.pointer ++ codes " " ++ hexadecimal_digit (acc_number q.acc)
-    ++ codes " "
+    operation_column q.op ++ codes " " ++ hexadecimal_16 q.pointer ++ codes " "
+    ++ hexadecimal_digit (acc_number q.acc) ++ codes " "
 
 -- the value, and what is passed over
 abbrev pub operand_text : Request → List ℕ
@@ -61,7 +61,8 @@ request_text q = reference_text q ++ operand_text q
 unfoldable pub reply_text : Reply → List ℕ
 reply_text (reply.Done v) = codes "DONE " ++ hexadecimal_16 v
 reply_text (reply.Blocked a) = codes "BLOCKED " ++ hexadecimal_12 a
-reply_text (reply.Trap k a) = codes "TRAP " ++ two_digits (trap_number (memory_trap k)) ++ codes " " ++ hexadecimal_12 a
+reply_text (reply.Trap k a) =
+    codes "TRAP " ++ two_digits (trap_number (memory_trap k)) ++ codes " " ++ hexadecimal_12 a
 
 -- its number, its processor and stream, what was asked, and the reply
 unfoldable pub history_line_of : ℕ → Entry → List ℕ

@@ -1,17 +1,21 @@
 //! The lines of a history.
 
-ghost use Rattle.std.specs.Prelude.{◌≡◌, ◌++◌, IfOk, OnOk, string_bytes};
+ghost use Rattle.std.specs.Prelude.{◌≡◌, ◌+◌, ◌<◌, ◌≤◌, ◌++◌, length, IfOk, MatchResult, string_bytes};
+ghost use Rattle.std.specs.String.{string_len, string_capacity};
+ghost use Rattle.arrayvec.specs.ArrayString.{array_string_len};
 ghost use Rattle.trace_text.specs.HistoryLines.{acc_number, history_line_of, masked_number, operation_column};
 ghost use Rattle.trace_text.specs.HistoryLines.{operand_text, reference_text, reply_text, request_text};
 
-use crate::trace_lines::push_place;
-use number_text::{
-    push_hexadecimal_12, push_hexadecimal_16, push_hexadecimal_digit, push_two_digits,
-};
+use crate::trace_lines::add_place;
+use arrayvec::ArrayString;
+use number_text::{add_hexadecimal, add_two_digits};
 use processor::{Entry, Step};
 use std::alloc::{AllocError, Global};
 use stream_core::trap_of;
 use tag_memory::{Acc, Masked, MemOp, Reply, Request};
+
+/// The most bytes of a line.
+const LINE: usize = 96;
 
 /// The line of an entry in a history: its number, counted from 1, its processor and stream, what it asked of the
 /// memory, and the reply ("Histories", docs/FORMATS.md).
@@ -23,70 +27,84 @@ pub fn history_line(alloc: Global, number: u64, entry: &Entry) -> Result<String,
     Ok(text)
 }
 
-/// Appends the line of an entry to a history. Where memory is refused, a part of the line may have been appended.
+/// Appends the line of an entry to a history. It fails only where the text has no room for it and memory is refused;
+/// the text then stays as it was.
 #[tactic(auto, unfolding(crate::specs::HistoryLines::history_line_of))]
 pub fn push_history_line(text: &mut String, number: u64, entry: &Entry) -> Result<(), AllocError>
-    ensures { OnOk result (string_bytes text.new ≡ string_bytes text.old ++ history_line_of number entry.now) }
+    ensures { MatchResult result
+        (λ _. string_bytes text.new ≡ string_bytes text.old ++ history_line_of number entry.now)
+        (λ _. (string_capacity text.old < string_len text.old + length (history_line_of number entry.now))
+        × (string_bytes text.new ≡ string_bytes text.old)) }
 {
     let step = Step {
         p: entry.p,
         s: entry.s,
     };
-    push_place(text, number, step)?;
-    push_request(text, &entry.request)?;
-    push_reply(text, entry.reply)?;
-    text.push_str("\n")
+    let mut line = ArrayString::<LINE>::new();
+    add_place(&mut line, number, step);
+    add_request(&mut line, &entry.request);
+    add_reply(&mut line, entry.reply);
+    line.push_str("\n");
+    text.push_str(line.as_str())
 }
 
 /// Appends what was asked of the memory.
-fn push_request(text: &mut String, request: &Request) -> Result<(), AllocError>
-    ensures { OnOk result (string_bytes text.new ≡ string_bytes text.old ++ request_text request.now) }
+fn add_request(line: &mut ArrayString<LINE>, request: &Request)
+    requires { array_string_len line.old ≤ 29 }
+    ensures bytes { line.new.bytes ≡ line.old.bytes ++ request_text request.now }
+    ensures len { array_string_len line.new ≡ array_string_len line.old + 45 }
 {
-    push_reference(text, request)?;
-    push_operand(text, request)
+    add_reference(line, request);
+    add_operand(line, request);
 }
 
 /// Appends the operation, the pointer and the access field.
-fn push_reference(text: &mut String, request: &Request) -> Result<(), AllocError>
-    ensures { OnOk result (string_bytes text.new ≡ string_bytes text.old ++ reference_text request.now) }
+fn add_reference(line: &mut ArrayString<LINE>, request: &Request)
+    requires { array_string_len line.old ≤ 29 }
+    ensures bytes { line.new.bytes ≡ line.old.bytes ++ reference_text request.now }
+    ensures len { array_string_len line.new ≡ array_string_len line.old + 26 }
 {
-    text.push_str(operation_column(request.op))?;
-    text.push_str(" ")?;
-    push_hexadecimal_16(text, request.pointer.bits())?;
-    text.push_str(" ")?;
-    push_hexadecimal_digit(text, acc_number(request.acc))?;
-    text.push_str(" ")
+    line.push_str(operation_column(request.op));
+    line.push_str(" ");
+    add_hexadecimal::<16, LINE>(line, request.pointer.bits());
+    line.push_str(" ");
+    add_hexadecimal::<1, LINE>(line, u64::from(acc_number(request.acc)));
+    line.push_str(" ");
 }
 
 /// Appends the value, and what is passed over.
-fn push_operand(text: &mut String, request: &Request) -> Result<(), AllocError>
-    ensures { OnOk result (string_bytes text.new ≡ string_bytes text.old ++ operand_text request.now) }
+fn add_operand(line: &mut ArrayString<LINE>, request: &Request)
+    requires { array_string_len line.old ≤ 55 }
+    ensures bytes { line.new.bytes ≡ line.old.bytes ++ operand_text request.now }
+    ensures len { array_string_len line.new ≡ array_string_len line.old + 19 }
 {
-    push_hexadecimal_16(text, request.value)?;
-    text.push_str(" ")?;
-    push_hexadecimal_digit(text, masked_number(request.masked))?;
-    text.push_str(" ")
+    add_hexadecimal::<16, LINE>(line, request.value);
+    line.push_str(" ");
+    add_hexadecimal::<1, LINE>(line, u64::from(masked_number(request.masked)));
+    line.push_str(" ");
 }
 
 /// Appends what the memory replied.
 #[tactic(auto, unfolding(crate::specs::HistoryLines::reply_text))]
-fn push_reply(text: &mut String, reply: Reply) -> Result<(), AllocError>
-    ensures { OnOk result (string_bytes text.new ≡ string_bytes text.old ++ reply_text reply) }
+fn add_reply(line: &mut ArrayString<LINE>, reply: Reply)
+    requires { array_string_len line.old ≤ 74 }
+    ensures bytes { line.new.bytes ≡ line.old.bytes ++ reply_text reply }
+    ensures len { array_string_len line.new ≤ array_string_len line.old + 21 }
 {
     match reply {
         Reply::Done(value) => {
-            text.push_str("DONE ")?;
-            push_hexadecimal_16(text, value)
+            line.push_str("DONE ");
+            add_hexadecimal::<16, LINE>(line, value);
         }
         Reply::Blocked(address) => {
-            text.push_str("BLOCKED ")?;
-            push_hexadecimal_12(text, address)
+            line.push_str("BLOCKED ");
+            add_hexadecimal::<12, LINE>(line, address);
         }
         Reply::Trap(trap, address) => {
-            text.push_str("TRAP ")?;
-            push_two_digits(text, trap_of(trap).number())?;
-            text.push_str(" ")?;
-            push_hexadecimal_12(text, address)
+            line.push_str("TRAP ");
+            add_two_digits(line, trap_of(trap).number());
+            line.push_str(" ");
+            add_hexadecimal::<12, LINE>(line, address);
         }
     }
 }
@@ -94,7 +112,8 @@ fn push_reply(text: &mut String, reply: Reply) -> Result<(), AllocError>
 /// The assembler's name of the operation, in six places.
 #[tactic(auto, unfolding(crate::specs::HistoryLines::operation_column))]
 fn operation_column(op: MemOp) -> &'static str
-    ensures { result.now ≡ operation_column op }
+    ensures name { result.now ≡ operation_column op }
+    ensures len { length result.now ≡ 6 }
 {
     match op {
         MemOp::Load => "LOAD  ",

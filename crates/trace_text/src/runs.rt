@@ -1,4 +1,4 @@
-//! Runs of equal steps.
+//! What a line of a schedule says.
 
 use processor::Step;
 

@@ -1,12 +1,18 @@
 //! The lines of a trace.
 
-ghost use Rattle.std.specs.Prelude.{◌≡◌, ◌++◌, IfOk, OnOk, string_bytes};
+ghost use Rattle.std.specs.Prelude.{◌≡◌, ◌+◌, ◌<◌, ◌≤◌, ◌++◌, length, IfOk, MatchResult, string_bytes};
+ghost use Rattle.std.specs.String.{string_len, string_capacity};
+ghost use Rattle.arrayvec.specs.ArrayString.{array_string_len};
 ghost use Rattle.trace_text.specs.TraceLines.{outcome_text, place_text, result_text, trace_line_of};
 
-use number_text::{push_hexadecimal_8, push_right_aligned, push_two_digits};
+use arrayvec::ArrayString;
+use number_text::{add_hexadecimal, add_right_aligned_3, add_right_aligned_7, add_two_digits};
 use processor::Step;
 use std::alloc::{AllocError, Global};
 use stream_core::Outcome;
+
+/// The most bytes of a line.
+const LINE: usize = 49;
 
 /// The line of a step in a trace: its number, counted from 1, its processor and stream, the pc that the stream had
 /// before it, and how it came out ("Traces", docs/FORMATS.md).
@@ -24,7 +30,8 @@ pub fn trace_line(
     Ok(text)
 }
 
-/// Appends the line of a step to a trace. Where memory is refused, a part of the line may have been appended.
+/// Appends the line of a step to a trace. It fails only where the text has no room for it and memory is refused; the
+/// text then stays as it was.
 #[tactic(auto, unfolding(crate::specs::TraceLines::trace_line_of))]
 pub fn push_trace_line(
     text: &mut String,
@@ -33,50 +40,60 @@ pub fn push_trace_line(
     pc: u32,
     outcome: Outcome,
 ) -> Result<(), AllocError>
-    ensures { OnOk result (string_bytes text.new ≡ string_bytes text.old ++ trace_line_of number step pc outcome) }
+    ensures { MatchResult result
+        (λ _. string_bytes text.new ≡ string_bytes text.old ++ trace_line_of number step pc outcome)
+        (λ _. (string_capacity text.old < string_len text.old + length (trace_line_of number step pc outcome))
+        × (string_bytes text.new ≡ string_bytes text.old)) }
 {
-    push_place(text, number, step)?;
-    push_result(text, pc, outcome)
+    let mut line = ArrayString::<LINE>::new();
+    add_place(&mut line, number, step);
+    add_result(&mut line, pc, outcome);
+    text.push_str(line.as_str())
 }
 
 /// Appends where a line stands in the trace or the history, and whose step it is.
-pub(crate) fn push_place(text: &mut String, number: u64, step: Step) -> Result<(), AllocError>
-    ensures { OnOk result (string_bytes text.new ≡ string_bytes text.old ++ place_text number step) }
+pub(crate) fn add_place<const ROOM: usize>(line: &mut ArrayString<ROOM>, number: u64, step: Step)
+    requires { array_string_len line.old + 29 ≤ ROOM }
+    ensures bytes { line.new.bytes ≡ line.old.bytes ++ place_text number step }
+    ensures len { array_string_len line.new ≤ array_string_len line.old + 29 }
 {
-    push_right_aligned::<7>(text, number)?;
-    text.push_str(" ")?;
-    push_right_aligned::<3>(text, u64::from(step.p))?;
-    text.push_str(" ")?;
-    push_right_aligned::<3>(text, u64::from(step.s))?;
-    text.push_str(" ")
+    add_right_aligned_7(line, number);
+    line.push_str(" ");
+    add_right_aligned_3(line, step.p);
+    line.push_str(" ");
+    add_right_aligned_3(line, step.s);
+    line.push_str(" ");
 }
 
 /// Appends the pc before a step and how it came out, and the line's end.
-fn push_result(text: &mut String, pc: u32, outcome: Outcome) -> Result<(), AllocError>
-    ensures { OnOk result (string_bytes text.new ≡ string_bytes text.old ++ result_text pc outcome) }
+fn add_result(line: &mut ArrayString<LINE>, pc: u32, outcome: Outcome)
+    requires { array_string_len line.old ≤ 29 }
+    ensures { line.new.bytes ≡ line.old.bytes ++ result_text pc outcome }
 {
-    push_hexadecimal_8(text, pc)?;
-    text.push_str(" ")?;
-    push_outcome(text, outcome)?;
-    text.push_str("\n")
+    add_hexadecimal::<8, LINE>(line, u64::from(pc));
+    line.push_str(" ");
+    add_outcome(line, outcome);
+    line.push_str("\n");
 }
 
 /// Appends how a step came out, and a trap with its number.
 #[tactic(auto, unfolding(crate::specs::TraceLines::outcome_text))]
-fn push_outcome(text: &mut String, outcome: Outcome) -> Result<(), AllocError>
-    ensures { OnOk result (string_bytes text.new ≡ string_bytes text.old ++ outcome_text outcome) }
+fn add_outcome(line: &mut ArrayString<LINE>, outcome: Outcome)
+    requires { array_string_len line.old ≤ 38 }
+    ensures bytes { line.new.bytes ≡ line.old.bytes ++ outcome_text outcome }
+    ensures len { array_string_len line.new ≤ array_string_len line.old + 10 }
 {
     match outcome {
-        Outcome::Skipped => text.push_str("SKIPPED"),
-        Outcome::Done => text.push_str("DONE"),
-        Outcome::Blocked => text.push_str("BLOCKED"),
+        Outcome::Skipped => line.push_str("SKIPPED"),
+        Outcome::Done => line.push_str("DONE"),
+        Outcome::Blocked => line.push_str("BLOCKED"),
         Outcome::Trapped(kind) => {
-            text.push_str("TRAPPED ")?;
-            push_two_digits(text, kind.number())
+            line.push_str("TRAPPED ");
+            add_two_digits(line, kind.number());
         }
         Outcome::Stopped(kind) => {
-            text.push_str("STOPPED ")?;
-            push_two_digits(text, kind.number())
+            line.push_str("STOPPED ");
+            add_two_digits(line, kind.number());
         }
     }
 }

@@ -2,7 +2,8 @@
 
 ghost use Rattle.std.specs.Prelude.{◌≡◌, ◌++◌, ◌<◌, ◌≤◌, length, slice_get, IfOk, OnOk, string_bytes};
 ghost use Rattle.std.specs.Option.{option_copied};
-ghost use Rattle.trace_text.specs.WorldTexts.{stream_parts, processor_parts, cell_line, change, changes, world_text_of};
+ghost use Rattle.trace_text.specs.WorldTexts.{stream_parts, processor_parts, cell_line, change, changes};
+ghost use Rattle.trace_text.specs.WorldTexts.{world_text_of};
 ghost use Rattle.trace_text.specs.WorldParts.{stream_part_at, processor_part_at, streams_of};
 
 use image_file::Image;

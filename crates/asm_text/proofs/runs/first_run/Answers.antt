@@ -1,4 +1,4 @@
-use Rattle.asm_text.proofs.RunFronts.{no_cells, run_cut}
+use Rattle.asm_text.proofs.RunCells.{no_cells, run_cut}
 use Rattle.asm_text.proofs.runs.first_run.Goals as goal
 
 pub returns-in_err-first-clause-runs : goal.returns-in_err-first-clause-runs
@@ -7,5 +7,5 @@ returns-in_err-first-clause-runs c =
 
 pub returns-clause-runs : goal.returns-clause-runs
 returns-clause-runs c =
-    run_cut c.args.cells.now c.in_ok-first.first.now c.run_length-count.result c.in_ok-first.ensures.item.3.0
-    (c.in_ok-first.ensures.item.3.1 c.in_ok-first.first.now) c.run_length-count.ensures.is
+    run_cut c.args.cells.now c.in_ok-first.first.now c.run_length-times.result c.in_ok-first.ensures.item.3.0
+    (c.in_ok-first.ensures.item.3.1 c.in_ok-first.first.now) c.run_length-times.ensures.count

@@ -4,7 +4,7 @@ use Rattle.asm_line.specs.Lines.{lines, rest_lines}
 use Rattle.asm_line.specs.Labels.{places_of}
 use Rattle.text_parts.specs.Parts.{rest_length}
 use Rattle.asm_text.specs.Drafts.{empty}
-use Rattle.asm_text.specs.Limits.{IsKept}
+use Rattle.asm_text.specs.Limits.{KeepsLimits}
 use Rattle.asm_text.specs.Sources.{with_lines}
 use Rattle.asm_text.proofs.source.all_lines.Given as goal
 
@@ -12,7 +12,7 @@ abbrev pub invariant-loop-rest : goal.invariant-loop-rest
 invariant-loop-rest l = record {
   lines : with_lines (places_of l.labels) l.words l.number l.draft (rest_lines (option_copied l.rest))
       ≡ with_lines (places_of l.labels) l.words 0 empty (lines l.text);
-  kept : IsKept l.words l.draft;
+  kept : KeepsLimits l.words l.draft;
   number : l.number + rest_length (option_copied l.rest) ≤ length l.text + 1;
 }
 

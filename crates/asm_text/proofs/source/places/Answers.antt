@@ -22,7 +22,7 @@ loop-rest-preserved c =
     ] in
     let count = one_word l c.loop-rest.words c.if-is_word.words c.is_word.result c.is_word.ensures more in
     record {
-      labels = λ name. labels_taken name l ls these _ _ _ _ _ _ first count (c.in_ok-note.ensures name)
+      labels = λ name. labels_taken name l ls these _ _ _ _ _ _ first count (c.in_ok-note.ensures.takes name)
           (c.loop-rest.invariant.labels name);
       words = words_taken l ls these _ _ _ first count c.loop-rest.invariant.words;
       number = omega (

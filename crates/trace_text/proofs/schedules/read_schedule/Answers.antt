@@ -26,7 +26,8 @@ loop-rest-preserved c =
     let count : length c.loop-rest.steps.items ≡ c.len.result = search rules in
     let some : (length c.loop-rest.rest.now == 0) ≡ false = cc in
     let read = c.in-Ok.ensures in
-    let none : schedule_line_fault (length c.loop-rest.steps.items) (values_of (before_first is_line_end c.loop-rest.rest.now))
+    let none : schedule_line_fault (length c.loop-rest.steps.items)
+    (values_of (before_first is_line_end c.loop-rest.rest.now))
     ≡ None =
     rw (count, ← c.split_line.ensures.line) read.0 in
     let shorter : length c.split_line.result.1.now + 1 ≤ length c.loop-rest.rest.now =

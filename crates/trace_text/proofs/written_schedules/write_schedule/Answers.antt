@@ -10,7 +10,8 @@ loop-first-preserved c =
     let first : slice_get c.loop-first.rest.now 0 ≡ Some c.in-Some.first.now = sym c.first.ensures.value
     ∙ ap option_copied c.in-Some.is in
     let added = c.in_ok-write_run.ensures
-    ∙ ap (λ n. string_bytes c.loop-first.text ++ schedule_run_text (record { step = c.in-Some.first.now; times = n }))
+    ∙ ap (λ n. string_bytes c.loop-first.text
+    ++ schedule_run_text (record { thing = c.in-Some.first.now; times = n }))
     c.run_length-times.ensures.count in
     ap (λ ts. string_bytes c.write_run.new.text ++ schedule_text ts)
     (c.split_at.ensures.back ∙ ap (λ n. drop n c.loop-first.rest.now) c.run_length-times.ensures.count)
