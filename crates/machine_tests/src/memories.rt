@@ -76,20 +76,33 @@ fn pointers(rt: HostRuntime) {
 }
 
 #[test]
-fn smallest_and_largest(rt: HostRuntime) -> Result<(), Fail> {
-    for count in [1usize, 262_144] {
-        let words = vec![in rt.alloc(); word(&rt, 9, 1); count]?;
+fn last_word_of_each_size(rt: HostRuntime) -> Result<(), Fail> {
+    for count in [1usize, 7, 8, 9, 127, 128, 129, 262_144] {
+        assert!(rt; count >= 1 && count <= MAX_WORDS);
+        let mut words = Vec::with_capacity(rt.alloc(), count)?;
+        for i in 0..count {
+            words.push(word(&rt, i as u64, (i % 16) as u8))?;
+        }
         let mut m = memory(&rt, rt.alloc(), &words)?;
-        let last = 8 * (count as u64 - 1);
         assert_eq!(rt; m.len(), count);
-        let store = request(MemOp::Store, last, Acc::Normal, 5);
-        assert_eq!(rt; m.serve(&store), Reply::Done(0));
-        assert_eq!(rt; m.word(last), Some(word(&rt, 5, 1)));
-        for address in [last + 8, last + 4, 1 << 63] {
-            assert_eq!(rt; m.word(address), None, "{address}");
+        tag_last(&rt, &mut m, count);
+        for i in 0..count - 1 {
+            assert_eq!(rt; m.word(8 * i as u64), words.get(i).copied(), "{count} {i}");
         }
     }
     Ok(())
+}
+
+/// Sets the tags of the last of so many words, and looks at it and at what is past it.
+fn tag_last(rt: &impl Abort, m: &mut Memory, count: usize) {
+    assert!(rt; count >= 1 && count <= MAX_WORDS);
+    let end = 8 * count as u64;
+    let set = request(MemOp::TagSet, end - 8, Acc::Normal, 5);
+    assert_eq!(rt; m.serve(&set), Reply::Done(0));
+    assert_eq!(rt; m.word(end - 8), Some(word(rt, end / 8 - 1, 5)));
+    for address in [end, end - 4, 1 << 63] {
+        assert_eq!(rt; m.word(address), None, "{address}");
+    }
 }
 
 #[test]

@@ -1,3 +1,6 @@
 mod Ends
 mod Paths
 mod Words
+mod PackedTags
+mod BankCells
+mod BankedCells

@@ -3,8 +3,10 @@
 //! table.
 #![tactic(auto)]
 
+mod bank;
 mod chain;
 mod full_empty;
+mod packed_tags;
 mod pointers;
 mod requests;
 mod serving;

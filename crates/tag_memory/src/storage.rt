@@ -3,6 +3,7 @@ ghost use Rattle.std.specs.Prelude.{◌≡◌, ◌≤◌, length, IfOk, IsSome};
 ghost use Rattle.tag_memory.specs.Storage.{memory_of, most_memory_words, IsWithinLimits, cell_at, with_cell};
 
 use crate::Word;
+use crate::bank::Bank;
 use std::alloc::{AllocError, Global};
 use std::marker::Model;
 
@@ -11,20 +12,29 @@ pub const MAX_WORDS: usize = 262_144;
 
 const _: () = prove!(MAX_WORDS == 262_144);
 
+/// How many banks keep the words.
+pub(crate) const BANKS: usize = 8;
+
+const _: () = prove!(BANKS == 8);
+
 /// A memory of 1 to [`MAX_WORDS`] tagged words, at the byte addresses 0, 8, 16, ... It keeps its length.
+///
+/// Word w stands in bank w mod 8 at place w / 8.
 #[derive(Drop)]
 pub struct Memory {
-    words: Vec<Word>,
+    banks: [Bank; BANKS],
+    len: usize,
 }
 
 impl Model for Memory {
     ghost use Rattle.tag_memory.specs.Storage.{TaggedMemory, IsWithinLimits, memory_of};
+    ghost use Rattle.tag_memory.specs.Banks.{banked_cells, AreBanks};
 
     ghost Value = { TaggedMemory };
 
-    ghost view = { λ m. memory_of m.words.items };
+    ghost view = { λ m. memory_of (banked_cells m.banks m.len) };
 
-    ghost invariant = { λ m. IsWithinLimits (memory_of m.words.items) };
+    ghost invariant = { λ m. IsWithinLimits (memory_of (banked_cells m.banks m.len)) × AreBanks m.banks m.len };
 }
 
 impl Memory {
@@ -34,8 +44,18 @@ impl Memory {
         requires few { length words.now ≤ most_memory_words }
         ensures { IfOk result (λ m. m ≡ memory_of words.now) }
     {
-        let words = words.to_vec(alloc)?;
-        Ok(Memory { words })
+        let len = words.len();
+        let banks = [
+            Bank::every_eighth(alloc, words, 0)?,
+            Bank::every_eighth(alloc, words, 1)?,
+            Bank::every_eighth(alloc, words, 2)?,
+            Bank::every_eighth(alloc, words, 3)?,
+            Bank::every_eighth(alloc, words, 4)?,
+            Bank::every_eighth(alloc, words, 5)?,
+            Bank::every_eighth(alloc, words, 6)?,
+            Bank::every_eighth(alloc, words, 7)?,
+        ];
+        Ok(Memory { banks, len })
     }
 
     /// The number of words, 1 to [`MAX_WORDS`].
@@ -43,7 +63,7 @@ impl Memory {
         ensures is { result ≡ length self.now.cells }
         ensures within { IsWithinLimits self.now }
     {
-        self.words.len()
+        self.len
     }
 
     /// The word at a byte address; `None` where the address is not a multiple of 8, or past the last word.
@@ -53,7 +73,8 @@ impl Memory {
         if address % 8 != 0 {
             return None;
         }
-        self.words.get((address / 8) as usize).copied()
+        let word = (address / 8) as usize;
+        self.banks[word % BANKS].get(word / BANKS)
     }
 
     /// Puts another word where one stands.
@@ -61,14 +82,27 @@ impl Memory {
         requires { IsSome (cell_at self.old address) }
         ensures { self.new ≡ with_cell self.old address word }
     {
-        self.words[(address / 8) as usize] = word;
+        let place = (address / 8) as usize;
+        self.banks[place % BANKS].set(place / BANKS, word);
     }
 
     /// A memory equal to this one.
     pub fn try_clone(&self) -> Result<Memory, AllocError>
         ensures { IfOk result (λ m. m ≡ self.now) }
     {
-        let words = self.words.clone()?;
-        Ok(Memory { words })
+        let banks = [
+            self.banks[0].try_clone()?,
+            self.banks[1].try_clone()?,
+            self.banks[2].try_clone()?,
+            self.banks[3].try_clone()?,
+            self.banks[4].try_clone()?,
+            self.banks[5].try_clone()?,
+            self.banks[6].try_clone()?,
+            self.banks[7].try_clone()?,
+        ];
+        Ok(Memory {
+            banks,
+            len: self.len,
+        })
     }
 }
