@@ -4,8 +4,6 @@ use Rattle.insn_word.specs.Fields.{number_of_fields, AreInRange}
 use Rattle.insn_word.specs.Words.{memory_fields, arithmetic_fields, control_fields, fields}
 use Rattle.insn_word.specs.Words.{used_memory, used_arithmetic, used_control, WriteApart}
 use Rattle.insn_word.specs.declared.operations.WideOp.{WideOp}
-use Rattle.insn_word.specs.declared.operations.ControlOp.{ControlOp}
-use Rattle.insn_word.specs.declared.operations.ControlOp.TheVariants as control
 use Rattle.insn_word.specs.declared.insn.MPart.{MPart}
 use Rattle.insn_word.specs.declared.insn.APart.{APart}
 use Rattle.insn_word.specs.declared.insn.CPart.{CPart}
@@ -28,12 +26,6 @@ pub record IsControlPart (bits : ℕ) (c : CPart) : Type 0 where
   pub in_range : AreInRange (control_fields c)
   pub number_is : number_of_fields (control_fields c) ≡ bits
   pub rest : used_control c.op c ≡ c
-
--- These digits are those of NOP, or name SKIP.
-abbrev pub IsShortOperation : ControlOp → ℕ → Type 0
-IsShortOperation control.Nop bits = bits ≡ 0
-IsShortOperation control.Skip bits = bits / 2 ^ 14 % 2 ^ 4 ≡ 2
-IsShortOperation _ bits = ⊥
 
 -- The word spells this instruction.
 

@@ -29,8 +29,7 @@ pub(crate) fn signed_6(digits: u8) -> i8
     ensures high { result <ℤ pos 32 }
     ensures only { (z : ℤ) → neg_ℤ (pos 32) ≤ℤ z → z <ℤ pos 32 → twos_complement 6 z ≡ digits → result ≡ z }
 {
-    let number = digits.cast_signed();
-    if digits < 32 { number } else { number - 64 }
+    ((digits + 32) % 64).cast_signed() - 32
 }
 
 /// The number that 8 digits say in two's complement.

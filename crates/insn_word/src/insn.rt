@@ -119,14 +119,3 @@ pub enum Insn {
         c: CPart,
     },
 }
-
-/// An instruction with no memory operation and no control operation but SKIP, as many are.
-#[derive(Clone, Copy, Debug, PartialEq, Eq)]
-pub struct ShortInsn {
-    /// The lookahead, 0 to 7, which has no effect.
-    pub look: u8,
-    /// The arithmetic operation.
-    pub a: APart,
-    /// The control operation, NOP or SKIP.
-    pub c: CPart,
-}

@@ -4,14 +4,15 @@ ghost use Rattle.std.specs.Prelude.{◌≡◌, ◌<◌, ◌≤◌, ◌^◌, ◌�
 ghost use Rattle.insn_word.specs.Fields.{number_of_fields, AreInRange};
 ghost use Rattle.insn_word.specs.Words.{fields, AreApart, WriteApart, Spells, IsValid};
 ghost use Rattle.insn_word.specs.Reading.{instruction};
-ghost use Rattle.insn_word.specs.ShortInsns.{short_instruction};
+ghost use Rattle.insn_word.specs.ShortInsns.{short_instruction, reference_instruction};
 ghost use Rattle.insn_word.specs.Parts.{Holds};
 ghost use Rattle.insn_word.specs.declared.insn.Insn.{Insn};
 
 use crate::fields::{field, small_field, with_field};
-use crate::insn::{APart, CPart, Insn, MPart, ShortInsn};
+use crate::insn::{APart, CPart, Insn, MPart};
 use crate::operations::WideOp;
 use crate::parts::REGISTER_WIDTH;
+use crate::short_insns::{ReferenceInsn, ReferencePart, ShortControl, ShortInsn};
 
 /// Bit 63: whether the word is wide.
 const WIDE_PLACE: u32 = 63;
@@ -115,10 +116,28 @@ pub fn decode_short(word: u64) -> Option<ShortInsn>
         return None;
     }
     let a = APart::read(field(word, ARITHMETIC_PLACE, ARITHMETIC_WIDTH))?;
-    let c = CPart::short_from_bits(field(word, 0, CONTROL_WIDTH))?;
+    let c = ShortControl::from_bits(field(word, 0, CONTROL_WIDTH))?;
     Some(ShortInsn {
         look: small_field(word, LOOKAHEAD_PLACE, LOOKAHEAD_WIDTH),
         a,
+        c,
+    })
+}
+
+/// The instruction that the word spells, where it asks the memory, and has no arithmetic operation and no control
+/// operation but SKIP; None for all other words. It says what `decode` says, in fewer steps.
+#[inline(always)]
+pub fn decode_reference(word: u64) -> Option<ReferenceInsn>
+    ensures { IfSome result (λ r. instruction word ≡ Some (reference_instruction r)) }
+{
+    if word >= 1 << WIDE_PLACE || field(word, ARITHMETIC_PLACE, ARITHMETIC_WIDTH) != 0 {
+        return None;
+    }
+    let m = ReferencePart::from_bits(field(word, MEMORY_PLACE, MEMORY_WIDTH))?;
+    let c = ShortControl::from_bits(field(word, 0, CONTROL_WIDTH))?;
+    Some(ReferenceInsn {
+        look: small_field(word, LOOKAHEAD_PLACE, LOOKAHEAD_WIDTH),
+        m,
         c,
     })
 }

@@ -16,7 +16,8 @@ use Rattle.stream_core.specs.declared.steps.Status.TheVariants.{Idle, Running, S
 use Rattle.stream_core.specs.declared.steps.Fetched.{Fetched}
 use Rattle.stream_core.specs.declared.steps.Fetched.TheVariants as fetch
 use Rattle.processor.specs.Processors.{ProcessorValue, is_idle, is_idle_status, stream_at}
-use Rattle.processor.specs.Row.{lacks_stream, step_fetch_from, step_fetch, step_fetch_at, step_fetch_of, request_on_fetch, request_at}
+use Rattle.processor.specs.Row.{lacks_stream, step_fetch_from, step_fetch, step_fetch_at, step_fetch_of}
+use Rattle.processor.specs.Row.{request_on_fetch, request_at}
 use Rattle.processor.specs.Row.{request, next_asking, next_on_fetch, next_at, next_of, next_step_of}
 use Rattle.processor.specs.Row.{row_on_fetch, row_at, row, memory_reply, row_over_memory}
 use Rattle.processor.specs.declared.steps.Next.{Next}
@@ -66,7 +67,8 @@ next_is image proc n =
 
 pub row_begun : (image : ImageValue) (proc : ProcessorValue) (n : ℕ) (r : Option Reply) (f : Fetched)
     → step_fetch_of image proc n ≡ f → row_on_fetch image proc n r (stream_at proc.streams n) f ≡ row image proc n r
-row_begun image proc n r f e = sym (row_is image proc n r ∙ ap (row_on_fetch image proc n r (stream_at proc.streams n)) e)
+row_begun image proc n r f e =
+    sym (row_is image proc n r ∙ ap (row_on_fetch image proc n r (stream_at proc.streams n)) e)
 
 pub request_begun : (image : ImageValue) (proc : ProcessorValue) (n : ℕ) (f : Fetched)
     → step_fetch_of image proc n ≡ f → request image proc n ≡ request_on_fetch (stream_at proc.streams n) f
@@ -87,13 +89,15 @@ pub next_needed : (image : ImageValue) (proc : ProcessorValue) (n : ℕ) (i : In
 next_needed image proc n i s o e is asks =
     ap next_asking (asked_there proc n i s o is asks) ∙ next_begun image proc n (fetch.Runs i) e
 
-pub row_over_memory_begun : (image : ImageValue) (proc : ProcessorValue) (n : ℕ) (m after : TaggedMemory) (f : Fetched)
-    (r : Option Reply) → step_fetch_of image proc n ≡ f → (after, r) ≡ memory_reply m (request_on_fetch (stream_at proc.streams n) f)
+pub row_over_memory_begun : (image : ImageValue) (proc : ProcessorValue) (n : ℕ) (m after : TaggedMemory)
+    (f : Fetched) (r : Option Reply) → step_fetch_of image proc n ≡ f
+    → (after, r) ≡ memory_reply m (request_on_fetch (stream_at proc.streams n) f)
     → (row_on_fetch image proc n r (stream_at proc.streams n) f, after) ≡ row_over_memory image proc n m
 unfolding row_over_memory
 row_over_memory_begun image proc n m after f r e answers =
     ap (λ x. (x, after)) (row_begun image proc n r f e)
-    ∙ ap (λ (x : TaggedMemory × Option Reply). (row image proc n x.1, x.0)) (answers ∙ sym (ap (memory_reply m) (request_begun image proc n f e)))
+    ∙ ap (λ (x : TaggedMemory × Option Reply). (row image proc n x.1, x.0))
+    (answers ∙ sym (ap (memory_reply m) (request_begun image proc n f e)))
 
 pub is_replied : (m after : TaggedMemory) (o : Option Request) (r : Option Reply) → (after, r) ≡ memory_reply m o
     → is_some r ≡ is_some o
@@ -145,7 +149,8 @@ free_if : (b : Bool) (j i : Insn) → (if b then fetch.Trap kind.Create else fet
 free_if true j i e = cc
 free_if false j i e = (refl, cc)
 
-free_from : (proc : ProcessorValue) (s : StreamValue) (f : Fetched) (i : Insn) → step_fetch_from proc s f ≡ fetch.Runs i
+free_from : (proc : ProcessorValue) (s : StreamValue) (f : Fetched) (i : Insn)
+    → step_fetch_from proc s f ≡ fetch.Runs i
     → lacks_stream proc (control_of s i) ≡ false
 free_from proc s fetch.Rest i e = cc
 free_from proc s (fetch.Trap k) i e = cc
@@ -189,7 +194,8 @@ ask_asks : (o : Option Request) (q : Request) → next_asking o ≡ next.Ask q �
 ask_asks None q e = cc
 ask_asks (Some p) q e = cc
 
-ask_by : (s : StreamValue) (f : Fetched) (q : Request) → next_on_fetch s f ≡ next.Ask q → request_on_fetch s f ≡ Some q
+ask_by : (s : StreamValue) (f : Fetched) (q : Request) → next_on_fetch s f ≡ next.Ask q
+    → request_on_fetch s f ≡ Some q
 ask_by s fetch.Rest q e = cc
 ask_by s (fetch.Trap k) q e = cc
 ask_by s (fetch.Runs i) q e = ask_asks (request_of s i) q e

@@ -1,19 +1,17 @@
 -- What steps do to the world and leave in its history.
 use Rattle.std.proofs.Common.{ℕ, zero, suc, subst, ◌≡◌, ◌≢◌, ◌<◌, List, [], ◌∷◌, ◌++◌, Bool, true, false, cond, eqb}
 use Rattle.std.proofs.Common.{Option, Some, None, length, refl, sym, ◌∙◌, ap, arith, append_assoc, length-set}
-use Rattle.std.specs.Prelude.{slice_get, slice_set, ◌==◌}
+use Rattle.std.specs.Prelude.{slice_get, slice_set}
 use Rattle.tag_memory.specs.declared.requests.Request.{Request}
 use Rattle.tag_memory.specs.Storage.{TaggedMemory}
 use Rattle.tag_memory.specs.Answer.{answer}
 use Rattle.image_file.specs.ImageValue.{ImageValue}
-use Rattle.stream_core.specs.declared.steps.Outcome.{Outcome}
 use Rattle.processor.specs.Processors.{ProcessorValue}
 use Rattle.processor.specs.Row.{request, row, memory_reply, row_over_memory}
 use Rattle.processor.specs.World.{World, world_step, world_step_at, world_with, after, steps}
 use Rattle.processor.specs.World.{step_entries, step_entries_at, step_entries_asking, history_from}
 use Rattle.processor.specs.Histories.{memory_after, IsLegalFrom, steps_of, pairs_of, pair_of}
 use Rattle.processor.specs.declared.steps.Step.{Step}
-use Rattle.processor.specs.declared.steps.Asked.{Asked}
 use Rattle.processor.specs.declared.steps.Entry.{Entry}
 
 -- Lists.

@@ -1,6 +1,6 @@
 -- What a record keeps, over one more step.
-use Rattle.std.proofs.Common.{ℕ, zero, suc, subst, ◌≡◌, ◌<◌, ◌≤◌, ◌+◌, List, [], ◌∷◌, ◌++◌, Option, Some, None, length}
-use Rattle.std.proofs.Common.{refl, sym, ◌∙◌, ap, arith, take, inl, inr, slice_index}
+use Rattle.std.proofs.Common.{ℕ, zero, suc, subst, ◌≡◌, ◌<◌, ◌+◌, List, [], ◌∷◌, ◌++◌, Option, Some, None, length}
+use Rattle.std.proofs.Common.{refl, sym, ◌∙◌, ap, arith, inl, inr}
 use Rattle.std.specs.Prelude.{slice_get, ◌⊎◌}
 use Rattle.std.proofs.lemmas.List.{length-append, length_push, take_all, take_at, take-append-le, append-nil}
 use Rattle.std.proofs.lemmas.Option.{slice_get_within, same_Some}

@@ -11,3 +11,4 @@ pub mod Weaving
 pub mod Keeping
 pub mod Turning
 mod ShortRow
+mod StepRuns

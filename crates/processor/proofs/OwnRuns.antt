@@ -1,23 +1,22 @@
 -- A processor's own steps: one part behind another, and beside the steps of the world.
-use Rattle.std.proofs.Common.{ℕ, zero, suc, subst, ◌≡◌, ◌≢◌, List, [], ◌∷◌, ◌++◌, true, false, cond, eqb, Option, Some}
+use Rattle.std.proofs.Common.{ℕ, subst, ◌≡◌, ◌≢◌, List, [], ◌∷◌, ◌++◌, false, eqb, Option, Some}
 use Rattle.std.proofs.Common.{None, length, refl, sym, ◌∙◌, ap, arith, inl, inr}
-use Rattle.std.specs.Prelude.{slice_get, ◌==◌}
+use Rattle.std.specs.Prelude.{slice_get}
 use Rattle.std.proofs.lemmas.Bool.Decides.{eqb_tells}
 use Rattle.std.proofs.lemmas.Bool.{eq-eqb}
 use Rattle.std.proofs.lemmas.List.{length-append, append-nil}
 use Rattle.std.proofs.lemmas.Option.{slice_get_within}
 use Rattle.tag_memory.specs.declared.requests.Request.{Request}
-use Rattle.tag_memory.specs.Answer.{answer}
 use Rattle.image_file.specs.ImageValue.{ImageValue}
 use Rattle.processor.specs.Processors.{ProcessorValue}
 use Rattle.processor.specs.Row.{request, row, memory_reply}
 use Rattle.processor.specs.World.{World, after, steps, step_entries, step_entries_asking, history_from}
-use Rattle.processor.specs.Histories.{steps_of, pairs_of, pair_of}
+use Rattle.processor.specs.Histories.{steps_of, pairs_of}
 use Rattle.processor.specs.OwnSteps.{IsOwnStep, IsOwnFrom}
 use Rattle.processor.specs.declared.steps.Step.{Step}
 use Rattle.processor.specs.declared.steps.Asked.{Asked}
 use Rattle.processor.specs.declared.steps.Entry.{Entry}
-use Rattle.processor.proofs.Histories.{get_set_same, get_set_other, after_asking, after-known, entries-known}
+use Rattle.processor.proofs.Histories.{get_set_same, get_set_other, after-known, entries-known}
 use Rattle.processor.proofs.Histories.{after-absent, entries-absent, steps_of-append, pairs_of-append}
 
 -- One step.

@@ -1,6 +1,6 @@
 -- What is seen of a table when one of its streams is read or written.
 use Rattle.std.proofs.Common.{◌≡◌, ℕ, ◌<◌, ◌≤◌, Bool, true, false, refl, sym, ap, ◌∙◌, arith, List, length}
-use Rattle.std.proofs.Common.{take, drop, get_or, set, replicate, ◌+◌, ◌∷◌, if◌then◌else◌}
+use Rattle.std.proofs.Common.{take, drop, get_or, set, replicate, ◌+◌, if◌then◌else◌}
 use Rattle.std.proofs.Common.{inl, inr, Option, Some, None, is_some}
 use Rattle.std.proofs.Math.Seq.{take-set-lt}
 use Rattle.std.proofs.lemmas.Bool.{lt-ltb, cases_lt}

@@ -1,28 +1,27 @@
 -- A schedule's history and states from each processor's own steps.
-use Rattle.std.proofs.Common.{ℕ, zero, suc, subst, ◌≡◌, ◌<◌, ◌≤◌, ◌+◌, List, [], ◌∷◌, ◌++◌, Bool, true, false, eqb, Option}
+use Rattle.std.proofs.Common.{ℕ, suc, subst, ◌≡◌, ◌≤◌, List, [], ◌∷◌, ◌++◌, false, eqb, Option}
 use Rattle.std.proofs.Common.{Some, None, length, refl, sym, ◌∙◌, ap, arith, inl, inr, map, take, drop}
-use Rattle.std.specs.Prelude.{slice_get, slice_set, ◌==◌, option_map}
+use Rattle.std.specs.Prelude.{slice_get, option_map}
 use Rattle.std.proofs.lemmas.Bool.Decides.{leb_tells}
 use Rattle.std.proofs.lemmas.Bool.{eq-eqb}
 use Rattle.std.proofs.lemmas.List.{length-map, take-append-drop, take-take}
 use Rattle.std.proofs.lemmas.Option.{slice_get_within, same_Some, slice_get-map}
 use Rattle.tag_memory.specs.declared.requests.Request.{Request}
-use Rattle.tag_memory.specs.declared.requests.Reply.{Reply}
 use Rattle.tag_memory.specs.Storage.{TaggedMemory, memory_of}
 use Rattle.tag_memory.specs.Answer.{answer}
 use Rattle.image_file.specs.ImageValue.{ImageValue}
 use Rattle.processor.specs.Processors.{ProcessorValue, opening}
-use Rattle.processor.specs.Row.{request, row, memory_reply}
-use Rattle.processor.specs.World.{World, start, run, after, steps, step_entries, step_entries_asking}
+use Rattle.processor.specs.Row.{request, row}
+use Rattle.processor.specs.World.{World, start, run, after, step_entries}
 use Rattle.processor.specs.World.{history_from, history_of}
 use Rattle.processor.specs.Histories.{memory_after, replay, IsLegal, IsLegalFrom, steps_of, pairs_of, step_by, entry_by}
 use Rattle.processor.specs.OwnSteps.{IsOwnStep, IsOwnFrom, IsOwn}
 use Rattle.processor.specs.declared.steps.Step.{Step}
 use Rattle.processor.specs.declared.steps.Asked.{Asked}
 use Rattle.processor.specs.declared.steps.Entry.{Entry}
-use Rattle.processor.proofs.Histories.{get_set_same, after_asking, after-known, entries-known, steps-memory, steps-length}
+use Rattle.processor.proofs.Histories.{get_set_same, after-known, entries-known, steps-memory, steps-length}
 use Rattle.processor.proofs.Histories.{history_from-append}
-use Rattle.processor.proofs.OwnRuns.{own-rest, own-same, own-fewer, steps-own, Goes}
+use Rattle.processor.proofs.OwnRuns.{own-rest, own-same, own-fewer, steps-own}
 
 -- The steps and entries of one processor.
 

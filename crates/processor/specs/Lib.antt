@@ -17,5 +17,8 @@ pub mod Weave
 pub mod Records
 -- whose turn it is
 pub mod Turns
+-- the steps of a record, kept as runs; of what is defined there contracts name `IsRunFrom` alone
+pub mod StepRuns
 -- What only the code below the processor cites:
+pub mod FetchForms
 pub mod StreamTables

@@ -1,5 +1,5 @@
 -- A processor of an image beside the record of what it did.
-use Rattle.std.specs.Prelude.{ℕ, ◌≡◌, List, Option, Some, slice_get, length, Bool, true, false}
+use Rattle.std.specs.Prelude.{ℕ, ◌≡◌, List, Some, slice_get, length, Bool, true, false}
 use Rattle.std.specs.List.{list_any}
 use Rattle.image_file.specs.ImageValue.{ImageValue}
 use Rattle.stream_core.specs.Streams.{StreamValue}

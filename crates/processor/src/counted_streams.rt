@@ -1,24 +1,24 @@
 //! Streams with the counts of those that are current and of those that are reserved. That the counts are right is the
 //! processor's to keep.
 
+mod stepping;
+
 ghost use Rattle.std.specs.Prelude.{◌≡◌, ◌<◌, ◌≤◌, ◌+◌, length, true, false, is_some, IfOk, IfSome};
-ghost use Rattle.insn_word.specs.ShortInsns.{short_instruction};
-ghost use Rattle.stream_core.specs.StreamRow.{control_by, control_of};
+ghost use Rattle.insn_word.specs.ShortInsns.{short_instruction, reference_instruction};
+ghost use Rattle.stream_core.specs.StreamRow.{control_by, control_of, after_reply};
 ghost use Rattle.stream_core.specs.Effects.{request_of, after_instruction};
 ghost use Rattle.stream_core.specs.Streams.{StreamValue, idle, after_trap};
-ghost use Rattle.processor.specs.Processors.{stream_at, IsCounted};
+ghost use Rattle.processor.specs.Processors.{stream_at};
 ghost use Rattle.processor.specs.Row.{lacks_stream, grant_of, step_fetch_of, after_control, with_stream, put_back};
-ghost use Rattle.processor.specs.Row.{row_on_fetch, request, next_asking, next_step_of, row, memory_reply};
-ghost use Rattle.processor.specs.Row.{row_over_memory};
+ghost use Rattle.processor.specs.Row.{row_on_fetch};
 
-use crate::steps::{Next, NextStep};
 use crate::stream_table::StreamTable;
 use image_file::Image;
-use insn_word::{CPart, ControlOp, Insn, ShortInsn};
+use insn_word::{CPart, ControlOp, Insn, ReferenceInsn, ShortInsn};
 use std::alloc::{AllocError, Global};
 use std::marker::Model;
 use stream_core::{Control, Fetched, Outcome, Stream, TrapKind};
-use tag_memory::{Memory, Reply, Request};
+use tag_memory::Reply;
 
 /// The streams and the counts, which clauses see as a processor.
 #[derive(Drop)]
@@ -96,22 +96,6 @@ impl<const S: usize> CountedStreams<S> {
         }
     }
 
-    /// The same where it is an instruction that `fetch_short` finds; None elsewhere.
-    #[tactic(auto, unfolding(crate::specs::Row::step_fetch_of, crate::specs::Row::step_fetch, stream_core::specs::StreamRow::control_of))]
-    #[inline(always)]
-    fn short_fetch(&self, image: &Image, place: usize) -> Option<ShortInsn>
-        ensures runs { IfSome result (λ short. step_fetch_of image.now self.now place
-            ≡ Fetched.Runs (short_instruction short)) }
-        ensures plain { IfSome result (λ short. (s : StreamValue) → control_of s (short_instruction short) ≡ Control.Plain) }
-    {
-        let short = self.table.used(place)?.fetch_short(image.program())?;
-        if is_plain(&short.c) {
-            Some(short)
-        } else {
-            None
-        }
-    }
-
     /// Does what the instruction of the stream at this place, which is done, asks of its processor.
     fn apply_control(&mut self, place: usize, control: Control, grant: u64)
         requires some { 1 ≤ self.old.current }
@@ -156,7 +140,7 @@ impl<const S: usize> CountedStreams<S> {
         self.table.trap(place, kind)
     }
 
-    /// A stream executes an instruction that asks nothing.
+    /// A stream executes an instruction with no reference, which asks nothing of its processor.
     #[inline(always)]
     fn execute_short(&mut self, place: usize, short: &ShortInsn)
         requires there { place < length self.old.streams }
@@ -166,9 +150,26 @@ impl<const S: usize> CountedStreams<S> {
         self.table.execute_short(place, short);
     }
 
+    /// A stream completes the step of a reference by the memory's reply. It asks nothing of its processor.
+    #[inline(always)]
+    fn complete_reference(
+        &mut self,
+        image: &Image,
+        place: usize,
+        reference: &ReferenceInsn,
+        reply: Reply,
+    ) -> Outcome
+        requires there { place < length self.old.streams }
+        ensures { (self.new, result) ≡ put_back self.old place
+            (after_reply image.now.retry_limit (stream_at self.old.streams place)
+            (reference_instruction reference.now) 0 reply) }
+    {
+        self.table
+            .complete_reference(place, reference, reply, image.retry_limit())
+    }
+
     /// Completes the step of the instruction that stands at the pc of a stream, with the memory's reply to its
     /// request where it has one.
-    #[inline(always)]
     fn complete(
         &mut self,
         image: &Image,
@@ -198,77 +199,6 @@ impl<const S: usize> CountedStreams<S> {
         outcome
     }
 
-    /// What the next step of the stream of this number needs, with what it begins with.
-    pub(crate) fn next_step(&self, image: &Image, place: usize) -> NextStep
-        ensures { result ≡ next_step_of image.now self.now place }
-    {
-        match self.step_fetch(image, place) {
-            Fetched::Rest => NextStep {
-                next: Next::Skip,
-                fetched: Fetched::Rest,
-            },
-            Fetched::Trap(kind) => NextStep {
-                next: Next::Local,
-                fetched: Fetched::Trap(kind),
-            },
-            Fetched::Runs(insn) => NextStep {
-                next: next_asking(self.at(place).request(&insn)),
-                fetched: Fetched::Runs(insn),
-            },
-        }
-    }
-
-    /// Finishes the step of the stream of this number that begins with this, with the memory's reply to its request
-    /// where it has one.
-    pub(crate) fn finish(
-        &mut self,
-        image: &Image,
-        place: usize,
-        fetched: &Fetched,
-        reply: Option<Reply>,
-    ) -> Outcome
-        requires counts { IsCounted self.old }
-        requires fetch { fetched.now ≡ step_fetch_of image.now self.old place }
-        requires reply { is_some reply ≡ is_some (request image.now self.old place) }
-        ensures { (self.new, result) ≡ row image.now self.old place reply }
-    {
-        match fetched {
-            Fetched::Rest => Outcome::Skipped,
-            Fetched::Trap(kind) => self.trap(place, *kind),
-            Fetched::Runs(insn) => self.complete(image, place, insn, reply),
-        }
-    }
-
-    /// One step of the stream of this number, with the memory's reply to its request where it has one.
-    pub(crate) fn row(&mut self, image: &Image, place: usize, reply: Option<Reply>) -> Outcome
-        requires counts { IsCounted self.old }
-        requires reply { is_some reply ≡ is_some (request image.now self.old place) }
-        ensures { (self.new, result) ≡ row image.now self.old place reply }
-    {
-        let fetched = self.step_fetch(image, place);
-        self.finish(image, place, &fetched, reply)
-    }
-
-    /// One step of the stream of this number over a memory. It decodes one word and takes no memory.
-    pub(crate) fn step_over(&mut self, image: &Image, place: usize, memory: &mut Memory) -> Outcome
-        requires counts { IsCounted self.old }
-        ensures { ((self.new, result), memory.new) ≡ row_over_memory image.now self.old place memory.old }
-    {
-        if let Some(short) = self.short_fetch(image, place) {
-            self.execute_short(place, &short);
-            return Outcome::Done;
-        }
-        match self.step_fetch(image, place) {
-            Fetched::Rest => Outcome::Skipped,
-            Fetched::Trap(kind) => self.trap(place, kind),
-            Fetched::Runs(insn) => {
-                let request = self.at(place).request(&insn);
-                let reply = reply_of(memory, request);
-                self.complete(image, place, &insn, reply)
-            }
-        }
-    }
-
     /// Streams and counts equal to these.
     pub(crate) fn try_clone(&self) -> Result<CountedStreams<S>, AllocError>
         ensures { IfOk result (λ c. c ≡ self.now) }
@@ -279,27 +209,6 @@ impl<const S: usize> CountedStreams<S> {
             sres: self.sres,
             table,
         })
-    }
-}
-
-/// What a step that runs an instruction needs, by its request.
-fn next_asking(request: Option<Request>) -> Next
-    ensures { result ≡ next_asking request }
-{
-    match request {
-        None => Next::Local,
-        Some(request) => Next::Ask(request),
-    }
-}
-
-/// The memory's reply to what a step asks, if it asks anything.
-#[inline(always)]
-fn reply_of(memory: &mut Memory, request: Option<Request>) -> Option<Reply>
-    ensures { (memory.new, result) ≡ memory_reply memory.old request }
-{
-    match request {
-        None => None,
-        Some(request) => Some(memory.serve(&request)),
     }
 }
 

@@ -72,6 +72,7 @@ impl<const S: usize> Processor<S> {
     }
 
     /// The same, with what the step's fetch found. A caller that finishes the step with it decodes its word once.
+    #[inline(always)]
     pub fn next_step(&self, image: &Image, s: u8) -> NextStep
         ensures { result ≡ next_step_of image.now self.now s }
     {
@@ -79,6 +80,7 @@ impl<const S: usize> Processor<S> {
     }
 
     /// Finishes a step of stream `s` that needs no memory; `step` is what `next_step` said of it.
+    #[inline(always)]
     pub fn finish_local(&mut self, image: &Image, s: u8, step: &NextStep) -> Outcome
         requires slim { image.now.slim ≡ length self.old.streams }
         requires step { step.now ≡ next_step_of image.now self.old s }
@@ -86,11 +88,12 @@ impl<const S: usize> Processor<S> {
         ensures row { (self.new, result) ≡ row image.now self.old s None }
         ensures others { KeepsOthers s self.old self.new }
     {
-        self.streams.finish(image, s as usize, &step.fetched, None)
+        self.streams.finish_local(image, s as usize, &step.fetched)
     }
 
     /// Finishes a step of stream `s` whose request got this reply; `step` is what `next_step` said of it. Any reply is
     /// taken.
+    #[inline(always)]
     pub fn finish_reply(
         &mut self,
         image: &Image,
@@ -106,7 +109,7 @@ impl<const S: usize> Processor<S> {
         ensures others { KeepsOthers s self.old self.new }
     {
         self.streams
-            .finish(image, s as usize, &step.fetched, Some(reply))
+            .finish_reply(image, s as usize, &step.fetched, reply)
     }
 
     /// A step of stream `s` that needs no memory.
@@ -116,7 +119,8 @@ impl<const S: usize> Processor<S> {
         ensures row { (self.new, result) ≡ row image.now self.old s None }
         ensures others { KeepsOthers s self.old self.new }
     {
-        self.streams.row(image, s as usize, None)
+        let step = self.next_step(image, s);
+        self.finish_local(image, s, &step)
     }
 
     /// A step of stream `s` whose request got this reply. Any reply is taken.
@@ -126,7 +130,8 @@ impl<const S: usize> Processor<S> {
         ensures row { (self.new, result) ≡ row image.now self.old s (Some reply) }
         ensures others { KeepsOthers s self.old self.new }
     {
-        self.streams.row(image, s as usize, Some(reply))
+        let step = self.next_step(image, s);
+        self.finish_reply(image, s, &step, request, reply)
     }
 
     /// A step of stream `s` over a memory, which answers its request. It decodes one word and takes no memory.

@@ -109,6 +109,7 @@ impl<'i, const S: usize> Recorded<'i, S> {
     }
 
     /// The same, with what the step's fetch found. A caller that finishes the step with it decodes its word once.
+    #[inline(always)]
     pub fn next_step(&self, s: u8) -> NextStep
         ensures { result ≡ next_step_of self.now.image self.now.state s }
     {
@@ -148,6 +149,7 @@ impl<'i, const S: usize> Recorded<'i, S> {
     }
 
     /// `step_local` of which `next_step` said this.
+    #[inline(always)]
     pub fn finish_local(&mut self, s: u8, step: &NextStep) -> Outcome
         requires step { step.now ≡ next_step_of self.old.image self.old.state s }
         requires local { step.now.next ≡ Next.Local }
@@ -165,6 +167,7 @@ impl<'i, const S: usize> Recorded<'i, S> {
     }
 
     /// `step_reply` of which `next_step` said this.
+    #[inline(always)]
     pub fn finish_reply(
         &mut self,
         s: u8,

@@ -1,28 +1,51 @@
 //! The steps of one processor.
 
-ghost use Rattle.std.specs.Prelude.{◌≡◌, ◌<◌, ◌-◌, ◌++◌, ◌∷◌, [], length, max, slice_get, IfOk, OnOk, OnErr};
+ghost use Rattle.std.specs.Prelude.{◌≡◌, ◌<◌, ◌-◌, ◌++◌, ◌∷◌, ◌↔◌, [], length, max, slice_get, replicate};
+ghost use Rattle.std.specs.Prelude.{IfOk, OnOk, OnErr, IfSome, IsSome};
 ghost use Rattle.processor.specs.Records.{StepsValue};
+ghost use Rattle.processor.specs.StepRuns.{IsRunFrom};
 ghost use Rattle.processor.specs.Turns.{last_of};
 
 use std::alloc::{AllocError, Global};
 use std::marker::Model;
 
+/// Steps of one stream, one after another.
+#[derive(Clone, Copy, Debug, PartialEq, Eq)]
+struct Run {
+    stream: u8,
+    count: u32,
+    // how many steps there are up to its end
+    end: usize,
+}
+
 /// The numbers of the streams that a processor stepped, in order, with room for some more.
+///
+/// They are kept as runs, so steps of one stream that follow each other take no memory of their own.
 #[derive(Drop)]
 pub struct Steps {
-    numbers: Vec<u8>,
+    // the runs that are over
+    runs: Vec<Run>,
+    // how many steps they have together
+    before: usize,
+    // the run that goes on; its count is 0 only where there is no step
+    stream: u8,
+    count: u32,
     spare: usize,
 }
 
 impl Model for Steps {
-    ghost use Rattle.std.specs.Prelude.{◌≤◌, ◌+◌, vec_len, vec_capacity};
+    ghost use Rattle.std.specs.Prelude.{◌≤◌, ◌<◌, ◌+◌, ◌^◌, vec_len, vec_capacity};
     ghost use Rattle.processor.specs.Records.{StepsValue};
+    ghost use Rattle.processor.specs.StepRuns.{step_numbers, AreRuns};
 
     ghost Value = { StepsValue };
 
-    ghost view = { λ s. record { numbers = s.numbers.items; spare = s.spare } };
+    ghost view = { λ s. record { numbers = step_numbers s.runs.items s.stream s.count; spare = s.spare } };
 
-    ghost invariant = { λ s. vec_len s.numbers + s.spare ≤ vec_capacity s.numbers };
+    ghost invariant = { λ s.
+        AreRuns s.runs.items s.before s.count
+        × (vec_len s.runs + s.spare ≤ vec_capacity s.runs)
+        × (s.before + s.count + s.spare < 2 ^ 64) };
 }
 
 impl Steps {
@@ -30,35 +53,59 @@ impl Steps {
     pub(crate) fn new(alloc: Global) -> Steps
         ensures { result ≡ record { numbers = []; spare = 0 } }
     {
+        Steps::of_run(alloc, 0, 0)
+    }
+
+    /// So many steps of stream `s`, and no room.
+    pub fn of_run(alloc: Global, s: u8, count: u32) -> Steps
+        ensures { result ≡ record { numbers = replicate count s; spare = 0 } }
+    {
         Steps {
-            numbers: Vec::new(alloc),
+            runs: Vec::new(alloc),
+            before: 0,
+            stream: s,
+            count,
             spare: 0,
         }
     }
 
     /// Makes room for `n` more steps.
-    pub(crate) fn reserve(&mut self, n: usize) -> Result<(), AllocError>
+    pub fn reserve(&mut self, n: usize) -> Result<(), AllocError>
         ensures ok { OnOk result (self.new ≡ record self.old { spare = max self.old.spare n }) }
         ensures err { OnErr result (self.new ≡ self.old) }
     {
         if n > self.spare {
-            self.numbers.reserve(n)?;
+            if self.len().checked_add(n).is_none() {
+                return Err(AllocError);
+            }
+            self.runs.reserve(n)?;
             self.spare = n;
         }
         Ok(())
     }
 
     /// A step of stream `s` more. It takes no memory.
-    pub(crate) fn push(&mut self, s: u8)
+    pub fn push(&mut self, s: u8)
         requires room { 0 < self.old.spare }
         ensures { self.new ≡ record { numbers = self.old.numbers ++ s ∷ []; spare = self.old.spare - 1 } }
     {
-        self.numbers.push_reserved(s);
         self.spare -= 1;
+        if s == self.stream && self.count < u32::MAX {
+            self.count += 1;
+        } else {
+            self.before += self.count as usize;
+            self.runs.push_reserved(Run {
+                stream: self.stream,
+                count: self.count,
+                end: self.before,
+            });
+            self.stream = s;
+            self.count = 1;
+        }
     }
 
     /// For how many more steps there is room.
-    pub(crate) fn spare(&self) -> usize
+    pub fn spare(&self) -> usize
         ensures { result ≡ self.now.spare }
     {
         self.spare
@@ -68,28 +115,59 @@ impl Steps {
     pub fn len(&self) -> usize
         ensures { result ≡ length self.now.numbers }
     {
-        self.numbers.len()
+        self.before + self.count as usize
     }
 
     /// The stream of step `i`, counted from 0; None past the last.
     pub fn get(&self, i: usize) -> Option<u8>
         ensures { result ≡ slice_get self.now.numbers i }
     {
-        self.numbers.get(i).copied()
+        match self.run_at(i) {
+            Some((s, _)) => Some(s),
+            None => None,
+        }
+    }
+
+    /// The stream of step `i`, and up to where the steps from there on are of it: the end of its run. None past the
+    /// last step.
+    pub fn run_at(&self, i: usize) -> Option<(u8, usize)>
+        ensures there { IsSome result ↔ (i < length self.now.numbers) }
+        ensures run { IfSome result (λ r. IsRunFrom self.now.numbers i r.0 r.1) }
+    {
+        if i < self.before {
+            let over = self.runs.partition_point(|run| run.end <= i);
+            let run = &self.runs[over];
+            Some((run.stream, run.end))
+        } else if i - self.before < self.count as usize {
+            Some((self.stream, self.before + self.count as usize))
+        } else {
+            None
+        }
     }
 
     /// The stream of the last step; None where there is no step.
     pub fn last(&self) -> Option<u8>
         ensures { result ≡ last_of self.now.numbers }
     {
-        self.numbers.last().copied()
+        if self.count == 0 {
+            None
+        } else {
+            Some(self.stream)
+        }
     }
 
     /// The same steps, with no room.
     pub(crate) fn try_clone(&self) -> Result<Steps, AllocError>
         ensures { IfOk result (λ s. s ≡ record { numbers = self.now.numbers; spare = 0 }) }
     {
-        let numbers = self.numbers.clone()?;
-        Ok(Steps { numbers, spare: 0 })
+        let alloc = *self.runs.allocator();
+        let runs = Vec::from_slice(alloc, &self.runs)?;
+        Ok(Steps {
+            runs,
+            before: self.before,
+            stream: self.stream,
+            count: self.count,
+            spare: 0,
+        })
     }
 }

@@ -1,6 +1,8 @@
 //! Steps of a schedule, and what a step needs and makes.
 
-use stream_core::Fetched;
+use insn_word::{Insn, ReferenceInsn, ShortInsn};
+use std::marker::Model;
+use stream_core::TrapKind;
 use tag_memory::{Reply, Request};
 
 /// A step of one stream of one processor, as a schedule names it.
@@ -49,10 +51,36 @@ pub enum Next {
 
 /// What the next step of a stream needs, and what its fetch found: a step that is finished with it decodes its word
 /// once.
-#[derive(Clone, Copy, Debug, PartialEq, Eq)]
+#[derive(Debug, Drop)]
 pub struct NextStep {
     /// What it needs.
     pub next: Next,
-    /// What it begins with: rest, a trap or the instruction at the pc.
-    pub fetched: Fetched,
+    /// What it begins with.
+    pub fetched: StepFetch,
+}
+
+/// What a step begins with: rest, a trap or the instruction at the pc. The instruction is held in a short form where it
+/// has one, which contracts do not see.
+#[derive(Debug, Drop)]
+pub struct StepFetch {
+    pub(crate) form: FetchForm,
+}
+
+impl Model for StepFetch {
+    ghost use Rattle.stream_core.specs.declared.steps.Fetched.{Fetched};
+    ghost use Rattle.processor.specs.FetchForms.{fetch_in};
+
+    ghost Value = { Fetched };
+
+    ghost view = { λ f. fetch_in f.form };
+}
+
+/// The forms of what a step begins with.
+#[derive(Debug, Drop)]
+pub(crate) enum FetchForm {
+    Rest,
+    Trap(TrapKind),
+    Short(ShortInsn),
+    Reference(ReferenceInsn),
+    Runs(Insn),
 }

@@ -4,15 +4,15 @@ ghost use Rattle.std.specs.Prelude.{◌≡◌, ◌<◌, ◌≤◌, length, drop,
 ghost use Rattle.std.specs.List.{list_any, position_or_len};
 ghost use Rattle.std.specs.Option.{option_copied};
 ghost use Rattle.stream_core.specs.Streams.{idle, after_trap};
-ghost use Rattle.insn_word.specs.ShortInsns.{short_instruction};
+ghost use Rattle.insn_word.specs.ShortInsns.{short_instruction, reference_instruction};
 ghost use Rattle.stream_core.specs.Effects.{request_of, after_instruction};
-ghost use Rattle.stream_core.specs.StreamRow.{row_asking};
+ghost use Rattle.stream_core.specs.StreamRow.{after_reply, row_asking};
 ghost use Rattle.processor.specs.Processors.{is_idle, stream_at, stream_seen};
 ghost use Rattle.processor.specs.Records.{is_running};
 ghost use Rattle.processor.specs.Turns.{first_running};
 ghost use Rattle.processor.specs.StreamTables.{put_in_streams};
 
-use insn_word::{Insn, ShortInsn};
+use insn_word::{Insn, ReferenceInsn, ShortInsn};
 use std::alloc::{AllocError, Global};
 use std::marker::Model;
 use stream_core::{Outcome, Status, Stream, TrapKind};
@@ -172,6 +172,22 @@ impl<const S: usize> StreamTable<S> {
             (after_instruction (stream_at self.old place) (short_instruction short.now) 0 0) }
     {
         self.streams[place].execute_short(short);
+    }
+
+    /// A used stream completes the step of a reference by the memory's reply.
+    #[inline(always)]
+    pub(crate) fn complete_reference(
+        &mut self,
+        place: usize,
+        reference: &ReferenceInsn,
+        reply: Reply,
+        limit: u32,
+    ) -> Outcome
+        requires there { place < length self.old }
+        ensures { (self.new, result) ≡ put_in_streams self.old place
+            (after_reply limit (stream_at self.old place) (reference_instruction reference.now) 0 reply) }
+    {
+        self.streams[place].reply_reference(reference, reply, limit)
     }
 
     /// A table with the same streams.

@@ -1,4 +1,5 @@
 pub mod Finishing
+pub mod ShortSteps
 pub mod SignedShifts
 pub mod StatusDigits
 pub mod TextLines

@@ -2,13 +2,15 @@
 
 ghost use Rattle.std.specs.Prelude.{◌≡◌};
 ghost use Rattle.stream_core.specs.Effects.{access_of};
+ghost use Rattle.stream_core.specs.ShortEffects.{asked_operation};
 ghost use Rattle.stream_core.specs.Traps.{memory_trap};
 
 use crate::traps::TrapKind;
-use insn_word::Access;
-use tag_memory::{Acc, MemTrap};
+use insn_word::{Access, ReferenceOp};
+use tag_memory::{Acc, MemOp, MemTrap};
 
 /// The access field of the instruction, as the memory takes it.
+#[inline(always)]
 pub(crate) fn acc_of(access: Access) -> Acc
     ensures { result ≡ access_of access }
 {
@@ -17,6 +19,20 @@ pub(crate) fn acc_of(access: Access) -> Acc
         Access::Normal => Acc::Normal,
         Access::Future => Acc::Future,
         Access::Sync => Acc::Sync,
+    }
+}
+
+/// The operation of a reference, as the memory takes it.
+#[inline(always)]
+pub(crate) fn operation_of(op: ReferenceOp) -> MemOp
+    ensures { result ≡ asked_operation op }
+{
+    match op {
+        ReferenceOp::Load => MemOp::Load,
+        ReferenceOp::Store => MemOp::Store,
+        ReferenceOp::FetchAdd => MemOp::Fadd,
+        ReferenceOp::TagGet => MemOp::TagGet,
+        ReferenceOp::TagSet => MemOp::TagSet,
     }
 }
 

@@ -4,7 +4,8 @@ ghost use Rattle.std.specs.Prelude.{◌≡◌, ◌+◌, ◌*◌, ◌/◌, ◌%�
 ghost use Rattle.insn_word.specs.Operations.{condition_number};
 ghost use Rattle.insn_word.specs.Fields.{number_of_fields, AreInRange};
 ghost use Rattle.insn_word.specs.Words.{argument_fields, control_fields, used_control, control_destination};
-ghost use Rattle.insn_word.specs.Parts.{IsControlPart, IsShortOperation};
+ghost use Rattle.insn_word.specs.ShortInsns.{control_part};
+ghost use Rattle.insn_word.specs.Parts.{IsControlPart};
 ghost use Rattle.insn_word.specs.declared.operations.Condition.{Condition};
 ghost use Rattle.insn_word.specs.declared.insn.CPart.{CPart};
 
@@ -12,6 +13,7 @@ use super::{REGISTER_WIDTH, TARGET_WIDTH};
 use crate::fields::{digits_8, field, signed_8, small_field, with_field};
 use crate::insn::CPart;
 use crate::operations::{Condition, ControlOp};
+use crate::short_insns::ShortControl;
 
 /// Bits 14 to 17: the operation.
 const OPERATION_PLACE: u32 = 14;
@@ -57,22 +59,6 @@ impl CPart {
         } else {
             None
         }
-    }
-
-    /// The part of NOP or SKIP that 18 digits spell; None for all others.
-    #[inline(always)]
-    pub(crate) fn short_from_bits(bits: u64) -> Option<CPart>
-        requires { bits < 2 ^ 18 }
-        ensures part { IfSome result (IsControlPart bits) }
-        ensures writes { IfSome result (λ c. control_destination c.op c.rd ≡ 0) }
-    {
-        Some(CPart {
-            op: short_operation(bits)?,
-            cond: Condition::from_number(field(bits, CONDITION_PLACE, CONDITION_WIDTH))?,
-            code: small_field(bits, CODE_PLACE, CODE_WIDTH),
-            n: signed_8(small_field(bits, 0, DISTANCE_WIDTH)),
-            ..CPart::NOP
-        })
     }
 
     /// The operation with the arguments that the digits give it; None where they name no condition.
@@ -213,16 +199,23 @@ impl CPart {
     }
 }
 
-/// The operation of these 18 digits, where it is NOP or SKIP.
-#[inline(always)]
-fn short_operation(bits: u64) -> Option<ControlOp>
-    ensures { IfSome result (λ op. IsShortOperation op bits) }
-{
-    if bits == 0 {
-        Some(ControlOp::Nop)
-    } else if field(bits, OPERATION_PLACE, OPERATION_WIDTH) == ControlOp::Skip.number() {
-        Some(ControlOp::Skip)
-    } else {
-        None
+impl ShortControl {
+    /// The NOP or SKIP that 18 digits spell; None for all other operations.
+    #[inline(always)]
+    pub(crate) fn from_bits(bits: u64) -> Option<ShortControl>
+        requires { bits < 2 ^ 18 }
+        ensures { IfSome result (λ c. IsControlPart bits (control_part c)) }
+    {
+        if bits == 0 {
+            return Some(ShortControl::Nop);
+        }
+        if field(bits, OPERATION_PLACE, OPERATION_WIDTH) != ControlOp::Skip.number() {
+            return None;
+        }
+        Some(ShortControl::Skip {
+            cond: Condition::from_number(field(bits, CONDITION_PLACE, CONDITION_WIDTH))?,
+            code: small_field(bits, CODE_PLACE, CODE_WIDTH),
+            n: signed_8(small_field(bits, 0, DISTANCE_WIDTH)),
+        })
     }
 }

@@ -3,6 +3,8 @@
 ghost use Rattle.std.specs.Prelude.{◌≡◌, ◌<◌, ◌^◌, ◌↔◌, IsTrue, IfSome};
 ghost use Rattle.insn_word.specs.Fields.{number_of_fields, AreInRange};
 ghost use Rattle.insn_word.specs.Words.{memory_fields, used_memory, memory_destination};
+ghost use Rattle.insn_word.specs.ShortInsns.{reference_operation, memory_part};
+ghost use Rattle.insn_word.specs.Operations.{memory_number};
 ghost use Rattle.insn_word.specs.Parts.{IsMemoryPart};
 ghost use Rattle.insn_word.specs.declared.insn.MPart.{MPart};
 
@@ -10,6 +12,7 @@ use super::REGISTER_WIDTH;
 use crate::fields::{digits_6, field, signed_6, small_field, with_field};
 use crate::insn::MPart;
 use crate::operations::{Access, MemoryOp};
+use crate::short_insns::{ReferenceOp, ReferencePart};
 
 /// Bits 18 to 20: the operation.
 const OPERATION_PLACE: u32 = 18;
@@ -85,6 +88,75 @@ impl MPart {
         match self.op {
             MemoryOp::Load | MemoryOp::FetchAdd | MemoryOp::TagGet => self.rd,
             MemoryOp::Nop | MemoryOp::Store | MemoryOp::TagSet => 0,
+        }
+    }
+}
+
+impl ReferencePart {
+    /// The part that 21 digits spell, where it asks the memory; None for all others.
+    #[inline(always)]
+    pub(crate) fn from_bits(bits: u64) -> Option<ReferencePart>
+        requires { bits < 2 ^ 21 }
+        ensures { IfSome result (λ m. IsMemoryPart bits (memory_part m)) }
+    {
+        let part = ReferencePart::read(bits)?;
+        if part.is_bare() { Some(part) } else { None }
+    }
+
+    /// The part whose fields the digits are, also where TAGGET or TAGSET has an access.
+    #[inline(always)]
+    fn read(bits: u64) -> Option<ReferencePart>
+        requires { bits < 2 ^ 21 }
+        ensures in_range { IfSome result (λ m. AreInRange (memory_fields (memory_part m))) }
+        ensures number { IfSome result (λ m. number_of_fields (memory_fields (memory_part m)) ≡ bits) }
+    {
+        Some(ReferencePart {
+            op: ReferenceOp::from_number(field(bits, OPERATION_PLACE, OPERATION_WIDTH))?,
+            acc: Access::from_number(field(bits, ACCESS_PLACE, ACCESS_WIDTH))?,
+            rd: small_field(bits, RD_PLACE, REGISTER_WIDTH),
+            base: small_field(bits, BASE_PLACE, REGISTER_WIDTH),
+            disp: signed_6(small_field(bits, 0, DISPLACEMENT_WIDTH)),
+        })
+    }
+
+    /// The register that the part writes, 0 to 31 in a valid part; r0, whose writes are discarded, where it writes
+    /// none ("What each operation does", docs/MACHINE.md).
+    #[inline(always)]
+    pub fn destination(&self) -> u8
+        ensures { result ≡ memory_destination (reference_operation self.now.op) self.now.rd }
+    {
+        match self.op {
+            ReferenceOp::Load | ReferenceOp::FetchAdd | ReferenceOp::TagGet => self.rd,
+            ReferenceOp::Store | ReferenceOp::TagSet => 0,
+        }
+    }
+
+    /// Whether TAGGET and TAGSET have no access.
+    #[inline(always)]
+    fn is_bare(&self) -> bool
+        ensures { IsTrue result
+            → used_memory (reference_operation self.now.op) (memory_part self.now) ≡ memory_part self.now }
+    {
+        match self.op {
+            ReferenceOp::Load | ReferenceOp::Store | ReferenceOp::FetchAdd => true,
+            ReferenceOp::TagGet | ReferenceOp::TagSet => self.acc == Access::FromPointer,
+        }
+    }
+}
+
+impl ReferenceOp {
+    /// The operation with this number; None where there is none that asks the memory.
+    #[inline(always)]
+    fn from_number(number: u64) -> Option<ReferenceOp>
+        ensures { IfSome result (λ op. memory_number (reference_operation op) ≡ number) }
+    {
+        match number {
+            1 => Some(ReferenceOp::Load),
+            2 => Some(ReferenceOp::Store),
+            3 => Some(ReferenceOp::FetchAdd),
+            4 => Some(ReferenceOp::TagGet),
+            5 => Some(ReferenceOp::TagSet),
+            _ => None,
         }
     }
 }

@@ -1,8 +1,11 @@
 //! What a step does to its stream: each operand is read as it stood before, and all is written at once.
 
 ghost use Rattle.std.specs.Prelude.{◌≡◌, ℕ};
-ghost use Rattle.insn_word.specs.ShortInsns.{short_instruction};
-ghost use Rattle.stream_core.specs.Effects.{arithmetic_value, ssw_before_control, control_holds, skip_pc, next_pc, retries_after};
+ghost use Rattle.insn_word.specs.ShortInsns.{short_instruction, reference_instruction};
+ghost use Rattle.stream_core.specs.Conditions.{condition_holds};
+ghost use Rattle.stream_core.specs.ShortEffects.{pc_after_control};
+ghost use Rattle.stream_core.specs.Effects.{arithmetic_value, ssw_before_control, code_at, control_holds, skip_pc};
+ghost use Rattle.stream_core.specs.Effects.{retries_after};
 ghost use Rattle.stream_core.specs.Effects.{control_ssw, control_targets, control_value};
 ghost use Rattle.stream_core.specs.Effects.{after_wide, after_parts, after_instruction};
 ghost use Rattle.stream_core.specs.StreamRow.{plan_of, after_blocked_reply, after_reply, stream_row};
@@ -15,7 +18,10 @@ use crate::conversions::trap_of;
 use crate::status_words::{StatusWord, TrapMask};
 use crate::steps::{Fetched, Outcome, Plan};
 use crate::traps::TrapKind;
-use insn_word::{APart, CPart, Condition, ControlOp, Insn, MPart, MemoryOp, ShortInsn, WideOp};
+use insn_word::{
+    APart, CPart, Condition, ControlOp, Insn, MPart, MemoryOp, ReferenceInsn, ShortControl,
+    ShortInsn, WideOp,
+};
 use tag_memory::Reply;
 
 /// Bits 0 to 31 of a register: what LITH keeps. Bits 32 to 63 become the immediate.
@@ -39,45 +45,40 @@ impl Stream {
     }
 
     /// The same for an instruction that `fetch_short` found, in fewer steps.
-    #[tactic(auto, unfolding(crate::specs::Effects::after_instruction))]
     #[inline(always)]
     pub fn execute_short(&mut self, short: &ShortInsn)
         ensures { self.new ≡ after_instruction self.old (short_instruction short.now) 0 0 }
     {
-        let pc = match short.c.op {
-            ControlOp::Nop => self.ssw.pc.wrapping_add(1),
-            ControlOp::Skip => self.pc_after_skip(&short.c),
-            ControlOp::Jump
-            | ControlOp::Call
-            | ControlOp::Exchange
-            | ControlOp::TargetSet
-            | ControlOp::TargetGet
-            | ControlOp::TrapGet
-            | ControlOp::Reserve
-            | ControlOp::Create
-            | ControlOp::Quit
-            | ControlOp::QuitKeep
-            | ControlOp::Mask => {
-                self.execute_parts(&MPart::NOP, &short.a, &short.c, 0, 0);
-                return;
-            }
-        };
+        let pc = self.pc_after(&short.c);
         let made = self.compute(&short.a);
         self.ssw.pc = pc;
         self.registers.set(short.a.destination(), made);
     }
 
-    /// The pc after SKIP.
+    /// The same for an instruction that `fetch_reference` found, where the memory answered `value`.
     #[inline(always)]
-    fn pc_after_skip(&self, c: &CPart) -> u32
-        ensures { result ≡ (control_ssw self.now c.now ControlOp.Skip (record self.now.ssw {
-          pc = next_pc self.now.ssw.pc;
-        })).pc }
+    fn execute_reference(&mut self, reference: &ReferenceInsn, value: u64)
+        ensures { self.new ≡ after_instruction self.old (reference_instruction reference.now) value 0 }
     {
-        if self.goes(c) {
-            skipped(self.ssw.pc, c.n)
-        } else {
-            self.ssw.pc.wrapping_add(1)
+        self.ssw.pc = self.pc_after(&reference.c);
+        self.registers.set(reference.m.destination(), value);
+        self.retries = 0;
+    }
+
+    /// The pc after a short control operation.
+    #[inline(always)]
+    fn pc_after(&self, c: &ShortControl) -> u32
+        ensures { result ≡ pc_after_control self.now c.now }
+    {
+        match c {
+            ShortControl::Nop => self.ssw.pc.wrapping_add(1),
+            ShortControl::Skip { cond, code, n } => {
+                if self.holds(*cond, *code) {
+                    skipped(self.ssw.pc, *n)
+                } else {
+                    self.ssw.pc.wrapping_add(1)
+                }
+            }
         }
     }
 
@@ -197,9 +198,17 @@ impl Stream {
     fn goes(&self, c: &CPart) -> bool
         ensures { result ≡ control_holds self.now c.now }
     {
-        match c.cond {
+        self.holds(c.cond, c.code)
+    }
+
+    /// Whether a condition holds on the code at this place, 0 for the newest to 3 for the oldest.
+    #[inline(always)]
+    fn holds(&self, cond: Condition, code: u8) -> bool
+        ensures { result ≡ condition_holds cond (code_at self.now.ssw.codes code) }
+    {
+        match cond {
             Condition::Always => true,
-            cond => holds(cond, self.ssw.codes.at(c.code)),
+            cond => holds(cond, self.ssw.codes.at(code)),
         }
     }
 
@@ -260,6 +269,26 @@ impl Stream {
             }
             Reply::Blocked(address) => self.block(limit, address),
             Reply::Trap(kind, address) => self.trap(trap_of(kind), address),
+        }
+    }
+
+    /// The same for an instruction that `fetch_reference` found, in fewer steps.
+    #[inline(always)]
+    pub fn reply_reference(
+        &mut self,
+        reference: &ReferenceInsn,
+        reply: Reply,
+        limit: u32,
+    ) -> Outcome
+        ensures { (self.new, result) ≡ after_reply limit self.old (reference_instruction reference.now) 0 reply }
+    {
+        match reply {
+            Reply::Done(value) => {
+                self.execute_reference(reference, value);
+                Outcome::Done
+            }
+            Reply::Blocked(address) => self.block(limit, address),
+            Reply::Trap(trap, address) => self.trap(trap_of(trap), address),
         }
     }
 

@@ -1,15 +1,19 @@
 //! What the next step of a stream finds and needs. It reads the stream and changes nothing.
 
-ghost use Rattle.std.specs.Prelude.{◌≡◌, IfSome};
-ghost use Rattle.insn_word.specs.ShortInsns.{short_instruction};
+ghost use Rattle.std.specs.Prelude.{◌≡◌, Some, IfSome};
+ghost use Rattle.insn_word.specs.ShortInsns.{short_instruction, reference_instruction};
 ghost use Rattle.stream_core.specs.Effects.{displaced_pointer, request_with, request_of};
-ghost use Rattle.stream_core.specs.StreamRow.{fetch_of, plan_of, control_of, control_at};
+ghost use Rattle.stream_core.specs.ShortEffects.{asked_value};
+ghost use Rattle.stream_core.specs.StreamRow.{fetch_word, fetch_of, plan_of, control_of, control_at};
 
 use super::Stream;
-use crate::conversions::acc_of;
+use crate::conversions::{acc_of, operation_of};
 use crate::steps::{Child, Control, Fetched, Plan, Status};
 use crate::traps::TrapKind;
-use insn_word::{ControlOp, Insn, MPart, MemoryOp, ShortInsn, decode, decode_short};
+use insn_word::{
+    ControlOp, Insn, MPart, MemoryOp, ReferenceInsn, ReferenceOp, ReferencePart, ShortInsn, decode,
+    decode_reference, decode_short,
+};
 use tag_memory::{Masked, MemOp, Pointer, Request};
 
 /// Bits 0 to 3 of a register: the tags that TAGSET writes.
@@ -17,7 +21,7 @@ const TAGS_WIDTH: u32 = 4;
 /// Bits 0 to 47 of a pointer: the byte address.
 const ADDRESS_WIDTH: u32 = 48;
 /// How many bytes a word has.
-const WORD_BYTES: u64 = 8;
+const WORD_BYTES: i64 = 8;
 
 impl Stream {
     /// What stands at the pc of this program: nothing where the stream does not run, else the instruction or the trap
@@ -46,11 +50,29 @@ impl Stream {
     pub fn fetch_short(&self, program: &[u64]) -> Option<ShortInsn>
         ensures { IfSome result (λ short. fetch_of program.now self.now ≡ Fetched.Runs (short_instruction short)) }
     {
-        if self.status != Status::Running {
-            return None;
+        decode_short(self.fetch_word(program)?)
+    }
+
+    /// The same of `decode_reference`.
+    #[tactic(auto, unfolding(crate::specs::StreamRow::fetch_of))]
+    #[inline(always)]
+    pub fn fetch_reference(&self, program: &[u64]) -> Option<ReferenceInsn>
+        ensures { IfSome result (λ r. fetch_of program.now self.now ≡ Fetched.Runs (reference_instruction r)) }
+    {
+        decode_reference(self.fetch_word(program)?)
+    }
+
+    /// The word at the pc of this program, where the stream runs and there is one.
+    #[tactic(auto, unfolding(crate::specs::StreamRow::fetch_of))]
+    #[inline(always)]
+    fn fetch_word(&self, program: &[u64]) -> Option<u64>
+        ensures { IfSome result (λ word. fetch_of program.now self.now ≡ fetch_word (Some word)) }
+    {
+        if self.status == Status::Running {
+            program.get(self.ssw.pc as usize).copied()
+        } else {
+            None
         }
-        let word = program.get(self.ssw.pc as usize)?;
-        decode_short(*word)
     }
 
     /// What the instruction asks of the memory, with the values at entry; None where it has no reference ("Memory
@@ -73,6 +95,36 @@ impl Stream {
                 MemOp::TagSet,
                 self.register(m.rd) % (1 << TAGS_WIDTH),
             )),
+        }
+    }
+
+    /// The same for an instruction that `fetch_reference` found, in fewer steps: it asks in any case.
+    #[inline(always)]
+    pub fn request_reference(&self, reference: &ReferenceInsn) -> Request
+        ensures { Some result ≡ request_of self.now (reference_instruction reference.now) }
+    {
+        let m = &reference.m;
+        Request {
+            op: operation_of(m.op),
+            pointer: moved(self.register(m.base), m.disp),
+            acc: acc_of(m.acc),
+            value: self.asked_value(m),
+            masked: Masked {
+                trap0: self.ssw.mask.trap0,
+                trap1: self.ssw.mask.trap1,
+            },
+        }
+    }
+
+    /// The value that a reference hands the memory; 0 where it hands it none.
+    #[inline(always)]
+    fn asked_value(&self, m: &ReferencePart) -> u64
+        ensures { result ≡ asked_value self.now m.now m.now.op }
+    {
+        match m.op {
+            ReferenceOp::Load | ReferenceOp::TagGet => 0,
+            ReferenceOp::Store | ReferenceOp::FetchAdd => self.register(m.rd),
+            ReferenceOp::TagSet => self.register(m.rd) % (1 << TAGS_WIDTH),
         }
     }
 
@@ -152,16 +204,12 @@ impl Stream {
 }
 
 /// The effective pointer: so many words further, modulo 2^48, with the upper 16 bits as they are.
+#[inline(always)]
 fn moved(pointer: u64, words: i8) -> Pointer
     ensures { result ≡ displaced_pointer pointer words }
 {
-    let address = pointer % (1 << ADDRESS_WIDTH);
-    let bytes = u64::from(words.unsigned_abs()) * WORD_BYTES;
-    let sum = if words < 0 {
-        address + ((1 << ADDRESS_WIDTH) - bytes)
-    } else {
-        address + bytes
-    };
+    let bytes = i64::from(words) * WORD_BYTES;
+    let sum = pointer.wrapping_add(bytes.cast_unsigned());
     let upper = pointer / (1 << ADDRESS_WIDTH) * (1 << ADDRESS_WIDTH);
     Pointer::new(upper + sum % (1 << ADDRESS_WIDTH))
 }

@@ -1,4 +1,5 @@
-use Rattle.std.proofs.Common.{◌≡◌, ◌<◌, ◌/◌, ◌%◌, ◌^◌, ◌∙◌, sym, subst, arith}
+use Rattle.std.proofs.Common.{◌≡◌, ◌<◌, ◌/◌, ◌%◌, ◌^◌, subst, arith}
+use Rattle.insn_word.specs.ShortInsns.{control_part}
 use Rattle.insn_word.specs.Parts.{IsArithmeticPart, IsControlPart}
 use Rattle.insn_word.proofs.ShortParts.{short_spelt}
 use Rattle.insn_word.proofs.words.decode_short.Goals as goal
@@ -12,5 +13,4 @@ returns c =
     let digits : c.field-3.result ≡ word % 2 ^ 18 = omega arith in
     short_spelt word c.small_field.result c.in_ok-a.a c.in_ok-c.c below none c.small_field.ensures
     (subst (λ bits. IsArithmeticPart bits c.in_ok-a.a) c.field-2.ensures arithmetic)
-    (subst (λ bits. IsControlPart bits c.in_ok-c.c) digits c.in_ok-c.ensures.part)
-    c.in_ok-c.ensures.writes
+    (subst (λ bits. IsControlPart bits (control_part c.in_ok-c.c)) digits c.in_ok-c.ensures)

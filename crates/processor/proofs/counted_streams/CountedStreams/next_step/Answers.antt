@@ -1,28 +1,23 @@
-use Rattle.std.proofs.Common.{ap, sym, lit<, ◌∙◌}
-use Rattle.stream_core.specs.declared.steps.Fetched.TheVariants.{Rest, Trap, Runs}
-use Rattle.processor.proofs.Begun.{rests, awake, next_begun, next_needed}
+use Rattle.std.proofs.Common.{ap, sym, lit<}
+use Rattle.insn_word.specs.ShortInsns.{reference_instruction}
+use Rattle.processor.proofs.Begun.{rests, awake, next_needed}
+use Rattle.processor.proofs.ShortRow.{short_next}
 use Rattle.processor.proofs.counted_streams.CountedStreams.next_step.Goals as goal
+
+pub returns-in-Some : goal.returns-in-Some
+returns-in-Some g c =
+    let found = c.in-Some.ensures in
+    let next = short_next c.args.image.now c.args.self.now c.args.place c.in-Some.short found in
+    λ i. record { next = next i; fetched = sym found i }
 
 pub at-requires : goal.at-requires
 at-requires g c =
-    (lit< tt, (awake c.args.image.now c.args.self.now c.args.place (ap rests (sym c.in-Runs.ensures))).0)
+    (lit< tt, (awake c.args.image.now c.args.self.now c.args.place (ap rests c.in-Some-reference_fetch.ensures)).0)
 
-pub returns-in-Rest : goal.returns-in-Rest
-returns-in-Rest g c =
-    let found = sym c.in-Rest.ensures in
-    let next = next_begun c.args.image.now c.args.self.now c.args.place Rest found in
-    λ i. record { next = next i; fetched = sym found i }
-
-pub returns-in-Trap : goal.returns-in-Trap
-returns-in-Trap g c =
-    let found = sym c.in-Trap.ensures in
-    let next = next_begun c.args.image.now c.args.self.now c.args.place (Trap c.in-Trap.kind) found in
-    λ i. record { next = next i; fetched = sym found i }
-
-pub returns-in-Runs : goal.returns-in-Runs
-returns-in-Runs g c =
-    let found = sym c.in-Runs.ensures in
-    let next = c.next_asking.ensures
-    ∙ next_needed c.args.image.now c.args.self.now c.args.place c.in-Runs.insn c.at.result.now _ found c.at.ensures
-    c.request.ensures in
+pub returns-in-Some-reference_fetch : goal.returns-in-Some-reference_fetch
+returns-in-Some-reference_fetch g c =
+    let found = c.in-Some-reference_fetch.ensures in
+    let next = next_needed c.args.image.now c.args.self.now c.args.place
+    (reference_instruction c.in-Some-reference_fetch.reference) c.at.result.now _ found c.at.ensures
+    c.request_reference.ensures in
     λ i. record { next = next i; fetched = sym found i }

@@ -1,12 +1,12 @@
-use Rattle.std.proofs.Common.{lit<, Some}
+use Rattle.std.proofs.Common.{sym, lit<, Some}
 use Rattle.processor.specs.declared.steps.Next.TheVariants.{Ask}
 use Rattle.processor.proofs.Begun.{asked, told_fetch, told_next}
 use Rattle.processor.proofs.Counting.{counted_new}
 use Rattle.processor.proofs.OtherStreams.{kept_new}
 use Rattle.processor.proofs.processors.Processor.finish_reply.Goals as goal
 
-pub finish-requires : goal.finish-requires
-finish-requires g c =
+pub finish_reply-requires : goal.finish_reply-requires
+finish_reply-requires g c =
     let image = c.args.image.now in
     let now = c.args.self.now in
     let old = c.self.inside.streams in
@@ -17,17 +17,17 @@ finish-requires g c =
         c.self.invariant,
         (
           told_fetch image now old c.args.s c.args.step.now c.self.view_is c.requires.step,
-          asked image now old c.args.s q c.self.view_is asks,
+          sym (asked image now old c.args.s q c.self.view_is asks),
         ),
       ),
     )
 
 pub invariant_of-self : goal.invariant_of-self
 invariant_of-self g c =
-    counted_new c.args.image.now c.args.self.now c.self.inside.streams c.finish.new.self c.args.s
-    (Some c.args.reply) c.finish.result c.self.view_is c.requires.slim c.self.invariant c.finish.ensures
+    counted_new c.args.image.now c.args.self.now c.self.inside.streams c.finish_reply.new.self c.args.s
+    (Some c.args.reply) c.finish_reply.result c.self.view_is c.requires.slim c.self.invariant c.finish_reply.ensures
 
 pub returns-clause-others : goal.returns-clause-others
 returns-clause-others g c =
-    kept_new c.args.image.now c.args.self.now c.self.inside.streams c.finish.new.self c.args.s
-    (Some c.args.reply) c.finish.result c.self.view_is c.finish.ensures
+    kept_new c.args.image.now c.args.self.now c.self.inside.streams c.finish_reply.new.self c.args.s
+    (Some c.args.reply) c.finish_reply.result c.self.view_is c.finish_reply.ensures

@@ -1,5 +1,4 @@
-use Rattle.std.proofs.Common.{◌∙◌, ap, arith, sym, length}
-use Rattle.processor.specs.Processors.{ProcessorValue}
+use Rattle.std.proofs.Common.{◌∙◌, ap, arith, sym}
 use Rattle.processor.specs.Records.{StepsValue}
 use Rattle.processor.proofs.Keeping.{keeps-local, asks_nothing}
 use Rattle.processor.proofs.recorded.Recorded.finish_local.Goals as goal

@@ -1,4 +1,4 @@
-use Rattle.std.proofs.Common.{◌∙◌, sym, arith, ◌<◌, ◌^◌}
+use Rattle.std.proofs.Common.{◌∙◌, sym, arith}
 use Rattle.std.proofs.Math.Facts.{Fits-of_lt}
 use Rattle.processor.proofs.Turning.{turn-within}
 use Rattle.processor.proofs.recorded.Recorded.turn.Goals as goal

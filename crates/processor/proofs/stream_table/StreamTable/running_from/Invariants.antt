@@ -1,5 +1,5 @@
 -- No used stream between the first place and this one runs.
-use Rattle.std.proofs.Common.{◌≡◌, ◌≤◌, drop}
+use Rattle.std.proofs.Common.{◌≡◌, drop}
 use Rattle.processor.specs.Turns.{first_running}
 use Rattle.processor.proofs.stream_table.StreamTable.running_from.Given as goal
 
