@@ -1,7 +1,8 @@
 //! Records.
 use crate::runs::{image_of, record_of, step, step_with};
-use processor::Recorded;
+use processor::{Recorded, Steps};
 use shared_history::SharedMemory;
+use std::alloc::Global;
 use std::test::Fail;
 use tag_memory::Reply;
 
@@ -37,4 +38,40 @@ fn is_blocked_once_more(record: &mut Recorded<1>) -> bool {
     let request = step_with(record, 0, Reply::Blocked(8));
     let steps = record.steps();
     request.is_some() && steps.len() == 3 && steps.get(2) == Some(0) && record.place(2) == Some(2)
+}
+
+#[test]
+fn a_run_ends_at_the_limit_of_its_count(rt: HostRuntime) -> Result<(), Fail> {
+    let mut steps = of_run(rt.alloc(), 3, u32::MAX - 1);
+    steps.reserve(3)?;
+    assert!(rt; pushed(&mut steps, 3) && pushed(&mut steps, 3) && pushed(&mut steps, 5));
+    assert!(rt; !pushed(&mut steps, 5));
+    for (i, run) in [
+        (0, Some((3, 4_294_967_295))),
+        (4_294_967_294, Some((3, 4_294_967_295))),
+        (4_294_967_295, Some((3, 4_294_967_296))),
+        (4_294_967_296, Some((5, 4_294_967_297))),
+        (4_294_967_297, None),
+    ] {
+        assert_eq!(rt; steps.run_at(i), run, "{i}");
+    }
+    assert_eq!(rt;
+        (steps.len(), steps.get(4_294_967_295), steps.last()),
+        (4_294_967_297, Some(3), Some(5))
+    );
+    Ok(())
+}
+
+/// So many steps of a stream.
+fn of_run(alloc: Global, s: u8, count: u32) -> Steps {
+    Steps::of_run(alloc, s, count)
+}
+
+/// Whether there was room for a step more.
+fn pushed(steps: &mut Steps, s: u8) -> bool {
+    if steps.spare() == 0 {
+        return false;
+    }
+    steps.push(s);
+    true
 }

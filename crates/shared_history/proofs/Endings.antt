@@ -138,7 +138,8 @@ steps-at shared records ts done p (Some r) h so finished =
 
 woven : (shared : SharedValue) (records : List RecordValue) (ts : List Step) (done : List ℕ)
     → AllBelong shared records → AllHaveEntries shared records
-    → IsSoFar shared records ts done (length shared.history) → Finished records done → IsWoven (record { schedule = ts; shared = shared; records = records })
+    → IsSoFar shared records ts done (length shared.history) → Finished records done
+    → IsWoven (record { schedule = ts; shared = shared; records = records })
 woven shared records ts done all whole so finished =
     let image = shared.image in
     let state : RecordValue → ProcessorValue = λ r. r.state in

@@ -1,14 +1,13 @@
 -- A schedule has enough steps of each processor of which a stream still runs.
-use Rattle.std.proofs.Common.{◌≡◌, ℕ, ◌≤◌, sym, ◌∙◌, ap, subst, arith, length, List, Bool, true, false, Some, get_or, []}
-use Rattle.std.specs.Prelude.{slice_get, nat_le, not, ◌||◌, option_map, unwrap_or, Option}
+use Rattle.std.proofs.Common.{◌≡◌, ℕ, ◌∙◌, ap, subst, arith, length, List, Bool, true, false, Some}
+use Rattle.std.specs.Prelude.{slice_get, nat_le, not, ◌||◌, Option}
 use Rattle.std.proofs.lemmas.Bool.{leb-true}
-use Rattle.std.proofs.lemmas.Option.{unwrap_or-slice_get, slice_get-map}
 use Rattle.processor.specs.Histories.{steps_of}
 use Rattle.processor.specs.Records.{RecordValue, any_runs}
 use Rattle.processor.specs.declared.steps.Step.{Step}
 use Rattle.shared_history.specs.SharedMemory.{SharedValue}
 use Rattle.shared_history.specs.Parts.{HasFinished, has_finished}
-use Rattle.shared_history.specs.Schedule.{WovenValue, IsWoven, IsLongEnough, step_lists}
+use Rattle.shared_history.specs.Schedule.{IsWoven, IsLongEnough}
 use Rattle.shared_history.proofs.Endings.{list-at}
 
 by_steps : (a b : Bool) → a || not b ≡ true → b ≡ true → a ≡ true

@@ -16,7 +16,8 @@ new-replayed image = record { replays = refl; legal = tt; processors = λ k e h.
 
 -- one request more
 pub replayed-more : (image : ImageValue) (es : List Entry) (m after : TaggedMemory) (e : Entry)
-    → IsReplayed image es m → e.p < length image.entries → (after, e.reply) ≡ answer m e.request → IsReplayed image (es ++ e ∷ []) after
+    → IsReplayed image es m → e.p < length image.entries → (after, e.reply) ≡ answer m e.request
+    → IsReplayed image (es ++ e ∷ []) after
 replayed-more image es m after e h below is =
     let start = memory_of image.cells in
     let answered : (after, e.reply) ≡ answer (replay image es) e.request =

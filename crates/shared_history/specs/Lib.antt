@@ -3,3 +3,4 @@ pub mod SharedMemory
 pub mod Parts
 pub mod Schedule
 pub mod Gathering
+pub mod FaultNumbers

@@ -23,8 +23,8 @@ count_steps [] = 0
 count_steps (r ∷ rs) = length r.steps + count_steps rs
 
 -- the world that memory and records are
-abbrev pub world_of : SharedValue → List RecordValue → World
-world_of shared records = record {
+abbrev pub gathered_world : SharedValue → List RecordValue → World
+gathered_world shared records = record {
   processors = map (λ (r : RecordValue). r.state) records;
   memory = replay shared.image shared.history;
 }
@@ -39,4 +39,4 @@ IsLongEnough fuel w =
 -- memory's words
 pub record IsWoven (w : WovenValue) : Type 0 where
   pub weaves : IsWeave w.shared.image w.schedule (step_lists w.records) w.shared.history
-  pub ends : run w.shared.image w.schedule ≡ world_of w.shared w.records
+  pub ends : run w.shared.image w.schedule ≡ gathered_world w.shared w.records

@@ -1,6 +1,7 @@
 //! The schedule that is gathered of parts.
 
 ghost use Rattle.std.specs.Prelude.{◌≡◌, ℕ, IfOk, IfErr, MatchOption};
+ghost use Rattle.shared_history.specs.FaultNumbers.{gather_fault_number};
 ghost use Rattle.shared_history.specs.Schedule.{IsLongEnough};
 ghost use Rattle.shared_history.specs.Gathering.{IsGathered, Refuses, AreWhole};
 
@@ -22,6 +23,20 @@ pub enum GatherFault {
     Torn(usize),
     /// Memory was refused.
     NoMemory,
+}
+
+impl GatherFault {
+    /// The kind's number, 1 to 4 in the order of the variants.
+    pub fn number(self) -> u8
+        ensures { result ≡ gather_fault_number self }
+    {
+        match self {
+            GatherFault::Foreign(_) => 1,
+            GatherFault::Short(_) => 2,
+            GatherFault::Torn(_) => 3,
+            GatherFault::NoMemory => 4,
+        }
+    }
 }
 
 /// The schedule that the parts' history and records make: it holds the steps of each record in order, it makes just

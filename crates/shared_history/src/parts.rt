@@ -1,6 +1,7 @@
 //! The parts of a run.
 
 ghost use Rattle.std.specs.Prelude.{◌≡◌, ◌<◌, ◌≤◌, ◌*◌, ◌↔◌, length, IfOk, Err};
+ghost use Rattle.shared_history.specs.FaultNumbers.{parts_fault_number};
 ghost use Rattle.shared_history.specs.Parts.{AreNewParts};
 ghost use Rattle.shared_history.specs.declared.parts.PartsFault.TheVariants.{NoMemory};
 
@@ -24,6 +25,19 @@ pub enum PartsFault {
     TooLong,
     /// Memory was refused.
     NoMemory,
+}
+
+impl PartsFault {
+    /// The fault's number, 1 to 3 in the order of the variants.
+    pub fn number(self) -> u8
+        ensures { result ≡ parts_fault_number self }
+    {
+        match self {
+            PartsFault::Streams => 1,
+            PartsFault::TooLong => 2,
+            PartsFault::NoMemory => 3,
+        }
+    }
 }
 
 impl From<AllocError> for PartsFault {

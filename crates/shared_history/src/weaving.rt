@@ -1,7 +1,7 @@
 //! The schedule of a history and of records.
 
 ghost use Rattle.std.specs.Prelude.{◌≡◌, ◌≤◌, ◌-◌, ◌+◌, ◌^◌, ◌++◌, min, map, length, IfOk, vec_len, vec_capacity};
-ghost use Rattle.std.specs.Prelude.{slice_range};
+ghost use Rattle.std.specs.Prelude.{slice_range, replicate};
 ghost use Rattle.shared_history.specs.Parts.{AllBelong, AllHaveEntries};
 ghost use Rattle.processor.specs.Histories.{step_by};
 ghost use Rattle.shared_history.specs.Schedule.{IsWoven, count_steps};
@@ -21,7 +21,7 @@ fn count_steps<const S: usize>(records: &[Recorded<S>]) -> usize
     count
 }
 
-/// Adds a processor's steps from one place up to another, for which there is room.
+/// Adds a processor's steps from one place up to another, run by run; there is room for them.
 fn push_steps(schedule: &mut Vec<Step>, p: u8, steps: &Steps, from: usize, upto: usize)
     requires order { from ≤ upto }
     requires within { upto ≤ length steps.now.numbers }
@@ -31,11 +31,26 @@ fn push_steps(schedule: &mut Vec<Step>, p: u8, steps: &Steps, from: usize, upto:
     ensures len { vec_len schedule.new ≡ vec_len schedule.old + (upto - from) }
     ensures capacity { vec_capacity schedule.new ≡ vec_capacity schedule.old }
 {
-    for place in from..upto {
-        let Some(s) = steps.get(place) else {
+    let mut place = from;
+    while place < upto {
+        let Some((s, end)) = steps.run_at(place) else {
             unreachable!();
         };
-        schedule.push_reserved(Step { p, s });
+        let next = end.min(upto);
+        push_run(schedule, Step { p, s }, next - place);
+        place = next;
+    }
+}
+
+/// Adds a step so many times, for which there is room.
+fn push_run(schedule: &mut Vec<Step>, step: Step, count: usize)
+    requires room { vec_len schedule.old + count ≤ vec_capacity schedule.old }
+    ensures items { schedule.new.items ≡ schedule.old.items ++ replicate count step }
+    ensures len { vec_len schedule.new ≡ vec_len schedule.old + count }
+    ensures capacity { vec_capacity schedule.new ≡ vec_capacity schedule.old }
+{
+    for _ in 0..count {
+        schedule.push_reserved(step);
     }
 }
 

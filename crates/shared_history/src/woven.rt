@@ -4,7 +4,7 @@ ghost use Rattle.std.specs.Prelude.{◌≡◌};
 ghost use Rattle.std.specs.Option.{option_copied};
 ghost use Rattle.tag_memory.specs.Storage.{cell_at};
 ghost use Rattle.processor.specs.World.{run, history_of, stream_of, counts_of};
-ghost use Rattle.shared_history.specs.Schedule.{WovenValue, IsWoven, world_of};
+ghost use Rattle.shared_history.specs.Schedule.{WovenValue, IsWoven, gathered_world};
 
 use crate::SharedMemory;
 use crate::parts::Parts;
@@ -67,7 +67,7 @@ impl<'i, const S: usize> Woven<'i, S> {
     /// The stream of these numbers after the schedule, which is the record's; None where there is no such processor,
     /// or `s` is `S` or more. From the image's slim on a stream is idle.
     pub fn stream(&self, p: u8, s: u8) -> Option<&Stream>
-        ensures is { option_copied result ≡ stream_of S (world_of self.now.shared self.now.records) p s }
+        ensures is { option_copied result ≡ stream_of S (gathered_world self.now.shared self.now.records) p s }
         ensures ran { option_copied result ≡ stream_of S (run self.now.shared.image self.now.schedule) p s }
     {
         let place = usize::from(p);
@@ -80,7 +80,7 @@ impl<'i, const S: usize> Woven<'i, S> {
     /// How many streams of a processor are current and how many are reserved after the schedule, as in the record;
     /// None where there is no such processor.
     pub fn counts(&self, p: u8) -> Option<(u16, u16)>
-        ensures is { result ≡ counts_of (world_of self.now.shared self.now.records) p }
+        ensures is { result ≡ counts_of (gathered_world self.now.shared self.now.records) p }
         ensures ran { result ≡ counts_of (run self.now.shared.image self.now.schedule) p }
     {
         let place = usize::from(p);
@@ -94,7 +94,7 @@ impl<'i, const S: usize> Woven<'i, S> {
     /// The word at a byte address after the schedule, which is the memory's; None where the address is not a multiple
     /// of 8, or past the last word.
     pub fn word(&self, address: u64) -> Option<Word>
-        ensures is { result ≡ cell_at (world_of self.now.shared self.now.records).memory address }
+        ensures is { result ≡ cell_at (gathered_world self.now.shared self.now.records).memory address }
         ensures ran { result ≡ cell_at (run self.now.shared.image self.now.schedule).memory address }
     {
         self.shared.word(address)

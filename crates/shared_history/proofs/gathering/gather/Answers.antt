@@ -1,4 +1,4 @@
-use Rattle.std.proofs.Common.{subst, sym, ℕ}
+use Rattle.std.proofs.Common.{subst, sym}
 use Rattle.shared_history.specs.Schedule.{WovenValue, IsWoven, IsLongEnough}
 use Rattle.shared_history.proofs.Lengths.{long-enough}
 use Rattle.shared_history.proofs.gathering.gather.Goals as goal

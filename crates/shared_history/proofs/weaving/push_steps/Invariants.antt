@@ -10,3 +10,8 @@ invariant-loop-place l =
     × (vec_len l.schedule ≡ vec_len l.initial.schedule + (l.place - l.from))
     × (vec_capacity l.schedule ≡ vec_capacity l.initial.schedule)
     × (vec_len l.initial.schedule + (l.upto - l.from) ≤ vec_capacity l.initial.schedule)
+    × (l.from ≤ l.place)
+    × (l.place ≤ l.upto)
+
+abbrev pub decreases-loop-place : goal.decreases-loop-place
+decreases-loop-place l = l.upto - l.place
