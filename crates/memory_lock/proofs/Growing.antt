@@ -1,7 +1,7 @@
 -- What a record keeps while it is driven.
-use Rattle.std.proofs.Common.{ℕ, zero, suc, subst, ◌≡◌, ◌<◌, ◌≤◌, ◌+◌, ◌-◌, List, [], ◌∷◌, ◌++◌, Option, Some, None}
-use Rattle.std.proofs.Common.{length, refl, sym, ◌∙◌, ap, arith, drop, map, max, inl, inr}
-use Rattle.std.specs.Prelude.{option_map, true, false, Bool, not, ◌||◌, nat_le}
+use Rattle.std.proofs.Common.{ℕ, subst, ◌≡◌, ◌<◌, ◌≤◌, ◌+◌, ◌-◌, List, [], ◌∷◌, ◌++◌, Option, Some, None}
+use Rattle.std.proofs.Common.{length, refl, sym, ◌∙◌, ap, arith, drop, map, inl, inr}
+use Rattle.std.specs.Prelude.{true, false, Bool, not, ◌||◌, nat_le}
 use Rattle.std.proofs.lemmas.Bool.Decides.{leb_tells}
 use Rattle.std.proofs.lemmas.List.{length-append, append_assoc, append-nil, length_push, drop-append-le, drop_all}
 use Rattle.std.proofs.lemmas.List.{map-append}

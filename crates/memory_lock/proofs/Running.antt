@@ -2,7 +2,7 @@
 use Rattle.std.proofs.Common.{ℕ, zero, suc, subst, ◌≡◌, ◌<◌, ◌≤◌, List, [], ◌∷◌, Option, Some, length, refl, sym, ◌∙◌, ap}
 use Rattle.std.proofs.Common.{arith, get_or}
 use Rattle.std.specs.Prelude.{slice_get}
-use Rattle.std.proofs.lemmas.Option.{slice_get_within, get_or_from_slice_get}
+use Rattle.std.proofs.lemmas.Option.{slice_get_within, get_or_from_slice_get, slice_get-get_or}
 use Rattle.image_file.specs.ImageValue.{ImageValue}
 use Rattle.processor.specs.Records.{RecordValue}
 use Rattle.shared_history.specs.SharedMemory.{SharedValue}
@@ -10,7 +10,7 @@ use Rattle.shared_history.specs.Parts.{PartsValue, AreNewParts, Belongs, PartBel
 use Rattle.shared_history.specs.Schedule.{WovenValue}
 use Rattle.shared_history.specs.Gathering.{IsGathered}
 use Rattle.memory_lock.specs.Driving.{IsGrown}
-use Rattle.memory_lock.specs.Runs.{IsRun, IsThreaded}
+use Rattle.memory_lock.specs.Runs.{HaveRoom, IsRun, IsThreaded}
 
 pub is-run : (old new : PartsValue) (fuel : ℕ) (before after : List RecordValue) → fuel ≡ old.fuel → new.fuel ≡ fuel
     → before ≡ old.records → new.records ≡ after → length after ≡ length before
@@ -67,3 +67,11 @@ is-threaded image fuel before parts w new run g =
           bounded image fuel before parts p r new run (ap (λ l. slice_get l p) (sym g.records_are) ∙ h);
       finished = subst G (sym g.records_are) (subst H fuel_is g.finished);
     }
+
+-- each record has room for what is missing to fuel again
+pub room-again : (old new : PartsValue) → IsRun old new → HaveRoom new
+room-again old new run = λ p d below.
+    let x : RecordValue = get_or new.records p d in
+    let at = there-in old.records p (omega (arith, below, run.one_each)) in
+    let room = (run.each p at.0 x at.1 (slice_get-get_or new.records p d below)).room in
+    omega (arith, room, run.fuel)

@@ -16,4 +16,4 @@ pub use lock_ports::LockPort;
 pub use ports::Port;
 pub use shared_history::{GatherFault, NoRoom, Parts, PartsFault, SharedMemory, Woven, gather};
 pub use threaded_runs::{ThreadsFault, threaded};
-pub use threads::run_threads;
+pub use threads::{Worker, run_threads};

@@ -2,12 +2,13 @@
 
 ghost use Rattle.std.specs.Prelude.{◌≡◌, ◌<◌, ◌≤◌, ◌+◌, ℕ, All, length, slice_index_or};
 ghost use Rattle.processor.specs.Records.{RecordValue};
-ghost use Rattle.memory_lock.specs.Driving.{IsGrown};
+ghost use Rattle.memory_lock.specs.Driving.{IsGrown, HasMade};
 ghost use Rattle.memory_lock.specs.Runs.{HaveRoom, IsRun};
 
 use crate::driving::drive;
 use crate::gates::Gate;
 use crate::lock_ports::LockPort;
+use crate::ports::Port;
 use processor::Recorded;
 use shared_history::{Parts, SharedMemory};
 use std::sync::{Mutex, Wait};
@@ -25,7 +26,8 @@ pub fn run_threads<'i, R: Threads + Wait + Sync, G: Gate + Sync, const S: usize>
     gate: &G,
 ) -> Parts<'i, S>
     requires room { HaveRoom parts }
-    ensures { IsRun parts.entry result }
+    ensures run { IsRun parts.entry result }
+    ensures room_again { HaveRoom result }
 {
     let (fuel, shared, mut records) = parts.into_parts();
     let memory = Mutex::new(shared);
@@ -50,28 +52,22 @@ fn run_records<'i, R: Threads + Wait + Sync, G: Gate + Sync, const S: usize>(
 
 /// What a thread drives. The kit proves a run of threads over values of a type parameter, and none over values whose
 /// type has a number as a parameter: records are driven through this trait.
-trait Worker {
+pub trait Worker {
     /// The record that it is.
     ghost value: { Self → RecordValue };
 
-    /// Drives it.
-    fn go<R: Wait, G: Gate>(&mut self, rt: &R, memory: &Mutex<SharedMemory>, fuel: usize, gate: &G)
+    /// Drives it through the port, as `drive` does; what `drive` answers is left out.
+    fn go<R: Wait, P: Port, G: Gate>(&mut self, rt: &R, port: &mut P, fuel: usize, gate: &G)
         requires { fuel ≤ length (value self.old).steps + (value self.old).spare }
-        ensures { IsGrown fuel (value self.old) (value self.new) };
+        ensures grown { IsGrown fuel (value self.old) (value self.new) }
+        ensures made { HasMade (value self.old) (value self.new) (P.made port.old) (P.made port.new) };
 }
 
 impl<'i, const S: usize> Worker for Recorded<'i, S> {
     ghost value = { λ r. r };
 
-    fn go<R: Wait, G: Gate>(
-        &mut self,
-        rt: &R,
-        memory: &Mutex<SharedMemory>,
-        fuel: usize,
-        gate: &G,
-    ) {
-        let mut port = LockPort::new(memory);
-        let _ = drive(rt, self, &mut port, fuel, gate);
+    fn go<R: Wait, P: Port, G: Gate>(&mut self, rt: &R, port: &mut P, fuel: usize, gate: &G) {
+        let _ = drive(rt, self, port, fuel, gate);
     }
 }
 
@@ -92,7 +88,10 @@ fn run_workers<W: Worker + Send, R: Threads + Wait + Sync, G: Gate + Sync>(
         let go = |_p: usize, worker: &mut W|
             requires { fuel ≤ length (W.value worker.now).steps + (W.value worker.now).spare }
             ensures { IsGrown fuel (W.value worker.entry.now) (W.value worker.exit.now) }
-        { worker.go(rt, memory, fuel, gate) };
+        {
+            let mut port = LockPort::new(memory);
+            worker.go(rt, &mut port, fuel, gate)
+        };
         thread::for_each_mut(rt, workers, count, &go);
     }
 }

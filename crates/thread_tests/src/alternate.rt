@@ -1,10 +1,13 @@
 //! A producer and a consumer over one full/empty word, whose requests alternate.
-use crate::runs::{assert_replays, image_of, run_under, steps_of};
+use crate::runs::{Way, assert_replays, image_of, run_under, steps_of};
 use crate::turns::Turns;
 use memory_lock::Gate;
+use std::alloc::Global;
+use std::process::Abort;
 use std::sync::Wait;
 use std::sync::atomic::{AtomicUsize, Ordering};
 use std::test::Fail;
+use std::thread::Threads;
 use std::time::Clock;
 use tag_memory::Word;
 
@@ -42,12 +45,21 @@ impl<'c, C: Clock> Gate for AlternateGate<'c, C> {
 
 #[test]
 fn alternate_requests_are_never_blocked(rt: HostRuntime) -> Result<(), Fail> {
-    let image = image_of(rt.alloc(), PUT_AND_TAKE)?;
+    assert_never_blocked(&rt, rt.alloc(), Way::Lock)?;
+    assert_never_blocked(&rt, rt.alloc(), Way::Turns)
+}
+
+fn assert_never_blocked<R: Abort + Clock + Threads + Wait + Sync>(
+    rt: &R,
+    alloc: Global,
+    way: Way,
+) -> Result<(), Fail> {
+    let image = image_of(alloc, PUT_AND_TAKE)?;
     let gate = AlternateGate {
-        turns: Turns::new(&rt),
+        turns: Turns::new(rt),
         replies: AtomicUsize::new(0),
     };
-    let woven = run_under(&rt, rt.alloc(), &image, 100, &gate)?;
+    let woven = run_under(rt, alloc, &image, 100, &gate, way)?;
     assert!(rt; !gate.turns.ran_out());
     assert_eq!(rt; woven.history().len(), 21);
     for (k, entry) in woven.history().iter().enumerate() {
@@ -62,5 +74,5 @@ fn alternate_requests_are_never_blocked(rt: HostRuntime) -> Result<(), Fail> {
         (32, 33)
     );
     assert_eq!(rt; woven.word(8), Word::from_number(55, 1));
-    assert_replays(&rt, rt.alloc(), &image, &woven)
+    assert_replays(rt, alloc, &image, &woven)
 }

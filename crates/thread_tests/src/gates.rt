@@ -1,10 +1,13 @@
 //! Gates that pass only where processors step at once, and where local steps take no lock.
-use crate::runs::{image_of, run_under};
+use crate::runs::{Way, image_of, run_under};
 use crate::turns::Turns;
 use memory_lock::Gate;
+use std::alloc::Global;
+use std::process::Abort;
 use std::sync::Wait;
 use std::sync::atomic::{AtomicUsize, Ordering};
 use std::test::Fail;
+use std::thread::Threads;
 use std::time::Clock;
 
 /// Before its second request each of two processors waits until the other stands before its own second request.
@@ -34,16 +37,25 @@ impl<'c, C: Clock> Gate for TwoWayGate<'c, C> {
 
 #[test]
 fn two_way_gate(rt: HostRuntime) -> Result<(), Fail> {
+    assert_two_ways(&rt, rt.alloc(), Way::Lock)?;
+    assert_two_ways(&rt, rt.alloc(), Way::Turns)
+}
+
+fn assert_two_ways<R: Abort + Clock + Threads + Wait + Sync>(
+    rt: &R,
+    alloc: Global,
+    way: Way,
+) -> Result<(), Fail> {
     let image = image_of(
-        rt.alloc(),
+        alloc,
         ".slim 1\n.entry 0\n.entry 0\nFADD.N r1, r0, 0\nFADD.N r1, r0, 0\nQUIT\n.data 0\n",
     )?;
     let gate = TwoWayGate {
-        turns: Turns::new(&rt),
+        turns: Turns::new(rt),
         first: AtomicUsize::new(0),
         second: AtomicUsize::new(0),
     };
-    let woven = run_under(&rt, rt.alloc(), &image, 3, &gate)?;
+    let woven = run_under(rt, alloc, &image, 3, &gate, way)?;
     assert!(rt; !gate.turns.ran_out());
     assert_eq!(rt; (woven.history().len(), woven.schedule().len()), (4, 6));
     Ok(())
@@ -80,16 +92,25 @@ impl<'c, C: Clock> Gate for LocalGate<'c, C> {
 
 #[test]
 fn free_local_gate(rt: HostRuntime) -> Result<(), Fail> {
+    assert_free_local(&rt, rt.alloc(), Way::Lock)?;
+    assert_free_local(&rt, rt.alloc(), Way::Turns)
+}
+
+fn assert_free_local<R: Abort + Clock + Threads + Wait + Sync>(
+    rt: &R,
+    alloc: Global,
+    way: Way,
+) -> Result<(), Fail> {
     let image = image_of(
-        rt.alloc(),
+        alloc,
         ".slim 1\n.entry 0\n.entry c\nLIT r1, 1\nQUIT\nc: FADD.N r1, r0, 0\nQUIT\n.data 0\n",
     )?;
     let gate = LocalGate {
-        turns: Turns::new(&rt),
+        turns: Turns::new(rt),
         locals: AtomicUsize::new(0),
         replies: AtomicUsize::new(0),
     };
-    let woven = run_under(&rt, rt.alloc(), &image, 2, &gate)?;
+    let woven = run_under(rt, alloc, &image, 2, &gate, way)?;
     assert!(rt; !gate.turns.ran_out());
     assert_eq!(rt; (woven.history().len(), woven.schedule().len()), (1, 4));
     Ok(())

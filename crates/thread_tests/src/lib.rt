@@ -9,6 +9,10 @@ mod counting;
 #[cfg(test)]
 mod gates;
 #[cfg(test)]
+mod in_turn;
+#[cfg(test)]
+mod ports;
+#[cfg(test)]
 mod refused;
 #[cfg(test)]
 mod runs;

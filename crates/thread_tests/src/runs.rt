@@ -2,7 +2,7 @@
 use asm_text::assemble;
 use image_file::Image;
 use machine::Machine;
-use memory_lock::{FreeGate, Gate, Parts, ThreadsFault, Woven, run_threads, threaded};
+use memory_lock::{FreeGate, Gate, Parts, ThreadsFault, Woven, run_threads};
 use processor::Step;
 use std::alloc::Global;
 use std::process::Abort;
@@ -38,6 +38,15 @@ pub(crate) fn assert_replays<const S: usize>(
     Ok(())
 }
 
+/// How processors reach the memory.
+#[derive(Clone, Copy, Debug)]
+pub(crate) enum Way {
+    /// Through a lock.
+    Lock,
+    /// In turn, where they are two.
+    Turns,
+}
+
 /// A run of an image whose processors have one stream, and what is gathered of it.
 pub(crate) fn run_under<'i, R: Threads + Wait + Sync, G: Gate + Sync>(
     rt: &R,
@@ -45,22 +54,28 @@ pub(crate) fn run_under<'i, R: Threads + Wait + Sync, G: Gate + Sync>(
     image: &'i Image,
     fuel: usize,
     gate: &G,
+    way: Way,
 ) -> Result<Woven<'i, 1>, Fail> {
-    match threaded(rt, alloc, image, fuel, gate) {
+    let run = match way {
+        Way::Lock => memory_lock::threaded(rt, alloc, image, fuel, gate),
+        Way::Turns => turn_memory::threaded(rt, alloc, image, fuel, gate),
+    };
+    match run {
         Ok(woven) => Ok(woven),
         Err(ThreadsFault::Build(fault)) => Err(Fail::from(fault)),
         Err(ThreadsFault::Gather(_, fault)) => Err(Fail::from(fault)),
     }
 }
 
-/// The parts that a run with no gate leaves of an image whose processors have one stream.
-pub(crate) fn run_freely<'i, R: Threads + Wait + Sync>(
+/// The parts that two runs with no gate, one after the other, leave of an image whose processors have one stream.
+pub(crate) fn run_twice<'i, R: Threads + Wait + Sync>(
     rt: &R,
     alloc: Global,
     image: &'i Image,
     fuel: usize,
 ) -> Result<Parts<'i, 1>, Fail> {
     let parts = Parts::new(alloc, image, fuel)?;
+    let parts = run_threads(rt, parts, &FreeGate);
     Ok(run_threads(rt, parts, &FreeGate))
 }
 

@@ -1,8 +1,7 @@
-use Rattle.std.proofs.Common.{◌≡◌, ◌+◌, ◌<◌, ◌∷◌, [], List, length, arith, sym, ap, ◌∙◌}
+use Rattle.std.proofs.Common.{◌+◌, ◌<◌, length, arith, sym, ap, ◌∙◌}
 use Rattle.std.proofs.lemmas.List.{length_push}
 use Rattle.processor.specs.Records.{RecordValue}
 use Rattle.processor.specs.declared.steps.NextStep.{NextStep}
-use Rattle.processor.specs.declared.steps.Asked.{Asked}
 use Rattle.processor.specs.Turns.{last_of}
 use Rattle.processor.proofs.Turning.{turn-skip, turn-none}
 use Rattle.memory_lock.proofs.Growing.{grown-local, grown-ask, made-local, made-ask, in-turn-ask, in-turn-local}

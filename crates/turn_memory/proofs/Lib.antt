@@ -1,0 +1,6 @@
+mod Callers
+mod Seats
+mod Keeping
+mod OneCall
+mod Ending
+mod Running
