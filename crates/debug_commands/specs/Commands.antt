@@ -46,12 +46,12 @@ command_of_two name first second =
     else None))
 
 -- a name, and up to two numbers
-abbrev pub command_in : List (List ℕ) → Option Command
-command_in (name ∷ []) = bare_command name
-command_in (name ∷ number ∷ []) = command_of_one name number
-command_in (name ∷ first ∷ second ∷ []) = command_of_two name first second
-command_in _ = None
+abbrev pub command_of_words : List (List ℕ) → Option Command
+command_of_words (name ∷ []) = bare_command name
+command_of_words (name ∷ number ∷ []) = command_of_one name number
+command_of_words (name ∷ first ∷ second ∷ []) = command_of_two name first second
+command_of_words _ = None
 
 -- the command of a line of at most 256 bytes, its line feed not counted
 unfoldable pub command_of : List ℕ → Option Command
-command_of line = if nat_le (length line) 256 then command_in (parts 32 line) else None
+command_of line = if nat_le (length line) 256 then command_of_words (parts 32 line) else None

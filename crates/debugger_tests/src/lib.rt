@@ -4,8 +4,14 @@
 #[cfg(test)]
 mod commands;
 #[cfg(test)]
+mod plain_session;
+#[cfg(test)]
 mod points;
+#[cfg(test)]
+mod replays;
 #[cfg(test)]
 mod sessions;
 #[cfg(test)]
 mod transcripts;
+#[cfg(test)]
+mod walks;

@@ -16,7 +16,11 @@ pub(crate) const COUNTDOWN: &str =
 pub(crate) const LONG: &str = "0 0 400\n200 0 5\n";
 
 /// The text of the answer to a line, or its fault, without the last line feed.
-fn answer_line(alloc: Global, session: &mut Session<1>, line: &str) -> Result<String, Fail> {
+pub(crate) fn answer_line(
+    alloc: Global,
+    session: &mut Session<1>,
+    line: &str,
+) -> Result<String, Fail> {
     match answer(session, line) {
         Ok(answer) => {
             let mut text = answer_text(alloc, &answer)?;

@@ -1,7 +1,8 @@
--- The next stop and the last one, found step by step.
-use Rattle.std.proofs.Common.{◌≡◌, ℕ, ◌+◌, ◌<◌, ◌≤◌, Bool, true, false, refl, sym, ap, ◌∙◌, arith, subst, Option, Some, None}
+-- The next stop, and the last one of a run at its beginning.
+use Rattle.std.proofs.Common.{◌≡◌, ℕ, ◌+◌, ◌<◌, ◌≤◌, Bool, true, false, sym, ap, ◌∙◌, arith, subst}
+use Rattle.std.proofs.Common.{Option, Some, None}
 use Rattle.replay_debugger.specs.Stops.{NoneAbove}
-use Rattle.replay_debugger.specs.Looks.{IsRunToStop, IsLastBelow}
+use Rattle.replay_debugger.specs.Looks.{IsRunToStop, IsLastSeen, IsGreatestSeen, NoneSeen}
 
 -- the number behind k stops
 pub run_found : (test : ℕ → Bool) (low high k n : ℕ) → low ≤ k → k < high → n ≡ k + 1 → NoneAbove test low k
@@ -16,25 +17,27 @@ run_found test low high k n from below next none stops = record {
   end = λ e. cc;
 }
 
--- The last number below n.
+-- what is seen of the first number alone
+pub first_seen : (test : ℕ → Bool) (k : ℕ) (last : Option ℕ) → k ≡ 0 → test k ≡ true → last ≡ Some 0
+    → IsLastSeen test k k last
+first_seen test k last first stops e =
+    let at : IsGreatestSeen test k k k = record {
+      seen = omega (arith, first);
+      within = omega arith;
+      passes = stops;
+      greatest = λ j above within. absurd (omega (arith, above, within));
+    } in
+    subst (IsLastSeen test k k) (ap (λ n. Some n) first ∙ sym e) at
 
-pub last_is : (test : ℕ → Bool) (k n : ℕ) → n ≡ k + 1 → test k ≡ true → IsLastBelow test n (Some k)
-last_is test k n next stops = record {
-  below = omega (arith, next);
-  passes = stops;
-  greatest = λ j above under. absurd (omega (arith, next, above, under));
-}
+pub none_first : (test : ℕ → Bool) (k : ℕ) (last : Option ℕ) → test k ≡ false → last ≡ None
+    → IsLastSeen test k k last
+none_first test k last fails e =
+    let none : NoneSeen test k k = λ j seen within. let same : j ≡ k = omega (arith, seen, within) in
+    ap test same ∙ fails in
+    subst (IsLastSeen test k k) (sym e) none
 
--- The first number.
-
-pub first_is : (test : ℕ → Bool) (k : ℕ) (last : Option ℕ) → k ≡ 0 → test k ≡ true → last ≡ Some 0
-    → IsLastBelow test (k + 1) last
-first_is test k last first stops e =
-    subst (IsLastBelow test (k + 1)) (ap (λ n. Some n) first ∙ sym e)
-    (last_is test k (k + 1) refl stops)
-
-pub none_first : (test : ℕ → Bool) (k : ℕ) (last : Option ℕ) → k ≡ 0 → test k ≡ false → last ≡ None
-    → IsLastBelow test (k + 1) last
-none_first test k last first fails e =
-    subst (IsLastBelow test (k + 1)) (sym e)
-    (λ j under. let same : j ≡ k = omega (arith, first, under) in ap test same ∙ fails)
+-- of a later number alone nothing is seen
+pub none_yet : (test : ℕ → Bool) (k : ℕ) (last : Option ℕ) → 0 < k → last ≡ None → IsLastSeen test k k last
+none_yet test k last later e =
+    let none : NoneSeen test k k = λ j seen within. absurd (omega (arith, later, seen, within)) in
+    subst (IsLastSeen test k k) (sym e) none

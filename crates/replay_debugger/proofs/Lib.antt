@@ -7,3 +7,4 @@ pub mod Meeting
 pub mod Replaying
 pub mod Finding
 pub mod WordsInTurn
+pub mod Keeping

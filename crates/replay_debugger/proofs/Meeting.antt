@@ -9,7 +9,8 @@ use Rattle.processor.specs.World.{World}
 use Rattle.processor.specs.declared.steps.Step.{Step}
 use Rattle.replay_debugger.specs.declared.points.Point.{Point}
 use Rattle.replay_debugger.specs.declared.points.Point.TheVariants.{Break, Watch, WatchTags}
-use Rattle.replay_debugger.specs.Stops.{stream_named, is_running, is_met, slot_stops, any_stops}
+use Rattle.processor.specs.Records.{is_running}
+use Rattle.replay_debugger.specs.Stops.{stream_named, is_met, slot_stops, any_stops}
 use Rattle.replay_debugger.specs.Looks.{slot_breaks_at, has_place, AreBreakpoints, slot_watch_of, watches_of}
 use Rattle.replay_debugger.specs.Looks.{has_changed, seen_again, LooksFor}
 use Rattle.replay_debugger.specs.declared.stops.Stops.{Stops}
@@ -40,18 +41,18 @@ met_or : (f g : ℕ → ℕ → Bool) (w : World) (next : Option Step)
 met_or f g w None = refl
 met_or f g w (Some t) =
     let s = stream_named w t in
-    and_or (is_running s.status) (f t.p s.ssw.pc) (g t.p s.ssw.pc)
+    and_or (is_running s) (f t.p s.ssw.pc) (g t.p s.ssw.pc)
 
 met_none : (w : World) (next : Option Step) → false ≡ is_met (λ q at. false) w next
 met_none w None = refl
-met_none w (Some t) = and_false (is_running (stream_named w t).status)
+met_none w (Some t) = and_false (is_running (stream_named w t))
 
 met_same : (f g : ℕ → ℕ → Bool) (w : World) (next : Option Step) → ((q at : ℕ) → f q at ≡ g q at)
     → is_met f w next ≡ is_met g w next
 met_same f g w None same = refl
 met_same f g w (Some t) same =
     let s = stream_named w t in
-    ap (λ b. is_running s.status && b) (same t.p s.ssw.pc)
+    ap (λ b. is_running s && b) (same t.p s.ssw.pc)
 
 -- One point.
 

@@ -1,6 +1,6 @@
 -- A machine that goes on from a position of a schedule to a later one.
-use Rattle.std.proofs.Common.{◌≡◌, ℕ, zero, suc, ◌+◌, ◌-◌, ◌<◌, ◌≤◌, refl, sym, ap, ◌∙◌, arith, zero-add, List, [], ◌∷◌}
-use Rattle.std.proofs.Common.{◌++◌, length, take, drop, get_or, Bool, Option, slice_get}
+use Rattle.std.proofs.Common.{◌≡◌, ℕ, zero, suc, ◌+◌, ◌-◌, ◌<◌, ◌≤◌, refl, sym, ap, ◌∙◌, arith, zero-add}
+use Rattle.std.proofs.Common.{List, [], ◌∷◌, ◌++◌, length, take, drop, get_or, Bool, Option, slice_get}
 use Rattle.std.proofs.Math.Seq.{drop-cons}
 use Rattle.image_file.specs.ImageValue.{ImageValue}
 use Rattle.stream_core.specs.declared.steps.Outcome.{Outcome}
@@ -8,7 +8,8 @@ use Rattle.machine.specs.MachineValue.{MachineValue}
 use Rattle.processor.specs.World.{World, start, after, steps, run, world_step}
 use Rattle.processor.specs.declared.steps.Step.{Step}
 use Rattle.replay_debugger.specs.declared.points.Point.{Point}
-use Rattle.replay_debugger.specs.Places.{StandsAt}
+use Rattle.replay_debugger.specs.declared.replay.Replay.{Replay}
+use Rattle.replay_debugger.specs.Places.{StandsAt, Course, IsOn}
 use Rattle.replay_debugger.specs.Sessions.{world_at}
 use Rattle.replay_debugger.specs.Stops.{any_stops, is_stop}
 
@@ -93,3 +94,29 @@ stop_first ts m k points next r first stands follows e =
     let back : k ≡ k - 1 = omega (arith, first) in
     let before : m.world ≡ world_at m.image ts (k - 1) = stands.world ∙ ap (world_at m.image ts) back in
     e ∙ (λ i. any_stops (before i) (stands.world i) (follows i) points)
+
+-- A machine on a course.
+
+-- it goes on to a later position
+pub on_later : {size : ℕ} (course : Course) (ts : List Step) (r : Replay size) (m : MachineValue) (goal : ℕ)
+    → r.position ≤ goal → goal ≤ length course.schedule → ts ≡ course.schedule
+    → m ≡ record r.machine {
+      world = steps r.machine.image r.machine.world (take (goal - r.position) (drop r.position ts));
+    } → IsOn course r → IsOn {size = size} course (record { machine = m; position = goal })
+on_later {size} course ts r m goal forward within same ran is =
+    let ran_on = ran ∙ ap (λ (xs : List Step). record r.machine {
+      world = steps r.machine.image r.machine.world (take (goal - r.position) (drop r.position xs));
+    }) same in
+    record {
+      image = ap (λ (v : MachineValue). v.image) ran ∙ is.image;
+      stands = stands_later course.schedule r.machine m r.position goal forward within ran_on is.stands;
+    }
+
+-- whether its first position is a stop
+pub on_first : {size : ℕ} (course : Course) (r : Replay size) (points : List (Option Point)) (next : Option Step)
+    (b : Bool) → r.position ≡ 0 → IsOn course r → next ≡ slice_get course.schedule r.position
+    → b ≡ any_stops r.machine.world r.machine.world next points
+    → b ≡ is_stop course.image course.schedule points r.position
+on_first {size} course r points next b first is follows e =
+    stop_first course.schedule r.machine r.position points next b first is.stands follows e
+    ∙ ap (λ (image : ImageValue). is_stop image course.schedule points r.position) is.image

@@ -39,7 +39,8 @@ seen_at : (size : ℕ) (m : MachineValue) (t : Step) (d : Option ProcessorValue)
     → slice_get m.world.processors t.p ≡ d → or_idle (stream_seen_at size t.s d) ≡ stream_named_in t.s d
 seen_at size m t None kept e = refl
 seen_at size m t (Some d) kept e = elim (cases_lt t.s size) [
-  | inl below ↦ ap (λ (b : Bool). or_idle (if b then Some (stream_at d.streams t.s) else None)) (lt-ltb t.s size below)
+  | inl below ↦
+      ap (λ (b : Bool). or_idle (if b then Some (stream_at d.streams t.s) else None)) (lt-ltb t.s size below)
   | inr past ↦ let few = few_streams size m t.p d kept e in
       ap (λ (b : Bool). or_idle (if b then Some (stream_at d.streams t.s) else None)) (le-ltb t.s size past)
       ∙ sym (idle_past d.streams t.s (omega (arith, few, past)))

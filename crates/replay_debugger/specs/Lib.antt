@@ -6,6 +6,8 @@ pub mod Sessions
 pub mod Stops
 -- what each command answers, and where it is refused
 pub mod Table
--- What only private contracts cite: a machine at a position, and what a run to a stop looks at.
+-- What only private contracts cite: a machine at a position, machines that are kept at some, and what a run to a stop
+-- looks at.
 pub mod Places
+pub mod Checkpoints
 pub mod Looks

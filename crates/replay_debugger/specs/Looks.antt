@@ -1,16 +1,15 @@
 -- What a run to a stop looks at after each step: the breakpoints as a set, and the watched words as they were last
 -- seen.
-use Rattle.std.specs.Prelude.{◌≡◌, ℕ, ◌==◌, ◌&&◌, Bool, true, false, if◌then◌else◌, List, [], ◌∷◌, ◌++◌, Option, Some, None}
+use Rattle.std.specs.Prelude.{◌≡◌, ℕ, ◌-◌, ◌<◌, ◌≤◌, ◌==◌, ◌&&◌, Bool, true, false, if◌then◌else◌}
+use Rattle.std.specs.Prelude.{List, [], ◌∷◌, ◌++◌, Option, Some, None}
 use Rattle.std.specs.List.{list_any}
 use Rattle.tag_memory.specs.Storage.{TaggedMemory, cell_at}
 use Rattle.replay_debugger.specs.declared.points.Point.{Point}
 use Rattle.replay_debugger.specs.declared.points.Point.TheVariants.{Break, Watch, WatchTags}
 use Rattle.replay_debugger.specs.declared.watched_words.WatchedWord.{WatchedWord}
 use Rattle.replay_debugger.specs.declared.stops.Stops.{Stops}
-use Rattle.machine.specs.MachineValue.{MachineValue}
-use Rattle.processor.specs.declared.steps.Step.{Step}
-use Rattle.replay_debugger.specs.Places.{StandsAt}
-use Rattle.replay_debugger.specs.Stops.{word_differs, tags_differ, IsLeastAbove, NoneAbove, IsGreatestBelow, NoneBelow}
+use Rattle.replay_debugger.specs.Stops.{word_differs, tags_differ}
+use Rattle.replay_debugger.specs.Stops.{IsLeastAbove, NoneAbove, IsGreatestBelow, NoneBelow}
 
 -- Breakpoints.
 
@@ -65,16 +64,26 @@ pub record LooksFor (points : List (Option Point)) (m : TaggedMemory) (s : Stops
   pub breakpoints : AreBreakpoints points s.breakpoints
   pub words : s.words.items ≡ watches_of m points
 
--- a machine stands at a position, and what is looked for are these points, with the words as the machine shows them
-pub record IsLooking (schedule : List Step) (points : List (Option Point)) (m : MachineValue) (k : ℕ) (s : Stops)
-    : Type 0 where
-  pub stands : StandsAt schedule m k
-  pub looks : LooksFor points m.world.memory s
-
 -- A run ends at k, the least number above low that passes, or at high where none does.
 pub record IsRunToStop (test : ℕ → Bool) (low high k : ℕ) (found : Bool) : Type 0 where
   pub stop : found ≡ true → IsLeastAbove test low high k
   pub end : found ≡ false → (k ≡ high) × NoneAbove test low high
+
+-- k is the greatest number that passes among those up to high that a run from low tells of: it sees what changed from
+-- k - 1 to k, and at 0 nothing has
+pub record IsGreatestSeen (test : ℕ → Bool) (low high k : ℕ) : Type 0 where
+  pub seen : low ≤ k - 1
+  pub within : k ≤ high
+  pub passes : test k ≡ true
+  pub greatest : (j : ℕ) → k < j → j ≤ high → test j ≡ false
+
+-- none of them passes
+abbrev pub NoneSeen : (ℕ → Bool) → ℕ → ℕ → Type 0
+NoneSeen test low high = (j : ℕ) → low ≤ j - 1 → j ≤ high → test j ≡ false
+
+abbrev pub IsLastSeen : (ℕ → Bool) → ℕ → ℕ → Option ℕ → Type 0
+IsLastSeen test low high None = NoneSeen test low high
+IsLastSeen test low high (Some k) = IsGreatestSeen test low high k
 
 -- the greatest number below high that passes, if there is one
 abbrev pub IsLastBelow : (ℕ → Bool) → ℕ → Option ℕ → Type 0

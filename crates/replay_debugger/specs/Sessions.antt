@@ -17,8 +17,8 @@ abbrev pub world_at : ImageValue → List Step → ℕ → World
 world_at image schedule k = run image (take k schedule)
 
 -- the world that a session shows
-abbrev pub world_of : SessionValue → World
-world_of s = world_at s.image s.schedule s.position
+abbrev pub session_world : SessionValue → World
+session_world s = world_at s.image s.schedule s.position
 
 -- a session at its start
 abbrev pub session_at_start : ImageValue → List Step → SessionValue

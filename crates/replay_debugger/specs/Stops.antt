@@ -7,9 +7,8 @@ use Rattle.tag_memory.specs.Storage.{cell_at}
 use Rattle.image_file.specs.ImageValue.{ImageValue}
 use Rattle.image_file.specs.Same.{same_cell}
 use Rattle.stream_core.specs.Streams.{StreamValue, idle}
-use Rattle.stream_core.specs.declared.steps.Status.{Status}
-use Rattle.stream_core.specs.declared.steps.Status.TheVariants.{Idle, Running, Stopped}
 use Rattle.processor.specs.Processors.{ProcessorValue, stream_at}
+use Rattle.processor.specs.Records.{is_running}
 use Rattle.processor.specs.World.{World}
 use Rattle.processor.specs.declared.steps.Step.{Step}
 use Rattle.replay_debugger.specs.declared.points.Point.{Point}
@@ -26,15 +25,10 @@ stream_named_in s (Some proc) = stream_at proc.streams s
 abbrev pub stream_named : World → Step → StreamValue
 stream_named w t = stream_named_in t.s (slice_get w.processors t.p)
 
-abbrev pub is_running : Status → Bool
-is_running Idle = false
-is_running Running = true
-is_running (Stopped k) = false
-
 -- whether a step is of a running stream whose processor and pc pass the test; where no step follows it is not
 abbrev pub is_met : (ℕ → ℕ → Bool) → World → Option Step → Bool
 is_met test w None = false
-is_met test w (Some t) = is_running (stream_named w t).status && test t.p (stream_named w t).ssw.pc
+is_met test w (Some t) = is_running (stream_named w t) && test t.p (stream_named w t).ssw.pc
 
 -- Watched words. It is the word at the address itself that is watched, whatever it is forwarded to.
 
@@ -68,8 +62,8 @@ slot_stops before w next (Some point) = point_stops before w next point
 abbrev pub any_stops : World → World → Option Step → List (Option Point) → Bool
 any_stops before w next points = list_any (slot_stops before w next) points
 
--- Whether position k is a stop: by positions k - 1 and k and the step after k. At position 0 nothing has changed: there
--- 0 - 1 is 0.
+-- Whether position k is a stop: by positions k - 1 and k and the step after k. At position 0 nothing has changed:
+-- there 0 - 1 is 0.
 unfoldable pub is_stop : ImageValue → List Step → List (Option Point) → ℕ → Bool
 is_stop image schedule points k =
     any_stops (world_at image schedule (k - 1)) (world_at image schedule k) (slice_get schedule k) points

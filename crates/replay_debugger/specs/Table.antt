@@ -1,6 +1,6 @@
 -- What a session answers to each command, and where it refuses one.
-use Rattle.std.specs.Prelude.{◌≡◌, ℕ, zero, suc, ◌+◌, ◌^◌, ◌&&◌, Bool, nat_lt, nat_le, if◌then◌else◌, List, [], ◌∷◌, length}
-use Rattle.std.specs.Prelude.{Option, Some, None, is_some, Result, Ok, Err}
+use Rattle.std.specs.Prelude.{◌≡◌, ℕ, zero, suc, ◌+◌, ◌^◌, ◌&&◌, Bool, nat_lt, nat_le, if◌then◌else◌}
+use Rattle.std.specs.Prelude.{List, [], ◌∷◌, length, Option, Some, None, is_some, Result, Ok, Err}
 use Rattle.tag_memory.specs.Cell.{Cell}
 use Rattle.tag_memory.specs.Storage.{TaggedMemory, cell_at}
 use Rattle.debug_commands.specs.declared.answers.Answer.{Answer}
@@ -15,7 +15,7 @@ use Rattle.debug_commands.specs.declared.debug_fault.DebugFault.TheVariants as f
 use Rattle.replay_debugger.specs.declared.points.Point.{Point}
 use Rattle.replay_debugger.specs.declared.points.Point.TheVariants as point
 use Rattle.replay_debugger.specs.Points.{point_at, AddsPoint, TakesPoint}
-use Rattle.replay_debugger.specs.Sessions.{SessionValue, world_of}
+use Rattle.replay_debugger.specs.Sessions.{SessionValue, session_world}
 use Rattle.replay_debugger.specs.Stops.{stream_named, is_stop, IsLeastAbove, NoneAbove, IsGreatestBelow, NoneBelow}
 
 -- Words of the memory.
@@ -91,41 +91,43 @@ IsAnswerTo old (Watch a) result new = Adds old (point.Watch a) result new
 IsAnswerTo old (WatchTags a) result new = Adds old (point.WatchTags a) result new
 IsAnswerTo old (Delete n) result new = Takes old n result new
 IsAnswerTo old (Registers p s) result new =
-    (result ≡ answer.Stream (stream_named (world_of old) (record { p = p; s = s }))) × (new ≡ old)
+    (result ≡ answer.Stream (stream_named (session_world old) (record { p = p; s = s }))) × (new ≡ old)
 IsAnswerTo old (Show a n) result new =
-    (ws : List (ℕ × Cell)) × (words_from (world_of old).memory a n ≡ Some ws) × (result ≡ answer.Words ws) × (new ≡ old)
+    (ws : List (ℕ × Cell)) × (words_from (session_world old).memory a n ≡ Some ws) × (result ≡ answer.Words ws)
+    × (new ≡ old)
 
 -- Refusals.
 
-abbrev pub unless : Bool → DebugFault → Option DebugFault
-unless test f = if test then None else Some f
+abbrev pub refused_unless : Bool → DebugFault → Option DebugFault
+refused_unless test f = if test then None else Some f
 
 -- the fault of a command, want of memory aside
 abbrev pub refusal_of : SessionValue → Command → Option DebugFault
-refusal_of s (Forward n) = unless (nat_le (s.position + n) (length s.schedule)) fault.Past
+refusal_of s (Forward n) = refused_unless (nat_le (s.position + n) (length s.schedule)) fault.Past
 refusal_of s Continue = None
 refusal_of s Back = None
-refusal_of s (Go k) = unless (nat_le k (length s.schedule)) fault.Past
-refusal_of s (Break p pc) = unless (nat_lt p (length s.image.entries)) fault.NoSuchStream
-refusal_of s (Watch a) = unless (is_some (cell_at (world_of s).memory a)) fault.NoSuchWord
-refusal_of s (WatchTags a) = unless (is_some (cell_at (world_of s).memory a)) fault.NoSuchWord
-refusal_of s (Delete n) = unless (is_some (point_at s.points n)) fault.NoSuchPoint
+refusal_of s (Go k) = refused_unless (nat_le k (length s.schedule)) fault.Past
+refusal_of s (Break p pc) = refused_unless (nat_lt p (length s.image.entries)) fault.NoSuchStream
+refusal_of s (Watch a) = refused_unless (is_some (cell_at (session_world s).memory a)) fault.NoSuchWord
+refusal_of s (WatchTags a) = refused_unless (is_some (cell_at (session_world s).memory a)) fault.NoSuchWord
+refusal_of s (Delete n) = refused_unless (is_some (point_at s.points n)) fault.NoSuchPoint
 refusal_of s (Registers p q) =
-    unless (nat_lt p (length s.image.entries) && nat_lt q s.image.slim) fault.NoSuchStream
+    refused_unless (nat_lt p (length s.image.entries) && nat_lt q s.image.slim) fault.NoSuchStream
 refusal_of s (Show a n) =
-    if nat_le 1 n && nat_le n 64 then unless (is_some (words_from (world_of s).memory a n)) fault.NoSuchWord
+    if nat_le 1 n && nat_le n 64
+    then refused_unless (is_some (words_from (session_world s).memory a n)) fault.NoSuchWord
     else Some fault.Syntax
 
 -- want of memory is answered only where the command has no fault
-abbrev pub told : DebugFault → Option DebugFault
-told fault.Syntax = Some fault.Syntax
-told fault.NoSuchStream = Some fault.NoSuchStream
-told fault.NoSuchWord = Some fault.NoSuchWord
-told fault.NoSuchPoint = Some fault.NoSuchPoint
-told fault.Past = Some fault.Past
-told fault.NoMemory = None
+abbrev pub named_fault : DebugFault → Option DebugFault
+named_fault fault.Syntax = Some fault.Syntax
+named_fault fault.NoSuchStream = Some fault.NoSuchStream
+named_fault fault.NoSuchWord = Some fault.NoSuchWord
+named_fault fault.NoSuchPoint = Some fault.NoSuchPoint
+named_fault fault.Past = Some fault.Past
+named_fault fault.NoMemory = None
 
 -- The result of a command. A refusal leaves the session as it was.
 abbrev pub IsResultOf : SessionValue → Command → Result Answer DebugFault → SessionValue → Type 0
 IsResultOf old command (Ok result) new = (refusal_of old command ≡ None) × IsAnswerTo old command result new
-IsResultOf old command (Err f) new = (refusal_of old command ≡ told f) × (new ≡ old)
+IsResultOf old command (Err f) new = (refusal_of old command ≡ named_fault f) × (new ≡ old)

@@ -42,7 +42,8 @@ impl Breakpoints {
 
     /// Adds the place of a point, if it is a breakpoint.
     fn add(&mut self, point: Point) -> Result<(), AllocError>
-        ensures { OnOk result ((p pc : ℕ) → has_place self.new p pc ≡ (breaks_at p pc point || has_place self.old p pc)) }
+        ensures { OnOk result ((p pc : ℕ)
+            → has_place self.new p pc ≡ (breaks_at p pc point || has_place self.old p pc)) }
     {
         if let Point::Break(p, pc) = point {
             self.places.insert((p, pc))?;

@@ -4,6 +4,7 @@
 
 mod begin_fault;
 mod breakpoints;
+mod checkpoints;
 mod points;
 mod replay;
 mod session;

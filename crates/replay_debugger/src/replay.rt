@@ -1,17 +1,19 @@
 //! A machine at a position of a schedule.
 
-ghost use Rattle.std.specs.Prelude.{◌≡◌, ◌+◌, ◌<◌, ◌≤◌, ◌↔◌, List, Option, length, slice_get, IfOk};
+ghost use Rattle.std.specs.Prelude.{◌≡◌, ◌+◌, ◌-◌, ◌<◌, ◌≤◌, ◌↔◌, List, Option, length, slice_get, IfOk};
+ghost use Rattle.tag_memory.specs.Storage.{TaggedMemory};
 ghost use Rattle.processor.specs.World.{start};
 ghost use Rattle.replay_debugger.specs.Stops.{is_stop};
-ghost use Rattle.replay_debugger.specs.Places.{StandsAt};
-ghost use Rattle.replay_debugger.specs.Looks.{IsLooking, IsRunToStop, IsLastBelow};
+ghost use Rattle.replay_debugger.specs.Places.{StandsAt, IsOn};
+ghost use Rattle.replay_debugger.specs.Looks.{LooksFor, IsRunToStop, IsLastSeen};
 ghost use Rattle.replay_debugger.specs.declared.points.Point.{Point};
 
+use crate::checkpoints::Checkpoints;
 use crate::stops::Stops;
 use image_file::Image;
 use machine::{LoadFault, Machine};
 use processor::Step;
-use std::alloc::Global;
+use std::alloc::{AllocError, Global};
 
 /// A machine, and how many steps of a schedule it has taken.
 #[derive(Drop)]
@@ -35,30 +37,45 @@ impl<'i, const S: usize> Replay<'i, S> {
         })
     }
 
-    /// Goes on to a position.
-    pub(crate) fn run_to(&mut self, schedule: &[Step], goal: usize)
-        requires forward { self.old.position ≤ goal }
-        requires within { goal ≤ length schedule.now }
-        ensures position { self.new.position ≡ goal }
-        ensures image { self.new.machine.image ≡ self.old.machine.image }
-        ensures stands { StandsAt schedule.now self.old.machine self.old.position
-            → StandsAt schedule.now self.new.machine goal }
+    /// The same machine at the same position.
+    pub(crate) fn try_clone(&self) -> Result<Replay<'i, S>, AllocError>
+        ensures { IfOk result (λ r. r ≡ self.now) }
     {
-        self.machine.run(&schedule[self.position..goal]);
-        self.position = goal;
+        Ok(Replay {
+            machine: self.machine.try_clone()?,
+            position: self.position,
+        })
+    }
+
+    /// Goes on to a position.
+    pub(crate) fn run_to(&mut self, checkpoints: &mut Checkpoints<'i, S>, goal: usize)
+        requires on { IsOn checkpoints.old self.old }
+        requires forward { self.old.position ≤ goal }
+        requires within { goal ≤ length checkpoints.old.schedule }
+        ensures position { self.new.position ≡ goal }
+        ensures on { IsOn checkpoints.old self.new }
+        ensures kept { checkpoints.new ≡ checkpoints.old }
+    {
+        while self.position < goal {
+            let pause = checkpoints.pause_after(self.position, goal);
+            self.machine
+                .run(&checkpoints.schedule()[self.position..pause]);
+            self.position = pause;
+            checkpoints.keep(self);
+        }
     }
 
     /// Takes the next step, and says whether the position behind it is a stop.
-    pub(crate) fn advance(&mut self, schedule: &[Step], stops: &mut Stops) -> bool
-        requires { self.old.position < length schedule.now }
+    fn advance(&mut self, schedule: &[Step], stops: &mut Stops) -> bool
+        requires within { self.old.position < length schedule.now }
+        requires stands { StandsAt schedule.now self.old.machine self.old.position }
         ensures position { self.new.position ≡ self.old.position + 1 }
         ensures image { self.new.machine.image ≡ self.old.machine.image }
-        ensures stop { (points : List (Option Point))
-            → IsLooking schedule.now points self.old.machine self.old.position stops.old
+        ensures stands { StandsAt schedule.now self.new.machine self.new.position }
+        ensures stop { (points : List (Option Point)) → LooksFor points self.old.machine.world.memory stops.old
             → result ≡ is_stop self.old.machine.image schedule.now points (self.old.position + 1) }
-        ensures looks { (points : List (Option Point))
-            → IsLooking schedule.now points self.old.machine self.old.position stops.old
-            → IsLooking schedule.now points self.new.machine self.new.position stops.new }
+        ensures looks { (points : List (Option Point)) → LooksFor points self.old.machine.world.memory stops.old
+            → LooksFor points self.new.machine.world.memory stops.new }
     {
         let step = schedule[self.position];
         self.machine.step(step.p, step.s);
@@ -73,18 +90,22 @@ impl<'i, const S: usize> Replay<'i, S> {
         schedule.get(self.position).copied()
     }
 
-    /// Goes on to the next stop, or to the end of the schedule, and says whether it is a stop.
-    pub(crate) fn run_to_stop(&mut self, schedule: &[Step], stops: &mut Stops) -> bool
+    /// Goes on to the next stop, or to a limit, and says whether it is a stop.
+    fn step_to_stop(&mut self, schedule: &[Step], stops: &mut Stops, limit: usize) -> bool
+        requires forward { self.old.position ≤ limit }
+        requires within { limit ≤ length schedule.now }
+        requires stands { StandsAt schedule.now self.old.machine self.old.position }
+        ensures later { self.old.position < limit → self.old.position < self.new.position }
+        ensures within { self.new.position ≤ limit }
         ensures image { self.new.machine.image ≡ self.old.machine.image }
-        ensures goes { (points : List (Option Point))
-            → IsLooking schedule.now points self.old.machine self.old.position stops.old
-            → IsRunToStop (is_stop self.old.machine.image schedule.now points) self.old.position
-            (length schedule.now) self.new.position result }
-        ensures looks { (points : List (Option Point))
-            → IsLooking schedule.now points self.old.machine self.old.position stops.old
-            → IsLooking schedule.now points self.new.machine self.new.position stops.new }
+        ensures stands { StandsAt schedule.now self.new.machine self.new.position }
+        ensures goes { (points : List (Option Point)) → LooksFor points self.old.machine.world.memory stops.old
+            → IsRunToStop (is_stop self.old.machine.image schedule.now points) self.old.position limit
+            self.new.position result }
+        ensures looks { (points : List (Option Point)) → LooksFor points self.old.machine.world.memory stops.old
+            → LooksFor points self.new.machine.world.memory stops.new }
     {
-        while self.position < schedule.len() {
+        while self.position < limit {
             if self.advance(schedule, stops) {
                 return true;
             }
@@ -92,28 +113,61 @@ impl<'i, const S: usize> Replay<'i, S> {
         false
     }
 
-    /// Goes on from the start, and says which is the last stop below a limit.
+    /// The same, with clones kept on the way.
+    pub(crate) fn run_to_stop(
+        &mut self,
+        checkpoints: &mut Checkpoints<'i, S>,
+        stops: &mut Stops,
+        limit: usize,
+    ) -> bool
+        requires on { IsOn checkpoints.old self.old }
+        requires forward { self.old.position ≤ limit }
+        requires within { limit ≤ length checkpoints.old.schedule }
+        ensures later { self.old.position < limit → self.old.position < self.new.position }
+        ensures within { self.new.position ≤ limit }
+        ensures on { IsOn checkpoints.old self.new }
+        ensures kept { checkpoints.new ≡ checkpoints.old }
+        ensures goes { (points : List (Option Point)) → LooksFor points self.old.machine.world.memory stops.old
+            → IsRunToStop (is_stop checkpoints.old.image checkpoints.old.schedule points) self.old.position limit
+            self.new.position result }
+        ensures looks { (points : List (Option Point)) → LooksFor points self.old.machine.world.memory stops.old
+            → LooksFor points self.new.machine.world.memory stops.new }
+    {
+        while self.position < limit {
+            let pause = checkpoints.pause_after(self.position, limit);
+            let found = self.step_to_stop(checkpoints.schedule(), stops, pause);
+            checkpoints.keep(self);
+            if found {
+                return true;
+            }
+        }
+        false
+    }
+
+    /// Goes on to a limit, and says which is the last stop on the way; at the start its position is one of them.
     pub(crate) fn last_stop(
         &mut self,
-        schedule: &[Step],
+        checkpoints: &mut Checkpoints<'i, S>,
         stops: &mut Stops,
         limit: usize,
     ) -> Option<usize>
-        requires start { self.old.position ≡ 0 }
-        requires within { limit ≤ length schedule.now }
-        ensures { (points : List (Option Point))
-            → IsLooking schedule.now points self.old.machine self.old.position stops.old
-            → IsLastBelow (is_stop self.old.machine.image schedule.now points) limit result }
+        requires on { IsOn checkpoints.old self.old }
+        requires forward { self.old.position ≤ limit }
+        requires within { limit ≤ length checkpoints.old.schedule }
+        ensures kept { checkpoints.new ≡ checkpoints.old }
+        ensures last { (points : List (Option Point)) (seen : TaggedMemory) → LooksFor points seen stops.old
+            → IsLastSeen (is_stop checkpoints.old.image checkpoints.old.schedule points) self.old.position limit
+            result }
+        ensures looks { (points : List (Option Point)) (seen : TaggedMemory) → LooksFor points seen stops.old
+            → LooksFor points self.new.machine.world.memory stops.new }
     {
-        if limit == 0 {
-            return None;
-        }
+        stops.look(&self.machine);
         let mut last = None;
-        if stops.meet(&self.machine, self.next(schedule)) {
+        if self.position == 0 && stops.meet(&self.machine, self.next(checkpoints.schedule())) {
             last = Some(0);
         }
-        while self.position + 1 < limit {
-            if self.advance(schedule, stops) {
+        while self.position < limit {
+            if self.run_to_stop(checkpoints, stops, limit) {
                 last = Some(self.position);
             }
         }

@@ -9,6 +9,7 @@ ghost use Rattle.replay_debugger.specs.Sessions.{session_at_start};
 ghost use Rattle.replay_debugger.specs.Table.{IsResultOf};
 
 use crate::begin_fault::BeginFault;
+use crate::checkpoints::Checkpoints;
 use crate::points::{Point, Points};
 use crate::replay::Replay;
 use debug_commands::{Answer, Command, DebugFault};
@@ -20,24 +21,25 @@ use std::marker::Model;
 
 /// A session of the debugger over an image and a schedule of its own ("Debugger", docs/FORMATS.md).
 ///
-/// It stands at a position from 0 to the schedule's length: position k is the world after the first k steps. Its points
-/// stand under keys, and say which positions are stops.
+/// It stands at a position from 0 to the schedule's length: position k is the world after the first k steps. Its
+/// points stand under keys, and say which positions are stops.
 #[derive(Drop)]
 pub struct Session<'i, const S: usize> {
-    schedule: Vec<Step>,
+    checkpoints: Checkpoints<'i, S>,
     replay: Replay<'i, S>,
     points: Points,
+    replayed: u64,
 }
 
 impl<'i, const S: usize> Model for Session<'i, S> {
     ghost use Rattle.replay_debugger.specs.Sessions.{SessionValue};
-    ghost use Rattle.replay_debugger.specs.Places.{StandsAt, session_of};
+    ghost use Rattle.replay_debugger.specs.Places.{IsOn, session_of};
 
     ghost Value = { SessionValue };
 
-    ghost view = { λ s. session_of s.replay.machine.image s.schedule.items s.replay.position s.points };
+    ghost view = { λ s. session_of s.checkpoints.image s.checkpoints.schedule s.replay.position s.points };
 
-    ghost invariant = { λ s. StandsAt s.schedule.items s.replay.machine s.replay.position };
+    ghost invariant = { λ s. IsOn s.checkpoints s.replay };
 }
 
 impl<'i, const S: usize> Session<'i, S> {
@@ -55,9 +57,10 @@ impl<'i, const S: usize> Session<'i, S> {
     {
         match Replay::start(alloc, image) {
             Ok(replay) => Ok(Session {
-                schedule,
+                checkpoints: Checkpoints::new(alloc, schedule, &replay),
                 replay,
                 points: Points::new(alloc),
+                replayed: 0,
             }),
             Err(kind) => Err(BeginFault { kind, schedule }),
         }
@@ -70,9 +73,25 @@ impl<'i, const S: usize> Session<'i, S> {
         self.replay.position as u64
     }
 
-    /// Does a command, and answers it from the world at the position that it leads to. A refusal leaves the session as
-    /// it was. How a position is reached is nowhere told.
+    /// How many steps the machine took for the last command that was answered; 0 before any. No clause speaks of it.
+    pub fn replayed(&self) -> u64 {
+        self.replayed
+    }
+
+    /// Does a command, and answers it from the world at the position that it leads to. A refusal leaves the session
+    /// as it was. How a position is reached is nowhere told.
     pub fn command(&mut self, command: &Command) -> Result<Answer, DebugFault>
+        ensures { IsResultOf self.old command.now result self.new }
+    {
+        let result = self.answer(command);
+        if result.is_ok() && !moves(command) {
+            self.replayed = 0;
+        }
+        result
+    }
+
+    /// The answer to a command.
+    fn answer(&mut self, command: &Command) -> Result<Answer, DebugFault>
         ensures { IsResultOf self.old command.now result self.new }
     {
         match *command {
@@ -88,4 +107,12 @@ impl<'i, const S: usize> Session<'i, S> {
             Command::Show(address, count) => self.show(address, count),
         }
     }
+}
+
+/// Whether a command goes to another position.
+fn moves(command: &Command) -> bool {
+    matches!(
+        *command,
+        Command::Forward(_) | Command::Continue | Command::Back | Command::Go(_)
+    )
 }

@@ -36,6 +36,14 @@ impl Stops {
         })
     }
 
+    /// Sees the watched words as a machine shows them.
+    pub(crate) fn look<const S: usize>(&mut self, machine: &Machine<S>)
+        ensures { (points : List (Option Point)) (m : TaggedMemory)
+            → LooksFor points m self.old → LooksFor points machine.now.world.memory self.new }
+    {
+        look_again(&mut self.words, machine);
+    }
+
     /// Looks at the machine after a step, and says whether its position is a stop. `next` is the step that follows.
     pub(crate) fn meet<const S: usize>(&mut self, machine: &Machine<S>, next: Option<Step>) -> bool
         ensures stop { (points : List (Option Point)) (before : World)

@@ -1,15 +1,12 @@
 //! The commands that go to another position.
 
-ghost use Rattle.std.specs.Prelude.{◌≡◌, IfOk};
-ghost use Rattle.processor.specs.World.{start};
+ghost use Rattle.std.specs.Prelude.{◌≡◌, ◌≤◌, length, IfOk, IfSome, OnOk, OnErr};
 ghost use Rattle.replay_debugger.specs.Looks.{IsLastBelow};
 ghost use Rattle.replay_debugger.specs.Table.{IsResultOf, stops_of};
 
-use crate::replay::Replay;
 use crate::session::Session;
 use crate::stops::Stops;
 use debug_commands::{Answer, Command, DebugFault, Why};
-use machine::LoadFault;
 use std::alloc::AllocError;
 
 impl<'i, const S: usize> Session<'i, S> {
@@ -17,12 +14,13 @@ impl<'i, const S: usize> Session<'i, S> {
     pub(super) fn forward(&mut self, count: u64) -> Result<Answer, DebugFault>
         ensures { IsResultOf self.old (Command.Forward count) result self.new }
     {
-        let left = self.schedule.len() - self.replay.position;
+        let position = self.replay.position;
+        let left = self.checkpoints.schedule().len() - position;
         if count > left as u64 {
             return Err(DebugFault::Past);
         }
-        let goal = self.replay.position + count as usize;
-        self.replay.run_to(&self.schedule, goal);
+        let goal = position + count as usize;
+        self.move_to(goal)?;
         Ok(Answer::At(goal as u64, Why::Moved))
     }
 
@@ -30,13 +28,10 @@ impl<'i, const S: usize> Session<'i, S> {
     pub(super) fn go(&mut self, goal: u64) -> Result<Answer, DebugFault>
         ensures { IsResultOf self.old (Command.Go goal) result self.new }
     {
-        if goal > self.schedule.len() as u64 {
+        if goal > self.checkpoints.schedule().len() as u64 {
             return Err(DebugFault::Past);
         }
-        if goal < self.replay.position as u64 {
-            self.replay = self.restart()?;
-        }
-        self.replay.run_to(&self.schedule, goal as usize);
+        self.move_to(goal as usize)?;
         Ok(Answer::At(goal, Why::Moved))
     }
 
@@ -44,18 +39,23 @@ impl<'i, const S: usize> Session<'i, S> {
     pub(super) fn go_on(&mut self) -> Result<Answer, DebugFault>
         ensures { IsResultOf self.old Command.Continue result self.new }
     {
+        let end = self.checkpoints.schedule().len();
         if self.points.is_empty() {
-            let end = self.schedule.len();
-            self.replay.run_to(&self.schedule, end);
+            self.move_to(end)?;
             return Ok(Answer::At(end as u64, Why::End));
         }
-        let alloc = *self.schedule.allocator();
+        let alloc = self.checkpoints.allocator();
         let mut stops = Stops::of(alloc, &self.points, &self.replay.machine)?;
-        let why = if self.replay.run_to_stop(&self.schedule, &mut stops) {
+        let from = self.replay.position;
+        let why = if self
+            .replay
+            .run_to_stop(&mut self.checkpoints, &mut stops, end)
+        {
             Why::Stop
         } else {
             Why::End
         };
+        self.replayed = (self.replay.position - from) as u64;
         Ok(Answer::At(self.replay.position as u64, why))
     }
 
@@ -63,37 +63,56 @@ impl<'i, const S: usize> Session<'i, S> {
     pub(super) fn back(&mut self) -> Result<Answer, DebugFault>
         ensures { IsResultOf self.old Command.Back result self.new }
     {
-        let (goal, why) = match self.last_stop()? {
+        let (last, searched) = self.last_stop()?;
+        let (goal, why) = match last {
             Some(goal) => (goal, Why::Stop),
             None => (0, Why::Start),
         };
-        let mut replay = self.restart()?;
-        replay.run_to(&self.schedule, goal);
-        self.replay = replay;
+        self.move_to(goal)?;
+        self.replayed = self.replayed.saturating_add(searched);
         Ok(Answer::At(goal as u64, why))
     }
 
-    /// The last stop below the position, found by a machine of its own.
-    fn last_stop(&self) -> Result<Option<usize>, AllocError>
-        ensures { IfOk result (IsLastBelow (stops_of self.now) self.now.position) }
+    /// Goes to a position, from the nearest one that is kept at or below it, the present one included.
+    fn move_to(&mut self, goal: usize) -> Result<(), AllocError>
+        requires { goal ≤ length self.old.schedule }
+        ensures goes { OnOk result (self.new ≡ record self.old { position = goal }) }
+        ensures kept { OnErr result (self.new ≡ self.old) }
     {
-        let alloc = *self.schedule.allocator();
-        let mut replay = self.restart()?;
-        let mut stops = Stops::of(alloc, &self.points, &replay.machine)?;
-        Ok(replay.last_stop(&self.schedule, &mut stops, self.replay.position))
+        let present = self.replay.position;
+        if goal < present {
+            self.replay = self.checkpoints.nearest_below(goal)?;
+        } else if present < goal {
+            if let Some(replay) = self.checkpoints.nearest(present + 1, goal) {
+                self.replay = replay;
+            }
+        }
+        self.replayed = (goal - self.replay.position) as u64;
+        self.replay.run_to(&mut self.checkpoints, goal);
+        Ok(())
     }
 
-    /// A new machine before any step.
-    fn restart(&self) -> Result<Replay<'i, S>, AllocError>
-        ensures position { IfOk result (λ r. r.position ≡ 0) }
-        ensures machine { IfOk result
-            (λ r. r.machine ≡ record { image = self.now.image; world = start self.now.image }) }
+    /// The last stop below the position, and how many steps were run to find it: first those from the nearest
+    /// position that is kept, and where none of them stops those from the one before it.
+    fn last_stop(&mut self) -> Result<(Option<usize>, u64), AllocError>
+        ensures last { IfOk result (λ r. IsLastBelow (stops_of self.old) self.old.position r.0) }
+        ensures within { IfOk result (λ r. IfSome r.0 (λ k. k ≤ length self.old.schedule)) }
+        ensures kept { self.new ≡ self.old }
     {
-        let alloc = *self.schedule.allocator();
-        match Replay::start(alloc, self.replay.machine.image()) {
-            Ok(replay) => Ok(replay),
-            Err(LoadFault::NoMemory) => Err(AllocError),
-            Err(LoadFault::Streams) => unreachable!(),
+        let Some(top) = self.replay.position.checked_sub(1) else {
+            return Ok((None, 0));
+        };
+        let alloc = self.checkpoints.allocator();
+        let mut stops = Stops::of(alloc, &self.points, &self.replay.machine)?;
+        let mut high = top;
+        loop {
+            let mut replay = self.checkpoints.nearest_below(high.saturating_sub(1))?;
+            let low = replay.position;
+            let last = replay.last_stop(&mut self.checkpoints, &mut stops, high);
+            if last.is_some() || low == 0 {
+                return Ok((last, (top - low) as u64));
+            }
+            high = low;
         }
     }
 }

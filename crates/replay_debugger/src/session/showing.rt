@@ -38,7 +38,7 @@ impl<'i, const S: usize> Session<'i, S> {
         if !has_words(machine, address, count) {
             return Err(DebugFault::NoSuchWord);
         }
-        let words = words(*self.schedule.allocator(), machine, address, count)?;
+        let words = words(self.checkpoints.allocator(), machine, address, count)?;
         Ok(Answer::Words(words))
     }
 }

@@ -24,8 +24,8 @@ loop-place-preserved g c =
       words = word_written m old words i look.w look.later below look.all look.again;
       changed = elim c.if-differs.branch [
         | then-differs w ↦
-            changed_now m old words i c.differs.result c.loop-place.changed c.if-differs.changed look w.if-differs.true
-            (w.changed-is ∙ w.if-differs.true)
+            changed_now m old words i c.differs.result c.loop-place.changed c.if-differs.changed look
+            w.if-differs.true (w.changed-is ∙ w.if-differs.true)
         | else-differs w ↦
             changed_before m old words i c.differs.result c.loop-place.changed c.if-differs.changed look
             w.if-differs.false w.changed-is

@@ -1,7 +1,9 @@
-use Rattle.std.proofs.Common.{◌≡◌, ◌<◌, ◌+◌, ◌-◌, List, Option}
+use Rattle.std.proofs.Common.{◌≡◌, ◌≤◌, ◌-◌, List, Option}
+use Rattle.tag_memory.specs.Storage.{TaggedMemory}
 use Rattle.replay_debugger.specs.declared.points.Point.{Point}
+use Rattle.replay_debugger.specs.Places.{IsOn}
 use Rattle.replay_debugger.specs.Stops.{is_stop}
-use Rattle.replay_debugger.specs.Looks.{IsLooking, IsLastBelow}
+use Rattle.replay_debugger.specs.Looks.{LooksFor, IsLastSeen}
 use Rattle.replay_debugger.proofs.replay.Replay.last_stop.Given as goal
 
 abbrev pub decreases-loop-self : goal.decreases-loop-self
@@ -10,12 +12,13 @@ decreases-loop-self g l = l.initial.limit - l.self.position
 -- whatever points are looked for are looked for still, and the last stop so far is known
 abbrev pub invariant-loop-self : goal.invariant-loop-self
 invariant-loop-self g l = record {
-  image : l.self.machine.image ≡ l.fn.self.machine.image;
-  below : l.self.position < l.limit;
-  looks : (points : List (Option Point))
-      → IsLooking l.schedule points l.fn.self.machine l.fn.self.position l.fn.stops
-      → IsLooking l.schedule points l.self.machine l.self.position l.stops;
-  last : (points : List (Option Point))
-      → IsLooking l.schedule points l.fn.self.machine l.fn.self.position l.fn.stops
-      → IsLastBelow (is_stop l.fn.self.machine.image l.schedule points) (l.self.position + 1) l.last;
+  from : l.fn.self.position ≤ l.self.position;
+  within : l.self.position ≤ l.limit;
+  kept : l.checkpoints ≡ l.fn.checkpoints;
+  on : IsOn l.checkpoints l.self;
+  looks : (points : List (Option Point)) (seen : TaggedMemory) → LooksFor points seen l.fn.stops
+      → LooksFor points l.self.machine.world.memory l.stops;
+  last : (points : List (Option Point)) (seen : TaggedMemory) → LooksFor points seen l.fn.stops
+      → IsLastSeen (is_stop l.fn.checkpoints.image l.fn.checkpoints.schedule points) l.fn.self.position
+      l.self.position l.last;
 }

@@ -1,0 +1,24 @@
+use Rattle.std.proofs.Common.{◌≡◌, ◌≤◌, ◌-◌, List, Option}
+use Rattle.replay_debugger.specs.declared.points.Point.{Point}
+use Rattle.replay_debugger.specs.Places.{StandsAt}
+use Rattle.replay_debugger.specs.Stops.{is_stop, NoneAbove}
+use Rattle.replay_debugger.specs.Looks.{LooksFor}
+use Rattle.replay_debugger.proofs.replay.Replay.step_to_stop.Given as goal
+
+abbrev pub decreases-loop-self : goal.decreases-loop-self
+decreases-loop-self g l = l.initial.limit - l.self.position
+
+-- whatever points are looked for are looked for still, and none has stopped above the first position
+abbrev pub invariant-loop-self : goal.invariant-loop-self
+invariant-loop-self g l = record {
+  from : l.initial.self.position ≤ l.self.position;
+  within : l.self.position ≤ l.limit;
+  image : l.self.machine.image ≡ l.initial.self.machine.image;
+  stands : StandsAt l.schedule l.self.machine l.self.position;
+  looks : (points : List (Option Point))
+      → LooksFor points l.initial.self.machine.world.memory l.initial.stops
+      → LooksFor points l.self.machine.world.memory l.stops;
+  none : (points : List (Option Point))
+      → LooksFor points l.initial.self.machine.world.memory l.initial.stops
+      → NoneAbove (is_stop l.initial.self.machine.image l.schedule points) l.initial.self.position l.self.position;
+}
