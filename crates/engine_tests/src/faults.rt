@@ -3,7 +3,8 @@
 use crate::commands::{BYTES, COMMANDS, STEPS};
 use crate::devices::{FailingReader, FailingWriter, Repeated};
 use image_file::ImageFault;
-use mta_engines::{INPUT_LIMIT, ToolFault, run_engine};
+use memory_lock::{FreeGate, GatherFault, PartsFault};
+use mta_engines::{INPUT_LIMIT, ToolFault, run_engine, threads_engine};
 use std::alloc::Global;
 use std::io::{ErrorKind, Read};
 use std::test::Fail;
@@ -15,7 +16,7 @@ fn each_read_may_fail(rt: HostRuntime) {
             for reads in 0..=text.len() {
                 let mut reader = FailingReader { text, reads, kind };
                 let mut written = Vec::new(rt.alloc());
-                let done = command.run(rt.alloc(), &mut reader, &mut written);
+                let done = command.run(&rt, rt.alloc(), &mut reader, &mut written);
                 let fails = done == Err(ToolFault::Read) && written.is_empty();
                 assert!(rt; fails, "{command:?} {reads}");
             }
@@ -30,7 +31,7 @@ fn each_write_may_fail(rt: HostRuntime) {
         let needed = bytes.div_ceil(7).saturating_add(1);
         for calls in 0..=needed {
             let mut writer = FailingWriter { calls };
-            let done = command.run(rt.alloc(), &mut &text[..], &mut writer);
+            let done = command.run(&rt, rt.alloc(), &mut &text[..], &mut writer);
             let end = if calls < needed {
                 Err(ToolFault::Write)
             } else {
@@ -59,6 +60,19 @@ fn a_damaged_image_leaves_the_schedule_unread(rt: HostRuntime) {
         let fault = fault_of_image(rt.alloc(), &mut image);
         assert_eq!(rt; fault, Some(ToolFault::Image(ImageFault::Short)));
     }
+    // nor is its fault one of the fuel
+    let (mut schedule, mut text) = (Vec::new(rt.alloc()), Vec::new(rt.alloc()));
+    let done = threads_engine(
+        &rt,
+        rt.alloc(),
+        &mut &BYTES[..88],
+        usize::MAX,
+        &FreeGate,
+        &mut schedule,
+        &mut text,
+    );
+    assert_eq!(rt; done, Err(ToolFault::Image(ImageFault::Short)));
+    assert!(rt; schedule.is_empty() && text.is_empty());
     let mut too_large = Repeated {
         byte: b'M',
         left: INPUT_LIMIT + 1,
@@ -68,11 +82,15 @@ fn a_damaged_image_leaves_the_schedule_unread(rt: HostRuntime) {
 }
 
 #[test]
-fn faults_of_readers_writers_and_memory_have_texts(rt: HostRuntime) -> Result<(), Fail> {
+fn faults_of_readers_writers_memory_and_threads_have_texts(rt: HostRuntime) -> Result<(), Fail> {
     for (fault, text) in [
         (ToolFault::Read, "read failed"),
         (ToolFault::Write, "write failed"),
         (ToolFault::NoMemory, "no memory"),
+        (ToolFault::Build(PartsFault::TooLong), "threads fault 2"),
+        (ToolFault::Gather(GatherFault::Foreign(5)), "gather fault 1"),
+        (ToolFault::Gather(GatherFault::Short(6)), "gather fault 2"),
+        (ToolFault::Gather(GatherFault::Torn(7)), "gather fault 3"),
     ] {
         assert_eq!(rt; fault.to_string(rt.alloc())?.as_str(), text);
     }

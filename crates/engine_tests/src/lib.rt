@@ -4,6 +4,8 @@
 #[cfg(test)]
 mod commands;
 #[cfg(test)]
+mod debugging;
+#[cfg(test)]
 mod devices;
 #[cfg(test)]
 mod faults;

@@ -9,7 +9,7 @@ use Rattle.mta_engines.specs.Input.{input_limit}
 use Rattle.mta_engines.specs.Images.{HasImageFault}
 use Rattle.mta_engines.specs.declared.tool_fault.ToolFault.{ToolFault}
 use Rattle.mta_engines.specs.declared.tool_fault.ToolFault.TheVariants.{Read, Write, TooLarge, NoMemory, Words}
-use Rattle.mta_engines.specs.declared.tool_fault.ToolFault.TheVariants.{Asm, Image, Schedule}
+use Rattle.mta_engines.specs.declared.tool_fault.ToolFault.TheVariants.{Asm, Image, Schedule, Build, Gather}
 
 pub image_without_fault : (bytes : List ℕ) (i : ImageValue) (fault : ToolFault) → length bytes ≤ input_limit
     → Stands bytes i → HasImageFault bytes fault → ⊥
@@ -24,3 +24,5 @@ image_without_fault bytes i NoMemory within stands has = has
 image_without_fault bytes i (Words line) within stands has = has
 image_without_fault bytes i (Asm fault) within stands has = has
 image_without_fault bytes i (Schedule fault) within stands has = has
+image_without_fault bytes i (Build fault) within stands has = has
+image_without_fault bytes i (Gather fault) within stands has = has

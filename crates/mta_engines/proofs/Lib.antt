@@ -2,3 +2,10 @@ pub mod ProgramText
 pub mod ReadBytes
 pub mod ImageFaults
 pub mod Traces
+pub mod Histories
+pub mod Refusals
+pub mod EndedLines
+pub mod Replies
+pub mod Windows
+pub mod Lines
+pub mod DebugSoFar

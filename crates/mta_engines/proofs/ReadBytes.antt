@@ -29,3 +29,9 @@ pub answered : {A : Type 0} (r : Result A ToolFault) (fault : ToolFault) (o : Op
 answered (Ok x) fault o P Q is h = absurd is
 answered (Err answer) fault None P Q is h = tt
 answered (Err answer) fault (Some bytes) P Q is h = λ has. subst (Q bytes) (sym is) (h has)
+
+-- what holds of this fault holds of an answer that is it
+pub at_fault : {A : Type 0} (r : Result A ToolFault) (fault : ToolFault) (P : ToolFault → Type 0)
+    → IsErrAnd r (λ answer. answer ≡ fault) → P fault → IfErr r P
+at_fault (Ok x) fault P is h = tt
+at_fault (Err answer) fault P is h = subst P (sym is) h

@@ -6,7 +6,7 @@ use Rattle.asm_text.specs.Sources.{Means, HasFault}
 use Rattle.mta_engines.specs.Input.{input_limit}
 use Rattle.mta_engines.specs.declared.tool_fault.ToolFault.{ToolFault}
 use Rattle.mta_engines.specs.declared.tool_fault.ToolFault.TheVariants.{Read, Write, TooLarge, NoMemory, Words}
-use Rattle.mta_engines.specs.declared.tool_fault.ToolFault.TheVariants.{Asm, Image, Schedule}
+use Rattle.mta_engines.specs.declared.tool_fault.ToolFault.TheVariants.{Asm, Image, Schedule, Build, Gather}
 
 -- the bytes of the image that the text means
 pub record IsAsmOutput (text output : List ℕ) : Type 0 where
@@ -24,3 +24,5 @@ HasAsmFault text NoMemory = ⊥
 HasAsmFault text (Words line) = ⊥
 HasAsmFault text (Image fault) = ⊥
 HasAsmFault text (Schedule fault) = ⊥
+HasAsmFault text (Build fault) = ⊥
+HasAsmFault text (Gather fault) = ⊥

@@ -6,7 +6,7 @@ use Rattle.image_file.specs.Reading.{image_fault}
 use Rattle.mta_engines.specs.Input.{input_limit}
 use Rattle.mta_engines.specs.declared.tool_fault.ToolFault.{ToolFault}
 use Rattle.mta_engines.specs.declared.tool_fault.ToolFault.TheVariants.{Read, Write, TooLarge, NoMemory, Words}
-use Rattle.mta_engines.specs.declared.tool_fault.ToolFault.TheVariants.{Asm, Image, Schedule}
+use Rattle.mta_engines.specs.declared.tool_fault.ToolFault.TheVariants.{Asm, Image, Schedule, Build, Gather}
 
 -- they stand for the image
 pub record IsImageOf (bytes : List ℕ) (i : ImageValue) : Type 0 where
@@ -23,3 +23,5 @@ HasImageFault bytes NoMemory = ⊥
 HasImageFault bytes (Words line) = ⊥
 HasImageFault bytes (Asm fault) = ⊥
 HasImageFault bytes (Schedule fault) = ⊥
+HasImageFault bytes (Build fault) = ⊥
+HasImageFault bytes (Gather fault) = ⊥

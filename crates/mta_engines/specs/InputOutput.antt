@@ -13,3 +13,12 @@ pub record HasOutput (old new : Option (List ℕ)) (Holds : List ℕ → Type 0)
   pub output : List ℕ
   pub holds : Holds output
   pub appends : Appends old new output
+
+-- the same of two outputs, each behind what its own writer had
+pub record HasOutputs (old_first new_first old_second new_second : Option (List ℕ))
+    (Hold : List ℕ → List ℕ → Type 0) : Type 0 where
+  pub first : List ℕ
+  pub second : List ℕ
+  pub hold : Hold first second
+  pub appends_first : Appends old_first new_first first
+  pub appends_second : Appends old_second new_second second

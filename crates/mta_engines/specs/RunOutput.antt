@@ -12,7 +12,7 @@ use Rattle.mta_engines.specs.Input.{input_limit}
 use Rattle.mta_engines.specs.Images.{IsImageOf, HasImageFault}
 use Rattle.mta_engines.specs.declared.tool_fault.ToolFault.{ToolFault}
 use Rattle.mta_engines.specs.declared.tool_fault.ToolFault.TheVariants.{Read, Write, TooLarge, NoMemory, Words}
-use Rattle.mta_engines.specs.declared.tool_fault.ToolFault.TheVariants.{Asm, Image, Schedule}
+use Rattle.mta_engines.specs.declared.tool_fault.ToolFault.TheVariants.{Asm, Image, Schedule, Build, Gather}
 
 -- The text.
 
@@ -59,6 +59,8 @@ HasScheduleFault bytes NoMemory = ⊥
 HasScheduleFault bytes (Words line) = ⊥
 HasScheduleFault bytes (Asm fault) = ⊥
 HasScheduleFault bytes (Image fault) = ⊥
+HasScheduleFault bytes (Build fault) = ⊥
+HasScheduleFault bytes (Gather fault) = ⊥
 
 -- a fault of the schedule is answered only where the image has none
 pub record HasLaterFault (image_bytes schedule_bytes : List ℕ) (fault : ToolFault) : Type 0 where

@@ -23,6 +23,7 @@ pub(crate) fn read_image_input<R: Read>(alloc: Global, reader: &mut R) -> Result
     ensures no_image { (found : ToolFault) → IfSome (R.remaining reader.old) (λ bytes. HasImageFault bytes found
         → IsErrAnd result (λ fault. (fault ≢ ToolFault.Write) × IsFaultBy (HasImageFault bytes) fault)) }
     ensures no_schedule_fault { (found : ScheduleFault) → result ≢ Err (ToolFault.Schedule found) }
+    ensures no_write { result ≢ Err ToolFault.Write }
 {
     let bytes = read_input(alloc, reader)?;
     Ok(read_image(alloc, &bytes)?)

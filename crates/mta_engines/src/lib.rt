@@ -2,21 +2,32 @@
 #![tactic(auto)]
 
 mod asm;
+mod byte_reader;
+mod debug;
+mod debug_answers;
+mod every_way;
 mod input;
 mod inputs;
+mod line_reader;
+mod line_start;
 mod list;
 mod output;
 mod program_lines;
 mod run;
 mod stream_room;
+mod threads;
 mod tool_fault;
+mod window;
 mod words;
 mod words_image;
 
 pub use asm::asm_engine;
+pub use debug::debug_engine;
+pub use every_way::{Ways, one_machine};
 pub use input::INPUT_LIMIT;
 pub use list::list_engine;
 pub use program_lines::MAX_PROGRAM_WORDS;
 pub use run::run_engine;
+pub use threads::threads_engine;
 pub use tool_fault::ToolFault;
 pub use words::words_engine;

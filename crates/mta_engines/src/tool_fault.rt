@@ -1,10 +1,11 @@
 //! Why the tool gives up.
 ghost use Rattle.std.specs.Prelude.{◌≡◌};
-ghost use Rattle.mta_engines.specs.Faults.{IsOfSource, IsOfImage, IsOfSchedule};
+ghost use Rattle.mta_engines.specs.Faults.{IsOfSource, IsOfImage, IsOfSchedule, IsOfThreads};
 ghost use Rattle.mta_engines.specs.declared.tool_fault.ToolFault.TheVariants.{NoMemory};
 
 use asm_text::{AsmFault, Fault};
 use image_file::ImageFault;
+use memory_lock::{GatherFault, PartsFault, ThreadsFault};
 use std::alloc::{AllocError, AllocFailed};
 use thiserror::Error;
 use trace_text::{ScheduleFault, ScheduleFaultKind};
@@ -37,6 +38,12 @@ pub enum ToolFault {
     /// A schedule has this fault, which is no want of memory.
     #[error("schedule line {} fault {}", .0.line, .0.kind.number())]
     Schedule(ScheduleFault),
+    /// A threaded run has no parts for this reason, which is no want of memory.
+    #[error("threads fault {}", .0.number())]
+    Build(PartsFault),
+    /// What a threaded run left is not gathered for this reason, which is no want of memory.
+    #[error("gather fault {}", .0.number())]
+    Gather(GatherFault),
 }
 
 impl From<AllocError> for ToolFault {
@@ -84,6 +91,19 @@ impl From<ScheduleFault> for ToolFault {
         match fault.kind {
             ScheduleFaultKind::NoMemory => ToolFault::NoMemory,
             _ => ToolFault::Schedule(fault),
+        }
+    }
+}
+
+impl<'i, const S: usize> From<ThreadsFault<'i, S>> for ToolFault {
+    ghost from_gives = { λ found fault. IsOfThreads found fault };
+
+    fn from(fault: ThreadsFault<'i, S>) -> ToolFault {
+        match fault {
+            ThreadsFault::Build(PartsFault::NoMemory) => ToolFault::NoMemory,
+            ThreadsFault::Build(fault) => ToolFault::Build(fault),
+            ThreadsFault::Gather(_, GatherFault::NoMemory) => ToolFault::NoMemory,
+            ThreadsFault::Gather(_, fault) => ToolFault::Gather(fault),
         }
     }
 }

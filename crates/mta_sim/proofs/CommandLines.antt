@@ -4,9 +4,10 @@ use Rattle.clap.specs.Words.{Text, fault_of}
 use Rattle.clap.specs.Kinds.{Kinds}
 use Rattle.clap.specs.declared.error.ErrorKind.TheVariants.{DisplayHelp, DisplayVersion, InvalidSubcommand}
 use Rattle.clap.specs.declared.error.ErrorKind.TheVariants.{MissingRequiredArgument, MissingSubcommand}
-use Rattle.clap.specs.declared.error.ErrorKind.TheVariants.{UnknownArgument}
+use Rattle.clap.specs.declared.error.ErrorKind.TheVariants.{UnknownArgument, ValueValidation}
 use Rattle.clap.proofs.OnLiterals.{clap_on_literals}
-use Rattle.mta_sim.specs.CommandLine.{CommandValue, IsCommand, command_of_line, assemble_source, list_image, run_image, run_words, tool_app}
+use Rattle.mta_sim.specs.CommandLine.{CommandValue, IsCommand, command_of_line, assemble_source, debug_image, list_image}
+use Rattle.mta_sim.specs.CommandLine.{run_image, run_threads, run_words, tool_app}
 
 -- the program's name, and the words after it
 abbrev line : List Text → List Text
@@ -32,6 +33,15 @@ list = (refl, refl)
 run : Asks (codes "run" ∷ codes "x" ∷ codes "y" ∷ []) (run_image (codes "x") (codes "y"))
 unfolding clap_on_literals
 run = (refl, refl)
+
+threads : Asks (codes "threads" ∷ codes "x" ∷ codes "1000000" ∷ codes "y" ∷ [])
+    (run_threads (codes "x") 1000000 (codes "y"))
+unfolding clap_on_literals
+threads = (refl, refl)
+
+debug : Asks (codes "debug" ∷ codes "x" ∷ codes "y" ∷ []) (debug_image (codes "x") (codes "y"))
+unfolding clap_on_literals
+debug = (refl, refl)
 
 dashed_paths : Asks (codes "asm" ∷ codes "--" ∷ codes "-a" ∷ codes "b" ∷ []) (assemble_source (codes "-a") (codes "b"))
 unfolding clap_on_literals
@@ -69,6 +79,22 @@ unknown_command = refl
 run_without_schedule : FailsAs (codes "run" ∷ codes "x" ∷ []) (MissingRequiredArgument ∷ [])
 unfolding clap_on_literals
 run_without_schedule = refl
+
+threads_with_no_fuel : FailsAs (codes "threads" ∷ codes "x" ∷ codes "0" ∷ codes "y" ∷ []) (ValueValidation ∷ [])
+unfolding clap_on_literals
+threads_with_no_fuel = refl
+
+threads_with_much_fuel : FailsAs (codes "threads" ∷ codes "x" ∷ codes "1000001" ∷ codes "y" ∷ []) (ValueValidation ∷ [])
+unfolding clap_on_literals
+threads_with_much_fuel = refl
+
+debug_without_schedule : FailsAs (codes "debug" ∷ codes "x" ∷ []) (MissingRequiredArgument ∷ [])
+unfolding clap_on_literals
+debug_without_schedule = refl
+
+debug_with_three_paths : FailsAs (codes "debug" ∷ codes "x" ∷ codes "y" ∷ codes "z" ∷ []) (UnknownArgument ∷ [])
+unfolding clap_on_literals
+debug_with_three_paths = refl
 
 asm_without_image : FailsAs (codes "asm" ∷ codes "a.s" ∷ []) (MissingRequiredArgument ∷ [])
 unfolding clap_on_literals

@@ -1,10 +1,14 @@
 -- The command line: which lines are commands, and what a command asks for.
 use Rattle.std.specs.Prelude.{◌≡◌, List, [], ◌∷◌, Option, Some, None, codes, map, true, false, option_and_then}
-use Rattle.std.specs.Prelude.{option_map, if◌then◌else◌}
+use Rattle.std.specs.Prelude.{option_map, if◌then◌else◌, ℕ, ◌-◌, ◌^◌}
 use Rattle.std.specs.Str.{bytes_eq}
+use Rattle.std.specs.Str.Parse.{digits_value, without_leading_plus}
 use Rattle.clap.specs.Words.{App, Row, Rule, Shape, Text, fault_of, first_of, new_rule, subcommand_of}
 use Rattle.clap.specs.Simple.{new_shape}
+use Rattle.clap.specs.ValueTests.{is_unsigned_in}
+use Rattle.clap.specs.Walk.{one_of}
 use Rattle.clap.specs.declared.builder.ArgAction.TheVariants.{Set}
+use Rattle.clap.specs.declared.builder.ValueParser.TheVariants.{Unsigned}
 use Rattle.mta_sim.specs.declared.command_line.ToolCommand.{ToolCommand}
 use Rattle.mta_sim.specs.declared.command_line.ToolCommand.TheVariants as command
 
@@ -22,6 +26,19 @@ command_shape name files = record (new_shape name) { rules = map file_rule files
 abbrev pub command_app : Text → List Text → App
 command_app name files = record { top = command_shape name files; subs = [] }
 
+-- an argument that has to be there, and is a number from 1 to 1,000,000
+abbrev pub fuel_rule : Rule
+fuel_rule = record (new_rule (codes "FUEL")) { action = Some Set; required = true; parser = Some (Unsigned 1 1000000) }
+
+-- the command `threads`, with two files and a number
+abbrev pub threads_shape : Shape
+threads_shape = record (new_shape (codes "threads")) {
+  rules = file_rule (codes "IMAGE") ∷ fuel_rule ∷ file_rule (codes "SCHEDULE") ∷ [];
+}
+
+abbrev pub threads_app : App
+threads_app = record { top = threads_shape; subs = [] }
+
 abbrev pub tool_shape : Shape
 tool_shape = record (new_shape (codes "mta_sim")) {
   is_leaf = false;
@@ -36,6 +53,8 @@ tool_app = record {
       ∷ command_shape (codes "asm") (codes "SOURCE" ∷ codes "IMAGE" ∷ [])
       ∷ command_shape (codes "list") (codes "IMAGE" ∷ [])
       ∷ command_shape (codes "run") (codes "IMAGE" ∷ codes "SCHEDULE" ∷ [])
+      ∷ threads_shape
+      ∷ command_shape (codes "debug") (codes "IMAGE" ∷ codes "SCHEDULE" ∷ [])
       ∷ [];
 }
 
@@ -51,6 +70,16 @@ pub data CommandValue : Type 0 where
   assemble_source : Text → Text → CommandValue
   list_image : Text → CommandValue
   run_image : Text → Text → CommandValue
+  run_threads : Text → ℕ → Text → CommandValue
+  debug_image : Text → Text → CommandValue
+
+-- the number that a text is, where it is one of 64 bits; else 0
+abbrev pub number_of : Text → ℕ
+number_of text = if is_unsigned_in 0 (2 ^ 64 - 1) text then digits_value 10 (without_leading_plus text) else 0
+
+abbrev pub number_given : Option Text → ℕ
+number_given None = 0
+number_given (Some text) = number_of text
 
 -- with two paths, where both are given
 abbrev pub with_paths : (Text → Text → CommandValue) → Option Text → Option Text → Option CommandValue
@@ -65,7 +94,12 @@ command_by_name name rows =
     else (if bytes_eq name (codes "list") then option_map list_image (first_of (codes "IMAGE") rows)
     else (if bytes_eq name (codes "run")
     then with_paths run_image (first_of (codes "IMAGE") rows) (first_of (codes "SCHEDULE") rows)
-    else None)))
+    else (if bytes_eq name (codes "threads")
+    then with_paths (λ image. run_threads image (number_given (one_of (codes "FUEL") rows)))
+    (first_of (codes "IMAGE") rows) (first_of (codes "SCHEDULE") rows)
+    else (if bytes_eq name (codes "debug")
+    then with_paths debug_image (first_of (codes "IMAGE") rows) (first_of (codes "SCHEDULE") rows)
+    else None)))))
 
 abbrev pub command_in : Option (Text × List Row) → Option CommandValue
 command_in = option_and_then (λ entered. command_by_name entered.0 entered.1)
@@ -81,3 +115,5 @@ value_of_command command.Words = run_words
 value_of_command (command.Assemble source image) = assemble_source source.now image.now
 value_of_command (command.List image) = list_image image.now
 value_of_command (command.Run image schedule) = run_image image.now schedule.now
+value_of_command (command.Threads image fuel schedule) = run_threads image.now fuel schedule.now
+value_of_command (command.Debug image schedule) = debug_image image.now schedule.now

@@ -1,14 +1,19 @@
 //! The command line.
 ghost use Rattle.std.specs.Prelude.{◌≡◌, List, [], ◌∷◌, Some, codes, false, map, unwrap_or, IfOk, IfSome};
-ghost use Rattle.clap.specs.Words.{FailsBy, app_of, fault_of, first_value, found_of, rule_of};
+ghost use Rattle.clap.specs.Words.{FailsBy, app_of, fault_of, first_value, found_of, one_text, rule_of};
 ghost use Rattle.clap.specs.Words.{subcommand_rows_of};
 ghost use Rattle.clap.specs.declared.builder.command.Command.TheViews.{out-Command as fields_of};
 ghost use Rattle.mta_sim.specs.CommandLine.{command_of_line, command_in, command_app, file_rule};
 ghost use Rattle.mta_sim.specs.CommandLine.{value_of_command, tool_app};
+ghost use Rattle.mta_sim.specs.CommandLine.{threads_app, fuel_rule, number_given};
 
+use clap::builder::ValueParser;
 use clap::{Arg, ArgAction, ArgMatches, Command, Error};
 use std::alloc::{AllocError, Global};
 use std::convert::AsStr;
+
+/// The most steps that a processor of a threaded run may be told to take.
+const MAX_FUEL: u64 = 1_000_000;
 
 /// What a command line asks for. Files are named by their paths.
 #[derive(Clone, Copy)]
@@ -16,11 +21,30 @@ pub(crate) enum ToolCommand<'a> {
     /// Runs a program of words from standard input.
     Words,
     /// Assembles a source text to an image.
-    Assemble { source: &'a str, image: &'a str },
+    Assemble {
+        source: &'a str,
+        image: &'a str,
+    },
     /// Prints the listing of an image.
-    List { image: &'a str },
+    List {
+        image: &'a str,
+    },
     /// Runs an image by a schedule.
-    Run { image: &'a str, schedule: &'a str },
+    Run {
+        image: &'a str,
+        schedule: &'a str,
+    },
+    /// Runs an image's processors at once, each for `fuel` steps, and writes a schedule that does the same.
+    Threads {
+        image: &'a str,
+        fuel: usize,
+        schedule: &'a str,
+    },
+    /// Answers the debugger's commands from standard input over an image and a schedule.
+    Debug {
+        image: &'a str,
+        schedule: &'a str,
+    },
 }
 
 /// The command that the words of a line ask for, the first of which is the program's name.
@@ -55,6 +79,15 @@ fn command_of_matches<'a>(matches: &ArgMatches<'a>) -> ToolCommand<'a>
             image: path(files, "IMAGE"),
             schedule: path(files, "SCHEDULE"),
         },
+        Some(("threads", arguments)) => ToolCommand::Threads {
+            image: path(arguments, "IMAGE"),
+            fuel: number(arguments, "FUEL"),
+            schedule: path(arguments, "SCHEDULE"),
+        },
+        Some(("debug", files)) => ToolCommand::Debug {
+            image: path(files, "IMAGE"),
+            schedule: path(files, "SCHEDULE"),
+        },
         _ => ToolCommand::Words,
     }
 }
@@ -64,6 +97,13 @@ fn path<'a>(matches: &ArgMatches<'a>, argument: &str) -> &'a str
     ensures { result.now ≡ unwrap_or (first_value (found_of matches.now) argument.now) [] }
 {
     matches.get_str(argument).unwrap_or("")
+}
+
+/// The number that an argument gives; 0 where it gives none, which no parser lets through.
+fn number(matches: &ArgMatches, argument: &str) -> usize
+    ensures { result ≡ number_given (one_text (found_of matches.now) argument.now) }
+{
+    matches.get_one::<usize>(argument).unwrap_or(0)
 }
 
 /// The parser of the tool's command lines, with the texts that it prints.
@@ -77,7 +117,9 @@ fn tool_parser<'a>(alloc: Global) -> Result<Command<'a>, AllocError>
         .subcommand(words_parser(alloc))?
         .subcommand(asm_parser(alloc)?)?
         .subcommand(list_parser(alloc)?)?
-        .subcommand(run_parser(alloc)?)
+        .subcommand(run_parser(alloc)?)?
+        .subcommand(threads_parser(alloc)?)?
+        .subcommand(debug_parser(alloc)?)
 }
 
 /// The parser of `words`.
@@ -120,6 +162,43 @@ fn run_parser<'a>(alloc: Global) -> Result<Command<'a>, AllocError>
 {
     Command::new(alloc, "run")
         .about("Runs an image by a schedule, and prints each step and what the machine came to")
+        .arg(file(alloc, "IMAGE"))?
+        .arg(file(alloc, "SCHEDULE"))
+}
+
+/// The parser of `threads`.
+fn threads_parser<'a>(alloc: Global) -> Result<Command<'a>, AllocError>
+    ensures app { IfOk result (λ command. app_of command ≡ threads_app) }
+    ensures local { IfOk result (λ command. (fields_of command).has_globals ≡ false) }
+{
+    Command::new(alloc, "threads")
+        .about("Runs an image's processors at once, and writes a schedule that does the same")
+        .arg(file(alloc, "IMAGE"))?
+        .arg(fuel(alloc))?
+        .arg(file(alloc, "SCHEDULE"))
+}
+
+/// The argument that says how many steps each processor takes at most.
+fn fuel<'a>(alloc: Global) -> Arg<'a>
+    ensures rule { rule_of result ≡ fuel_rule }
+    ensures local { result.global ≡ false }
+{
+    Arg::new(alloc, "FUEL")
+        .required(true)
+        .action(ArgAction::Set)
+        .value_parser(ValueParser::unsigned(1, MAX_FUEL))
+}
+
+/// The parser of `debug`.
+fn debug_parser<'a>(alloc: Global) -> Result<Command<'a>, AllocError>
+    ensures app { IfOk result (λ command.
+        app_of command ≡ command_app (codes "debug") (codes "IMAGE" ∷ codes "SCHEDULE" ∷ [])) }
+    ensures local { IfOk result (λ command. (fields_of command).has_globals ≡ false) }
+{
+    Command::new(alloc, "debug")
+        .about(
+            "Answers the debugger's commands from standard input, over an image's run by a schedule",
+        )
         .arg(file(alloc, "IMAGE"))?
         .arg(file(alloc, "SCHEDULE"))
 }

@@ -2,31 +2,42 @@
 ghost use Rattle.std.specs.Prelude.{◌≡◌, ◌≢◌, List, ℕ, Some, IfSome, IfErr, OnOk, MatchResult, map};
 ghost use Rattle.std.specs.Io.KnownBytes.{Keeps};
 ghost use Rattle.clap.specs.Words.{Text};
+ghost use Rattle.mta_engines.specs.DebugOutput.{IsDebugOutput};
 ghost use Rattle.mta_engines.specs.Faults.{IsFaultOf};
 ghost use Rattle.mta_engines.specs.InputOutput.{HasInput, HasOutput};
 ghost use Rattle.mta_engines.specs.ListOutput.{IsListOutput};
 ghost use Rattle.mta_engines.specs.RunOutput.{IsRunOutput};
+ghost use Rattle.mta_engines.specs.ThreadsOutput.{IsThreadsOutput};
 ghost use Rattle.mta_engines.specs.WordsOutput.{IsWordsOutput, words_output};
 ghost use Rattle.mta_sim.specs.CommandLine.{IsCommand, command_of_line, value_of_command};
-ghost use Rattle.mta_sim.specs.CommandLine.{assemble_source, list_image, run_image, run_words};
+ghost use Rattle.mta_sim.specs.CommandLine.{assemble_source, debug_image, list_image, run_image, run_threads};
+ghost use Rattle.mta_sim.specs.CommandLine.{run_words};
 
 use crate::command_line::{ToolCommand, read_command_line};
 use crate::files::{create_output, open_input};
 use crate::status::Status;
-use mta_engines::{ToolFault, asm_engine, list_engine, run_engine, words_engine};
+use memory_lock::FreeGate;
+use mta_engines::{
+    ToolFault, asm_engine, debug_engine, list_engine, run_engine, threads_engine, words_engine,
+};
 use std::alloc::Global;
 use std::convert::AsStr;
 use std::io::{Read, Write};
 use std::rt::Files;
+use std::sync::Wait;
+use std::thread::Threads;
 
 /// Runs the command of a command line, whose first word is the program's name, on these files and standard streams
 /// ("The command line", docs/FORMATS.md).
 ///
 /// Standard error gets a fault's line, or where there is no command the text of the command line's parser; no clause
 /// says anything of that text. `NoCommand` also comes where memory was refused while the command line was read, so no
-/// clause says that a command is run. Which file a path stands for, and what it holds, is in none: of `list` and `run`
-/// they say that what was written is the listing of some image, or the run of some image by some schedule.
-pub fn run_tool<S: AsStr, F: Files, R: Read, W: Write, E: Write>(
+/// clause says that a command is run. Which file a path stands for, and what it holds, is in none: of `list`, `run` and
+/// `threads` they say that what was written is the listing of some image, the run of some image by some schedule, or
+/// the history and the end of some schedule that does the same as a run of some image's processors at once; of `debug`,
+/// that it is the answers over some image and schedule to the commands of standard input.
+pub fn run_tool<X: Threads + Wait + Sync, S: AsStr, F: Files, R: Read, W: Write, E: Write>(
+    rt: &X,
     alloc: Global,
     words: &[S],
     files: &F,
@@ -49,9 +60,20 @@ pub fn run_tool<S: AsStr, F: Files, R: Read, W: Write, E: Write>(
     ensures run { (image schedule : Text) → command_of_line (map S.text words.now) ≡ Some (run_image image schedule)
         → result ≡ Status.Done → (image_bytes schedule_bytes : List ℕ)
         × HasOutput (W.contents output.old) (W.contents output.new) (IsRunOutput image_bytes schedule_bytes) }
+    ensures threads { (image schedule : Text) (fuel : ℕ)
+        → command_of_line (map S.text words.now) ≡ Some (run_threads image fuel schedule)
+        → result ≡ Status.Done → (image_bytes schedule_bytes : List ℕ)
+        × HasOutput (W.contents output.old) (W.contents output.new) (IsThreadsOutput image_bytes fuel schedule_bytes) }
+    ensures debug { (image schedule : Text) → command_of_line (map S.text words.now) ≡ Some (debug_image image schedule)
+        → result ≡ Status.Done → (image_bytes schedule_bytes : List ℕ)
+        × HasInput (R.remaining input.old) (λ command_bytes. HasOutput (W.contents output.old) (W.contents output.new)
+        (IsDebugOutput image_bytes schedule_bytes command_bytes)) }
 {
     match read_command_line(alloc, words) {
-        Ok(command) => report(run_command(alloc, command, files, input, output), errors),
+        Ok(command) => report(
+            run_command(rt, alloc, command, files, input, output),
+            errors,
+        ),
         Err(error) => {
             let _ = write!(errors, "{error}");
             Status::NoCommand
@@ -61,7 +83,8 @@ pub fn run_tool<S: AsStr, F: Files, R: Read, W: Write, E: Write>(
 
 /// Runs one command. Its files are opened in the order of its arguments, up to the first that can't be; what they
 /// hold stands in no clause.
-fn run_command<F: Files, R: Read, W: Write>(
+fn run_command<X: Threads + Wait + Sync, F: Files, R: Read, W: Write>(
+    rt: &X,
     alloc: Global,
     command: ToolCommand,
     files: &F,
@@ -79,8 +102,16 @@ fn run_command<F: Files, R: Read, W: Write>(
     ensures run { (image schedule : Text) → value_of_command command.entry ≡ run_image image schedule
         → OnOk result ((image_bytes schedule_bytes : List ℕ)
         × HasOutput (W.contents output.old) (W.contents output.new) (IsRunOutput image_bytes schedule_bytes)) }
-    ensures output_as_before { IfErr result (λ fault. fault ≢ ToolFault.Write
-        → Keeps (W.contents output.old) (W.contents output.new)) }
+    ensures threads { (image schedule : Text) (fuel : ℕ) → value_of_command command.entry ≡ run_threads image fuel schedule
+        → OnOk result ((image_bytes schedule_bytes : List ℕ)
+        × HasOutput (W.contents output.old) (W.contents output.new) (IsThreadsOutput image_bytes fuel schedule_bytes)) }
+    ensures debug { (image schedule : Text) → value_of_command command.entry ≡ debug_image image schedule
+        → OnOk result ((image_bytes schedule_bytes : List ℕ) × HasInput (R.remaining input.old) (λ command_bytes.
+        HasOutput (W.contents output.old) (W.contents output.new)
+        (IsDebugOutput image_bytes schedule_bytes command_bytes))) }
+    // the debugger's answers are written as its commands come; all other outputs are composed first
+    ensures output_as_before { ((image schedule : Text) → value_of_command command.entry ≢ debug_image image schedule)
+        → IfErr result (λ fault. fault ≢ ToolFault.Write → Keeps (W.contents output.old) (W.contents output.new)) }
 {
     match command {
         ToolCommand::Words => words_engine(alloc, input, output),
@@ -97,6 +128,28 @@ fn run_command<F: Files, R: Read, W: Write>(
             let mut image = open_input(files, image)?;
             let mut schedule = open_input(files, schedule)?;
             run_engine(alloc, &mut image, &mut schedule, output)
+        }
+        ToolCommand::Threads {
+            image,
+            fuel,
+            schedule,
+        } => {
+            let mut image = open_input(files, image)?;
+            let mut schedule = create_output(files, schedule)?;
+            threads_engine(
+                rt,
+                alloc,
+                &mut image,
+                fuel,
+                &FreeGate,
+                &mut schedule,
+                output,
+            )
+        }
+        ToolCommand::Debug { image, schedule } => {
+            let mut image = open_input(files, image)?;
+            let mut schedule = open_input(files, schedule)?;
+            debug_engine(alloc, &mut image, &mut schedule, input, output)
         }
     }
 }

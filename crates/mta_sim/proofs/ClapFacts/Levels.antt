@@ -77,6 +77,13 @@ two_given true true e = (refl, refl)
 two_given true false e = cc
 two_given false h e = cc
 
+-- of three, the first and the last
+pub three_given : (g h k : Bool) → (not g || (not h || (not k || false))) ≡ false → (g ≡ true) × (k ≡ true)
+three_given true true true e = (refl, refl)
+three_given true true false e = cc
+three_given true false k e = cc
+three_given false h k e = cc
+
 module _ (s : Shape) (words : List Text) (each : Each Fills s.rules) where
   abbrev pub rows_of_level : List Row
   rows_of_level = rows_after s.rules [] words

@@ -18,8 +18,15 @@ fn command_lines_have_their_status(rt: HostRuntime) -> Result<(), Fail> {
         ("asm missing.asm", Status::NoCommand),
         ("list", Status::NoCommand),
         ("run missing.image", Status::NoCommand),
+        ("threads missing.image 1", Status::NoCommand),
+        ("threads missing.image 0 made.schedule", Status::NoCommand),
+        (
+            "threads missing.image 1000001 made.schedule",
+            Status::NoCommand,
+        ),
+        ("debug missing.image", Status::NoCommand),
     ] {
-        let run = ToolRun::new(rt.alloc(), &rt, line, "0000000000000000\n")?;
+        let run = ToolRun::new(&rt, rt.alloc(), &rt, line, "0000000000000000\n")?;
         assert_eq!(rt; run.status, status, "{line}");
         assert_eq!(rt; run.output.is_empty(), status != Status::Done, "{line}");
         assert_eq!(rt; run.errors.is_empty(), status == Status::Done, "{line}");
@@ -36,8 +43,12 @@ fn command_lines_have_their_status(rt: HostRuntime) -> Result<(), Fail> {
             "run missing.image missing.schedule",
             "mta_sim: read failed\n",
         ),
+        (
+            "threads missing.image 1000000 missing/made.schedule",
+            "mta_sim: read failed\n",
+        ),
     ] {
-        ToolRun::new(rt.alloc(), &rt, line, "xyz")?.assert_fault(&rt, fault);
+        ToolRun::new(&rt, rt.alloc(), &rt, line, "xyz")?.assert_fault(&rt, fault);
     }
     Ok(())
 }

@@ -6,7 +6,9 @@ use super::fake_files::FakeFolder;
 use super::tool_runs::ToolRun;
 use std::alloc::Global;
 use std::process::Abort;
+use std::sync::Wait;
 use std::test::Fail;
+use std::thread::Threads;
 
 #[test]
 fn commands_open_change_and_print_what_they_should(rt: HostRuntime) -> Result<(), Fail> {
@@ -25,11 +27,15 @@ fn commands_open_change_and_print_what_they_should(rt: HostRuntime) -> Result<()
     Ok(())
 }
 
-fn assert_case(rt: &impl Abort, alloc: Global, case: &Case) -> Result<(), Fail> {
+fn assert_case<X: Abort + Threads + Wait + Sync>(
+    rt: &X,
+    alloc: Global,
+    case: &Case,
+) -> Result<(), Fail> {
     let (line, opened, changed, printed) = *case;
     let files = example_files(alloc)?;
     let folder = FakeFolder { files: &files };
-    let run = ToolRun::new(alloc, &folder, line, "")?;
+    let run = ToolRun::new(rt, alloc, &folder, line, "")?;
     match printed {
         Ok(output) => run.assert_done(rt, output),
         Err(fault) => run.assert_fault(rt, fault),

@@ -26,6 +26,9 @@ pub const QUIT_TRACE: &str = "      1   0   0 00000000 DONE
 processor 0 scur 0 sres 0
 ";
 
+/// What a run of it on threads prints.
+pub const QUIT_WORLD: &str = "processor 0 scur 0 sres 0\n";
+
 /// Another source text.
 const WORD_TEXT: &str = ".slim 1\n.retry 0\n.entry 0\n.word 0x0000000000000001\n.data 7\n";
 

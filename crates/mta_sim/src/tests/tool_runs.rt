@@ -5,6 +5,8 @@ use crate::tool::run_tool;
 use std::alloc::{AllocError, Global};
 use std::process::Abort;
 use std::rt::Files;
+use std::sync::Wait;
+use std::thread::Threads;
 
 /// What a run of the tool came to.
 #[derive(Drop)]
@@ -18,7 +20,8 @@ pub struct ToolRun<'a> {
 impl<'a> ToolRun<'a> {
     /// Runs the tool on the words of a line, which stand apart by spaces behind the program's name, with this standard
     /// input.
-    pub fn new<F: Files>(
+    pub fn new<X: Threads + Wait + Sync, F: Files>(
+        rt: &X,
         alloc: Global,
         files: &F,
         line: &'a str,
@@ -31,6 +34,7 @@ impl<'a> ToolRun<'a> {
         let mut output = Vec::new(alloc);
         let mut errors = Vec::new(alloc);
         let status = run_tool(
+            rt,
             alloc,
             &words,
             files,

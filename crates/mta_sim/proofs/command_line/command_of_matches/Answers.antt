@@ -1,8 +1,8 @@
 use Rattle.std.proofs.Common.{codes}
 use Rattle.clap.specs.Words.{found_of, rows_of}
-use Rattle.mta_sim.specs.CommandLine.{assemble_source, list_image, run_image}
+use Rattle.mta_sim.specs.CommandLine.{assemble_source, debug_image, list_image, run_image}
 use Rattle.mta_sim.proofs.ClapFacts.Getters.{value_is}
-use Rattle.mta_sim.proofs.Matches.{asks, path_asks, paths_ask}
+use Rattle.mta_sim.proofs.Matches.{asks, path_asks, paths_ask, number_rows, threads_ask}
 use Rattle.mta_sim.proofs.command_line.command_of_matches.Goals as goal
 
 pub returns-in-Some-asm-default : goal.returns-in-Some-asm-default
@@ -33,3 +33,27 @@ returns-in-Some-run-default c =
     asks c.args.matches.now arm.field-0-0.now (codes "run") (rows_of (found_of arm.files.now)) _ arm.ensures.name
     arm.ensures.rows arm.is-run (paths_ask run_image _ _ c.path-in-Some-run-default.result.now
     c.path-in-Some-run-default-2.result.now image schedule)
+
+pub returns-in-Some-threads-default : goal.returns-in-Some-threads-default
+returns-in-Some-threads-default c =
+    let arm = c.in-Some-threads-default in
+    let image = value_is arm.arguments.now (codes "IMAGE") c.path-in-Some-threads-default.result.now
+    c.path-in-Some-threads-default.ensures in
+    let fuel = number_rows arm.arguments.now (codes "FUEL") c.number.result c.number.ensures in
+    let schedule = value_is arm.arguments.now (codes "SCHEDULE") c.path-in-Some-threads-default-2.result.now
+    c.path-in-Some-threads-default-2.ensures in
+    asks c.args.matches.now arm.field-0-0.now (codes "threads") (rows_of (found_of arm.arguments.now)) _
+    arm.ensures.name arm.ensures.rows arm.is-threads
+    (threads_ask _ _ c.path-in-Some-threads-default.result.now c.path-in-Some-threads-default-2.result.now
+    c.number.result _ image fuel schedule)
+
+pub returns-in-Some-debug-default : goal.returns-in-Some-debug-default
+returns-in-Some-debug-default c =
+    let arm = c.in-Some-debug-default in
+    let image = value_is arm.files.now (codes "IMAGE") c.path-in-Some-debug-default.result.now
+    c.path-in-Some-debug-default.ensures in
+    let schedule = value_is arm.files.now (codes "SCHEDULE") c.path-in-Some-debug-default-2.result.now
+    c.path-in-Some-debug-default-2.ensures in
+    asks c.args.matches.now arm.field-0-0.now (codes "debug") (rows_of (found_of arm.files.now)) _ arm.ensures.name
+    arm.ensures.rows arm.is-debug (paths_ask debug_image _ _ c.path-in-Some-debug-default.result.now
+    c.path-in-Some-debug-default-2.result.now image schedule)
