@@ -10,7 +10,7 @@ trap 'rm -rf "$work"' EXIT
 
 # best RUNS COMMAND..: the least wall time in microseconds; standard output goes to $work/out
 best() {
-  local runs=$1 least= begin spent
+  local runs=$1 least='' begin spent
   shift
   for ((run = 0; run < runs; run++)); do
     begin=${EPOCHREALTIME/./}
@@ -56,6 +56,17 @@ steps() {
     "$(peak "$parts" "$1" 1)"
 }
 
+# recorded: 1,000,000 recorded steps of the loop in which each third step asks the memory, with its history
+recorded() {
+  local one many once twice
+  one=$(best 3 "$parts" record 1)
+  many=$(best 3 "$parts" record 11)
+  once=$(instructions "$parts" record 1)
+  twice=$(instructions "$parts" record 2)
+  report "recorded, 1000000 steps, each_third_asks loop" $(((many - one) / 10)) $((twice - once)) 1000000 step \
+    "$(peak "$parts" record 1)"
+}
+
 # gathered: a schedule of 1,000,000 recorded steps, by the difference of a run that is gathered and one that is not
 gathered() {
   local alone both once twice count
@@ -66,6 +77,25 @@ gathered() {
   twice=$(instructions "$parts" gather 1)
   report "gather, $count steps and entries of 16 processors" $(((both - alone) / 11)) $((twice - once)) "$count" each \
     $(($(peak "$parts" gather 1) - $(peak "$parts" record 1)))
+}
+
+# round WHAT: the microseconds of one round, by the difference of 11 rounds and 1
+round() {
+  local one many
+  one=$(best 3 "$parts" "$1" 1)
+  many=$(best 3 "$parts" "$1" 11)
+  echo $(((many - one) / 10))
+}
+
+# at_once WHICH: 16 processors at once with 62,500 steps each, beside a machine that takes as many steps
+at_once() {
+  local machine drive threaded
+  machine=$(round "machine_$1")
+  drive=$(round "drive_$1")
+  threaded=$(round "threaded_$1")
+  printf '%-58s %6d.%d ms; a machine %d.%d ms; with the schedule %d.%d ms\n' "threads, 1000000 steps, each $1 asks, 16 processors" \
+    $((drive / 1000)) $((drive / 100 % 10)) $((machine / 1000)) $((machine / 100 % 10)) $((threaded / 1000)) \
+    $((threaded / 100 % 10))
 }
 
 # rounds WHAT: the time of one round, by the difference of 11 rounds and 1
@@ -90,6 +120,16 @@ sessions() {
     "$(peak "$parts" "$1" 1)"
 }
 
+# pair HOW: two processors run at once, with one step in three a fetch-and-add on one word; on all cores, and on one
+# where taskset is installed. No instructions are counted: how many a waiting thread runs hangs on the machine's load.
+pair() {
+  local all one=0
+  all=$(best 5 "$parts" "pair_$1" 1)
+  if command -v taskset >/dev/null; then one=$(best 5 taskset -c 0 "$parts" "pair_$1" 1); fi
+  printf '%-58s %6d.%d ms on all cores, %d.%d ms on one\n' "2 processors at once $1, 1000000 steps" \
+    $((all / 1000)) $((all / 100 % 10)) $((one / 1000)) $((one / 100 % 10))
+}
+
 command -v valgrind >/dev/null || echo "valgrind is not installed: no instructions are counted, and 0 is printed for them"
 
 bench/words_input.sh >"$work/words"
@@ -101,7 +141,13 @@ report "words, $lines lines" "$(best 10 words)" "$(instructions "$tool" words <"
 
 steps arithmetic
 steps fetch_add
+steps each_third_asks
+recorded
 gathered
+at_once fiftieth
+at_once third
+pair through_lock
+pair in_turn
 for what in go continue 1_breakpoint 64_breakpoints 1_watch 64_watches; do
   sessions "debug_$what"
 done
@@ -122,3 +168,15 @@ spent=$(best 5 "$tool" run "$work/loop_image" "$work/schedule")
 report "run, 1000000 steps, $(wc -c <"$work/out") bytes" "$spent" \
   "$(instructions "$tool" run "$work/loop_image" "$work/schedule")" 1000000 line \
   "$(peak "$tool" run "$work/loop_image" "$work/schedule")"
+
+{
+  echo '.slim 1'
+  for ((p = 0; p < 16; p++)); do echo '.entry 0'; done
+  printf 'ADD r1, r1, 1\nADD r1, r1, 1\nFADD.N r1, r0, 0 | SKIP ALWAYS, 0, -3\n.data 0\n'
+} >"$work/third"
+"$tool" asm "$work/third" "$work/third_image"
+spent=$(best 3 "$tool" threads "$work/third_image" 62500 "$work/schedule")
+entries=$(grep -c DONE "$work/out")
+printf '%-58s %6d.%d ms, %d MB, at most 260 bytes an entry and 8 a step: %d MB\n' \
+  "threads, 1000000 steps, $entries entries, $(wc -c <"$work/out") bytes" $((spent / 1000)) $((spent / 100 % 10)) \
+  $(($(peak "$tool" threads "$work/third_image" 62500 "$work/schedule") / 1024)) $(((260 * entries + 8000000) / 1048576))

@@ -1,18 +1,22 @@
 //! Does one thing again and again, without any text, so that bench/run.sh can time it: steps of a machine, recorded
-//! runs and the schedules that are gathered of them, or the bytes of the largest image.
+//! runs and the schedules that are gathered of them, processors run at once, or the bytes of the largest image.
 #![tactic(auto)]
 
 mod debugger_runs;
 mod image_bytes;
 mod machine_steps;
 mod recorded_runs;
+mod runs_of_two;
+mod threaded_runs;
 
 use anyhow::{Context, Result};
 use debugger_runs::{continue_rounds, go_rounds, watch_rounds};
 use image_bytes::{read_images, write_images};
 use machine_steps::{ARITHMETIC, FETCH_ADD, run_rounds};
-use recorded_runs::{gather_rounds, record_rounds};
+use recorded_runs::{EACH_THIRD_ASKS, gather_rounds, record_rounds};
+use runs_of_two::{lock_rounds, turn_rounds};
 use std::env;
+use threaded_runs::Asking;
 
 fn main(rt: HostRuntime) -> Result<()> {
     let alloc = rt.alloc();
@@ -22,14 +26,23 @@ fn main(rt: HostRuntime) -> Result<()> {
     let count = match what {
         "arithmetic" => run_rounds(alloc, &ARITHMETIC, rounds)?,
         "fetch_add" => run_rounds(alloc, &FETCH_ADD, rounds)?,
+        "each_third_asks" => run_rounds(alloc, &EACH_THIRD_ASKS, rounds)?,
         "record" => record_rounds(alloc, rounds)?,
         "gather" => gather_rounds(alloc, rounds)?,
+        "machine_third" => Asking::EachThird.machine_rounds(alloc, rounds)?,
+        "drive_third" => Asking::EachThird.drive_rounds(&rt, alloc, rounds)?,
+        "threaded_third" => Asking::EachThird.threaded_rounds(&rt, alloc, rounds)?,
+        "machine_fiftieth" => Asking::EachFiftieth.machine_rounds(alloc, rounds)?,
+        "drive_fiftieth" => Asking::EachFiftieth.drive_rounds(&rt, alloc, rounds)?,
+        "threaded_fiftieth" => Asking::EachFiftieth.threaded_rounds(&rt, alloc, rounds)?,
         "debug_go" => go_rounds(alloc, rounds)?,
         "debug_continue" => continue_rounds(alloc, 0, rounds)?,
         "debug_1_breakpoint" => continue_rounds(alloc, 1, rounds)?,
         "debug_64_breakpoints" => continue_rounds(alloc, 64, rounds)?,
         "debug_1_watch" => watch_rounds(alloc, 1, rounds)?,
         "debug_64_watches" => watch_rounds(alloc, 64, rounds)?,
+        "pair_through_lock" => lock_rounds(&rt, alloc, rounds)?,
+        "pair_in_turn" => turn_rounds(&rt, alloc, rounds)?,
         "write_image" => write_images(alloc, rounds)?,
         "read_image" => read_images(alloc, rounds)?,
         _ => 0,

@@ -13,7 +13,7 @@ const FUEL: usize = 62_500;
 const PROCESSORS: usize = 16;
 
 /// ADD r1, r1, 1 / ADD r1, r1, 1 / FADD.N r1, r0, 0 | SKIP ALWAYS, 0, -3
-const EACH_THIRD_ASKS: [u64; 3] = [
+pub(crate) const EACH_THIRD_ASKS: [u64; 3] = [
     0x0000_000A_1084_0000,
     0x0000_000A_1084_0000,
     0x0684_0000_0000_80FD,
@@ -21,7 +21,7 @@ const EACH_THIRD_ASKS: [u64; 3] = [
 
 /// Records so many runs, and gives the number of steps and entries of each.
 pub(crate) fn record_rounds(alloc: Global, rounds: u32) -> Result<usize> {
-    let image = image_of(alloc)?.context("no image")?;
+    let image = image_of(alloc, PROCESSORS)?.context("no image")?;
     let mut count = 0;
     for _ in 0..rounds {
         let parts = recorded(alloc, &image)?;
@@ -32,7 +32,7 @@ pub(crate) fn record_rounds(alloc: Global, rounds: u32) -> Result<usize> {
 
 /// Records so many runs and gathers them, and gives the number of steps and entries of each.
 pub(crate) fn gather_rounds(alloc: Global, rounds: u32) -> Result<usize> {
-    let image = image_of(alloc)?.context("no image")?;
+    let image = image_of(alloc, PROCESSORS)?.context("no image")?;
     let mut count = 0;
     for _ in 0..rounds {
         let parts = recorded(alloc, &image)?;
@@ -86,9 +86,9 @@ fn step(shared: &mut SharedMemory, record: &mut Recorded<8>) {
     }
 }
 
-/// All processors begin at word 0 over one full word.
-fn image_of(alloc: Global) -> Result<Option<Image>, AllocError> {
-    let mut entries = vec![in alloc; 0; PROCESSORS]?;
+/// So many processors, which all begin at word 0 over one full word; one step in three asks.
+pub(crate) fn image_of(alloc: Global, processors: usize) -> Result<Option<Image>, AllocError> {
+    let mut entries = vec![in alloc; 0; processors]?;
     let mut program = EACH_THIRD_ASKS.to_vec(alloc)?;
     let mut cells = Vec::from_slice(alloc, &[Word::new(0, Tags::FULL)])?;
     Ok(Image::from_parts(&mut entries, 1, 0, u32::MAX, &mut program, &mut cells).ok())

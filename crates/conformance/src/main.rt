@@ -4,6 +4,7 @@
 mod arithmetic;
 mod commands;
 mod conditions;
+mod debugger;
 mod escapes;
 mod fields;
 mod histories;
@@ -11,6 +12,7 @@ mod images;
 mod instruction_words;
 mod memory_requests;
 mod numbers;
+mod one_machine;
 mod programs;
 mod schedules;
 mod source_lines;
@@ -18,19 +20,22 @@ mod sources;
 mod stream_steps;
 mod streams;
 mod text_vectors;
+mod threaded_runs;
 mod vectors;
 
 use anyhow::{Context, Result};
 use programs::compare_programs;
 use std::fs;
 use std::rt::Files;
+use threaded_runs::compare_threads;
 use vectors::Vectors;
 
 fn main(rt: HostRuntime) -> Result<()> {
     for vectors in Vectors::ALL {
         compare(&rt, vectors)?;
     }
-    compare_programs(&rt)
+    compare_programs(&rt)?;
+    compare_threads(&rt)
 }
 
 /// Prints each line of the file that does not hold, and how many of its lines hold.

@@ -1,5 +1,6 @@
 //! The programs of data/examples and data/rows, run by their schedules.
 
+use crate::one_machine::goes_every_way;
 use anyhow::{Context, Result};
 use mta_engines::{asm_engine, list_engine, run_engine};
 use std::alloc::Global;
@@ -8,19 +9,31 @@ use std::rt::Files;
 
 /// Runs of small programs for reading. A run is named PROGRAM.SCHEDULE, or PROGRAM where there is one schedule alone:
 /// PROGRAM.asm is the source; the schedule, and the trace that the run comes to, have the run's name.
-const EXAMPLES: [&str; 12] = [
+const EXAMPLES: [&str; 24] = [
     "count.ends",
     "count.one_too_many",
     "producer_consumer.ends",
     "producer_consumer.blocked",
     "lock.ends",
     "lock.lost_update",
+    "lock.found",
     "fetch_add.ends",
     "fetch_add.lost_update",
     "trap_handler.ends",
     "trap_handler.stopped",
     "forwarding.ends",
     "forwarding.trapped",
+    "future.ends",
+    "silent_wait",
+    "limited_wait",
+    "bounded_buffer.ends",
+    "bounded_buffer.loses_one",
+    "barrier.ends",
+    "barrier.mixes_rounds",
+    "readers_writer.ends",
+    "readers_writer.torn_read",
+    "philosophers.ends",
+    "philosophers.deadlock",
 ];
 
 /// Runs that show single rows of the operation table: retries, counts of streams, starts and ends, and traps.
@@ -55,7 +68,7 @@ pub(crate) fn compare_programs<R: Files + AllocGlobal + Print>(rt: &R) -> Result
     compare_runs(rt, "rows", &ROWS)
 }
 
-/// Prints each run that prints another trace, or whose listing is not assembled to its image, and how many hold.
+/// Prints each run that prints another trace, or whose text does not come to its image by every way, and how many hold.
 fn compare_runs<R: Files + AllocGlobal + Print>(rt: &R, folder: &str, runs: &[&str]) -> Result<()> {
     let mut holding = 0u64;
     for run in runs {
@@ -85,15 +98,16 @@ fn holds<R: Files + AllocGlobal>(rt: &R, folder: &str, run: &str) -> Result<bool
         &mut schedule.as_bytes(),
         &mut text,
     )?;
-    Ok(assembled(alloc, &listing)? == image && text.as_slice() == trace.as_bytes())
+    let same = assembled(alloc, &listing)? == image && text.as_slice() == trace.as_bytes();
+    Ok(same && goes_every_way(alloc, source.as_str(), schedule.as_str(), trace.as_str())?)
 }
 
-fn read<R: Files + AllocGlobal>(rt: &R, path: String) -> Result<String> {
+pub(crate) fn read<R: Files + AllocGlobal>(rt: &R, path: String) -> Result<String> {
     fs::read_to_string(rt, path.as_str()).context("a program's file")
 }
 
 /// The bytes of the image that a source text means.
-fn assembled(alloc: Global, mut source: &[u8]) -> Result<Vec<u8>> {
+pub(crate) fn assembled(alloc: Global, mut source: &[u8]) -> Result<Vec<u8>> {
     let mut bytes = Vec::new(alloc);
     asm_engine(alloc, &mut source, &mut bytes)?;
     Ok(bytes)

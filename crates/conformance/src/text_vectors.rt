@@ -1,5 +1,7 @@
 //! The files of test vectors of the text crates and of the engines, and what a line of each says.
-use crate::{commands, histories, instruction_words, numbers, schedules, source_lines, sources};
+use crate::{
+    commands, debugger, histories, instruction_words, numbers, schedules, source_lines, sources,
+};
 use anyhow::Result;
 use std::alloc::Global;
 
@@ -32,6 +34,8 @@ pub(crate) enum TextVectors {
     Commands,
     /// A source text, two schedules, and the length and the end of their trace.
     LongTraces,
+    /// A source text, a schedule, commands of the debugger, their answers, and a fault where they end with one.
+    Debugger,
 }
 
 impl TextVectors {
@@ -51,6 +55,7 @@ impl TextVectors {
             TextVectors::HistoryLines => "history_lines.tsv",
             TextVectors::Commands => "commands.tsv",
             TextVectors::LongTraces => "long_traces.tsv",
+            TextVectors::Debugger => "debugger.tsv",
         }
     }
 
@@ -70,6 +75,7 @@ impl TextVectors {
             TextVectors::HistoryLines => "history lines",
             TextVectors::Commands => "commands",
             TextVectors::LongTraces => "long traces",
+            TextVectors::Debugger => "debugger",
         }
     }
 
@@ -88,6 +94,7 @@ impl TextVectors {
             TextVectors::HistoryLines => histories::is_line(alloc, line),
             TextVectors::Commands => commands::writes(alloc, line),
             TextVectors::LongTraces => commands::is_traced(alloc, line),
+            TextVectors::Debugger => debugger::answers(alloc, line),
         }
     }
 }

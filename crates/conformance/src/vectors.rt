@@ -29,7 +29,7 @@ pub(crate) enum Vectors {
 
 impl Vectors {
     /// All files, in the order in which they are compared.
-    pub(crate) const ALL: [Vectors; 21] = [
+    pub(crate) const ALL: [Vectors; 22] = [
         Vectors::InstructionWords,
         Vectors::NotInstructions,
         Vectors::Arithmetic,
@@ -51,6 +51,7 @@ impl Vectors {
         Vectors::Text(TextVectors::Rounds),
         Vectors::Text(TextVectors::Commands),
         Vectors::Text(TextVectors::LongTraces),
+        Vectors::Text(TextVectors::Debugger),
     ];
 
     /// The file's name.
