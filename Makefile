@@ -1,11 +1,27 @@
 # The simulator of Tera MTA streams. Each target needs the command rt of the Rattle kit.
 PREFIX ?= /usr/local
+SHARE = $(DESTDIR)$(PREFIX)/share
 PROGRAM = crates/mta_sim/out/mta_sim
 BENCH = crates/bench/out/bench
 # how many crates are proved side by side
 JOBS ?= $(shell nproc)
 
-.PHONY: run try test refuse statuses bench install build
+.PHONY: help run try test examples refuse hostile statuses documents bench build install uninstall clean
+
+# the targets, each with what it does and how long it takes
+help:
+	@echo "make try        shows a first run, unproved (under a minute)"
+	@echo "make run        proves and builds the program, and shows the first run (5 to 15 minutes the first time)"
+	@echo "make test       proves everything from nothing, tries the must-fail edits, runs all tests (35 minutes on 4 cores)"
+	@echo "make examples   copies the examples to where make test finds them (a second)"
+	@echo "make documents  runs the commands of the documents and compares what they print (seconds)"
+	@echo "make statuses   shows the exit statuses of the built program (a second)"
+	@echo "make refuse     refuses each allocation of the commands in turn; needs a C compiler (some minutes)"
+	@echo "make hostile    runs damaged, random and too large inputs; needs Python 3 (a minute)"
+	@echo "make bench      time, instructions and peak memory on the longest inputs (some minutes; valgrind counts instructions)"
+	@echo "make install    puts the built program, its examples and its documents under PREFIX, $(PREFIX) (a second)"
+	@echo "make uninstall  takes away what make install has put there (a second)"
+	@echo "make clean      removes all that was built; the proofs have to be found again then (a second)"
 
 # proves and builds the program, and shows its first run
 run:
@@ -26,7 +42,12 @@ try:
 
 # proves everything from nothing, tries the must-fail edits, runs the tests and the programs
 test:
+	@diff -r -x grading examples crates/conformance/data/examples || { echo "make examples brings both together"; exit 1; }
 	@tests/progress.sh out/test.log rt ci
+
+# copies the examples to where the program conformance finds them
+examples:
+	cp examples/*.asm examples/*.schedule examples/*.trace crates/conformance/data/examples
 
 # proves and builds the program, where it is not built yet
 build:
@@ -41,10 +62,35 @@ bench: build
 refuse: build
 	@tests/refused_allocations.sh
 
+# damaged images, random texts, inputs at their limits and beyond, outputs that cannot be written; needs Python 3
+hostile: build
+	@tests/hostile.py
+
 # the statuses with which the built program ends
 statuses: build
 	@tests/exit_statuses.sh
 
-# puts the built program in place
-install: build
+# the commands that stand in README.md and docs, run on the examples; what they print is compared with what stands there
+documents: build
+	@tests/documents.sh README.md CONTRIBUTING.md docs/TUTORIAL.md docs/WRITING_PROGRAMS.md docs/MANY_RUNS.md docs/FORMATS.md docs/MACHINE.md
+	@tests/editors.sh
+
+# puts the built program, its examples and its documents in place
+install:
+	@test -x $(PROGRAM) || { echo "nothing is built yet: make run proves and builds the program"; exit 1; }
 	install -D -m 755 $(PROGRAM) $(DESTDIR)$(PREFIX)/bin/mta_sim
+	install -D -m 644 share/man/man1/mta_sim.1 $(SHARE)/man/man1/mta_sim.1
+	install -D -m 644 share/completions/mta_sim.bash $(SHARE)/bash-completion/completions/mta_sim
+	install -D -m 644 share/completions/_mta_sim $(SHARE)/zsh/site-functions/_mta_sim
+	install -D -m 644 share/completions/mta_sim.fish $(SHARE)/fish/vendor_completions.d/mta_sim.fish
+	install -d $(SHARE)/mta_sim $(SHARE)/doc/mta_sim
+	cp -r examples editors $(SHARE)/mta_sim
+	install -m 644 README.md docs/*.md $(SHARE)/doc/mta_sim
+
+uninstall:
+	rm -f $(DESTDIR)$(PREFIX)/bin/mta_sim $(SHARE)/man/man1/mta_sim.1 $(SHARE)/bash-completion/completions/mta_sim
+	rm -f $(SHARE)/zsh/site-functions/_mta_sim $(SHARE)/fish/vendor_completions.d/mta_sim.fish
+	rm -rf $(SHARE)/mta_sim $(SHARE)/doc/mta_sim
+
+clean:
+	rm -rf out crates/*/out

@@ -28,12 +28,15 @@ ends() {
 ends 0 asm quit.s quit.img
 ends 0 list quit.img
 ends 0 run quit.img one.steps
+ends 0 threads quit.img 5 made.steps
 ends 1 words
 ends 1 asm one.steps made.img
 ends 1 list empty
 ends 1 run quit.img missing.steps
+ends 1 threads empty 5 made.steps
 ends 2
 ends 2 asm quit.s
+ends 2 threads quit.img 0 made.steps
 ends 2 --help
 ends 2 unknown
 [ "$failed" -eq 0 ] && echo "exit statuses 0, 1 and 2 as they should be"

@@ -1,0 +1,68 @@
+#!/usr/bin/env bash
+# documents.sh FILE..: runs the commands that stand in documents, and compares what they print. In a block between lines
+# of three backquotes a line that begins with "$ " is a command, lines behind it that begin with "> " are typed, and the
+# others, up to the next command, are what it prints. A block whose first line says more than the backquotes is left out.
+# The commands of a document are run by one shell in a copy of the examples, one after the other. Links between documents
+# have to lead to a file.
+set -u
+cd "$(dirname "$0")/.." || exit 1
+root=$PWD
+work=$(mktemp -d)
+trap 'rm -rf "$work"' EXIT
+mkdir "$work/bin"
+ln -s "$root/crates/mta_sim/out/mta_sim" "$work/bin/mta_sim"
+export PATH="$work/bin:$PATH"
+failed=0
+
+# script FILE: a shell script of the commands of a document, each followed by a line that marks its end
+script() {
+  awk '
+    function close_command() {
+      if (asked) print command (typed == "" ? "" : " <<\"= end of input\"\n" typed "= end of input")
+      if (asked) print "echo \"= end of a command\""
+      asked = 0
+      typed = ""
+    }
+    /^```/ { close_command(); block = block ? 0 : $0 == "```" ? 1 : 2; next }
+    block == 1 && sub(/^\$ /, "") { close_command(); command = $0; asked = 1; next }
+    block == 1 && sub(/^> /, "") { typed = typed $0 "\n" }
+  ' "$1"
+}
+
+# wanted FILE: what the document says that its commands print, in the same form
+wanted() {
+  awk '
+    function close_command() { if (asked) print "= end of a command"; asked = 0 }
+    /^```/ { close_command(); block = block ? 0 : $0 == "```" ? 1 : 2; next }
+    block == 1 && /^\$ / { close_command(); asked = 1; next }
+    block == 1 && asked && !/^> / { print }
+  ' "$1"
+}
+
+# links FILE: each file that the document links to or names as docs/NAME.md is there
+links() {
+  local name
+  while read -r name; do
+    if [ ! -e "$root/$name" ] && [ ! -e "$(dirname "$root/$1")/$name" ]; then
+      echo "$1: no file $name"
+      failed=1
+    fi
+  done < <(grep -oE '\]\([^)#:]+\)|[A-Za-z_/]+\.md' "$1" | sed 's/^](//; s/)$//' | sort -u)
+}
+
+for file in "$@"; do
+  rm -rf "$work/examples"
+  cp -r examples "$work/examples"
+  script "$file" >"$work/script"
+  wanted "$file" >"$work/wanted"
+  (cd "$work/examples" && bash "$work/script") >"$work/printed" 2>&1
+  if diff "$work/wanted" "$work/printed" >"$work/difference"; then
+    echo "$file: $(grep -c '^= end' "$work/wanted") commands print what it says"
+  else
+    echo "$file: its commands print something else (> stands before what they print):"
+    cat "$work/difference"
+    failed=1
+  fi
+  links "$file"
+done
+exit "$failed"
