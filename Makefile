@@ -11,13 +11,13 @@ JOBS ?= $(shell nproc)
 # the targets, each with what it does and how long it takes
 help:
 	@echo "make try        shows a first run, unproved (under a minute)"
-	@echo "make run        proves and builds the program, and shows the first run (5 to 15 minutes the first time)"
+	@echo "make run        proves and builds the program, and shows the first run (about 15 minutes the first time, on 4 cores)"
 	@echo "make test       proves everything from nothing, tries the must-fail edits, runs all tests (35 minutes on 4 cores)"
 	@echo "make examples   copies the examples to where make test finds them (a second)"
 	@echo "make documents  runs the commands of the documents and compares what they print (seconds)"
 	@echo "make statuses   shows the exit statuses of the built program (a second)"
-	@echo "make refuse     refuses each allocation of the commands in turn; needs a C compiler (some minutes)"
-	@echo "make hostile    runs damaged, random and too large inputs; needs Python 3 (a minute)"
+	@echo "make hostile    hostile use of the built program; needs Python 3 and a C compiler (10 to 20 minutes)"
+	@echo "make refuse     the part of it that refuses each allocation of the commands in turn (some minutes)"
 	@echo "make bench      time, instructions and peak memory on the longest inputs (some minutes; valgrind counts instructions)"
 	@echo "make install    puts the built program, its examples and its documents under PREFIX, $(PREFIX) (a second)"
 	@echo "make uninstall  takes away what make install has put there (a second)"
@@ -42,7 +42,7 @@ try:
 
 # proves everything from nothing, tries the must-fail edits, runs the tests and the programs
 test:
-	@diff -r -x grading examples crates/conformance/data/examples || { echo "make examples brings both together"; exit 1; }
+	@diff -r -x grading -x '*.image' examples crates/conformance/data/examples || { echo "make examples brings both together"; exit 1; }
 	@tests/progress.sh out/test.log rt ci
 
 # copies the examples to where the program conformance finds them
@@ -58,13 +58,14 @@ bench: build
 	@test -x $(BENCH) || (cd crates/bench && rt run -- arithmetic 1 > /dev/null)
 	@bench/run.sh
 
-# refuses each allocation of the commands in turn, on the programs of conformance/data; needs a C compiler
+# refuses each allocation of the commands in turn, on the examples and the programs of conformance/data
 refuse: build
-	@tests/refused_allocations.sh
+	@python3 tests/hostile allocations
 
-# damaged images, random texts, inputs at their limits and beyond, outputs that cannot be written; needs Python 3
+# that, and damaged images, random texts, inputs at their limits and beyond, threads that are not started, the lines of
+# the debugger, inputs and outputs that fail
 hostile: build
-	@tests/hostile.py
+	@python3 tests/hostile
 
 # the statuses with which the built program ends
 statuses: build
@@ -72,7 +73,7 @@ statuses: build
 
 # the commands that stand in README.md and docs, run on the examples; what they print is compared with what stands there
 documents: build
-	@tests/documents.sh README.md CONTRIBUTING.md docs/TUTORIAL.md docs/WRITING_PROGRAMS.md docs/MANY_RUNS.md docs/FORMATS.md docs/MACHINE.md
+	@tests/documents.sh README.md CONTRIBUTING.md CHANGELOG.md docs/*.md
 	@tests/editors.sh
 
 # puts the built program, its examples and its documents in place

@@ -67,16 +67,31 @@ recorded() {
     "$(peak "$parts" record 1)"
 }
 
-# gathered: a schedule of 1,000,000 recorded steps, by the difference of a run that is gathered and one that is not
+# gathered WHICH HOW: a schedule of 1,000,000 recorded steps, by the difference of a run that is gathered and one that is
+# not; WHICH is empty where one stream runs alone, and _alternating where two take turns
 gathered() {
   local alone both once twice count
-  alone=$(best 3 "$parts" record 11)
-  both=$(best 3 "$parts" gather 11)
+  alone=$(best 3 "$parts" "record$1" 11)
+  both=$(best 3 "$parts" "gather$1" 11)
   count=$(sed 's/.* of //' "$work/out")
-  once=$(instructions "$parts" record 1)
-  twice=$(instructions "$parts" gather 1)
-  report "gather, $count steps and entries of 16 processors" $(((both - alone) / 11)) $((twice - once)) "$count" each \
-    $(($(peak "$parts" gather 1) - $(peak "$parts" record 1)))
+  once=$(instructions "$parts" "record$1" 1)
+  twice=$(instructions "$parts" "gather$1" 1)
+  report "gather, $count steps and entries, $2" $(((both - alone) / 11)) $((twice - once)) "$count" each \
+    $(($(peak "$parts" "gather$1" 1) - $(peak "$parts" "record$1" 1)))
+}
+
+# local_record: what 1,000,000 steps of one stream that asks nothing take, beside the room that is only reserved
+local_record() {
+  printf '%-58s %d KB\n' "record of 1000000 local steps of one stream" \
+    $(($(peak "$parts" record_local 1) - $(peak "$parts" record_local 0)))
+}
+
+# copies WHAT: a copy of the largest memory, or of as many bytes in one list, by the difference of 101 copies and 1
+copies() {
+  local one many
+  one=$(best 5 "$parts" "$1" 1)
+  many=$(best 5 "$parts" "$1" 101)
+  printf '%-58s %6d us, %d KB\n' "$1" $(((many - one) / 100)) $((($(peak "$parts" "$1" 101) - $(peak "$parts" "$1" 1)) / 100))
 }
 
 # round WHAT: the microseconds of one round, by the difference of 11 rounds and 1
@@ -109,7 +124,8 @@ rounds() {
   report "$1, $bytes bytes" $(((many - one) / 10)) $((twice - once)) "$bytes" byte "$(peak "$parts" "$1" 1)"
 }
 
-# sessions WHAT: 1,000,000 steps of a session of the debugger, by the difference of 11 rounds and 1
+# sessions WHAT: 1,000,000 steps, each time in a session of the debugger in which nothing has run, by the difference of 11
+# rounds and 1
 sessions() {
   local one many once twice
   one=$(best 3 "$parts" "$1" 1)
@@ -118,6 +134,17 @@ sessions() {
   twice=$(instructions "$parts" "$1" 2)
   report "$1, 1000000 steps of the fetch_add loop" $(((many - one) / 10)) $((twice - once)) 1000000 step \
     "$(peak "$parts" "$1" 1)"
+}
+
+# again WHAT HOW: what one session does that has been at the end of its 1,000,000 steps, by the difference of 11 rounds and 1
+again() {
+  local one many once twice count
+  one=$(best 3 "$parts" "$1" 1)
+  many=$(best 3 "$parts" "$1" 11)
+  count=$(sed 's/.* of //' "$work/out")
+  once=$(instructions "$parts" "$1" 1)
+  twice=$(instructions "$parts" "$1" 2)
+  report "$1, $2: $count steps" $(((many - one) / 10)) $((twice - once)) "$count" step "$(peak "$parts" "$1" 1)"
 }
 
 # pair HOW: two processors run at once, with one step in three a fetch-and-add on one word; on all cores, and on one
@@ -143,7 +170,11 @@ steps arithmetic
 steps fetch_add
 steps each_third_asks
 recorded
-gathered
+gathered '' '16 processors'
+gathered _alternating 'streams in turn'
+local_record
+copies copy_memory
+copies copy_numbers
 at_once fiftieth
 at_once third
 pair through_lock
@@ -151,6 +182,8 @@ pair in_turn
 for what in go continue 1_breakpoint 64_breakpoints 1_watch 64_watches; do
   sessions "debug_$what"
 done
+again debug_places 'g to 20 places'
+again debug_back 'back to the start, and g to the end'
 rounds write_image
 rounds read_image
 

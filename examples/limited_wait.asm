@@ -1,5 +1,6 @@
 ; The program of silent_wait.asm with a retry limit: three tries are BLOCKED, the fourth traps with 10 (BLOCKED). There
-; is no handler, so the stream is stopped, and the text of the machine at the end names the trap and, in xr, the word.
+; is no handler, so the stream is stopped.
+; Look at: the end, which names the trap and, in xr, the word that was waited for.
         .slim 1
         .retry 3
         .entry take

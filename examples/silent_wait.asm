@@ -1,5 +1,6 @@
-; A word that nobody fills. Processor 1 forgets its STORE.S, so processor 0 waits for ever: without a retry limit each
-; step is BLOCKED, and the text of the machine at the end says Running, as of a stream that works. See limited_wait.asm.
+; A word that nobody fills. Processor 1 forgets its STORE.S, so processor 0 waits for ever. Without a retry limit nothing
+; at the end shows it. See limited_wait.asm.
+; Look at: the steps of processor 0, each BLOCKED; and the end, which says Running, as of a stream that works.
         .slim 1
         .entry take
         .entry forget

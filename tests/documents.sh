@@ -65,4 +65,11 @@ for file in "$@"; do
   fi
   links "$file"
 done
+
+printed=$("$root/crates/mta_sim/out/mta_sim" --version 2>&1)
+newest=$(sed -n 's/^## /mta_sim /p' "$root/CHANGELOG.md" | head -n 1)
+if [ "$printed" != "$newest" ]; then
+  echo "the program prints the version $printed, CHANGELOG.md has $newest"
+  failed=1
+fi
 exit "$failed"

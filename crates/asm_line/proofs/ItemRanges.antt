@@ -13,11 +13,11 @@ use Rattle.asm_line.specs.Operands.{Places}
 use Rattle.asm_line.specs.Heads.{operation_of, directive_of}
 use Rattle.asm_line.specs.Parts.{immediate}
 use Rattle.asm_line.specs.Instructions.{double, triple, is_ok, too_many, single}
-use Rattle.asm_line.specs.Instructions.{one_part, two_parts, three_parts, instruction_of, operations, looking}
+use Rattle.asm_line.specs.Instructions.{one_part, two_parts, three_parts, instruction_of, operations, with_lookahead}
 use Rattle.asm_line.specs.Instructions.{instruction_of_text}
 use Rattle.asm_line.specs.Directives.{word_number, tags_number, cells, data_cell, fill, below, entry_number}
 use Rattle.asm_line.specs.Directives.{item_of_directive}
-use Rattle.asm_line.specs.Lines.{Line, labelling, directive_item, statement_item, line_item}
+use Rattle.asm_line.specs.Lines.{Line, label_fault, directive_item, statement_item, line_item}
 use Rattle.asm_line.specs.Ranges.{IsItemInRange}
 use Rattle.asm_line.specs.declared.fault.Fault.{Fault}
 use Rattle.asm_line.specs.declared.fault.Fault.TheVariants as fault
@@ -98,7 +98,7 @@ operations_range : (places : Places) (here : ℕ) (text : List ℕ) → IfOk (op
 unfolding operations
 operations_range places here text = instruction_of_range places here (map trim (parts 124 text))
 
-looking_range : (n : ℕ) (i : Insn) → n ≤ 7 → IsGood i → IsGood (looking n i)
+looking_range : (n : ℕ) (i : Insn) → n ≤ 7 → IsGood i → IsGood (with_lookahead n i)
 looking_range n (insn.Wide look op reg imm) h g =
     record { look_range = omega (arith, h); reg_range = g.reg_range; imm_range = g.imm_range }
 looking_range n (insn.Normal look m a c) h g =
@@ -115,7 +115,7 @@ instruction_range : (places : Places) (here : ℕ) (text : List ℕ) → IfOk (i
 unfolding instruction_of_text
 instruction_range places here text =
     ok_either (slice_index text 0 == 64) _ (operations places here text) IsGood
-    (ok_map (λ v. looking v.0 v.1) (λ v. (v.0 ≤ 7) × IsGood v.1) IsGood
+    (ok_map (λ v. with_lookahead v.0 v.1) (λ v. (v.0 ≤ 7) × IsGood v.1) IsGood
     (both (number_within 7 (drop 1 (head text))) (operations places here (behind_head text)))
     (λ v h. looking_range v.0 v.1 h.0 h.1)
     (ok_both (λ n. n ≤ 7) IsGood (number_within 7 (drop 1 (head text))) (operations places here (behind_head text))
@@ -235,8 +235,8 @@ pub item_range : IsValidByFields → (places : Places) (words k here : ℕ) (l :
 unfolding line_item
 item_range law places words k here l =
     ok_map (λ v. v.1) (λ v. ⊤ × IsItemInRange words v.1) (IsItemInRange words)
-    (both (labelling places k l.label l.statement) (statement_item places words here l.statement))
+    (both (label_fault places k l.label l.statement) (statement_item places words here l.statement))
     (λ v h. h.1)
-    (ok_both (λ _. ⊤) (IsItemInRange words) (labelling places k l.label l.statement)
+    (ok_both (λ _. ⊤) (IsItemInRange words) (label_fault places k l.label l.statement)
     (statement_item places words here l.statement)
-    (ok_any (labelling places k l.label l.statement)) (statement_range law places words here l.statement))
+    (ok_any (label_fault places k l.label l.statement)) (statement_range law places words here l.statement))

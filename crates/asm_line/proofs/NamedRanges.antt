@@ -10,7 +10,7 @@ use Rattle.insn_word.specs.declared.operations.Access.TheVariants as access
 use Rattle.insn_word.specs.declared.operations.ArithmeticOp.{ArithmeticOp}
 use Rattle.insn_word.specs.declared.operations.ArithmeticOp.TheVariants as arithmetic
 use Rattle.text_parts.specs.Parts.{text_before, text_after}
-use Rattle.insn_word.specs.Operations.{memory_operations, arithmetic_operations}
+use Rattle.insn_word.specs.Operations.{profile_one_memory_operations, arithmetic_operations}
 use Rattle.asm_line.specs.Names.{memory_name, arithmetic_name}
 use Rattle.asm_line.specs.Heads.{wide_named, memory_named, arithmetic_named, control_named, nop_named, plain_named}
 use Rattle.asm_line.specs.Heads.{without_suffix, letter_access, access_named, test_named}
@@ -19,7 +19,7 @@ use Rattle.asm_line.specs.declared.operation.Operation.{Operation}
 use Rattle.asm_line.specs.declared.operation.Operation.TheVariants as operation
 use Rattle.asm_line.proofs.OkRules.{ok_known, found_in}
 
--- not NOP
+-- not NOP, and of Profile 1
 abbrev IsMemory : MemoryOp → Type 0
 IsMemory memory.Nop = ⊥
 IsMemory memory.Load = ⊤
@@ -27,6 +27,7 @@ IsMemory memory.Store = ⊤
 IsMemory memory.FetchAdd = ⊤
 IsMemory memory.TagGet = ⊤
 IsMemory memory.TagSet = ⊤
+IsMemory memory.Purge = ⊥
 
 abbrev pub IsArithmetic : ArithmeticOp → Type 0
 IsArithmetic arithmetic.Nop = ⊥
@@ -45,7 +46,7 @@ IsArithmetic arithmetic.LessSigned = ⊤
 IsArithmetic arithmetic.LessUnsigned = ⊤
 IsArithmetic arithmetic.Pointer = ⊤
 
--- NOP is no memory operation, and TAGGET and TAGSET name no access
+-- NOP is no memory operation, PURGE is none of Profile 1, and TAGGET and TAGSET name no access
 abbrev pub IsWithAccess : MemoryOp → Access → Type 0
 IsWithAccess memory.Nop acc = ⊥
 IsWithAccess memory.Load acc = ⊤
@@ -53,6 +54,7 @@ IsWithAccess memory.Store acc = ⊤
 IsWithAccess memory.FetchAdd acc = ⊤
 IsWithAccess memory.TagGet acc = access.FromPointer ≡ acc
 IsWithAccess memory.TagSet acc = access.FromPointer ≡ acc
+IsWithAccess memory.Purge acc = ⊥
 
 abbrev pub IsNamed : Operation → Type 0
 IsNamed (operation.Memory op acc) = IsWithAccess op acc
@@ -64,7 +66,8 @@ IsNamed (operation.Control op) = ⊤
 memory_range : (name : List ℕ) → IfSome (memory_named name) IsMemory
 unfolding memory_named
 memory_range name =
-    found_in (λ o. bytes_eq name (memory_name o)) IsMemory (drop 1 memory_operations) (tt, (tt, (tt, (tt, (tt, tt)))))
+    found_in (λ o. bytes_eq name (memory_name o)) IsMemory (drop 1 profile_one_memory_operations)
+    (tt, (tt, (tt, (tt, (tt, tt)))))
 
 arithmetic_range : (name : List ℕ) → IfSome (arithmetic_named name) IsArithmetic
 unfolding arithmetic_named
@@ -75,6 +78,7 @@ access_range : (op : MemoryOp) (suffix : Option (List ℕ)) → IsMemory op
     → IfSome (access_named op suffix) (IsWithAccess op)
 unfolding access_named
 access_range memory.Nop suffix h = absurd h
+access_range memory.Purge suffix h = absurd h
 access_range memory.Load None h = tt
 access_range memory.Store None h = tt
 access_range memory.FetchAdd None h = tt

@@ -1,7 +1,7 @@
 -- Parts have their fields in range, and nothing but what their operation uses.
 use Rattle.std.proofs.Common.{◌≡◌, ℕ, ◌<◌, ◌^◌, Bool, true, false, if◌then◌else◌, List, [], ◌∷◌, refl, arith, ℤ}
 use Rattle.std.specs.Prelude.{IfOk}
-use Rattle.insn_word.specs.Operations.{memory_number, access_number, arithmetic_number, condition_number}
+use Rattle.insn_word.specs.Operations.{memory_number, access_number, arithmetic_number, condition_number, has_operation}
 use Rattle.insn_word.specs.Fields.{IsFieldInRange, AreInRange, signed}
 use Rattle.insn_word.specs.Words.{memory_fields, used_memory, arithmetic_fields, used_arithmetic, arithmetic_nop}
 use Rattle.insn_word.specs.Words.{control_fields, used_control}
@@ -13,6 +13,7 @@ use Rattle.insn_word.specs.declared.operations.ArithmeticOp.{ArithmeticOp}
 use Rattle.insn_word.specs.declared.operations.ArithmeticOp.TheVariants as arithmetic
 use Rattle.insn_word.specs.declared.operations.Condition.{Condition}
 use Rattle.insn_word.specs.declared.operations.Condition.TheVariants as condition
+use Rattle.insn_word.specs.declared.profiles.Profile.TheVariants as profile
 use Rattle.insn_word.specs.declared.insn.MPart.{MPart}
 use Rattle.insn_word.specs.declared.insn.APart.{APart}
 use Rattle.insn_word.specs.declared.insn.CPart.{CPart}
@@ -26,6 +27,7 @@ use Rattle.asm_line.proofs.NamedRanges.{IsWithAccess, IsArithmetic}
 pub record IsGoodMemory (m : MPart) : Type 0 where
   pub ranges : AreInRange (memory_fields m)
   pub rest : used_memory m.op m ≡ m
+  pub in_profile : has_operation profile.One m.op ≡ true
 
 pub record IsGoodArithmetic (a : APart) : Type 0 where
   pub ranges : AreInRange (arithmetic_fields a)
@@ -42,6 +44,7 @@ memory_small memory.Store = omega arith
 memory_small memory.FetchAdd = omega arith
 memory_small memory.TagGet = omega arith
 memory_small memory.TagSet = omega arith
+memory_small memory.Purge = omega arith
 
 access_small : (acc : Access) → access_number acc < 2 ^ 2
 access_small access.FromPointer = omega arith
@@ -99,6 +102,16 @@ used_access memory.TagGet acc rd base disp h =
     λ i. record { op = memory.TagGet; acc = h i; rd = rd; base = base; disp = disp }
 used_access memory.TagSet acc rd base disp h =
     λ i. record { op = memory.TagSet; acc = h i; rd = rd; base = base; disp = disp }
+used_access memory.Purge acc rd base disp h = absurd h
+
+profile_has : (op : MemoryOp) (acc : Access) → IsWithAccess op acc → has_operation profile.One op ≡ true
+profile_has memory.Nop acc h = refl
+profile_has memory.Load acc h = refl
+profile_has memory.Store acc h = refl
+profile_has memory.FetchAdd acc h = refl
+profile_has memory.TagGet acc h = refl
+profile_has memory.TagSet acc h = refl
+profile_has memory.Purge acc h = absurd h
 
 pub memory_part_range : (op : MemoryOp) (acc : Access) (os : List (List ℕ)) → IsWithAccess op acc
     → IfOk (memory_part op acc os) IsGoodMemory
@@ -109,6 +122,7 @@ memory_part_range op acc (x ∷ y ∷ z ∷ []) h =
     (λ v r. record {
       ranges = (memory_small op, (access_small acc, (r.0.0, (r.0.1, (r.1, tt)))));
       rest = used_access op acc v.0.0 v.0.1 v.1 h;
+      in_profile = profile_has op acc h;
     })
     (ok_both (λ w. (w.0 < 32) × (w.1 < 32)) (λ z. IsFieldInRange (signed 6 z)) (both (register x) (register y))
     (displacement z)

@@ -13,6 +13,7 @@ use Rattle.insn_word.specs.Reading.{are_apart}
 use Rattle.insn_word.specs.Laws.{IsValidByFields}
 use Rattle.insn_word.specs.declared.operations.WideOp.{WideOp}
 use Rattle.insn_word.specs.declared.operations.WideOp.TheVariants as wide
+use Rattle.insn_word.specs.declared.profiles.Profile.TheVariants as profile
 use Rattle.insn_word.specs.declared.insn.MPart.{MPart}
 use Rattle.insn_word.specs.declared.insn.APart.{APart}
 use Rattle.insn_word.specs.declared.insn.CPart.{CPart}
@@ -59,7 +60,7 @@ wide_small wide.LiteralHigh = omega arith
 wide_small wide.TargetLiteral = omega arith
 
 pub valid : IsValidByFields → (i : Insn) → IsGood i → IsValid i
-valid law (insn.Wide look op reg imm) h = (law (insn.Wide look op reg imm)).1 (
+valid law (insn.Wide look op reg imm) h = (law profile.One (insn.Wide look op reg imm)).1 (
   (
     omega arith,
     (
@@ -73,8 +74,9 @@ valid law (insn.Wide look op reg imm) h = (law (insn.Wide look op reg imm)).1 (
   ),
   tt,
   tt,
+  refl,
 )
-valid law (insn.Normal look m a c) h = (law (insn.Normal look m a c)).1 (
+valid law (insn.Normal look m a c) h = (law profile.One (insn.Normal look m a c)).1 (
   (
     omega arith,
     (
@@ -85,6 +87,7 @@ valid law (insn.Normal look m a c) h = (law (insn.Normal look m a c)).1 (
   ),
   (h.memory.rest, h.arithmetic.rest, h.control.rest),
   h.one_writer,
+  h.memory.in_profile,
 )
 
 -- Writers.
@@ -102,6 +105,7 @@ good_nop_memory = record {
     (omega arith, (omega arith, (omega arith, ((omega (arith, ints), omega (arith, ints)), tt)))),
   );
   rest = refl;
+  in_profile = refl;
 }
 
 good_nop_arithmetic : IsGoodArithmetic arithmetic_nop

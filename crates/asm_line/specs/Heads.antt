@@ -16,7 +16,7 @@ use Rattle.asm_line.specs.Faults.{unless_unknown}
 use Rattle.asm_line.specs.Names.{wide_name, memory_name, arithmetic_name, control_name, condition_name}
 use Rattle.asm_line.specs.Names.{access_suffix, test_suffix, directive_name}
 use Rattle.asm_line.specs.Names.{directives}
-use Rattle.insn_word.specs.Operations.{wide_operations, memory_operations, accesses, arithmetic_operations}
+use Rattle.insn_word.specs.Operations.{wide_operations, profile_one_memory_operations, accesses, arithmetic_operations}
 use Rattle.insn_word.specs.Operations.{control_operations, conditions}
 use Rattle.asm_line.specs.declared.fault.Fault.{Fault}
 use Rattle.asm_line.specs.declared.operation.Operation.{Operation}
@@ -24,13 +24,13 @@ use Rattle.asm_line.specs.declared.operation.Operation.TheVariants as operation
 use Rattle.asm_line.specs.declared.operation.Directive.{Directive}
 
 -- Names. NOP, the first operation of each part of a normal word, is named by no part: it is an instruction of its
--- own.
+-- own. Texts have Profile 1, so PURGE names nothing.
 
 unfoldable pub wide_named : List ℕ → Option WideOp
 wide_named name = find (λ o. bytes_eq name (wide_name o)) wide_operations
 
 unfoldable pub memory_named : List ℕ → Option MemoryOp
-memory_named name = find (λ o. bytes_eq name (memory_name o)) (drop 1 memory_operations)
+memory_named name = find (λ o. bytes_eq name (memory_name o)) (drop 1 profile_one_memory_operations)
 
 unfoldable pub arithmetic_named : List ℕ → Option ArithmeticOp
 arithmetic_named name = find (λ o. bytes_eq name (arithmetic_name o)) (drop 1 arithmetic_operations)
@@ -66,6 +66,7 @@ has_access memory.Store = true
 has_access memory.FetchAdd = true
 has_access memory.TagGet = false
 has_access memory.TagSet = false
+has_access memory.Purge = false
 
 unfoldable pub access_named : MemoryOp → Option (List ℕ) → Option Access
 access_named op None = Some access.FromPointer

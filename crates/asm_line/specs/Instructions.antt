@@ -170,14 +170,14 @@ instruction_of places here texts = too_many texts
 unfoldable pub operations : Places → ℕ → List ℕ → Result Insn Fault
 operations places here text = instruction_of places here (map trim (parts 124 text))
 
-abbrev pub looking : ℕ → Insn → Insn
-looking n (insn.Wide look op reg imm) = insn.Wide n op reg imm
-looking n (insn.Normal look m a c) = insn.Normal n m a c
+abbrev pub with_lookahead : ℕ → Insn → Insn
+with_lookahead n (insn.Wide look op reg imm) = insn.Wide n op reg imm
+with_lookahead n (insn.Normal look m a c) = insn.Normal n m a c
 
 -- @n, a blank and then the operations; with no @n the lookahead is 0
 unfoldable pub instruction_of_text : Places → ℕ → List ℕ → Result Insn Fault
 instruction_of_text places here text =
     if slice_index text 0 == 64
-    then map_ok (λ v. looking v.0 v.1)
+    then map_ok (λ v. with_lookahead v.0 v.1)
     (both (number_within 7 (drop 1 (head text))) (operations places here (behind_head text)))
     else operations places here text

@@ -11,5 +11,5 @@ unfoldable pub places_of : Labels → Places
 places_of labels name = lookup (λ label. bytes_eq name label.now) labels.places.entries
 
 -- what a line with this label at this place says of a name
-abbrev pub standing : List ℕ → Option (List ℕ) → Place → Option Place
-standing name label p = if stands name label then Some p else None
+abbrev pub place_told : List ℕ → Option (List ℕ) → Place → Option Place
+place_told name label p = if stands name label then Some p else None

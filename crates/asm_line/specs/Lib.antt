@@ -1,4 +1,5 @@
--- The definitions, in the order of reading. Contracts of public functions cite them, or go back to them.
+-- The definitions, in the order of reading. The promises, which contracts of public functions
+-- cite or go back to:
 pub mod Text
 pub mod Faults
 pub mod Numbers
@@ -12,5 +13,5 @@ pub mod Lines
 pub mod Seen
 pub mod Labels
 pub mod Ranges
--- What the code has of operands on its way.
+-- The aids: what the code has of operands on its way.
 pub mod OperandsSeen

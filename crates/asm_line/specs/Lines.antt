@@ -76,9 +76,9 @@ abbrev pub is_label : List ℕ → List ℕ → Bool
 is_label name statement = is_name name && not (list_any (λ b. b == 58) statement)
 
 -- whether the label of line k may stand there
-unfoldable pub labelling : Places → ℕ → Option (List ℕ) → List ℕ → Result ⊤ Fault
-labelling places k None statement = Ok tt
-labelling places k (Some name) statement =
+unfoldable pub label_fault : Places → ℕ → Option (List ℕ) → List ℕ → Result ⊤ Fault
+label_fault places k None statement = Ok tt
+label_fault places k (Some name) statement =
     if is_label name statement then (if stands_earlier k (places name) then Err fault.LabelTwice else Ok tt)
     else Err fault.Unknown
 
@@ -96,4 +96,4 @@ statement_item places words here text =
 -- the lines have so many words in all.
 unfoldable pub line_item : Places → ℕ → ℕ → ℕ → Line → Result Item Fault
 line_item places words k here l =
-    map_ok (λ v. v.1) (both (labelling places k l.label l.statement) (statement_item places words here l.statement))
+    map_ok (λ v. v.1) (both (label_fault places k l.label l.statement) (statement_item places words here l.statement))

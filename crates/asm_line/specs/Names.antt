@@ -29,6 +29,7 @@ memory_name memory.Store = codes "STORE"
 memory_name memory.FetchAdd = codes "FADD"
 memory_name memory.TagGet = codes "TAGGET"
 memory_name memory.TagSet = codes "TAGSET"
+memory_name memory.Purge = codes "PURGE"
 
 abbrev pub arithmetic_name : ArithmeticOp → List ℕ
 arithmetic_name arithmetic.Nop = codes "NOP"

@@ -3,7 +3,7 @@
 ghost use Rattle.std.specs.Prelude.{◌≡◌};
 ghost use Rattle.asm_line.specs.Faults.{kind_number, least_fault, both};
 
-/// The kinds of faults of a source text ("Source text", docs/FORMATS.md), in the order in which a line's are
+/// The kinds of faults of a source text (docs/WRITING_PROGRAMS.md), in the order in which a line's are
 /// answered.
 #[derive(Clone, Copy, Debug, PartialEq, Eq)]
 pub enum Fault {

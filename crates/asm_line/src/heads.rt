@@ -1,7 +1,7 @@
 //! The operation, condition or directive that a name stands for.
 //!
 //! NOP, the first operation of each part of a normal word, is named by no part: it is an instruction of its own. The
-//! first access, which is the pointer's, has no suffix.
+//! first access, which is the pointer's, has no suffix. Texts have Profile 1, so PURGE names nothing.
 
 ghost use Rattle.std.specs.Prelude.{◌≡◌};
 ghost use Rattle.std.specs.Option.{option_copied};
@@ -43,7 +43,7 @@ fn wide_named(name: &[u8]) -> Option<WideOp>
 fn memory_named(name: &[u8]) -> Option<MemoryOp>
     ensures { result ≡ memory_named name.now }
 {
-    MemoryOp::ALL[1..]
+    MemoryOp::IN_PROFILE_ONE[1..]
         .iter()
         .copied()
         .find(|op| name == names::memory(*op).as_bytes())
@@ -113,7 +113,7 @@ fn has_access(op: MemoryOp) -> bool
 {
     match op {
         MemoryOp::Load | MemoryOp::Store | MemoryOp::FetchAdd => true,
-        MemoryOp::Nop | MemoryOp::TagGet | MemoryOp::TagSet => false,
+        MemoryOp::Nop | MemoryOp::TagGet | MemoryOp::TagSet | MemoryOp::Purge => false,
     }
 }
 

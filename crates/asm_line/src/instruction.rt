@@ -6,7 +6,7 @@ ghost use Rattle.text_parts.specs.Parts.{parts};
 ghost use Rattle.asm_line.specs.Heads.{operation_of};
 ghost use Rattle.asm_line.specs.Labels.{places_of};
 ghost use Rattle.asm_line.specs.Instructions.{one_part, two_parts, three_parts, too_many, operations};
-ghost use Rattle.asm_line.specs.Instructions.{looking, instruction_of_text, is_ok};
+ghost use Rattle.asm_line.specs.Instructions.{with_lookahead, instruction_of_text, is_ok};
 
 use crate::arguments::read_arguments;
 use crate::combination::{double, single, triple};
@@ -31,12 +31,12 @@ pub(crate) fn instruction(labels: &Labels, here: usize, text: &[u8]) -> Result<I
         small_within(7, tail(head)),
         operations(labels, here, behind),
     )?;
-    Ok(looking(look, insn))
+    Ok(with_lookahead(look, insn))
 }
 
 /// The instruction with this lookahead.
-fn looking(look: u8, insn: Insn) -> Insn
-    ensures { result ≡ looking look insn }
+fn with_lookahead(look: u8, insn: Insn) -> Insn
+    ensures { result ≡ with_lookahead look insn }
 {
     match insn {
         Insn::Wide { op, reg, imm, .. } => Insn::Wide { look, op, reg, imm },

@@ -2,7 +2,7 @@
 
 use insn_word::Insn;
 
-/// What one line of source text adds ("Source text", docs/FORMATS.md).
+/// What one line of source text adds (docs/WRITING_PROGRAMS.md).
 #[derive(Clone, Copy, Debug, PartialEq, Eq)]
 pub enum Item {
     /// The line is empty, but for a label or a comment.

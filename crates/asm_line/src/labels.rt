@@ -15,7 +15,7 @@ impl<'t> Labels<'t> {
     ghost use Rattle.std.specs.Prelude.{◌≡◌, ℕ, List, None, OnOk, OnErr};
     ghost use Rattle.std.specs.Option.{option_copied, option_or};
     ghost use Rattle.asm_line.specs.Operands.{label_value};
-    ghost use Rattle.asm_line.specs.Labels.{places_of, standing};
+    ghost use Rattle.asm_line.specs.Labels.{places_of, place_told};
 
     /// No labels.
     #[tactic(auto, unfolding(crate::specs::Labels::places_of))]
@@ -50,27 +50,13 @@ impl<'t> Labels<'t> {
     #[tactic(auto, unfolding(crate::specs::Labels::places_of))]
     pub fn note(&mut self, label: Option<&'t [u8]>, place: Place) -> Result<(), AllocError>
         ensures takes { OnOk result ((name : List ℕ) → places_of self.new name
-            ≡ option_or (places_of self.old name) (standing name (option_copied label.entry) place)) }
+            ≡ option_or (places_of self.old name) (place_told name (option_copied label.entry) place)) }
         ensures kept { OnErr result ((name : List ℕ) → places_of self.new name ≡ places_of self.old name) }
     {
         let Some(name) = label else {
             return Ok(());
         };
-        if self.find(name).is_some() {
-            return Ok(());
-        }
-        self.insert(name, place)
-    }
-
-    /// Adds a label that does not stand yet.
-    #[tactic(auto, unfolding(crate::specs::Labels::places_of))]
-    fn insert(&mut self, label: &'t [u8], place: Place) -> Result<(), AllocError>
-        requires { places_of self.old label.now ≡ None }
-        ensures takes { OnOk result ((name : List ℕ) → places_of self.new name
-            ≡ option_or (places_of self.old name) (standing name (Some label.entry.now) place)) }
-        ensures kept { OnErr result ((name : List ℕ) → places_of self.new name ≡ places_of self.old name) }
-    {
-        self.places.insert(label, place)?;
+        self.places.entry(name)?.or_insert(place);
         Ok(())
     }
 }

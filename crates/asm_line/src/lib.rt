@@ -1,4 +1,4 @@
-//! What one line of source text means (docs/FORMATS.md, "Source text").
+//! What one line of source text means (docs/WRITING_PROGRAMS.md).
 #![tactic(auto)]
 
 mod arguments;

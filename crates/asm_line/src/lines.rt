@@ -5,7 +5,7 @@ ghost use Rattle.std.specs.Option.{option_copied};
 ghost use Rattle.std.specs.List.{list_any};
 ghost use Rattle.asm_line.specs.Text.{is_name};
 ghost use Rattle.text_parts.specs.Parts.{text_before, text_after};
-ghost use Rattle.asm_line.specs.Lines.{line, lines, is_word, is_label, labelling, statement_item, directive_item};
+ghost use Rattle.asm_line.specs.Lines.{line, lines, is_word, is_label, label_fault, statement_item, directive_item};
 ghost use Rattle.asm_line.specs.Lines.{line_item};
 ghost use Rattle.asm_line.specs.Labels.{places_of};
 ghost use Rattle.asm_line.specs.Lines.{rest_lines};
@@ -105,21 +105,21 @@ fn line_item(
 ) -> Result<Item, Fault>
     ensures { result ≡ line_item (places_of labels.now) words number here (line_seen line.now) }
 {
-    let label = labelling(labels, number, line.label, line.statement);
+    let label = label_fault(labels, number, line.label, line.statement);
     let (_, item) = both(label, statement_item(labels, words, here, line.statement))?;
     Ok(item)
 }
 
 /// The fault of the label of line `number`, if it has one: it is no name or a second colon follows, or it stands on
 /// an earlier line.
-#[tactic(auto, unfolding(crate::specs::Lines::labelling))]
-fn labelling(
+#[tactic(auto, unfolding(crate::specs::Lines::label_fault))]
+fn label_fault(
     labels: &Labels,
     number: usize,
     label: Option<&[u8]>,
     statement: &[u8],
 ) -> Result<(), Fault>
-    ensures { result ≡ labelling (places_of labels.now) number (option_copied label.entry) statement.now }
+    ensures { result ≡ label_fault (places_of labels.now) number (option_copied label.entry) statement.now }
 {
     let Some(name) = label else {
         return Ok(());

@@ -1,4 +1,4 @@
-//! The names of operations, conditions and directives ("Source text", docs/FORMATS.md). Texts are read and listed by
+//! The names of operations, conditions and directives (docs/WRITING_PROGRAMS.md). Texts are read and listed by
 //! these.
 
 ghost use Rattle.std.specs.Prelude.{◌≡◌, ◌≤◌, length};
@@ -32,6 +32,7 @@ pub fn memory(op: MemoryOp) -> &'static str
         MemoryOp::FetchAdd => "FADD",
         MemoryOp::TagGet => "TAGGET",
         MemoryOp::TagSet => "TAGSET",
+        MemoryOp::Purge => "PURGE",
     }
 }
 

@@ -19,7 +19,7 @@ use Rattle.asm_line.specs.Operands.{Places}
 use Rattle.asm_line.specs.Instructions.{instruction_of_text}
 use Rattle.asm_line.specs.Numbers.{count_within}
 use Rattle.asm_line.specs.Directives.{item_of_directive, cells, word_number, tags_number}
-use Rattle.asm_line.specs.Lines.{Line, line_item, statement_item, directive_item, labelling, is_word, word_count}
+use Rattle.asm_line.specs.Lines.{Line, line_item, statement_item, directive_item, label_fault, is_word, word_count}
 use Rattle.asm_line.specs.Lines.{count_words}
 use Rattle.asm_line.specs.declared.fault.Fault.{Fault}
 use Rattle.asm_line.specs.declared.fault.Fault.TheVariants as fault
@@ -31,7 +31,7 @@ use Rattle.asm_text.specs.declared.fault.AsmFault.{AsmFault}
 use Rattle.asm_text.specs.declared.settings.Settings.{Settings}
 use Rattle.asm_text.specs.Settings.{profile_set, slim_set, retry_set, trap_set}
 use Rattle.asm_text.specs.Drafts.{DraftValue, add, with_settings, with_entry, with_word, with_cells}
-use Rattle.asm_text.specs.Sources.{with_line, with_lines, going}
+use Rattle.asm_text.specs.Sources.{with_line, with_lines, after_line}
 use Rattle.asm_text.proofs.Kept.{mapped, passed}
 
 -- how many words an item is
@@ -172,9 +172,9 @@ line_counts : (places : Places) (words k here : ℕ) (l : Line) (i : Item) → l
 unfolding line_item
 line_counts places words k here l i is =
     let m = mapped (λ (v : ⊤ × Item). v.1)
-    (both (labelling places k l.label l.statement) (statement_item places words here l.statement)) i is in
+    (both (label_fault places k l.label l.statement) (statement_item places words here l.statement)) i is in
     statement_counts places words here l.statement i
-    (second (labelling places k l.label l.statement) (statement_item places words here l.statement) m.0 m.1
+    (second (label_fault places k l.label l.statement) (statement_item places words here l.statement) m.0 m.1
     ∙ ap (λ (j : Item). Ok j) m.2)
 
 settings_count : (d e : DraftValue) (r : Result Settings Fault) → with_settings d r ≡ Ok e
@@ -222,7 +222,7 @@ with_line_counts places words k d e l is =
     add_counts d e b.0 b.2 ∙ ap (λ n. length d.words + n) (line_counts places words k (length d.words) l b.0 b.1)
 
 gone : (r : Result DraftValue Fault) (k : ℕ) (f : DraftValue → Result DraftValue AsmFault) (e : DraftValue)
-    → going r k f ≡ Ok e → (d : DraftValue) × (r ≡ Ok d) × (f d ≡ Ok e)
+    → after_line r k f ≡ Ok e → (d : DraftValue) × (r ≡ Ok d) × (f d ≡ Ok e)
 gone (Ok d) k f e is = (d, refl, is)
 gone (Err x) k f e is = absurd cc
 

@@ -17,7 +17,7 @@ use Rattle.asm_line.specs.Heads.{directive_of, directive_named}
 use Rattle.asm_line.specs.Operands.{Places}
 use Rattle.asm_line.specs.Numbers.{count_within, number_within}
 use Rattle.asm_line.specs.Directives.{item_of_directive, cells, data_cell, fill, word_number, tags_number}
-use Rattle.asm_line.specs.Lines.{Line, line_item, statement_item, directive_item, labelling, is_word}
+use Rattle.asm_line.specs.Lines.{Line, line_item, statement_item, directive_item, label_fault, is_word}
 use Rattle.asm_line.specs.Lines.{word_count, count_words, place, further, stands, stands_earlier}
 use Rattle.asm_line.specs.declared.fault.Fault.TheVariants as fault
 use Rattle.asm_line.specs.declared.item.Item.{Item}
@@ -25,7 +25,7 @@ use Rattle.asm_line.specs.declared.item.Item.TheVariants as item
 use Rattle.asm_line.specs.declared.operation.Directive.TheVariants as directive
 use Rattle.asm_line.specs.declared.place.Place.{Place}
 use Rattle.asm_text.specs.Drafts.{DraftValue, empty, add}
-use Rattle.asm_text.specs.Sources.{with_line, with_lines, going, complete, meaning_of_lines}
+use Rattle.asm_text.specs.Sources.{with_line, with_lines, after_line, complete, meaning_of_lines}
 use Rattle.asm_text.specs.DataLaws.{data_statement, fill_statement, IsOneOperand, DataLinesAreFills}
 
 -- What the two statements say.
@@ -163,8 +163,8 @@ same_colons v =
 
 same_label : (places : Places) (k : ℕ) (label : Option (List ℕ)) (s t : List ℕ)
     → list_any (λ b. eqb b 58) s ≡ list_any (λ b. eqb b 58) t
-    → labelling places k label s ≡ labelling places k label t
-unfolding labelling
+    → label_fault places k label s ≡ label_fault places k label t
+unfolding label_fault
 same_label places k None s t e = refl
 same_label places k (Some name) s t e =
     ap (λ b. cond (is_name name && not b) (cond (stands_earlier k (places name)) (Err fault.LabelTwice) (Ok tt))
@@ -205,9 +205,9 @@ lines_same : (places : Places) (words k : ℕ) (d : DraftValue) (before after : 
     → ((n : ℕ) (e : DraftValue) → with_line places words n e l ≡ with_line places words n e m)
     → with_lines places words k d (before ++ l ∷ after) ≡ with_lines places words k d (before ++ m ∷ after)
 lines_same places words k d [] after l m same =
-    ap (λ r. going r k (λ e. with_lines places words (k + 1) e after)) (same k d)
+    ap (λ r. after_line r k (λ e. with_lines places words (k + 1) e after)) (same k d)
 lines_same places words k d (b ∷ bs) after l m same =
-    λ i. going (with_line places words k d b) k (λ e. lines_same places words (k + 1) e bs after l m same i)
+    λ i. after_line (with_line places words k d b) k (λ e. lines_same places words (k + 1) e bs after l m same i)
 
 count_same : (before after : List Line) (l m : Line) → word_count l ≡ word_count m
     → count_words (before ++ l ∷ after) ≡ count_words (before ++ m ∷ after)

@@ -6,7 +6,7 @@ use Rattle.asm_line.specs.Lines.{Line}
 use Rattle.asm_line.specs.declared.fault.Fault.{Fault}
 use Rattle.asm_text.specs.declared.fault.AsmFault.{AsmFault}
 use Rattle.asm_text.specs.Drafts.{DraftValue}
-use Rattle.asm_text.specs.Sources.{with_line, with_lines, going}
+use Rattle.asm_text.specs.Sources.{with_line, with_lines, after_line}
 
 -- the first k of these lines, of which the first is line n, add to a draft and give another
 pub record Adds (places : Places) (words n : ℕ) (d : DraftValue) (ls : List Line)
@@ -79,7 +79,7 @@ tail_adds places words n d e l ls k a = record {
 }
 
 went : (r : Result DraftValue Fault) (n : ℕ) (f : DraftValue → Result DraftValue AsmFault) (e : DraftValue)
-    → going r n f ≡ Ok e → (d : DraftValue) × (r ≡ Ok d) × (f d ≡ Ok e)
+    → after_line r n f ≡ Ok e → (d : DraftValue) × (r ≡ Ok d) × (f d ≡ Ok e)
 went (Ok d) n f e is = (d, refl, is)
 went (Err x) n f e is = absurd cc
 
@@ -95,7 +95,7 @@ pub added_lines : (places : Places) (words n : ℕ) (d e : DraftValue) (ls : Lis
     → Adds places words n d ls (length ls) e → with_lines places words n d ls ≡ Ok e
 added_lines places words n d e [] a = ap (λ (x : DraftValue). Ok x) (sym a.first ∙ a.last)
 added_lines places words n d e (l ∷ ls) a =
-    ap (λ r. going r n (λ f. with_lines places words (n + 1) f ls)) (head_added places words n d e l ls (length ls) a)
+    ap (λ r. after_line r n (λ f. with_lines places words (n + 1) f ls)) (head_added places words n d e l ls (length ls) a)
     ∙ added_lines places words (n + 1) (a.drafts 1) e ls (tail_adds places words n d e l ls (length ls) a)
 
 -- line k of these has a fault, and none before it
@@ -134,7 +134,7 @@ fails_more places words n d e l ls k kind added f = record {
 
 fails_by : (places : Places) (words n : ℕ) (d : DraftValue) (l : Line) (ls : List Line) (e : AsmFault)
     (r : Result DraftValue Fault)
-    → with_line places words n d l ≡ r → going r n (λ f. with_lines places words (n + 1) f ls) ≡ Err e
+    → with_line places words n d l ≡ r → after_line r n (λ f. with_lines places words (n + 1) f ls) ≡ Err e
     → ((x : DraftValue) → with_lines places words (n + 1) x ls ≡ Err e → IsFailure places words (n + 1) x ls e)
     → IsFailure places words n d (l ∷ ls) e
 fails_by places words n d l ls e (Err kind) first is rest =
@@ -173,11 +173,11 @@ failed_lines places words n d [] e k line f =
     let no : ◌≡◌ {A = Option Line} None (Some f.line) = f.stands in absurd cc
 failed_lines places words n d (l ∷ ls) e zero line f =
     let at : e.line ≡ n + 1 = omega arith in
-    ap (λ r. going r n (λ x. with_lines places words (n + 1) x ls)) (refused_first places words n d l ls e.kind f)
+    ap (λ r. after_line r n (λ x. with_lines places words (n + 1) x ls)) (refused_first places words n d l ls e.kind f)
     ∙ ap (λ (x : AsmFault). Err x) (fault_is e (n + 1) e.kind at refl)
 failed_lines places words n d (l ∷ ls) e (suc k) line f =
     let at : e.line ≡ n + 1 + k + 1 = omega arith in
-    ap (λ r. going r n (λ x. with_lines places words (n + 1) x ls))
+    ap (λ r. after_line r n (λ x. with_lines places words (n + 1) x ls))
     (head_added places words n d f.draft l ls k f.before)
     ∙ failed_lines places words (n + 1) (f.before.drafts 1) ls e k at (record {
       draft = f.draft;

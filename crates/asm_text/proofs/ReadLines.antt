@@ -13,7 +13,7 @@ use Rattle.asm_line.specs.Text.{trim}
 use Rattle.text_parts.specs.Parts.{text_after, parts}
 use Rattle.asm_line.specs.Faults.{◌>>=◌}
 use Rattle.asm_line.specs.Operands.{Places}
-use Rattle.asm_line.specs.Lines.{Line, line, lines, line_item, labelling, statement_item, is_word}
+use Rattle.asm_line.specs.Lines.{Line, line, lines, line_item, label_fault, statement_item, is_word}
 use Rattle.asm_line.specs.Lines.{count_words}
 use Rattle.asm_line.specs.declared.fault.Fault.{Fault}
 use Rattle.asm_line.specs.declared.item.Item.{Item}
@@ -21,7 +21,7 @@ use Rattle.asm_line.specs.declared.item.Item.TheVariants as item
 use Rattle.listing_line.specs.Laws.{IsReadAs, is_line_byte}
 use Rattle.asm_text.specs.declared.fault.AsmFault.{AsmFault}
 use Rattle.asm_text.specs.Drafts.{DraftValue, add}
-use Rattle.asm_text.specs.Sources.{with_line, with_lines, going, not_ascii, line_of}
+use Rattle.asm_text.specs.Sources.{with_line, with_lines, after_line, not_ascii, line_of}
 use Rattle.asm_text.specs.Listing.{with_line_end, text_of_lines}
 use Rattle.asm_text.proofs.Counted.{bound}
 
@@ -66,12 +66,12 @@ lines_added places words k d e [] (i ∷ is) tail whole h all rest = absurd h
 lines_added places words k d e (l ∷ ls) [] tail whole h all rest = absurd h
 lines_added places words k d e (l ∷ ls) (i ∷ is) tail whole h all rest =
     let b = bound (add d i) (λ f. add_all f is) e all in
-    ap (λ r. going r k (λ f. with_lines places words (k + 1) f (map line ls ++ tail)))
+    ap (λ r. after_line r k (λ f. with_lines places words (k + 1) f (map line ls ++ tail)))
     (line_added places words k d l (counts i) i h.0 ∙ b.1)
     ∙ lines_added places words (k + 1) b.0 e ls is tail whole h.1 b.2 rest
 
 empty_adds : (places : Places) (words k here : ℕ) → line_item places words k here (line []) ≡ Ok item.Nothing
-unfolding line_item labelling statement_item line trim text_after
+unfolding line_item label_fault statement_item line trim text_after
 empty_adds places words k here = refl
 
 empty_added : (places : Places) (words k : ℕ) (d : DraftValue) → with_line places words k d (line []) ≡ Ok d
@@ -82,7 +82,7 @@ empty_added places words k d = ap (λ r. r >>= add d) (empty_adds places words k
 pub last_line : (places : Places) (words : ℕ) (d : DraftValue) (n : ℕ)
     → with_lines places words n d (line [] ∷ []) ≡ Ok d
 last_line places words d n =
-    ap (λ r. going r n (λ f. with_lines places words (n + 1) f [])) (empty_added places words n d)
+    ap (λ r. after_line r n (λ f. with_lines places words (n + 1) f [])) (empty_added places words n d)
 
 empty_counts : is_word (line []).statement ≡ false
 unfolding is_word line trim text_after

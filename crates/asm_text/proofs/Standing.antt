@@ -3,7 +3,7 @@ use Rattle.std.proofs.Common.{◌≡◌, ℕ, ◌+◌, ◌≤◌, Bool, true, fa
 use Rattle.std.proofs.Common.{refl, sym, ◌∙◌, ap, arith}
 use Rattle.std.specs.Option.{option_map, option_or}
 use Rattle.asm_line.specs.Lines.{Line, place, stands, word_count, count_words, is_word}
-use Rattle.asm_line.specs.Labels.{standing}
+use Rattle.asm_line.specs.Labels.{place_told}
 use Rattle.asm_line.specs.declared.place.Place.{Place}
 
 -- a place seen from k lines and w words before
@@ -37,7 +37,7 @@ place-at l ls name = refl
 -- what stands before a line, on it and behind it
 pub labels_taken : (name : List ℕ) (l : Line) (ls these all : List Line) (before now : Option Place) (k w v : ℕ)
     → these ≡ l ∷ ls → v ≡ w + word_count l
-    → now ≡ option_or before (standing name l.label (record { line = k; value = w }))
+    → now ≡ option_or before (place_told name l.label (record { line = k; value = w }))
     → option_or before (moved k w (place these name)) ≡ place all name
     → option_or now (moved (k + 1) v (place ls name)) ≡ place all name
 labels_taken name l ls these all before now k w v first count is whole =

@@ -1,4 +1,4 @@
--- The definitions, in the order of reading.
+-- The definitions, in the order of reading. All of them are promises: clauses of public functions cite them.
 pub mod Faults
 pub mod Settings
 pub mod Drafts

@@ -15,16 +15,16 @@ use Rattle.asm_text.specs.Drafts.{DraftValue, empty, add, has_all, image_of_draf
 unfoldable pub with_line : Places → ℕ → ℕ → DraftValue → Line → Result DraftValue Fault
 with_line places words k d l = line_item places words k (length d.words) l >>= add d
 
-abbrev pub going : Result DraftValue Fault → ℕ → (DraftValue → Result DraftValue AsmFault)
+abbrev pub after_line : Result DraftValue Fault → ℕ → (DraftValue → Result DraftValue AsmFault)
     → Result DraftValue AsmFault
-going (Ok d) k f = f d
-going (Err e) k f = Err (record { line = k + 1; kind = e })
+after_line (Ok d) k f = f d
+after_line (Err e) k f = Err (record { line = k + 1; kind = e })
 
 -- the draft with these lines, of which the first is line k, or the least line with a fault and its least fault
 abbrev pub with_lines : Places → ℕ → ℕ → DraftValue → List Line → Result DraftValue AsmFault
 with_lines places words k d [] = Ok d
 with_lines places words k d (l ∷ ls) =
-    going (with_line places words k d l) k (λ e. with_lines places words (k + 1) e ls)
+    after_line (with_line places words k d l) k (λ e. with_lines places words (k + 1) e ls)
 
 -- the line of the byte at a place
 abbrev pub line_of : List ℕ → Option ℕ → Option ℕ

@@ -7,7 +7,7 @@ ghost use Rattle.asm_text.specs.Faults.{asm_no_memory};
 use asm_line::Fault;
 use std::alloc::AllocError;
 
-/// The fault of a source text ("Source text", docs/FORMATS.md): the least kind on the least line that has one.
+/// The fault of a source text (docs/WRITING_PROGRAMS.md): the least kind on the least line that has one.
 #[derive(Clone, Copy, Debug, PartialEq, Eq)]
 pub struct AsmFault {
     /// The line, from 1; 0 for a fault of no line.

@@ -1,5 +1,5 @@
 //! Source texts of programs: the image that a text means, and the listing of an image
-//! (docs/FORMATS.md, "Source text" and "Listing").
+//! (docs/WRITING_PROGRAMS.md and "Listing").
 #![tactic(auto)]
 
 mod draft;

@@ -111,7 +111,7 @@ fn all_lines(alloc: Global, labels: &Labels, words: usize, text: &[u8]) -> Resul
     Ok(draft)
 }
 
-/// The image that a source text means ("Source text", docs/FORMATS.md).
+/// The image that a source text means (docs/WRITING_PROGRAMS.md).
 ///
 /// Else its fault: the least line with a byte that is not ASCII, else the least line that has a fault, with the least
 /// kind of its faults, else `Directive` on line 0 where the text has no entry, no program word or no cell.

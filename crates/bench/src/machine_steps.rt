@@ -22,7 +22,7 @@ pub(crate) const FETCH_ADD: [u64; 1] = [0x0684_0000_0000_80FF];
 /// Runs the loop for so many rounds, and gives the number of steps of each.
 pub(crate) fn run_rounds(alloc: Global, program: &[u64], rounds: u32) -> Result<usize> {
     let steps = turns(alloc)?;
-    let image = image_of(alloc, program)?.context("no image")?;
+    let image = image_of(alloc, program, 1)?.context("no image")?;
     let mut machine = Machine::<8>::load(alloc, &image)
         .ok()
         .context("no machine")?;
@@ -42,10 +42,14 @@ pub(crate) fn turns(alloc: Global) -> Result<Vec<Step>, AllocError> {
     Ok(steps)
 }
 
-/// All processors begin at word 0 over one full word.
-pub(crate) fn image_of(alloc: Global, program: &[u64]) -> Result<Option<Image>, AllocError> {
+/// All processors begin at word 0 over so many full words.
+pub(crate) fn image_of(
+    alloc: Global,
+    program: &[u64],
+    words: usize,
+) -> Result<Option<Image>, AllocError> {
     let mut entries = vec![in alloc; 0; PROCESSORS]?;
     let mut program = program.to_vec(alloc)?;
-    let mut cells = Vec::from_slice(alloc, &[Word::new(0, Tags::FULL)])?;
+    let mut cells = vec![in alloc; Word::new(0, Tags::FULL); words]?;
     Ok(Image::from_parts(&mut entries, 1, 0, u32::MAX, &mut program, &mut cells).ok())
 }

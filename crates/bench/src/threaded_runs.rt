@@ -37,7 +37,7 @@ impl Asking {
     }
 
     fn image(self, alloc: Global) -> Result<Image> {
-        image_of(alloc, &self.program(alloc)?)?.context("no image")
+        image_of(alloc, &self.program(alloc)?, 1)?.context("no image")
     }
 
     /// Runs the loop on one machine for so many rounds, and gives the number of steps of each.

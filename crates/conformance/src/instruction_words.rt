@@ -1,7 +1,8 @@
 //! Lines that say which instruction a word spells, or that it spells none.
-use anyhow::Result;
+use crate::streams::instruction;
+use anyhow::{Context, Result};
 use asm_text::{assemble, listing};
-use insn_word::{decode, encode};
+use insn_word::{Profile, decode, decode_as, encode};
 use number_text::read_hexadecimal;
 use std::alloc::Global;
 
@@ -23,6 +24,27 @@ pub(crate) fn is_spelt(alloc: Global, line: &str) -> Result<bool> {
         image.program() == [word].as_slice()
             && listing(alloc, &image)?.as_str().contains(listed.as_str())
             && insn.is_valid()
+            && insn.is_valid_as(Profile::Two)
+            && encode(&insn) == word,
+    )
+}
+
+/// Whether the line's word spells in Profile 2 the PURGE whose source text follows it, or nothing where that is
+/// `none`; and in Profile 1 nothing.
+pub(crate) fn is_of_profile_two(alloc: Global, line: &str) -> Result<bool> {
+    let (word, text) = split(line).context("a word and its instruction")?;
+    let found = decode_as(Profile::Two, word);
+    if decode(word).is_some() {
+        return Ok(false);
+    }
+    if text == "none" {
+        return Ok(found.is_none());
+    }
+    let insn = instruction(alloc, text)?;
+    Ok(
+        found == Some(insn)
+            && !insn.is_valid()
+            && insn.is_valid_as(Profile::Two)
             && encode(&insn) == word,
     )
 }

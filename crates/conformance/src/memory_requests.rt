@@ -2,20 +2,39 @@
 use crate::fields::{number, reply_of, split};
 use anyhow::{Context, Result, anyhow};
 use std::alloc::Global;
-use tag_memory::{Acc, MAX_WORDS, Masked, MemOp, Memory, Pointer, Request, Word};
+use tag_memory::{Acc, MAX_CHAIN_LIMIT, MAX_WORDS, Masked, MemOp, Memory, Pointer, Request, Word};
 
 /// Whether a memory of the line's words gives its replies to its requests, and then has the words at its end.
 pub(crate) fn is_answered(alloc: Global, line: &str) -> Result<bool> {
     let fields = split(alloc, line, '\t')?;
-    let [before, requests, replies, after] = fields.as_slice() else {
+    let [before, requests, replies, after, limits @ ..] = fields.as_slice() else {
         return Ok(false);
     };
-    let words = words_of(alloc, before)?;
-    if words.is_empty() || words.len() > MAX_WORDS {
+    let Some(mut memory) = memory_of(alloc, before, limits)? else {
         return Ok(false);
-    }
-    let mut memory = Memory::new(alloc, &words)?;
+    };
     Ok(gives(alloc, &mut memory, requests, replies)? && holds(&memory, &words_of(alloc, after)?))
+}
+
+/// The memory of the words of a text, with the chain limit of a field if there is one; `None` where there is no such
+/// memory, or it has another limit.
+fn memory_of(alloc: Global, text: &str, limits: &[&str]) -> Result<Option<Memory>> {
+    let words = words_of(alloc, text)?;
+    if words.is_empty() || words.len() > MAX_WORDS {
+        return Ok(None);
+    }
+    let [limit, ..] = limits else {
+        return Ok(Some(Memory::new(alloc, &words)?));
+    };
+    let limit = u8::try_from(number(limit)?).ok().context("a chain limit")?;
+    if limit > MAX_CHAIN_LIMIT {
+        return Ok(None);
+    }
+    let memory = Memory::with_chain(alloc, &words, limit)?;
+    if memory.chain_limit() != limit {
+        return Ok(None);
+    }
+    Ok(Some(memory))
 }
 
 /// Whether the memory gives these replies to these requests, asked one after the other.
@@ -81,6 +100,7 @@ fn operation_of(name: &str) -> Result<MemOp> {
         "FADD" => Ok(MemOp::Fadd),
         "TAGGET" => Ok(MemOp::TagGet),
         "TAGSET" => Ok(MemOp::TagSet),
+        "PURGE" => Ok(MemOp::Purge),
         _ => Err(anyhow!("no operation of a memory")),
     }
 }

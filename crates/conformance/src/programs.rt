@@ -9,7 +9,7 @@ use std::rt::Files;
 
 /// Runs of small programs for reading. A run is named PROGRAM.SCHEDULE, or PROGRAM where there is one schedule alone:
 /// PROGRAM.asm is the source; the schedule, and the trace that the run comes to, have the run's name.
-const EXAMPLES: [&str; 24] = [
+const EXAMPLES: [&str; 25] = [
     "count.ends",
     "count.one_too_many",
     "producer_consumer.ends",
@@ -24,6 +24,7 @@ const EXAMPLES: [&str; 24] = [
     "forwarding.ends",
     "forwarding.trapped",
     "future.ends",
+    "future.never_filled",
     "silent_wait",
     "limited_wait",
     "bounded_buffer.ends",

@@ -2,12 +2,30 @@
 use crate::fields::{number, reply_of, split, trap_of};
 use anyhow::{Context, Result, anyhow};
 use asm_text::assemble;
-use insn_word::{Insn, decode};
+use insn_word::{Insn, MPart, MemoryOp, decode};
 use std::alloc::Global;
 use stream_core::{Child, Outcome, StatusWord, Stream, TrapMask};
 
-/// The instruction of a source text.
+/// The instruction of a source text. Texts have Profile 1, so one that begins with PURGE is read as TAGSET, which has
+/// the same fields.
 pub(crate) fn instruction(alloc: Global, text: &str) -> Result<Insn> {
+    let Some(operands) = text.strip_prefix("PURGE ") else {
+        return assembled(alloc, text);
+    };
+    let source = format!(in alloc; "TAGSET {operands}")?;
+    match assembled(alloc, source.as_str())? {
+        Insn::Normal { look, m, a, c } => {
+            let m = MPart {
+                op: MemoryOp::Purge,
+                ..m
+            };
+            Ok(Insn::Normal { look, m, a, c })
+        }
+        Insn::Wide { .. } => Err(anyhow!("a memory operation")),
+    }
+}
+
+fn assembled(alloc: Global, text: &str) -> Result<Insn> {
     let source = format!(in alloc; ".entry 0\n{text}\n.data 0\n")?;
     let image = assemble(alloc, source.as_bytes()).ok();
     let word = image.and_then(|image| image.program().first().copied());

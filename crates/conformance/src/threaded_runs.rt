@@ -16,46 +16,89 @@ const LINES: &str = "threads.tsv";
 /// The programs of data/threads: PROGRAM.asm comes to PROGRAM.end, however its processors meet.
 const ONE_END: [&str; 3] = ["barrier", "lock", "two_consumers"];
 
-/// How often each of them is run.
-const ROUNDS: usize = 67;
-
 /// The programs of data/examples, some of which may end in several ways.
-const EXAMPLES: [&str; 6] = [
+const EXAMPLES: [&str; 13] = [
+    "barrier",
+    "bounded_buffer",
     "count",
-    "producer_consumer",
-    "lock",
     "fetch_add",
-    "trap_handler",
     "forwarding",
+    "future",
+    "limited_wait",
+    "lock",
+    "philosophers",
+    "producer_consumer",
+    "readers_writer",
+    "silent_wait",
+    "trap_handler",
 ];
 
-/// How often each of them is run.
-const EXAMPLE_ROUNDS: usize = 10;
+/// Those of them that have two processors, which go through the turn memory.
+const OF_TWO: [&str; 6] = [
+    "count",
+    "forwarding",
+    "limited_wait",
+    "producer_consumer",
+    "silent_wait",
+    "trap_handler",
+];
 
-/// The most steps of a processor.
-const FUEL: usize = 10_000;
+/// Programs of a folder of data/, how often each is run, and the most steps of a processor then.
+#[derive(Clone, Copy)]
+struct Runs {
+    title: &'static str,
+    folder: &'static str,
+    rounds: usize,
+    fuel: usize,
+}
+
+impl Runs {
+    const OF_ONE_END: Runs = Runs {
+        title: "threads",
+        folder: "threads",
+        rounds: 200,
+        fuel: 10_000,
+    };
+
+    const OF_EXAMPLES: Runs = Runs {
+        title: "examples on threads",
+        folder: "examples",
+        rounds: 10,
+        fuel: 10_000,
+    };
+
+    /// With few steps, since one of them waits without end.
+    const OF_PAIRS: Runs = Runs {
+        title: "examples in turn",
+        folder: "examples",
+        rounds: 500,
+        fuel: 100,
+    };
+}
 
 /// Compares the lines, and runs the programs of both folders and then the schedules that are handed out.
 pub(crate) fn compare_threads<R: Files + AllocGlobal + Print + Threads + Wait + Sync>(
     rt: &R,
 ) -> Result<()> {
     compare_lines(rt)?;
+    replay_all(rt, Runs::OF_ONE_END, &ONE_END)?;
+    replay_all(rt, Runs::OF_EXAMPLES, &EXAMPLES)?;
+    replay_all(rt, Runs::OF_PAIRS, &OF_TWO)
+}
+
+/// Prints how many of the programs' runs are run again to the same end.
+fn replay_all<R: Files + AllocGlobal + Print + Threads + Wait + Sync>(
+    rt: &R,
+    runs: Runs,
+    programs: &[&str],
+) -> Result<()> {
     let mut replayed = 0usize;
-    for program in &ONE_END {
-        replayed = replayed.saturating_add(replay(rt, "threads", program, ROUNDS)?);
+    let mut all = 0usize;
+    for program in programs {
+        replayed = replayed.saturating_add(replay(rt, runs, program)?);
+        all = all.saturating_add(runs.rounds);
     }
-    println!(rt;
-        "threads, run again: {replayed} of {}",
-        ROUNDS * ONE_END.len()
-    )?;
-    replayed = 0;
-    for program in &EXAMPLES {
-        replayed = replayed.saturating_add(replay(rt, "examples", program, EXAMPLE_ROUNDS)?);
-    }
-    println!(rt;
-        "examples on threads, run again: {replayed} of {}",
-        EXAMPLE_ROUNDS * EXAMPLES.len()
-    )?;
+    println!(rt; "{}, run again: {replayed} of {all}", runs.title)?;
     Ok(())
 }
 
@@ -97,15 +140,15 @@ fn prints<R: AllocGlobal + Threads + Wait + Sync>(rt: &R, line: &str) -> Result<
     }
 }
 
-/// How many of so many runs of a program are run again by their schedules to the same end, which is the program's
-/// where it has only one.
+/// How many of a program's runs are run again by their schedules to the same end, which is the program's where it has
+/// only one.
 fn replay<R: Files + AllocGlobal + Threads + Wait + Sync>(
     rt: &R,
-    folder: &str,
+    runs: Runs,
     program: &str,
-    rounds: usize,
 ) -> Result<usize> {
     let alloc = rt.alloc();
+    let folder = runs.folder;
     let source = read(rt, format!(in alloc; "{folder}/{program}.asm")?)?;
     let image = assembled(alloc, source.as_bytes())?;
     let only = match folder {
@@ -113,8 +156,8 @@ fn replay<R: Files + AllocGlobal + Threads + Wait + Sync>(
         _ => None,
     };
     let mut replayed = 0usize;
-    for _ in 0..rounds {
-        let end = end_of_both(rt, &image)?;
+    for _ in 0..runs.rounds {
+        let end = end_of_both(rt, &image, runs.fuel)?;
         if ends_as(end.as_ref(), only.as_ref()) {
             replayed = replayed.saturating_add(1);
         }
@@ -137,10 +180,11 @@ fn ends_as(end: Option<&String>, only: Option<&String>) -> bool {
 fn end_of_both<R: AllocGlobal + Threads + Wait + Sync>(
     rt: &R,
     image: &[u8],
+    fuel: usize,
 ) -> Result<Option<String>> {
     let alloc = rt.alloc();
     let mut run = ThreadedRun::new(alloc);
-    run.run(rt, image, FUEL)?;
+    run.run(rt, image, fuel)?;
     let mut trace = Vec::new(alloc);
     run_engine(
         alloc,

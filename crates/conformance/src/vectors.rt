@@ -11,6 +11,8 @@ pub(crate) enum Vectors {
     InstructionWords,
     /// A word that spells no instruction, and why.
     NotInstructions,
+    /// A word of memory operation 6 or 7, and the PURGE that it spells in Profile 2, if any.
+    ProfileTwo,
     /// An arithmetic operation, its operands, its result and its condition code.
     Arithmetic,
     /// A condition, and the codes on which it holds.
@@ -29,9 +31,10 @@ pub(crate) enum Vectors {
 
 impl Vectors {
     /// All files, in the order in which they are compared.
-    pub(crate) const ALL: [Vectors; 22] = [
+    pub(crate) const ALL: [Vectors; 23] = [
         Vectors::InstructionWords,
         Vectors::NotInstructions,
+        Vectors::ProfileTwo,
         Vectors::Arithmetic,
         Vectors::Conditions,
         Vectors::StreamSteps,
@@ -59,6 +62,7 @@ impl Vectors {
         match self {
             Vectors::InstructionWords => "instruction_words.tsv",
             Vectors::NotInstructions => "not_instructions.tsv",
+            Vectors::ProfileTwo => "profile_two.tsv",
             Vectors::Arithmetic => "arithmetic.tsv",
             Vectors::Conditions => "conditions.tsv",
             Vectors::StreamSteps => "stream_steps.tsv",
@@ -74,6 +78,7 @@ impl Vectors {
         match self {
             Vectors::InstructionWords => "instruction words",
             Vectors::NotInstructions => "not instructions",
+            Vectors::ProfileTwo => "profile two",
             Vectors::Arithmetic => "arithmetic",
             Vectors::Conditions => "conditions",
             Vectors::StreamSteps => "stream steps",
@@ -89,6 +94,7 @@ impl Vectors {
         match self {
             Vectors::InstructionWords => instruction_words::is_spelt(alloc, line),
             Vectors::NotInstructions => Ok(instruction_words::is_no_instruction(line)),
+            Vectors::ProfileTwo => instruction_words::is_of_profile_two(alloc, line),
             Vectors::Arithmetic => Ok(arithmetic::is_computed(line)),
             Vectors::Conditions => Ok(conditions::is_condition(line)),
             Vectors::StreamSteps => stream_steps::is_taken(alloc, line),

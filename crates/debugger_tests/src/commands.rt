@@ -30,60 +30,47 @@ fn numbers_are_decimal_or_hexadecimal(rt: HostRuntime) -> Result<(), Fail> {
     Ok(())
 }
 
+/// Lines whose words are not those of a command.
+const NO_SUCH_WORDS: [&str; 26] = [
+    "", " ", "x", "C", "c ", " c", "c 1", "back 1", "backs", "s", "s ", "s  1", "s 1 ", "s 1 2",
+    "g", "w", "wt", "d", "wt 0 0", "b 0", "b 0 0 0", "r 0", "m 0", "m 0 1 1", "m  0 1", "m 0  1",
+];
+
+/// Lines with bytes of no word.
+const OTHER_BYTES: [&str; 6] = ["c\r", "c\t", "c\0", "s\t1", "s 1\r", "s 1\0"];
+
+/// Lines with what is no number of its type.
+const NO_NUMBERS: [&str; 14] = [
+    "s x",
+    "s 0x",
+    "s 0X1",
+    "s -1",
+    "s +1",
+    "s 1_0",
+    "s 0xg",
+    "s 18446744073709551616",
+    "s 0x10000000000000000",
+    "b 256 0",
+    "b 0 4294967296",
+    "r 0 256",
+    "r 256 0",
+    "m 0 0x",
+];
+
 #[test]
 fn other_lines_are_no_commands(rt: HostRuntime) -> Result<(), Fail> {
-    for line in [
-        "",
-        " ",
-        "x",
-        "C",
-        "c ",
-        " c",
-        "c 1",
-        "c\r",
-        "c\t",
-        "c\0",
-        "back 1",
-        "backs",
-        "s",
-        "s ",
-        "s  1",
-        "s 1 ",
-        "s 1 2",
-        "s\t1",
-        "s 1\r",
-        "s 1\0",
-        "s x",
-        "s 0x",
-        "s 0X1",
-        "s -1",
-        "s +1",
-        "s 1_0",
-        "s 0xg",
-        "s 18446744073709551616",
-        "s 0x10000000000000000",
-        "g",
-        "w",
-        "wt",
-        "d",
-        "wt 0 0",
-        "b 0",
-        "b 256 0",
-        "b 0 4294967296",
-        "b 0 0 0",
-        "r 0",
-        "r 0 256",
-        "r 256 0",
-        "m 0",
-        "m 0 1 1",
-        "m  0 1",
-        "m 0  1",
+    for lines in [
+        NO_SUCH_WORDS.as_slice(),
+        OTHER_BYTES.as_slice(),
+        NO_NUMBERS.as_slice(),
     ] {
-        assert_eq!(rt;
-            read_command(line.as_bytes()),
-            Err(DebugFault::Syntax),
-            "{line}"
-        );
+        for line in lines {
+            assert_eq!(rt;
+                read_command(line.as_bytes()),
+                Err(DebugFault::Syntax),
+                "{line}"
+            );
+        }
     }
     Ok(())
 }

@@ -1,10 +1,13 @@
 //! Moves from stop to stop.
 use crate::transcripts::{COUNTDOWN, LONG, assert_answers};
 use asm_text::assemble;
+use debug_commands::{Answer, Command, Why};
 use machine::LoadFault;
 use processor::Step;
 use replay_debugger::Session;
+use std::process::Abort;
 use std::test::Fail;
+use trace_text::read_schedule;
 
 #[test]
 fn a_watched_word_is_emptied_after_three_hundred_steps(rt: HostRuntime) -> Result<(), Fail> {
@@ -73,6 +76,68 @@ fn a_breakpoint_in_a_loop_stops_at_each_of_its_steps(rt: HostRuntime) -> Result<
             ("back", "at 398 stop"),
         ],
     )
+}
+
+/// Where `c` goes from a position of the countdown, with stops at 299 and 300.
+fn next_of(position: u64) -> (u64, Why) {
+    match position {
+        0..=298 => (299, Why::Stop),
+        299 => (300, Why::Stop),
+        _ => (405, Why::End),
+    }
+}
+
+/// Where `back` goes from there.
+fn last_of(position: u64) -> (u64, Why) {
+    match position {
+        0..=299 => (0, Why::Start),
+        300 => (299, Why::Stop),
+        _ => (300, Why::Stop),
+    }
+}
+
+/// Asserts where a command leads to.
+fn assert_leads(rt: &impl Abort, session: &mut Session<1>, command: Command, to: (u64, Why)) {
+    let Ok(Answer::At(position, why)) = session.command(&command) else {
+        assert!(rt; false, "{command:?}");
+        return;
+    };
+    assert_eq!(rt; (position, why), to, "{command:?}");
+}
+
+#[test]
+fn back_and_continue_turn_about_at_each_position(rt: HostRuntime) -> Result<(), Fail> {
+    let alloc = rt.alloc();
+    let image = assemble(alloc, COUNTDOWN.as_bytes())?;
+    let steps = read_schedule(alloc, LONG.as_bytes())?;
+    let Ok(mut session) = Session::<1>::begin(alloc, &image, steps) else {
+        assert!(rt; false, "no session");
+        return Ok(());
+    };
+    for command in [Command::Break(0, 3), Command::WatchTags(0)] {
+        assert!(rt; session.command(&command).is_ok(), "{command:?}");
+    }
+    for position in 0u64..=405 {
+        for backwards in [false, true] {
+            assert_leads(
+                &rt,
+                &mut session,
+                Command::Go(position),
+                (position, Why::Moved),
+            );
+            let mut here = position;
+            for turn in [backwards, !backwards, backwards] {
+                let (command, to) = if turn {
+                    (Command::Back, last_of(here))
+                } else {
+                    (Command::Continue, next_of(here))
+                };
+                assert_leads(&rt, &mut session, command, to);
+                here = to.0;
+            }
+        }
+    }
+    Ok(())
 }
 
 #[test]

@@ -75,19 +75,24 @@ impl Read for PatientReader<'_> {
     }
 }
 
-/// Counts how often it is flushed.
+/// Counts how often it is flushed with something to give away.
 #[derive(Drop)]
 struct FlushedWriter<'a> {
+    keeps: bool,
     flushed: &'a Cell<u64>,
 }
 
 impl Write for FlushedWriter<'_> {
     fn write(&mut self, buf: &[u8]) -> io::Result<usize> {
+        self.keeps = self.keeps || !buf.is_empty();
         Ok(buf.len())
     }
 
     fn flush(&mut self) -> io::Result<()> {
-        self.flushed.set(self.flushed.get().saturating_add(1));
+        if self.keeps {
+            self.flushed.set(self.flushed.get().saturating_add(1));
+        }
+        self.keeps = false;
         Ok(())
     }
 }
@@ -101,7 +106,10 @@ fn a_line_is_answered_before_the_next_is_read(rt: HostRuntime) {
         flushed: &flushed,
         early: false,
     };
-    let mut writer = FlushedWriter { flushed: &flushed };
+    let mut writer = FlushedWriter {
+        keeps: false,
+        flushed: &flushed,
+    };
     let done = debug_engine(
         rt.alloc(),
         &mut &BLOCKED[..],

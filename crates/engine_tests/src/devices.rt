@@ -44,29 +44,58 @@ impl Read for FailingReader<'_> {
     }
 }
 
-/// Takes seven bytes a write, and fails where so many calls went well, of which each write and each flush is one.
+/// Takes seven bytes a write, and keeps them until it is flushed. Fails where so many calls went well, of which each
+/// write and each flush is one: from then on, or where the call was interrupted that one time.
 #[derive(Drop)]
 pub struct FailingWriter {
-    pub calls: usize,
+    calls: usize,
+    kind: io::ErrorKind,
+    failed: bool,
+    kept: usize,
+    given: usize,
 }
 
 impl FailingWriter {
-    fn call(&mut self) -> io::Result<()> {
-        if self.calls == 0 {
-            return Err(io::Error::from(io::ErrorKind::Other));
+    pub fn new(calls: usize, kind: io::ErrorKind) -> FailingWriter {
+        FailingWriter {
+            calls,
+            kind,
+            failed: false,
+            kept: 0,
+            given: 0,
         }
-        self.calls -= 1;
-        Ok(())
+    }
+
+    /// How many bytes it gave away when it was flushed.
+    pub fn given(&self) -> usize {
+        self.given
+    }
+
+    fn call(&mut self) -> io::Result<()> {
+        if self.calls > 0 {
+            self.calls -= 1;
+            return Ok(());
+        }
+        if self.failed && self.kind == io::ErrorKind::Interrupted {
+            return Ok(());
+        }
+        self.failed = true;
+        Err(io::Error::from(self.kind))
     }
 }
 
 impl Write for FailingWriter {
     fn write(&mut self, buf: &[u8]) -> io::Result<usize> {
         self.call()?;
-        Ok(buf.len().min(7))
+        let count = buf.len().min(7);
+        self.kept = self.kept.saturating_add(count);
+        Ok(count)
     }
 
     fn flush(&mut self) -> io::Result<()> {
-        self.call()
+        self.call()?;
+        self.given = self.given.saturating_add(self.kept);
+        self.kept = 0;
+        Ok(())
     }
 }

@@ -12,7 +12,7 @@ use std::test::Fail;
 #[test]
 fn each_read_may_fail(rt: HostRuntime) {
     for kind in [ErrorKind::Other, ErrorKind::Interrupted] {
-        for (command, text, _) in COMMANDS {
+        for (command, text, bytes) in COMMANDS {
             for reads in 0..=text.len() {
                 let mut reader = FailingReader { text, reads, kind };
                 let mut written = Vec::new(rt.alloc());
@@ -20,24 +20,41 @@ fn each_read_may_fail(rt: HostRuntime) {
                 let fails = done == Err(ToolFault::Read) && written.is_empty();
                 assert!(rt; fails, "{command:?} {reads}");
             }
+            // reads of a byte each are no failed ones
+            let reads = usize::MAX;
+            let mut reader = FailingReader { text, reads, kind };
+            let mut written = Vec::new(rt.alloc());
+            let done = command.run(&rt, rt.alloc(), &mut reader, &mut written);
+            assert!(rt; done.is_ok() && written.len() == bytes, "{command:?}");
         }
     }
 }
 
-/// A writer takes seven bytes a write, and is flushed once.
+/// A writer takes seven bytes a write, and is flushed once, behind the last one. A write that is interrupted may be
+/// tried again.
 #[test]
 fn each_write_may_fail(rt: HostRuntime) {
     for (command, text, bytes) in COMMANDS {
         let needed = bytes.div_ceil(7).saturating_add(1);
         for calls in 0..=needed {
-            let mut writer = FailingWriter { calls };
+            let mut writer = FailingWriter::new(calls, ErrorKind::Other);
             let done = command.run(&rt, rt.alloc(), &mut &text[..], &mut writer);
-            let end = if calls < needed {
-                Err(ToolFault::Write)
+            let (end, given) = if calls < needed {
+                (Err(ToolFault::Write), 0)
             } else {
-                Ok(())
+                (Ok(()), bytes)
             };
-            assert!(rt; done == end, "{command:?} {calls}");
+            assert!(rt;
+                done == end && writer.given() == given,
+                "{command:?} {calls}"
+            );
+            let mut writer = FailingWriter::new(calls, ErrorKind::Interrupted);
+            let done = command.run(&rt, rt.alloc(), &mut &text[..], &mut writer);
+            let whole = done.is_ok() && writer.given() == bytes;
+            assert!(rt;
+                whole || done == Err(ToolFault::Write),
+                "{command:?} {calls}"
+            );
         }
     }
 }

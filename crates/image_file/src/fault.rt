@@ -15,7 +15,7 @@ pub enum CountField {
     Slim,
     /// The number of program words, 1 to 65,536.
     Program,
-    /// The number of data cells, 1 to 262,144.
+    /// The number of data words, 1 to 262,144.
     Cells,
 }
 
@@ -32,7 +32,7 @@ pub enum ImageFault {
     Count(CountField),
     /// The entry of a processor is not below the number of program words: the least such processor.
     Entry(u8),
-    /// The tags of a data cell are above 15: the least such cell, counted from 0.
+    /// The tags of a data word are above 15: the least such cell, counted from 0.
     TagByte(u32),
     /// Bytes stand after the last cell.
     Trailing,

@@ -91,7 +91,7 @@ impl Header {
         HEADER_LENGTH + 4 * usize::from(self.processors)
     }
 
-    /// Where the data cells begin.
+    /// Where the data words begin.
     pub(crate) fn cells_place(self) -> usize
         ensures { result ≡ 26 + 4 * self.processors + 8 * self.words }
     {

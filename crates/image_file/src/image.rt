@@ -11,7 +11,7 @@ use tag_memory::Word;
 
 /// An image: what a machine starts with ("Images", docs/MACHINE.md).
 ///
-/// Every image has 1 to 16 processors, a slim of 1 to 128, 1 to 65,536 program words and 1 to 262,144 data cells,
+/// Every image has 1 to 16 processors, a slim of 1 to 128, 1 to 65,536 program words and 1 to 262,144 data words,
 /// and the entry of each processor is below the number of program words.
 #[derive(Debug, Drop)]
 pub struct Image {
@@ -86,7 +86,7 @@ impl Image {
         &self.program
     }
 
-    /// The data cells.
+    /// The data words.
     pub fn cells(&self) -> &[Word]
         ensures is { result.now ≡ self.now.cells }
         ensures some { 1 ≤ length result.now }

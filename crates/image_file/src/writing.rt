@@ -47,7 +47,7 @@ fn put_program(out: &mut Vec<u8>, program: &[u64]) -> Result<(), AllocError>
     Ok(())
 }
 
-/// Adds one data cell.
+/// Adds one data word.
 fn put_cell(out: &mut Vec<u8>, cell: &Word) -> Result<(), AllocError>
     ensures is { OnOk result (out.new.items ≡ out.old.items ++ cell_bytes cell.now) }
     ensures fits { cell.now.value < 2 ^ 64 }
@@ -57,7 +57,7 @@ fn put_cell(out: &mut Vec<u8>, cell: &Word) -> Result<(), AllocError>
     put_u8(out, cell.tag_number())
 }
 
-/// Adds the data cells.
+/// Adds the data words.
 fn put_cells(out: &mut Vec<u8>, cells: &[Word]) -> Result<(), AllocError>
     ensures is { OnOk result (out.new.items ≡ out.old.items ++ flat_map cell_bytes cells.now) }
     ensures fit { OnOk result (All (λ c. c.value < 2 ^ 64) cells.now) }

@@ -1,6 +1,6 @@
 -- What is read of a word is in its ranges, and zero where it is unused. So the instruction is the one that is spelt.
 use Rattle.std.proofs.Common.{◌≡◌, ◌↔◌, ℕ, ◌-◌, ◌/◌, ◌%◌, ◌^◌, ◌<◌, pos, neg_ℤ, ◌≤ℤ◌, ◌<ℤ◌, Bool, true, false}
-use Rattle.std.proofs.Common.{if◌then◌else◌, inl, inr, ◌==◌, ◌&&◌, nat_lt, Option, Some, None}
+use Rattle.std.proofs.Common.{if◌then◌else◌, inl, inr, nat_lt, Option, Some, None}
 use Rattle.std.proofs.Common.{refl, sym, ◌∙◌, ap, subst, arith}
 use Rattle.std.specs.Bool.{Decides}
 use Rattle.std.proofs.lemmas.Bool.Decides.{Decides-and, Decides-like, Decides-eqb, nat_tests}
@@ -10,11 +10,11 @@ use Rattle.insn_word.specs.Operations.{memory_number, access_number, arithmetic_
 use Rattle.insn_word.specs.Operations.{condition_number}
 use Rattle.insn_word.specs.Fields.{AreInRange, number_of_fields}
 use Rattle.insn_word.specs.Words.{memory_fields, arithmetic_fields, control_fields, fields, used_memory}
-use Rattle.insn_word.specs.Words.{used_arithmetic, used_control, RestIsZero, AreApart, HasOneWriter, Spells}
+use Rattle.insn_word.specs.Words.{used_arithmetic, used_control, RestIsZero, AreApart, HasOneWriter, is_in, SpellsIn}
 use Rattle.insn_word.specs.Words.{memory_destination, arithmetic_destination, control_destination}
 use Rattle.insn_word.specs.Reading.{signed_read, memory_raw, arithmetic_raw, control_part_from, memory_part_at, arithmetic_part_at}
 use Rattle.insn_word.specs.Reading.{control_read, wide_read, wide_from, wide_at, normal_at, candidate, are_apart}
-use Rattle.insn_word.specs.Reading.{has_one_writer, kept_if, instruction, InstructionIsSpelt}
+use Rattle.insn_word.specs.Reading.{has_one_writer, reads_back, kept_if, instruction_in, InstructionIsSpelt}
 use Rattle.insn_word.proofs.WordParts.{normal_in_range, Holds-from_spells, Spells-number, Spells-from_number}
 use Rattle.insn_word.proofs.Read.{candidate-holds}
 use Rattle.insn_word.specs.declared.operations.WideOp.{WideOp}
@@ -74,6 +74,7 @@ memory_in_range memory.Store m h = h
 memory_in_range memory.FetchAdd m h = h
 memory_in_range memory.TagGet m h = (h.0, (omega arith, h.1.1))
 memory_in_range memory.TagSet m h = (h.0, (omega arith, h.1.1))
+memory_in_range memory.Purge m h = (h.0, (omega arith, h.1.1))
 
 memory_rest : (op : MemoryOp) (m : MPart) → m.op ≡ op
     → used_memory (used_memory op m).op (used_memory op m) ≡ used_memory op m
@@ -83,6 +84,7 @@ memory_rest memory.Store m e = ap (λ x. used_memory x m) e
 memory_rest memory.FetchAdd m e = ap (λ x. used_memory x m) e
 memory_rest memory.TagGet m e = ap (λ x. used_memory x (used_memory memory.TagGet m)) e
 memory_rest memory.TagSet m e = ap (λ x. used_memory x (used_memory memory.TagSet m)) e
+memory_rest memory.Purge m e = ap (λ x. used_memory x (used_memory memory.Purge m)) e
 
 memory_whole : (bits : ℕ)
     → AreInRange (memory_fields (memory_part_at bits))
@@ -205,21 +207,24 @@ kept true x i e = (refl, cc)
 kept false x i e = cc
 
 pub instruction-spelt : InstructionIsSpelt
-unfolding instruction
-instruction-spelt word i =
-    let test = number_of_fields (fields (candidate word)) == word && has_one_writer (candidate word) in
-    let tested =
+unfolding instruction_in
+instruction-spelt p word i =
+    let test = reads_back p word (candidate word) in
+    let spelling =
     Decides-and _ _ (Decides-eqb (number_of_fields (fields (candidate word))) word) (Decides-one_writer (candidate word)) in
+    let has : Decides (is_in p (candidate word)) (is_in p (candidate word) ≡ true) = (λ e. e, λ e. e) in
+    let tested = Decides-and _ _ spelling has in
     let whole = candidate_whole word in (
       λ e.
           let found = kept test (candidate word) i e in
           let holds = tested.0 found.0 in
-          subst (λ j. Spells word j) found.1
-          (Spells-from_number word (candidate word) whole.in_range holds.0 whole.rest holds.1),
+          subst (λ j. SpellsIn p word j) found.1
+          (Spells-from_number p word (candidate word) whole.in_range holds.0.0 whole.rest holds.0.1 holds.1),
       λ spelt.
-          let same = candidate-holds word i (Holds-from_spells word i spelt) in
-          let number_is = ap (λ j. number_of_fields (fields j)) same ∙ Spells-number word i spelt in
-          let holds : test ≡ true = tested.1 (number_is, subst HasOneWriter (sym same) spelt.one_writer) in
+          let same = candidate-holds p word i (Holds-from_spells p word i spelt) in
+          let number_is = ap (λ j. number_of_fields (fields j)) same ∙ Spells-number p word i spelt in
+          let one = subst HasOneWriter (sym same) spelt.one_writer in
+          let holds : test ≡ true = tested.1 ((number_is, one), ap (is_in p) same ∙ spelt.in_profile) in
           ap (λ keep. kept_if keep (candidate word)) holds ∙ ap Some same,
     )
 

@@ -27,6 +27,7 @@ use Rattle.insn_word.specs.declared.operations.ControlOp.{ControlOp}
 use Rattle.insn_word.specs.declared.operations.ControlOp.TheVariants as control
 use Rattle.insn_word.specs.declared.operations.Condition.{Condition}
 use Rattle.insn_word.specs.declared.operations.Condition.TheVariants as condition
+use Rattle.insn_word.specs.declared.profiles.Profile.{Profile}
 use Rattle.insn_word.specs.declared.insn.MPart.{MPart}
 use Rattle.insn_word.specs.declared.insn.APart.{APart}
 use Rattle.insn_word.specs.declared.insn.CPart.{CPart}
@@ -47,6 +48,7 @@ memory_back memory.Store = refl
 memory_back memory.FetchAdd = refl
 memory_back memory.TagGet = refl
 memory_back memory.TagSet = refl
+memory_back memory.Purge = refl
 
 access_back : (x : Access) → access_read (access_number x) ≡ x
 access_back access.FromPointer = refl
@@ -196,9 +198,9 @@ control_reads bits c p =
     let op : control_read (bits / 2 ^ 14 % 2 ^ 4) ≡ c.op = ap control_read number_is ∙ control_back c.op in
     ap (λ x. control_part_from x bits) op ∙ arguments_read c.op bits c p.in_range.1 r.1 p.rest
 
-pub candidate-holds : (word : ℕ) (i : Insn) → Holds word i → candidate word ≡ i
+pub candidate-holds : (p : Profile) (word : ℕ) (i : Insn) → Holds p word i → candidate word ≡ i
 unfolding candidate
-candidate-holds word (insn.Wide look wide.Literal reg imm) h =
+candidate-holds p word (insn.Wide look wide.Literal reg imm) h =
     let r =
     reads word (fields (insn.Wide look wide.Literal reg imm)) h.in_range
     (fits word (fields (insn.Wide look wide.Literal reg imm)) h.in_range h.number_is) in
@@ -208,7 +210,7 @@ candidate-holds word (insn.Wide look wide.Literal reg imm) h =
     rw (le-ltb word (2 ^ 63) above)
     (ap (λ n. wide_from (wide_read n) word) r.1.1.0
     ∙ (λ i. insn.Wide (r.1.0 i) wide.Literal (reg_is i) (imm_is i)))
-candidate-holds word (insn.Wide look wide.LiteralHigh reg imm) h =
+candidate-holds p word (insn.Wide look wide.LiteralHigh reg imm) h =
     let r =
     reads word (fields (insn.Wide look wide.LiteralHigh reg imm)) h.in_range
     (fits word (fields (insn.Wide look wide.LiteralHigh reg imm)) h.in_range h.number_is) in
@@ -218,7 +220,7 @@ candidate-holds word (insn.Wide look wide.LiteralHigh reg imm) h =
     rw (le-ltb word (2 ^ 63) above)
     (ap (λ n. wide_from (wide_read n) word) r.1.1.0
     ∙ (λ i. insn.Wide (r.1.0 i) wide.LiteralHigh (reg_is i) (imm_is i)))
-candidate-holds word (insn.Wide look wide.TargetLiteral reg imm) h =
+candidate-holds p word (insn.Wide look wide.TargetLiteral reg imm) h =
     let r =
     reads word (fields (insn.Wide look wide.TargetLiteral reg imm)) h.in_range
     (fits word (fields (insn.Wide look wide.TargetLiteral reg imm)) h.in_range h.number_is) in
@@ -228,7 +230,7 @@ candidate-holds word (insn.Wide look wide.TargetLiteral reg imm) h =
     rw (le-ltb word (2 ^ 63) above)
     (ap (λ n. wide_from (wide_read n) word) r.1.1.0
     ∙ (λ i. insn.Wide (r.1.0 i) wide.TargetLiteral (reg_is i) (imm_is i)))
-candidate-holds word (insn.Normal look m a c) h =
+candidate-holds p word (insn.Normal look m a c) h =
     let look_is : word / 2 ^ 60 % 2 ^ 3 ≡ look = omega (arith, h.in_word, h.look_is) in
     let memory_is = memory_reads _ m h.memory in
     let arithmetic_is = arithmetic_reads _ a h.arithmetic in

@@ -1,6 +1,6 @@
 -- The operations, accesses and conditions: the number of each, one line for each of them, and all in the order of
 -- their numbers.
-use Rattle.std.specs.Prelude.{ℕ, List, [], ◌∷◌}
+use Rattle.std.specs.Prelude.{ℕ, Bool, true, false, List, [], ◌∷◌}
 use Rattle.insn_word.specs.declared.operations.WideOp.{WideOp}
 use Rattle.insn_word.specs.declared.operations.WideOp.TheVariants as wide
 use Rattle.insn_word.specs.declared.operations.MemoryOp.{MemoryOp}
@@ -13,6 +13,8 @@ use Rattle.insn_word.specs.declared.operations.ControlOp.{ControlOp}
 use Rattle.insn_word.specs.declared.operations.ControlOp.TheVariants as control
 use Rattle.insn_word.specs.declared.operations.Condition.{Condition}
 use Rattle.insn_word.specs.declared.operations.Condition.TheVariants as condition
+use Rattle.insn_word.specs.declared.profiles.Profile.{Profile}
+use Rattle.insn_word.specs.declared.profiles.Profile.TheVariants as profile
 
 abbrev pub wide_number : WideOp → ℕ
 wide_number wide.Literal = 0
@@ -26,6 +28,7 @@ memory_number memory.Store = 2
 memory_number memory.FetchAdd = 3
 memory_number memory.TagGet = 4
 memory_number memory.TagSet = 5
+memory_number memory.Purge = 6
 
 abbrev pub access_number : Access → ℕ
 access_number access.FromPointer = 0
@@ -89,7 +92,7 @@ wide_operations = wide.Literal ∷ wide.LiteralHigh ∷ wide.TargetLiteral ∷ [
 
 abbrev pub memory_operations : List MemoryOp
 memory_operations =
-    memory.Nop ∷ memory.Load ∷ memory.Store ∷ memory.FetchAdd ∷ memory.TagGet ∷ memory.TagSet ∷ []
+    memory.Nop ∷ memory.Load ∷ memory.Store ∷ memory.FetchAdd ∷ memory.TagGet ∷ memory.TagSet ∷ memory.Purge ∷ []
 
 abbrev pub accesses : List Access
 accesses =
@@ -114,3 +117,22 @@ conditions =
     ∷ condition.LessEqual ∷ condition.Greater ∷ condition.LessUnsigned ∷ condition.GreaterEqualUnsigned
     ∷ condition.LessEqualUnsigned ∷ condition.GreaterUnsigned ∷ condition.Negative ∷ condition.Positive
     ∷ condition.Overflow ∷ condition.NoOverflow ∷ []
+
+-- The profiles. Profile 2 has all of Profile 1, and PURGE.
+
+abbrev pub has_purge : Profile → Bool
+has_purge profile.One = false
+has_purge profile.Two = true
+
+abbrev pub has_operation : Profile → MemoryOp → Bool
+has_operation p memory.Nop = true
+has_operation p memory.Load = true
+has_operation p memory.Store = true
+has_operation p memory.FetchAdd = true
+has_operation p memory.TagGet = true
+has_operation p memory.TagSet = true
+has_operation p memory.Purge = has_purge p
+
+abbrev pub profile_one_memory_operations : List MemoryOp
+profile_one_memory_operations =
+    memory.Nop ∷ memory.Load ∷ memory.Store ∷ memory.FetchAdd ∷ memory.TagGet ∷ memory.TagSet ∷ []

@@ -1,8 +1,10 @@
 -- A word seen a part at a time, by numbers, as the code reads it. Only private contracts cite this.
-use Rattle.std.specs.Prelude.{◌≡◌, ℕ, ◌<◌, ◌/◌, ◌%◌, ◌^◌}
+use Rattle.std.specs.Prelude.{◌≡◌, ℕ, ◌<◌, ◌/◌, ◌%◌, ◌^◌, true}
 use Rattle.insn_word.specs.Fields.{number_of_fields, AreInRange}
 use Rattle.insn_word.specs.Words.{memory_fields, arithmetic_fields, control_fields, fields}
 use Rattle.insn_word.specs.Words.{used_memory, used_arithmetic, used_control, WriteApart}
+use Rattle.insn_word.specs.Operations.{has_operation}
+use Rattle.insn_word.specs.declared.profiles.Profile.{Profile}
 use Rattle.insn_word.specs.declared.operations.WideOp.{WideOp}
 use Rattle.insn_word.specs.declared.insn.MPart.{MPart}
 use Rattle.insn_word.specs.declared.insn.APart.{APart}
@@ -27,20 +29,21 @@ pub record IsControlPart (bits : ℕ) (c : CPart) : Type 0 where
   pub number_is : number_of_fields (control_fields c) ≡ bits
   pub rest : used_control c.op c ≡ c
 
--- The word spells this instruction.
+-- The word spells this instruction, in this profile.
 
 pub record IsWide (word look : ℕ) (op : WideOp) (reg imm : ℕ) : Type 0 where
   pub in_range : AreInRange (fields (insn.Wide look op reg imm))
   pub number_is : number_of_fields (fields (insn.Wide look op reg imm)) ≡ word
 
-pub record IsNormal (word look : ℕ) (m : MPart) (a : APart) (c : CPart) : Type 0 where
+pub record IsNormal (p : Profile) (word look : ℕ) (m : MPart) (a : APart) (c : CPart) : Type 0 where
   pub in_word : word < 2 ^ 63
   pub look_is : word / 2 ^ 60 ≡ look
   pub memory : IsMemoryPart (word / 2 ^ 39 % 2 ^ 21) m
   pub arithmetic : IsArithmeticPart (word / 2 ^ 18 % 2 ^ 21) a
   pub control : IsControlPart (word % 2 ^ 18) c
   pub one_writer : WriteApart m a c
+  pub in_profile : has_operation p m.op ≡ true
 
-abbrev pub Holds : ℕ → Insn → Type 0
-Holds word (insn.Wide look op reg imm) = IsWide word look op reg imm
-Holds word (insn.Normal look m a c) = IsNormal word look m a c
+abbrev pub Holds : Profile → ℕ → Insn → Type 0
+Holds p word (insn.Wide look op reg imm) = IsWide word look op reg imm
+Holds p word (insn.Normal look m a c) = IsNormal p word look m a c

@@ -6,7 +6,7 @@ use Rattle.std.specs.Prelude.{Option, Some, None, slice_index_or}
 use Rattle.insn_word.specs.Fields.{number_of_fields}
 use Rattle.insn_word.specs.Operations.{wide_operations, memory_operations, accesses, arithmetic_operations}
 use Rattle.insn_word.specs.Operations.{control_operations, conditions}
-use Rattle.insn_word.specs.Words.{fields, used_memory, used_arithmetic, only_control, Spells}
+use Rattle.insn_word.specs.Words.{fields, used_memory, used_arithmetic, only_control, is_in, SpellsIn}
 use Rattle.insn_word.specs.Words.{memory_destination, arithmetic_destination, control_destination}
 use Rattle.insn_word.specs.declared.operations.WideOp.{WideOp}
 use Rattle.insn_word.specs.declared.operations.WideOp.TheVariants as wide
@@ -20,6 +20,8 @@ use Rattle.insn_word.specs.declared.operations.ControlOp.{ControlOp}
 use Rattle.insn_word.specs.declared.operations.ControlOp.TheVariants as control
 use Rattle.insn_word.specs.declared.operations.Condition.{Condition}
 use Rattle.insn_word.specs.declared.operations.Condition.TheVariants as condition
+use Rattle.insn_word.specs.declared.profiles.Profile.{Profile}
+use Rattle.insn_word.specs.declared.profiles.Profile.TheVariants as profile
 use Rattle.insn_word.specs.declared.insn.MPart.{MPart}
 use Rattle.insn_word.specs.declared.insn.APart.{APart}
 use Rattle.insn_word.specs.declared.insn.CPart.{CPart}
@@ -152,14 +154,21 @@ has_one_writer (insn.Normal look m a c) =
     && are_apart (memory_destination m.op m.rd) (control_destination c.op c.rd)
     && are_apart (arithmetic_destination a.op a.rd) (control_destination c.op c.rd)
 
+-- whether the word spells what was read of it
+abbrev pub reads_back : Profile → ℕ → Insn → Bool
+reads_back p word i = number_of_fields (fields i) == word && has_one_writer i && is_in p i
+
 abbrev pub kept_if : Bool → Insn → Option Insn
 kept_if keep i = if keep then Some i else None
 
--- the instruction that the word spells, if any
-unfoldable pub instruction : ℕ → Option Insn
-instruction word =
-    kept_if (number_of_fields (fields (candidate word)) == word && has_one_writer (candidate word)) (candidate word)
+-- the instruction that the word spells in this profile, if any
+unfoldable pub instruction_in : Profile → ℕ → Option Insn
+instruction_in p word = kept_if (reads_back p word (candidate word)) (candidate word)
+
+-- the same in Profile 1
+abbrev pub instruction : ℕ → Option Insn
+instruction = instruction_in profile.One
 
 -- It is the instruction that the word's digits spell.
 abbrev pub InstructionIsSpelt : Type 0
-InstructionIsSpelt = (word : ℕ) (i : Insn) → (instruction word ≡ Some i) ↔ Spells word i
+InstructionIsSpelt = (p : Profile) (word : ℕ) (i : Insn) → (instruction_in p word ≡ Some i) ↔ SpellsIn p word i

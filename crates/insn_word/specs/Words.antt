@@ -1,7 +1,7 @@
--- Which word spells which instruction.
-use Rattle.std.specs.Prelude.{◌≡◌, ℕ, ◌<◌, ◌^◌, pos, unsigned_abs, false, ⊤, List, [], ◌∷◌, ◌++◌}
+-- Which word spells which instruction, in each profile.
+use Rattle.std.specs.Prelude.{◌≡◌, ℕ, ◌<◌, ◌^◌, pos, unsigned_abs, Bool, true, false, ⊤, List, [], ◌∷◌, ◌++◌}
 use Rattle.insn_word.specs.Operations.{wide_number, memory_number, access_number}
-use Rattle.insn_word.specs.Operations.{arithmetic_number, control_number, condition_number}
+use Rattle.insn_word.specs.Operations.{arithmetic_number, control_number, condition_number, has_operation}
 use Rattle.insn_word.specs.Fields.{Field, unsigned, signed, zeros, flag, digits, spelling, AreInRange}
 use Rattle.insn_word.specs.declared.operations.WideOp.{WideOp}
 use Rattle.insn_word.specs.declared.operations.WideOp.TheVariants as wide
@@ -13,6 +13,8 @@ use Rattle.insn_word.specs.declared.operations.ArithmeticOp.TheVariants as arith
 use Rattle.insn_word.specs.declared.operations.ControlOp.{ControlOp}
 use Rattle.insn_word.specs.declared.operations.ControlOp.TheVariants as control
 use Rattle.insn_word.specs.declared.operations.Condition.TheVariants as condition
+use Rattle.insn_word.specs.declared.profiles.Profile.{Profile}
+use Rattle.insn_word.specs.declared.profiles.Profile.TheVariants as profile
 use Rattle.insn_word.specs.declared.insn.MPart.{MPart}
 use Rattle.insn_word.specs.declared.insn.APart.{APart}
 use Rattle.insn_word.specs.declared.insn.CPart.{CPart}
@@ -74,6 +76,7 @@ used_memory memory.Store m = m
 used_memory memory.FetchAdd m = m
 used_memory memory.TagGet m = record m { acc = access.FromPointer }
 used_memory memory.TagSet m = record m { acc = access.FromPointer }
+used_memory memory.Purge m = record m { acc = access.FromPointer }
 
 abbrev pub arithmetic_nop : APart
 arithmetic_nop = record { op = arithmetic.Nop; test = false; imm = false; rd = 0; ra = 0; rb = 0 }
@@ -129,6 +132,7 @@ memory_destination memory.Store rd = 0
 memory_destination memory.FetchAdd rd = rd
 memory_destination memory.TagGet rd = rd
 memory_destination memory.TagSet rd = 0
+memory_destination memory.Purge rd = 0
 
 abbrev pub arithmetic_destination : ArithmeticOp → ℕ → ℕ
 arithmetic_destination arithmetic.Nop rd = 0
@@ -175,14 +179,28 @@ abbrev pub HasOneWriter : Insn → Type 0
 HasOneWriter (insn.Wide look op reg imm) = ⊤
 HasOneWriter (insn.Normal look m a c) = WriteApart m a c
 
--- The word's 64 digits are those of the instruction's fields.
-pub record Spells (word : ℕ) (i : Insn) : Type 0 where
+-- whether the profile has the instruction's operations
+abbrev pub is_in : Profile → Insn → Bool
+is_in p (insn.Wide look op reg imm) = true
+is_in p (insn.Normal look m a c) = has_operation p m.op
+
+-- The word's 64 digits are those of the instruction's fields, in this profile.
+pub record SpellsIn (p : Profile) (word : ℕ) (i : Insn) : Type 0 where
   pub in_word : word < 2 ^ 64
   pub digits_are : digits 64 word ≡ spelling (fields i)
   pub in_range : AreInRange (fields i)
   pub rest : RestIsZero i
   pub one_writer : HasOneWriter i
+  pub in_profile : is_in p i ≡ true
 
--- Some word spells it.
+-- Some word spells it, in this profile.
+abbrev pub IsValidIn : Profile → Insn → Type 0
+IsValidIn p i = (word : ℕ) × SpellsIn p word i
+
+-- The same in Profile 1.
+
+abbrev pub Spells : ℕ → Insn → Type 0
+Spells = SpellsIn profile.One
+
 abbrev pub IsValid : Insn → Type 0
-IsValid i = (word : ℕ) × Spells word i
+IsValid = IsValidIn profile.One

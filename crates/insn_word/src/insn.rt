@@ -7,7 +7,7 @@ use crate::operations::{Access, ArithmeticOp, Condition, ControlOp, MemoryOp, Wi
 pub struct MPart {
     /// The operation.
     pub op: MemoryOp,
-    /// The control that the reference obeys; `FromPointer` for NOP, TAGGET and TAGSET.
+    /// The control that the reference obeys; `FromPointer` for NOP, TAGGET, TAGSET and PURGE.
     pub acc: Access,
     /// The register (0 to 31) that is loaded, stored or added.
     pub rd: u8,

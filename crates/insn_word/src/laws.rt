@@ -1,6 +1,6 @@
 //! The laws of spelling: the contract of a function that does nothing.
 
-ghost use Rattle.insn_word.specs.Laws.{OneInstruction, OneWord, IsValidByFields};
+ghost use Rattle.insn_word.specs.Laws.{OneInstruction, OneWord, IsValidByFields, ProfileTwoHasProfileOne};
 ghost use Rattle.insn_word.specs.Reading.{InstructionIsSpelt};
 
 /// The laws that tie words and instructions to each other, one to one.
@@ -9,4 +9,5 @@ pub fn spelling_is_one_to_one()
     ensures one_word { OneWord }
     ensures valid { IsValidByFields }
     ensures computed { InstructionIsSpelt }
+    ensures wider { ProfileTwoHasProfileOne }
 {}

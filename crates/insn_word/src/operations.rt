@@ -55,6 +55,8 @@ pub enum MemoryOp {
     TagGet = 4,
     /// TAGSET: the tags of the word become the four low bits of `rd`.
     TagSet = 5,
+    /// PURGE: the word becomes `rd`, and empty. Profile 2 alone has it.
+    Purge = 6,
 }
 
 impl MemoryOp {
@@ -68,7 +70,7 @@ impl MemoryOp {
     /// The memory operation with this number; None where there is none.
     pub(crate) fn from_number(number: u64) -> Option<MemoryOp>
         ensures found { IfSome result (λ memory. memory_number memory ≡ number) }
-        ensures none { IfNone result (6 ≤ number) }
+        ensures none { IfNone result (7 ≤ number) }
     {
         match number {
             0 => Some(MemoryOp::Nop),
@@ -77,18 +79,20 @@ impl MemoryOp {
             3 => Some(MemoryOp::FetchAdd),
             4 => Some(MemoryOp::TagGet),
             5 => Some(MemoryOp::TagSet),
+            6 => Some(MemoryOp::Purge),
             _ => None,
         }
     }
 
     /// All memory operations, in the order of their numbers.
-    pub const ALL: [MemoryOp; 6] = [
+    pub const ALL: [MemoryOp; 7] = [
         MemoryOp::Nop,
         MemoryOp::Load,
         MemoryOp::Store,
         MemoryOp::FetchAdd,
         MemoryOp::TagGet,
         MemoryOp::TagSet,
+        MemoryOp::Purge,
     ];
 }
 

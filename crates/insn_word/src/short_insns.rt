@@ -31,7 +31,7 @@ pub struct ShortInsn {
     pub c: ShortControl,
 }
 
-/// The memory operations but NOP, as `MemoryOp` has them.
+/// The memory operations of Profile 1 but NOP, as `MemoryOp` has them.
 #[derive(Clone, Copy, Debug, PartialEq, Eq)]
 pub enum ReferenceOp {
     /// LOAD.
@@ -46,7 +46,7 @@ pub enum ReferenceOp {
     TagSet,
 }
 
-/// A memory part that asks the memory.
+/// A memory part that asks the memory for an operation of Profile 1.
 #[derive(Clone, Copy, Debug, PartialEq, Eq)]
 pub struct ReferencePart {
     /// The operation.
@@ -61,7 +61,8 @@ pub struct ReferencePart {
     pub disp: i8,
 }
 
-/// An instruction that asks the memory, with no arithmetic operation and no control operation but SKIP.
+/// An instruction that asks the memory for an operation of Profile 1, with no arithmetic operation and no control
+/// operation but SKIP.
 #[derive(Clone, Copy, Debug, PartialEq, Eq)]
 pub struct ReferenceInsn {
     /// The lookahead, 0 to 7, which has no effect.

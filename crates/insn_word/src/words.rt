@@ -2,16 +2,19 @@
 
 ghost use Rattle.std.specs.Prelude.{◌≡◌, ◌<◌, ◌≤◌, ◌^◌, ◌↔◌, ℕ, IsTrue, IfSome, IsNone};
 ghost use Rattle.insn_word.specs.Fields.{number_of_fields, AreInRange};
-ghost use Rattle.insn_word.specs.Words.{fields, AreApart, WriteApart, Spells, IsValid};
-ghost use Rattle.insn_word.specs.Reading.{instruction};
+ghost use Rattle.insn_word.specs.Words.{fields, AreApart, WriteApart, Spells, SpellsIn, IsValid, IsValidIn};
+ghost use Rattle.insn_word.specs.Reading.{instruction, instruction_in};
 ghost use Rattle.insn_word.specs.ShortInsns.{short_instruction, reference_instruction};
 ghost use Rattle.insn_word.specs.Parts.{Holds};
 ghost use Rattle.insn_word.specs.declared.insn.Insn.{Insn};
+ghost use Rattle.insn_word.specs.declared.profiles.Profile.{Profile};
+ghost use Rattle.insn_word.specs.declared.profiles.Profile.TheVariants.{Two};
 
 use crate::fields::{field, small_field, with_field};
 use crate::insn::{APart, CPart, Insn, MPart};
 use crate::operations::WideOp;
 use crate::parts::REGISTER_WIDTH;
+use crate::profiles::Profile;
 use crate::short_insns::{ReferenceInsn, ReferencePart, ShortControl, ShortInsn};
 
 /// Bit 63: whether the word is wide.
@@ -44,12 +47,19 @@ const ARITHMETIC_WIDTH: u32 = 21;
 const CONTROL_WIDTH: u32 = 18;
 
 impl Insn {
-    /// Whether some word spells the instruction: each field is in its range, each unused field is
-    /// zero, and no two operations write the same register other than r0.
+    /// Whether some word spells the instruction in Profile 1: each field is in its range, each unused field is
+    /// zero, no two operations write the same register other than r0, and the profile has each of them.
     pub fn is_valid(&self) -> bool
         ensures { IsTrue result ↔ IsValid self.now }
     {
-        match decode(self.bits()) {
+        self.is_valid_as(Profile::One)
+    }
+
+    /// The same in any profile.
+    pub fn is_valid_as(&self, profile: Profile) -> bool
+        ensures { IsTrue result ↔ IsValidIn profile self.now }
+    {
+        match decode_as(profile, self.bits()) {
             Some(insn) => insn == *self,
             None => false,
         }
@@ -75,17 +85,19 @@ impl Insn {
     }
 }
 
-/// The word that spells the instruction ("Instruction words", docs/FORMATS.md).
+/// The word that spells the instruction ("Instruction words", docs/FORMATS.md). Profile 2 has all instructions.
 pub fn encode(insn: &Insn) -> u64
-    requires valid { IsValid insn.now }
-    ensures spelt { Spells result insn.now }
+    requires valid { IsValidIn Two insn.now }
+    ensures spelt { SpellsIn Two result insn.now }
+    // It does so in Profile 1 too, where that has the instruction.
+    ensures first { IsValid insn.now → Spells result insn.now }
     // No other word does.
-    ensures only { (word : ℕ) → Spells word insn.now → word ≡ result }
+    ensures only { (word : ℕ) → SpellsIn Two word insn.now → word ≡ result }
 {
     insn.bits()
 }
 
-/// The instruction that the word spells ("Instruction words", docs/FORMATS.md); None where it spells none.
+/// The instruction that the word spells in Profile 1 ("Instruction words", docs/FORMATS.md); None where it spells none.
 pub fn decode(word: u64) -> Option<Insn>
     ensures some { (i : Insn) → (result ≡ Some i) ↔ Spells word i }
     ensures is { result ≡ instruction word }
@@ -93,24 +105,35 @@ pub fn decode(word: u64) -> Option<Insn>
     ensures valid { IfSome result IsValid }
     ensures none { IsNone result ↔ ((i : Insn) → Spells word i → ⊥) }
 {
-    read_parts(word)
+    decode_as(Profile::One, word)
 }
 
-fn read_parts(word: u64) -> Option<Insn>
-    ensures { (i : Insn) → (result ≡ Some i) ↔ Holds word i }
+/// The instruction that the word spells in this profile ("Profile 2", docs/FORMATS.md); None where it spells none.
+pub fn decode_as(profile: Profile, word: u64) -> Option<Insn>
+    ensures some { (i : Insn) → (result ≡ Some i) ↔ SpellsIn profile word i }
+    ensures is { result ≡ instruction_in profile word }
+    ensures spelt { IfSome result (SpellsIn profile word) }
+    ensures valid { IfSome result (IsValidIn profile) }
+    ensures none { IsNone result ↔ ((i : Insn) → SpellsIn profile word i → ⊥) }
+{
+    read_parts(profile, word)
+}
+
+fn read_parts(profile: Profile, word: u64) -> Option<Insn>
+    ensures { (i : Insn) → (result ≡ Some i) ↔ Holds profile word i }
 {
     if word < 1 << WIDE_PLACE {
-        decode_normal(word)
+        decode_normal(profile, word)
     } else {
         decode_wide(word)
     }
 }
 
 /// The instruction that the word spells, where it has no memory operation and no control operation but SKIP; None for
-/// all other words. It says what `decode` says, in fewer steps.
+/// all other words. It says what `decode_as` says in each profile, in fewer steps.
 #[inline(always)]
 pub fn decode_short(word: u64) -> Option<ShortInsn>
-    ensures { IfSome result (λ s. instruction word ≡ Some (short_instruction s)) }
+    ensures { (p : Profile) → IfSome result (λ s. instruction_in p word ≡ Some (short_instruction s)) }
 {
     if word >= 1 << WIDE_PLACE || field(word, MEMORY_PLACE, MEMORY_WIDTH) != 0 {
         return None;
@@ -124,11 +147,12 @@ pub fn decode_short(word: u64) -> Option<ShortInsn>
     })
 }
 
-/// The instruction that the word spells, where it asks the memory, and has no arithmetic operation and no control
-/// operation but SKIP; None for all other words. It says what `decode` says, in fewer steps.
+/// The instruction that the word spells, where it asks the memory for an operation of Profile 1, and has no arithmetic
+/// operation and no control operation but SKIP; None for all other words. It says what `decode_as` says in each
+/// profile, in fewer steps.
 #[inline(always)]
 pub fn decode_reference(word: u64) -> Option<ReferenceInsn>
-    ensures { IfSome result (λ r. instruction word ≡ Some (reference_instruction r)) }
+    ensures { (p : Profile) → IfSome result (λ r. instruction_in p word ≡ Some (reference_instruction r)) }
 {
     if word >= 1 << WIDE_PLACE || field(word, ARITHMETIC_PLACE, ARITHMETIC_WIDTH) != 0 {
         return None;
@@ -144,7 +168,7 @@ pub fn decode_reference(word: u64) -> Option<ReferenceInsn>
 
 fn decode_wide(word: u64) -> Option<Insn>
     requires { 2 ^ 63 ≤ word }
-    ensures { (i : Insn) → (result ≡ Some i) ↔ Holds word i }
+    ensures { (p : Profile) (i : Insn) → (result ≡ Some i) ↔ Holds p word i }
 {
     let op = WideOp::from_number(field(word, OPERATION_PLACE, OPERATION_WIDTH))?;
     let reg = small_field(word, REGISTER_PLACE, REGISTER_WIDTH);
@@ -163,14 +187,14 @@ fn decode_wide(word: u64) -> Option<Insn>
     })
 }
 
-fn decode_normal(word: u64) -> Option<Insn>
+fn decode_normal(profile: Profile, word: u64) -> Option<Insn>
     requires { word < 2 ^ 63 }
-    ensures { (i : Insn) → (result ≡ Some i) ↔ Holds word i }
+    ensures { (i : Insn) → (result ≡ Some i) ↔ Holds profile word i }
 {
     let m = MPart::from_bits(field(word, MEMORY_PLACE, MEMORY_WIDTH))?;
     let a = APart::from_bits(field(word, ARITHMETIC_PLACE, ARITHMETIC_WIDTH))?;
     let c = CPart::from_bits(field(word, 0, CONTROL_WIDTH))?;
-    if write_apart(&m, &a, &c) {
+    if profile.has(m.op) && write_apart(&m, &a, &c) {
         Some(Insn::Normal {
             look: small_field(word, LOOKAHEAD_PLACE, LOOKAHEAD_WIDTH),
             m,

@@ -1,5 +1,5 @@
 -- Printed heads name their operations.
-use Rattle.std.proofs.Common.{◌≡◌, Bool, true, false, refl, ap, subst, true≢false, get_or}
+use Rattle.std.proofs.Common.{◌≡◌, Bool, true, false, refl, sym, ap, subst, true≢false, get_or}
 use Rattle.std.specs.Prelude.{◌==◌, Ok}
 use Rattle.insn_word.specs.declared.operations.WideOp.{WideOp}
 use Rattle.insn_word.specs.declared.operations.WideOp.TheVariants as wide
@@ -11,7 +11,9 @@ use Rattle.insn_word.specs.declared.operations.ArithmeticOp.{ArithmeticOp}
 use Rattle.insn_word.specs.declared.operations.ArithmeticOp.TheVariants as arithmetic
 use Rattle.insn_word.specs.declared.operations.ControlOp.{ControlOp}
 use Rattle.insn_word.specs.declared.operations.ControlOp.TheVariants as control
+use Rattle.insn_word.specs.Operations.{has_operation}
 use Rattle.insn_word.specs.Words.{used_memory}
+use Rattle.insn_word.specs.declared.profiles.Profile.TheVariants as profile
 use Rattle.insn_word.specs.declared.insn.MPart.{MPart}
 use Rattle.text_parts.specs.Parts.{text_after}
 use Rattle.asm_line.specs.Names.{operation_name}
@@ -63,17 +65,18 @@ unfolding operation_of operation_named plain_named wide_named memory_named arith
 fetch_add access.FromPointer = record { term = refl; names = refl; no_at = refl; no_dot = refl }
 fetch_add _ = record { term = refl; names = refl; no_at = refl; no_dot = refl }
 
--- TAGGET and TAGSET name no access
-pub memory-head : (op : MemoryOp) (m : MPart) → is_no_memory op ≡ false → used_memory op m ≡ m
-    → IsHead (operation.Memory op m.acc)
-memory-head memory.Nop m h e = absurd (true≢false h)
-memory-head memory.TagGet m h e =
+-- TAGGET and TAGSET name no access, and PURGE is none of Profile 1
+pub memory-head : (op : MemoryOp) (m : MPart) → is_no_memory op ≡ false → has_operation profile.One op ≡ true
+    → used_memory op m ≡ m → IsHead (operation.Memory op m.acc)
+memory-head memory.Nop m h p e = absurd (true≢false h)
+memory-head memory.Purge m h p e = absurd (true≢false (sym p))
+memory-head memory.TagGet m h p e =
     subst (λ acc. IsHead (operation.Memory memory.TagGet acc)) (ap (λ (p : MPart). p.acc) e) tag_get
-memory-head memory.TagSet m h e =
+memory-head memory.TagSet m h p e =
     subst (λ acc. IsHead (operation.Memory memory.TagSet acc)) (ap (λ (p : MPart). p.acc) e) tag_set
-memory-head memory.Load m h e = load m.acc
-memory-head memory.Store m h e = store m.acc
-memory-head memory.FetchAdd m h e = fetch_add m.acc
+memory-head memory.Load m h p e = load m.acc
+memory-head memory.Store m h p e = store m.acc
+memory-head memory.FetchAdd m h p e = fetch_add m.acc
 
 pub arithmetic-head : (op : ArithmeticOp) (test : Bool) → is_no_arithmetic op ≡ false
     → IsHead (operation.Arithmetic op test)

@@ -8,6 +8,7 @@ use Rattle.std.proofs.lemmas.Bool.{eq-eqb}
 use Rattle.std.proofs.lemmas.Bool.Decides.{eqb_tells}
 use Rattle.insn_word.specs.Fields.{AreInRange, unsigned, zeros}
 use Rattle.insn_word.specs.Words.{memory_fields, arithmetic_fields, control_fields, WriteApart, AreApart, Spells}
+use Rattle.insn_word.specs.Operations.{has_operation}
 use Rattle.insn_word.specs.Words.{register_fields}
 use Rattle.insn_word.specs.Words.{used_memory, used_arithmetic, used_control, memory_nop, arithmetic_nop}
 use Rattle.insn_word.specs.Words.{memory_destination, arithmetic_destination, control_destination}
@@ -20,6 +21,7 @@ use Rattle.insn_word.specs.declared.operations.ArithmeticOp.{ArithmeticOp}
 use Rattle.insn_word.specs.declared.operations.ArithmeticOp.TheVariants as arithmetic
 use Rattle.insn_word.specs.declared.operations.ControlOp.{ControlOp}
 use Rattle.insn_word.specs.declared.operations.ControlOp.TheVariants as control
+use Rattle.insn_word.specs.declared.profiles.Profile.TheVariants as profile
 use Rattle.insn_word.specs.declared.insn.MPart.{MPart}
 use Rattle.insn_word.specs.declared.insn.APart.{APart}
 use Rattle.insn_word.specs.declared.insn.CPart.{CPart}
@@ -31,7 +33,7 @@ use Rattle.asm_line.specs.Names.{wide_name}
 use Rattle.asm_line.specs.Heads.{operation_of, operation_named, plain_named, wide_named, memory_named}
 use Rattle.asm_line.specs.Heads.{arithmetic_named, control_named}
 use Rattle.asm_line.specs.Operands.{Places}
-use Rattle.asm_line.specs.Instructions.{instruction_of_text, operations, single, double, triple, looking}
+use Rattle.asm_line.specs.Instructions.{instruction_of_text, operations, single, double, triple, with_lookahead}
 use Rattle.asm_line.specs.Instructions.{no_operation}
 use Rattle.asm_line.specs.Instructions.{memory_arithmetic_word, memory_control_word, arithmetic_control_word}
 use Rattle.asm_line.specs.Instructions.{full_word}
@@ -83,6 +85,7 @@ pub record AreParts (m : MPart) (a : APart) (c : CPart) : Type 0 where
   pub bare_arithmetic : used_arithmetic a.op a ≡ a
   pub bare_control : used_control c.op c ≡ c
   pub apart : WriteApart m a c
+  pub in_profile : has_operation profile.One m.op ≡ true
 
 -- the text is read as the instruction, without its lookahead
 pub record IsOperations (places : Places) (here : ℕ) (text : List ℕ) (i : Insn) : Type 0 where
@@ -249,7 +252,7 @@ normal-operations places here m a c p =
     go (is_no_memory m.op) (is_no_arithmetic a.op) (is_no_control c.op) refl refl refl
   where
     mt : is_no_memory m.op ≡ false → IsMemoryText m
-    mt h = memory-text m h p.memory p.bare_memory
+    mt h = memory-text m h p.in_profile p.memory p.bare_memory
 
     at : is_no_arithmetic a.op ≡ false → IsArithmeticText a
     at h = arithmetic-text a h p.arithmetic p.bare_arithmetic
@@ -317,19 +320,19 @@ pub record IsInstruction (places : Places) (here : ℕ) (text : List ℕ) (i : I
   pub printed : IsPrinted text
   pub reads : instruction_of_text places here text ≡ Ok i
 
-looked : (places : Places) (here look : ℕ) (text : List ℕ) (i : Insn) → look < 8 → looking 0 i ≡ i
+looked : (places : Places) (here look : ℕ) (text : List ℕ) (i : Insn) → look < 8 → with_lookahead 0 i ≡ i
     → IsOperations places here text i
-    → IsInstruction places here (lookahead_text look ++ text) (looking look i)
+    → IsInstruction places here (lookahead_text look ++ text) (with_lookahead look i)
 unfolding instruction_of_text head behind_head
 looked places here look text i h none o = ⊎_elim
     (λ e.
-    let same : i ≡ looking look i = sym none ∙ ap (λ (n : ℕ). looking n i) (sym e.1) in
+    let same : i ≡ with_lookahead look i = sym none ∙ ap (λ (n : ℕ). with_lookahead n i) (sym e.1) in
     let at : (get_or text 0 0 == 64) ≡ false = o.plain.no_at in
     rw e.0 (record { printed = o.plain.printed; reads = rw at (o.reads ∙ ap Ok same) }))
     (λ e. rw e.0 (rw (append_assoc (64 ∷ decimal look) (32 ∷ []) text) behind))
     (eqb_tells look 0)
   where
-    behind : IsInstruction places here ((64 ∷ decimal look) ++ (32 ∷ text)) (looking look i)
+    behind : IsInstruction places here ((64 ∷ decimal look) ++ (32 ∷ text)) (with_lookahead look i)
     behind =
         let mark = 64 ∷ decimal look in
         let atoms : list_all is_atom mark ≡ true = term-atoms (decimal look) (decimal-term look (omega arith)) in
@@ -381,6 +384,7 @@ spelt-instruction places here word (insn.Normal look m a c) s =
       bare_arithmetic = s.rest.1;
       bare_control = s.rest.2;
       apart = s.one_writer;
+      in_profile = s.in_profile;
     } in
     looked places here look (bar_separated (operation_texts m a c)) (insn.Normal 0 m a c) s.in_range.1.0 refl
     (normal-operations places here m a c parts)

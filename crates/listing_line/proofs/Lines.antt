@@ -10,6 +10,7 @@ use Rattle.std.proofs.lemmas.Bool.Decides.{nat_tests}
 use Rattle.insn_word.specs.Words.{Spells}
 use Rattle.insn_word.specs.Reading.{InstructionIsSpelt}
 use Rattle.insn_word.specs.Reading as reading
+use Rattle.insn_word.specs.declared.profiles.Profile.TheVariants as profile
 use Rattle.insn_word.specs.declared.insn.Insn.{Insn}
 use Rattle.number_text.specs.Digits.{fixed_digits, hexadecimal_16, five_digits}
 use Rattle.number_text.specs.Laws.{HexadecimalReadsBack}
@@ -18,7 +19,7 @@ use Rattle.asm_line.specs.Names.{directive_name}
 use Rattle.asm_line.specs.Heads.{directive_of, directive_named}
 use Rattle.asm_line.specs.Operands.{Places}
 use Rattle.asm_line.specs.Directives.{item_of_directive}
-use Rattle.asm_line.specs.Lines.{Line, line, line_item, is_word, statement_item, labelling}
+use Rattle.asm_line.specs.Lines.{Line, line, line_item, is_word, statement_item, label_fault}
 use Rattle.asm_line.specs.declared.operation.Directive.{Directive}
 use Rattle.asm_line.specs.declared.operation.Directive.TheVariants as directive
 use Rattle.asm_line.specs.declared.item.Item.{Item}
@@ -86,7 +87,7 @@ read_as : (bytes text : List ℕ) (counts : Bool) (words : ℕ) (added : Item) �
     → line bytes ≡ record { label = None; statement = text } → is_word text ≡ counts
     → ((places : Places) (here : ℕ) → statement_item places words here text ≡ Ok added)
     → IsReadAs bytes counts words added
-unfolding line_item labelling
+unfolding line_item label_fault
 read_as bytes text counts words added one cut counted adds = record {
   one_line = one;
   no_label = ap (λ (l : Line). l.label) cut;
@@ -211,5 +212,5 @@ word-lines spelt law place word words h k = go (reading.instruction word) refl
         let s = raw-statement law word words k in
         commented-line law (raw_text word) place word words (item.Word word) h k s.shown s.counted s.adds
     go (Some i) e =
-        let s = instruction-statement word words i ((spelt word i).0 e) in
+        let s = instruction-statement word words i ((spelt profile.One word i).0 e) in
         commented-line law (insn_text i) place word words (item.Instruction i) h k s.shown s.counted s.adds

@@ -8,7 +8,9 @@ use Rattle.std.proofs.lemmas.Bool.{and_from}
 use Rattle.std.proofs.lemmas.Int.{ints}
 use Rattle.insn_word.specs.Fields.{AreInRange}
 use Rattle.insn_word.specs.Words.{memory_fields, arithmetic_fields}
+use Rattle.insn_word.specs.Operations.{has_operation}
 use Rattle.insn_word.specs.Words.{used_memory, used_arithmetic}
+use Rattle.insn_word.specs.declared.profiles.Profile.TheVariants as profile
 use Rattle.insn_word.specs.declared.operations.WideOp.{WideOp}
 use Rattle.insn_word.specs.declared.operations.WideOp.TheVariants as wide
 use Rattle.insn_word.specs.declared.operations.ArithmeticOp.{ArithmeticOp}
@@ -110,17 +112,17 @@ pub record IsMemoryText (m : MPart) : Type 0 where
   pub operation : IsOperation (memory_text m) (operation.Memory m.op m.acc) (memory_operands m)
   pub reads : memory_part m.op m.acc (memory_operands m) ≡ Ok m
 
-pub memory-text : (m : MPart) → is_no_memory m.op ≡ false → AreInRange (memory_fields m) → used_memory m.op m ≡ m
-    → IsMemoryText m
+pub memory-text : (m : MPart) → is_no_memory m.op ≡ false → has_operation profile.One m.op ≡ true
+    → AreInRange (memory_fields m) → used_memory m.op m ≡ m → IsMemoryText m
 unfolding memory_text
-memory-text m h r u =
+memory-text m h p r u =
     let rd = r.1.1.0 in
     let base = r.1.1.1.0 in
     let disp = r.1.1.1.1.0 in
     let terms = three-terms (register_text m.rd) (register_text m.base) (signed_decimal m.disp)
     (register-term m.rd (omega arith)) (register-term m.base (omega arith))
     (signed-term m.disp (omega (arith, ints)) (omega (arith, ints))) in record {
-      operation = operation_text (operation.Memory m.op m.acc) (memory_operands m) (memory-head m.op m h u) terms;
+      operation = operation_text (operation.Memory m.op m.acc) (memory_operands m) (memory-head m.op m h p u) terms;
       reads = rw (register-text m.rd rd, register-text m.base base, displacement-text m.disp disp.0 disp.1);
     }
 

@@ -118,6 +118,7 @@ is_no_memory memory.Store = false
 is_no_memory memory.FetchAdd = false
 is_no_memory memory.TagGet = false
 is_no_memory memory.TagSet = false
+is_no_memory memory.Purge = false
 
 abbrev pub is_no_arithmetic : ArithmeticOp → Bool
 is_no_arithmetic arithmetic.Nop = true

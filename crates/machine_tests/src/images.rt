@@ -90,6 +90,9 @@ fn assert_counts(rt: &impl Abort, alloc: Global, numbers: Numbers) -> Result<(),
                 (image.program().len(), image.cells().len()),
                 (words, count)
             );
+            let bytes = write_image(alloc, &image)?;
+            let read = read_image(alloc, &bytes);
+            assert!(rt; read.is_ok_and(|read| read == image), "{numbers:?}");
         }
         Err(found) => {
             assert_eq!(rt; Some(found), fault.map(ImageFault::Count));

@@ -119,6 +119,7 @@ fn sixteen_processors_of_many_streams(rt: HostRuntime) -> Result<(), Fail> {
         let last = *machine.stream(p, 127).expect(&rt, "stream 127");
         assert_eq!(rt; last.reg(1), Some(200));
     }
+    assert_same(&rt, &machine, &machine.try_clone()?);
     Ok(())
 }
 

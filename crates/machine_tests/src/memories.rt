@@ -86,8 +86,14 @@ fn last_word_of_each_size(rt: HostRuntime) -> Result<(), Fail> {
         let mut m = memory(&rt, rt.alloc(), &words)?;
         assert_eq!(rt; m.len(), count);
         tag_last(&rt, &mut m, count);
+        let copy = m.try_clone()?;
+        assert_eq!(rt; copy.len(), count);
+        let last = 8 * count as u64 - 8;
+        assert_eq!(rt; copy.word(last), m.word(last), "{count}");
         for i in 0..count - 1 {
-            assert_eq!(rt; m.word(8 * i as u64), words.get(i).copied(), "{count} {i}");
+            let word = words.get(i).copied();
+            assert_eq!(rt; m.word(8 * i as u64), word, "{count} {i}");
+            assert_eq!(rt; copy.word(8 * i as u64), word, "{count} {i}");
         }
     }
     Ok(())

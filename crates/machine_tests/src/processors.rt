@@ -156,6 +156,7 @@ fn counts_after_each_step(rt: HostRuntime) -> Result<(), Fail> {
         let outcome = step(&rt, &image, &mut processor, s, &mut memory);
         assert_eq!(rt; outcome, Outcome::Done);
         assert_eq!(rt; (processor.scur(), processor.sres()), counts);
+        assert_same(&rt, &processor, &processor.try_clone()?);
     }
     for (s, status) in [
         (0, Some(Status::Running)),

@@ -14,7 +14,7 @@ use Rattle.replay_debugger.specs.Sessions.{SessionValue}
 use Rattle.mta_engines.specs.Input.{input_limit}
 use Rattle.mta_engines.specs.InputOutput.{HasInput, HasOutput}
 use Rattle.mta_engines.specs.DebugOutput.{IsReply, AreReplies, HasNoLineEnd, with_line_ends, AreFirstOf, AnswersTo}
-use Rattle.mta_engines.specs.LineReading.{Ends, IsNextLine, IsBrokenOff, coming, ahead, bytes_left, most_kept}
+use Rattle.mta_engines.specs.LineReading.{Ends, IsNextLine, IsBrokenOff, bytes_to_come, ahead, bytes_left, most_kept}
 use Rattle.mta_engines.specs.DebugAnswers.{AreAllAnswers, IsLaterFault}
 use Rattle.mta_engines.specs.declared.byte_reader.ByteReader.{ByteReader}
 use Rattle.mta_engines.specs.declared.tool_fault.ToolFault.{ToolFault}
@@ -48,17 +48,17 @@ pub record AreSoFar (s : SessionValue) (told_before old : Option (List ℕ)) (b 
   pub have_no_end : All HasNoLineEnd lines
   pub replies : AreReplies s lines text now
   pub written : Appends old new text
-  pub consumed : Consumes told_before (coming b told) bytes
+  pub consumed : Consumes told_before (bytes_to_come b told) bytes
   pub counted : length bytes + bytes_left b ≡ input_limit
   pub lines_are : lines_of bytes ≡ lines
   pub ended : b.window.at_end ≡ false → bytes ≡ with_line_ends lines
-  pub at_end : b.window.at_end ≡ true → IsAtEnd (coming b told)
+  pub at_end : b.window.at_end ≡ true → IsAtEnd (bytes_to_come b told)
 
 no_lines : lines_of [] ≡ []
 unfolding lines_of
 no_lines = refl
 
-begun-coming : (b : ByteReader) (told : Option (List ℕ)) → ahead b ≡ [] → Consumes told (coming b told) []
+begun-coming : (b : ByteReader) (told : Option (List ℕ)) → ahead b ≡ [] → Consumes told (bytes_to_come b told) []
 begun-coming b None none = tt
 begun-coming b (Some xs) none = sym (ap (λ bs. bs ++ xs) none)
 
@@ -189,7 +189,7 @@ module _ (s : SessionValue) (told_before old : Option (List ℕ)) (b : ByteReade
               have_no_end = none;
               replies = replies-more s now now' so_far.lines line so_far.text out.output so_far.replies reply;
               written = Appends-trans old new new' so_far.text out.output so_far.written out.appends;
-              consumed = Consumes-trans told_before (coming b told) (coming b' told') so_far.bytes (line ++ 10 ∷ [])
+              consumed = Consumes-trans told_before (bytes_to_come b told) (bytes_to_come b' told') so_far.bytes (line ++ 10 ∷ [])
                   so_far.consumed fed.takes.consumed;
               counted = omega (arith, length-append so_far.bytes (line ++ 10 ∷ []), so_far.counted, fed.takes.counted);
               lines_are = ap lines_of whole ∙ lines-all (so_far.lines ++ line ∷ []) none;
@@ -204,7 +204,7 @@ module _ (s : SessionValue) (told_before old : Option (List ℕ)) (b : ByteReade
               have_no_end = none;
               replies = replies-more s now now' so_far.lines line so_far.text out.output so_far.replies reply;
               written = Appends-trans old new new' so_far.text out.output so_far.written out.appends;
-              consumed = Consumes-trans told_before (coming b told) (coming b' told') so_far.bytes line
+              consumed = Consumes-trans told_before (bytes_to_come b told) (bytes_to_come b' told') so_far.bytes line
                   so_far.consumed last.takes.consumed;
               counted = omega (arith, length-append so_far.bytes line, so_far.counted, last.takes.counted);
               lines_are = ap (λ bs. lines_of (bs ++ line)) before ∙ lines-ended so_far.lines line so_far.have_no_end
@@ -220,10 +220,10 @@ module _ (s : SessionValue) (told_before old : Option (List ℕ)) (b : ByteReade
   so_far-all b' told' ends = record {
     bytes = so_far.bytes;
     same = elim (cases_Bool b.window.at_end) [
-      | inl is ↦ all-consumed told_before (coming b told) so_far.bytes so_far.consumed (so_far.at_end is)
-      | inr is ↦ all-consumed told_before (coming b' told') so_far.bytes
-          (subst (Consumes told_before (coming b' told')) (append-nil so_far.bytes)
-          (Consumes-trans told_before (coming b told) (coming b' told') so_far.bytes [] so_far.consumed
+      | inl is ↦ all-consumed told_before (bytes_to_come b told) so_far.bytes so_far.consumed (so_far.at_end is)
+      | inr is ↦ all-consumed told_before (bytes_to_come b' told') so_far.bytes
+          (subst (Consumes told_before (bytes_to_come b' told')) (append-nil so_far.bytes)
+          (Consumes-trans told_before (bytes_to_come b told) (bytes_to_come b' told') so_far.bytes [] so_far.consumed
           ends.nothing.consumed)) (ends.at_end is)
     ];
     holds = record {
@@ -238,7 +238,7 @@ module _ (s : SessionValue) (told_before old : Option (List ℕ)) (b : ByteReade
 
   first-of : so_far.bytes ≡ with_line_ends so_far.lines
       → IfSome told_before (λ bytes. AreFirstOf (lines_of bytes) so_far.lines)
-  first-of whole = first-consumed told_before (coming b told) so_far.bytes so_far.lines whole so_far.have_no_end
+  first-of whole = first-consumed told_before (bytes_to_come b told) so_far.bytes so_far.lines whole so_far.have_no_end
       so_far.consumed
 
   -- a fault comes before the end of a line
@@ -247,7 +247,7 @@ module _ (s : SessionValue) (told_before old : Option (List ℕ)) (b : ByteReade
   so_far-broken told' fault at =
       let whole = so_far.ended at.not_at_end in
       let read = so_far.bytes ++ (at.line ++ at.past) in
-      let consumed = Consumes-trans told_before (coming b told) told' so_far.bytes (at.line ++ at.past)
+      let consumed = Consumes-trans told_before (bytes_to_come b told) told' so_far.bytes (at.line ++ at.past)
       so_far.consumed at.consumed in
       record {
         written = λ _. record {

@@ -7,7 +7,7 @@ use Rattle.std.proofs.lemmas.Bool.{false≢true}
 use Rattle.std.proofs.KnownBytes.{Consumes-nil, Consumes-trans, Consumes-kept, prepend_known-nil}
 use Rattle.std.specs.Io.KnownBytes.{Consumes, Keeps, prepend_known}
 use Rattle.mta_engines.specs.DebugOutput.{HasNoLineEnd}
-use Rattle.mta_engines.specs.LineReading.{TakesBytes, Ends, IsNextLine, IsBrokenOff, coming, ahead, bytes_left, most_kept}
+use Rattle.mta_engines.specs.LineReading.{TakesBytes, Ends, IsNextLine, IsBrokenOff, bytes_to_come, ahead, bytes_left, most_kept}
 use Rattle.mta_engines.specs.declared.byte_reader.ByteReader.{ByteReader}
 use Rattle.mta_engines.specs.declared.tool_fault.ToolFault.{ToolFault}
 use Rattle.mta_engines.specs.declared.tool_fault.ToolFault.TheVariants.{Read, TooLarge}
@@ -34,12 +34,12 @@ taken-none [] none = refl
 taken-none (byte ∷ line) none = cc
 
 pub takes-nothing : (b : ByteReader) (told : Option (List ℕ)) → TakesBytes b told b told []
-takes-nothing b told = record { consumed = Consumes-nil (coming b told); counted = omega arith }
+takes-nothing b told = record { consumed = Consumes-nil (bytes_to_come b told); counted = omega arith }
 
 pub takes-more : (old mid new : ByteReader) (a b c : Option (List ℕ)) (xs ys : List ℕ) → TakesBytes old a mid b xs
     → TakesBytes mid b new c ys → TakesBytes old a new c (xs ++ ys)
 takes-more old mid new a b c xs ys first second = record {
-  consumed = Consumes-trans (coming old a) (coming mid b) (coming new c) xs ys first.consumed second.consumed;
+  consumed = Consumes-trans (bytes_to_come old a) (bytes_to_come mid b) (bytes_to_come new c) xs ys first.consumed second.consumed;
   counted = let n = length-append xs ys in let p = first.counted in let q = second.counted in omega (arith, n, p, q);
 }
 
@@ -49,10 +49,10 @@ pub takes-first : (old mid new : ByteReader) (a b : Option (List ℕ)) → Takes
     → new.window.start ≡ mid.window.start + 1 → new.window.end ≡ mid.window.end → new.window.left ≡ mid.window.left
     → TakesBytes old a new b (slice_index_or mid.chunk mid.window.start 0 ∷ [])
 takes-first old mid new a b none some within chunk start end left = record {
-  consumed = subst (λ bs. Consumes (coming old a) (prepend_known bs b) (slice_index_or mid.chunk mid.window.start 0 ∷ []))
+  consumed = subst (λ bs. Consumes (bytes_to_come old a) (prepend_known bs b) (slice_index_or mid.chunk mid.window.start 0 ∷ []))
       (sym (ap (λ xs. slice_range xs new.window.start new.window.end) chunk
       ∙ ap (λ n. slice_range mid.chunk n new.window.end) start ∙ ap (λ n. slice_range mid.chunk (mid.window.start + 1) n) end))
-      (took-first mid.chunk mid.window.start mid.window.end (coming old a) b some within none.consumed);
+      (took-first mid.chunk mid.window.start mid.window.end (bytes_to_come old a) b some within none.consumed);
   counted = let p = none.counted in omega (arith, p, start, end, left, some);
 }
 
@@ -117,8 +117,8 @@ module _ (old mid new : ByteReader) (a b c : Option (List ℕ)) (kept : List ℕ
     past = [];
     has_no_end = so_far.has_no_end;
     not_at_end = sym so_far.same_end ∙ before;
-    consumed = subst (Consumes (coming old a) c) (sym (append-nil so_far.line))
-        (Consumes-kept (coming old a) (coming mid b) c so_far.line so_far.takes.consumed
+    consumed = subst (Consumes (bytes_to_come old a) c) (sym (append-nil so_far.line))
+        (Consumes-kept (bytes_to_come old a) (bytes_to_come mid b) c so_far.line so_far.takes.consumed
         (subst (λ o. Keeps o c) (sym (ap (λ bs. prepend_known bs b) none ∙ prepend_known-nil b)) kept_on));
     within = let n = so_far.takes.counted in omega (arith, n);
     kind = inl (refl, refl);
@@ -131,7 +131,7 @@ module _ (old mid new : ByteReader) (a b c : Option (List ℕ)) (kept : List ℕ
     past = byte ∷ [];
     has_no_end = so_far.has_no_end;
     not_at_end = sym so_far.same_end ∙ before;
-    consumed = Consumes-trans (coming old a) (coming mid b) c so_far.line (byte ∷ []) so_far.takes.consumed
+    consumed = Consumes-trans (bytes_to_come old a) (bytes_to_come mid b) c so_far.line (byte ∷ []) so_far.takes.consumed
         (subst (λ o. Consumes o c (byte ∷ [])) (sym (ap (λ bs. prepend_known bs b) none ∙ prepend_known-nil b)) past);
     within = let n = so_far.takes.counted in omega (arith, n);
     kind = let n = so_far.takes.counted in inr (refl, omega (arith, n, full), refl);

@@ -29,16 +29,16 @@ unfoldable pub refusal_line : DebugFault → List ℕ
 refusal_line fault = codes "fault " ++ decimal (debug_fault_number fault) ++ codes "\n"
 
 -- the text of an answer, or the line of a refusal
-abbrev pub reply_text : Result Answer DebugFault → List ℕ
-reply_text (Ok answer) = answer_text_of answer
-reply_text (Err fault) = refusal_line fault
+abbrev pub answer_or_refusal : Result Answer DebugFault → List ℕ
+answer_or_refusal (Ok answer) = answer_text_of answer
+answer_or_refusal (Err fault) = refusal_line fault
 
 -- What a session writes for a line, and the session after it: what the table of commands says of the line's command. A
 -- line that is no command is refused, and the session stays.
 abbrev pub IsReply : SessionValue → Option Command → List ℕ → SessionValue → Type 0
 IsReply old None text new = (text ≡ refusal_line Syntax) × (new ≡ old)
 IsReply old (Some command) text new =
-    (result : Result Answer DebugFault) × IsResultOf old command result new × (text ≡ reply_text result)
+    (result : Result Answer DebugFault) × IsResultOf old command result new × (text ≡ answer_or_refusal result)
 
 -- the same of lines, one after another
 abbrev pub AreReplies : SessionValue → List (List ℕ) → List ℕ → SessionValue → Type 0

@@ -1,4 +1,4 @@
--- The definitions, in the order of reading. All of them are promises: the clauses of the public functions cite them.
+-- The definitions, in the order of reading: first the promises, which clauses of public functions cite, then the aids.
 
 -- what every engine reads and writes
 pub mod Input

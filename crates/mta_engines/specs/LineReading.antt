@@ -12,8 +12,8 @@ abbrev pub ahead : ByteReader → List ℕ
 ahead b = slice_range b.chunk b.window.start b.window.end
 
 -- the bytes to come: those, and then the reader's
-abbrev pub coming : ByteReader → Option (List ℕ) → Option (List ℕ)
-coming b told = prepend_known (ahead b) told
+abbrev pub bytes_to_come : ByteReader → Option (List ℕ) → Option (List ℕ)
+bytes_to_come b told = prepend_known (ahead b) told
 
 -- how many bytes may still be taken
 abbrev pub bytes_left : ByteReader → ℕ
@@ -22,14 +22,14 @@ bytes_left b = b.window.left + (b.window.end - b.window.start)
 -- these bytes were taken
 pub record TakesBytes (old : ByteReader) (told_before : Option (List ℕ)) (new : ByteReader) (told_after : Option (List ℕ))
     (bytes : List ℕ) : Type 0 where
-  pub consumed : Consumes (coming old told_before) (coming new told_after) bytes
+  pub consumed : Consumes (bytes_to_come old told_before) (bytes_to_come new told_after) bytes
   pub counted : bytes_left old ≡ bytes_left new + length bytes
 
 -- Nothing was taken, and nothing is to come. A reader that was at its end before is not asked again.
 pub record Ends (old : ByteReader) (told_before : Option (List ℕ)) (new : ByteReader) (told_after : Option (List ℕ))
     : Type 0 where
   pub nothing : TakesBytes old told_before new told_after []
-  pub at_end : old.window.at_end ≡ false → IsAtEnd (coming new told_after)
+  pub at_end : old.window.at_end ≡ false → IsAtEnd (bytes_to_come new told_after)
   pub ended : new.window.at_end ≡ true
 
 -- the most bytes of a line that are kept, one more than a command has
@@ -47,7 +47,7 @@ pub record EndsByEnd (old : ByteReader) (told_before : Option (List ℕ)) (new :
     (told_after : Option (List ℕ)) (line : List ℕ) : Type 0 where
   pub takes : TakesBytes old told_before new told_after line
   pub some : line ≢ []
-  pub at_end : IsAtEnd (coming new told_after)
+  pub at_end : IsAtEnd (bytes_to_come new told_after)
   pub ended : new.window.at_end ≡ true
 
 -- The last bytes that were taken are a line: up to its line feed, or to the end of the reader, where there are some.
@@ -66,6 +66,6 @@ pub record IsBrokenOff (old : ByteReader) (told_before told_after : Option (List
   pub past : List ℕ
   pub has_no_end : HasNoLineEnd line
   pub not_at_end : old.window.at_end ≡ false
-  pub consumed : Consumes (coming old told_before) told_after (line ++ past)
+  pub consumed : Consumes (bytes_to_come old told_before) told_after (line ++ past)
   pub within : length line ≤ bytes_left old
   pub kind : ((fault ≡ Read) × (past ≡ [])) ⊎ ((fault ≡ TooLarge) × (length line ≡ bytes_left old) × (length past ≡ 1))

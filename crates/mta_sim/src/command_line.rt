@@ -7,6 +7,7 @@ ghost use Rattle.mta_sim.specs.CommandLine.{command_of_line, command_in, command
 ghost use Rattle.mta_sim.specs.CommandLine.{value_of_command, tool_app};
 ghost use Rattle.mta_sim.specs.CommandLine.{threads_app, fuel_rule, number_given};
 
+use crate::{VERSION, help};
 use clap::builder::ValueParser;
 use clap::{Arg, ArgAction, ArgMatches, Command, Error};
 use std::alloc::{AllocError, Global};
@@ -112,7 +113,9 @@ fn tool_parser<'a>(alloc: Global) -> Result<Command<'a>, AllocError>
 {
     Command::new(alloc, "mta_sim")
         .about("Simulates processors of the Tera MTA")
-        .version("0.2.0")
+        .long_about(help::TOOL)
+        .after_help(help::STATUSES)
+        .version(VERSION)
         .subcommand_required(true)
         .subcommand(words_parser(alloc))?
         .subcommand(asm_parser(alloc)?)?
@@ -127,9 +130,10 @@ fn words_parser<'a>(alloc: Global) -> Command<'a>
     ensures app { app_of result ≡ command_app (codes "words") [] }
     ensures local { (fields_of result).has_globals ≡ false }
 {
-    Command::new(alloc, "words").about(
-        "Runs program words, one a line as 16 hexadecimal digits, from standard input, and prints the stream's state",
-    )
+    Command::new(alloc, "words")
+        .about("Runs program words from standard input, and prints the stream's state")
+        .long_about(help::WORDS)
+        .after_help(help::STATUSES)
 }
 
 /// The parser of `asm`.
@@ -140,8 +144,10 @@ fn asm_parser<'a>(alloc: Global) -> Result<Command<'a>, AllocError>
 {
     Command::new(alloc, "asm")
         .about("Assembles a source text, and writes the image")
-        .arg(file(alloc, "SOURCE"))?
-        .arg(file(alloc, "IMAGE"))
+        .long_about(help::ASM)
+        .after_help(help::STATUSES)
+        .arg(file(alloc, "SOURCE", help::SOURCE))?
+        .arg(file(alloc, "IMAGE", help::IMAGE_TO_WRITE))
 }
 
 /// The parser of `list`.
@@ -151,7 +157,9 @@ fn list_parser<'a>(alloc: Global) -> Result<Command<'a>, AllocError>
 {
     Command::new(alloc, "list")
         .about("Prints the source text that means just this image")
-        .arg(file(alloc, "IMAGE"))
+        .long_about(help::LIST)
+        .after_help(help::STATUSES)
+        .arg(file(alloc, "IMAGE", help::IMAGE))
 }
 
 /// The parser of `run`.
@@ -162,8 +170,10 @@ fn run_parser<'a>(alloc: Global) -> Result<Command<'a>, AllocError>
 {
     Command::new(alloc, "run")
         .about("Runs an image by a schedule, and prints each step and what the machine came to")
-        .arg(file(alloc, "IMAGE"))?
-        .arg(file(alloc, "SCHEDULE"))
+        .long_about(help::RUN)
+        .after_help(help::STATUSES)
+        .arg(file(alloc, "IMAGE", help::IMAGE))?
+        .arg(file(alloc, "SCHEDULE", help::SCHEDULE))
 }
 
 /// The parser of `threads`.
@@ -173,9 +183,11 @@ fn threads_parser<'a>(alloc: Global) -> Result<Command<'a>, AllocError>
 {
     Command::new(alloc, "threads")
         .about("Runs an image's processors at once, and writes a schedule that does the same")
-        .arg(file(alloc, "IMAGE"))?
+        .long_about(help::THREADS)
+        .after_help(help::STATUSES)
+        .arg(file(alloc, "IMAGE", help::IMAGE))?
         .arg(fuel(alloc))?
-        .arg(file(alloc, "SCHEDULE"))
+        .arg(file(alloc, "SCHEDULE", help::SCHEDULE_TO_WRITE))
 }
 
 /// The argument that says how many steps each processor takes at most.
@@ -184,6 +196,7 @@ fn fuel<'a>(alloc: Global) -> Arg<'a>
     ensures local { result.global ≡ false }
 {
     Arg::new(alloc, "FUEL")
+        .help(help::FUEL)
         .required(true)
         .action(ArgAction::Set)
         .value_parser(ValueParser::unsigned(1, MAX_FUEL))
@@ -196,17 +209,20 @@ fn debug_parser<'a>(alloc: Global) -> Result<Command<'a>, AllocError>
     ensures local { IfOk result (λ command. (fields_of command).has_globals ≡ false) }
 {
     Command::new(alloc, "debug")
-        .about(
-            "Answers the debugger's commands from standard input, over an image's run by a schedule",
-        )
-        .arg(file(alloc, "IMAGE"))?
-        .arg(file(alloc, "SCHEDULE"))
+        .about("Answers the debugger's commands over an image's run by a schedule")
+        .long_about(help::DEBUG)
+        .after_help(help::STATUSES)
+        .arg(file(alloc, "IMAGE", help::IMAGE))?
+        .arg(file(alloc, "SCHEDULE", help::SCHEDULE))
 }
 
-/// An argument that names a file.
-fn file<'a>(alloc: Global, name: &'a str) -> Arg<'a>
+/// An argument that names a file, and what `--help` says of it.
+fn file<'a>(alloc: Global, name: &'a str, text: &'a str) -> Arg<'a>
     ensures rule { rule_of result ≡ file_rule name.entry.now }
     ensures local { result.global ≡ false }
 {
-    Arg::new(alloc, name).required(true).action(ArgAction::Set)
+    Arg::new(alloc, name)
+        .help(text)
+        .required(true)
+        .action(ArgAction::Set)
 }

@@ -7,7 +7,7 @@ use Rattle.std.proofs.lemmas.List.{length-replicate, get_or_append_left, get_or-
 use Rattle.std.proofs.lemmas.List.Sorted.{IsPartitionedBy-leb}
 use Rattle.std.proofs.lemmas.Option.{slice_get-get_or}
 use Rattle.processor.specs.declared.recorded_steps.Run.{Run}
-use Rattle.processor.specs.StepRuns.{run_numbers, AreEnded, step_numbers, AreRuns, IsRunFrom}
+use Rattle.processor.specs.StepRuns.{run_numbers, AreRunEnds, step_numbers, AreRuns, IsRunFrom}
 use Rattle.processor.specs.Turns.{last_of}
 
 -- ---- a list behind another
@@ -35,13 +35,13 @@ slice_get-replicate_all n s k h =
 
 -- ---- the ends rise
 
-end_from : (rs : List Run) (n j : ℕ) (d : Run) → AreEnded n rs → j < length rs → n ≤ (get_or rs j d).end
+end_from : (rs : List Run) (n j : ℕ) (d : Run) → AreRunEnds n rs → j < length rs → n ≤ (get_or rs j d).end
 end_from [] n j d ended h = absurd (omega arith)
 end_from (r ∷ rs) n zero d ended h = omega (arith, ended.0)
 end_from (r ∷ rs) n (suc j) d ended h =
     omega (arith, ended.0, end_from rs r.end j d ended.1 (omega arith))
 
-ends_rise : (rs : List Run) (n i j : ℕ) (d : Run) → AreEnded n rs → i ≤ j → j < length rs
+ends_rise : (rs : List Run) (n i j : ℕ) (d : Run) → AreRunEnds n rs → i ≤ j → j < length rs
     → (get_or rs i d).end ≤ (get_or rs j d).end
 ends_rise [] n i j d ended order h = absurd (omega arith)
 ends_rise (r ∷ rs) n zero zero d ended order h = omega arith
@@ -50,7 +50,7 @@ ends_rise (r ∷ rs) n (suc i) zero d ended order h = absurd (omega arith)
 ends_rise (r ∷ rs) n (suc i) (suc j) d ended order h = ends_rise rs r.end i j d ended.1 (omega arith) (omega arith)
 
 -- what the search asks
-pub ended_in_order : (rs : List Run) (n i : ℕ) → AreEnded n rs
+pub ended_in_order : (rs : List Run) (n i : ℕ) → AreRunEnds n rs
     → (j k : ℕ) (d : Run) → j ≤ k → k < length rs
     → leb (get_or rs k d).end i ≡ true → leb (get_or rs j d).end i ≡ true
 ended_in_order rs n i ended =
@@ -66,7 +66,7 @@ pub record IsFound (rs : List Run) (n i k : ℕ) (d : Run) : Type 0 where
       → slice_get (run_numbers rs) (j - n) ≡ Some (get_or rs k d).stream
 
 -- behind the runs that are over by step i, and before those that are not, is the run of step i
-pub found : (rs : List Run) (n i k : ℕ) (d : Run) → AreEnded n rs → n ≤ i → i < n + length (run_numbers rs)
+pub found : (rs : List Run) (n i k : ℕ) (d : Run) → AreRunEnds n rs → n ≤ i → i < n + length (run_numbers rs)
     → AllWithin (λ (r : Run). leb r.end i ≡ true) rs 0 k
     → AllWithin (λ (r : Run). leb r.end i ≡ false) rs k (length rs)
     → IsFound rs n i k d
@@ -168,7 +168,7 @@ run_numbers-push (q ∷ rs) r =
     ∙ sym (append_assoc (replicate q.count q.stream) (run_numbers rs) (replicate r.count r.stream))
 
 ended-push : (rs : List Run) (n m : ℕ) (r : Run)
-    → AreEnded n rs → n + length (run_numbers rs) ≡ m → r.end ≡ m + r.count → AreEnded n (rs ++ r ∷ [])
+    → AreRunEnds n rs → n + length (run_numbers rs) ≡ m → r.end ≡ m + r.count → AreRunEnds n (rs ++ r ∷ [])
 unfolding run_numbers
 ended-push [] n m r ended here ends = (omega (arith, here, ends), tt)
 ended-push (q ∷ rs) n m r ended here ends =

@@ -8,9 +8,9 @@ run_numbers [] = []
 run_numbers (r ∷ rs) = replicate r.count r.stream ++ run_numbers rs
 
 -- each run ends as many steps after the one before it as it counts, the first after n steps
-abbrev pub AreEnded : ℕ → List Run → Type 0
-AreEnded n [] = Unit {0}
-AreEnded n (r ∷ rs) = (r.end ≡ n + r.count) × AreEnded r.end rs
+abbrev pub AreRunEnds : ℕ → List Run → Type 0
+AreRunEnds n [] = Unit {0}
+AreRunEnds n (r ∷ rs) = (r.end ≡ n + r.count) × AreRunEnds r.end rs
 
 -- the streams of runs that are over, and of the run that goes on after them
 abbrev pub step_numbers : List Run → ℕ → ℕ → List ℕ
@@ -18,7 +18,7 @@ step_numbers runs s count = run_numbers runs ++ replicate count s
 
 -- runs that are over, of so many steps together, and a run that goes on; there is one where there is a step
 pub record AreRuns (runs : List Run) (before count : ℕ) : Type 0 where
-  pub ended : AreEnded 0 runs
+  pub ended : AreRunEnds 0 runs
   pub length : length (run_numbers runs) ≡ before
   pub first : count ≡ 0 → runs ≡ []
 

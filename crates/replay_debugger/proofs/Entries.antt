@@ -4,7 +4,7 @@ use Rattle.std.specs.List.{list_any}
 use Rattle.slab.specs.Slab.{entries_from}
 use Rattle.tag_memory.specs.Storage.{TaggedMemory}
 use Rattle.replay_debugger.specs.declared.points.Point.{Point}
-use Rattle.replay_debugger.specs.declared.watched_words.WatchedWord.{WatchedWord}
+use Rattle.replay_debugger.specs.Watches.{WatchValue}
 use Rattle.replay_debugger.specs.Looks.{breaks_at, slot_breaks_at, watch_of, watches_of}
 
 -- whether an entry is a breakpoint at this place
@@ -18,7 +18,7 @@ entries_break p pc key (None ∷ rest) = entries_break p pc (key + 1) rest
 entries_break p pc key (Some point ∷ rest) = ap (λ b. breaks_at p pc point || b) (entries_break p pc (key + 1) rest)
 
 -- the watched words of entries
-abbrev pub watches_among : TaggedMemory → List (ℕ × Point) → List WatchedWord
+abbrev pub watches_among : TaggedMemory → List (ℕ × Point) → List WatchValue
 watches_among m [] = []
 watches_among m (e ∷ es) = watch_of m e.1 ++ watches_among m es
 

@@ -2,6 +2,7 @@ pub mod PlaceOrder
 pub mod NoPoints
 pub mod Entries
 pub mod StreamsSeen
+pub mod WatchedParts
 pub mod LooksAgain
 pub mod Meeting
 pub mod Replaying

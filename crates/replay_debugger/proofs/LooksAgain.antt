@@ -1,11 +1,12 @@
 -- Watched words that are looked at again, one after another.
-use Rattle.std.proofs.Common.{◌≡◌, ℕ, zero, suc, ◌+◌, ◌<◌, Bool, true, false, ◌||◌, refl, sym, ap, ◌∙◌, arith}
+use Rattle.std.proofs.Common.{◌≡◌, ℕ, zero, suc, ◌+◌, ◌<◌, false, refl, sym, ap, ◌∙◌, arith}
 use Rattle.std.proofs.Common.{List, [], ◌∷◌, ◌++◌, length, take, drop, get_or, set, map}
 use Rattle.std.specs.List.{list_any}
-use Rattle.std.proofs.lemmas.List.Folds.{list_any_more}
-use Rattle.tag_memory.specs.Storage.{TaggedMemory}
-use Rattle.replay_debugger.specs.declared.watched_words.WatchedWord.{WatchedWord}
-use Rattle.replay_debugger.specs.Looks.{differs_at, seen_again, has_changed}
+use Rattle.std.proofs.lemmas.Bool.{or_parts}
+use Rattle.tag_memory.specs.Storage.{TaggedMemory, cell_at}
+use Rattle.replay_debugger.specs.Watches.{WatchValue, watched_part}
+use Rattle.replay_debugger.specs.Looks.{seen_again, has_changed}
+use Rattle.replay_debugger.proofs.WatchedParts.{no_difference}
 
 -- the words as far as they have been looked at
 abbrev pub looked_at : {A : Type 0} → (A → A) → List A → ℕ → List A
@@ -29,12 +30,12 @@ any_default (x ∷ xs) zero d e below = refl
 any_default (x ∷ xs) (suc i) d e below = any_default xs i d e (omega arith)
 
 -- a word that has not been looked at is as it was
-word_read : (m : TaggedMemory) (old words : List WatchedWord) (i : ℕ) (d e : WatchedWord) → i < length old
+word_read : (m : TaggedMemory) (old words : List WatchValue) (i : ℕ) (d e : WatchValue) → i < length old
     → words ≡ looked_at (seen_again m) old i → get_or words i d ≡ get_or old i e
 word_read m old words i d e below all =
     ap (λ ws. get_or ws i d) all ∙ get_at (seen_again m) old i d below ∙ any_default old i d e below
 
-pub word_written : (m : TaggedMemory) (old words : List WatchedWord) (i : ℕ) (w later : WatchedWord) → i < length old
+pub word_written : (m : TaggedMemory) (old words : List WatchValue) (i : ℕ) (w later : WatchValue) → i < length old
     → words ≡ looked_at (seen_again m) old i → later ≡ seen_again m (get_or words i w)
     → set words i later ≡ looked_at (seen_again m) old (i + 1)
 word_written m old words i w later below all again =
@@ -43,43 +44,15 @@ word_written m old words i w later below all again =
     let next : suc i ≡ i + 1 = omega arith in
     (λ k. set (all k) i (is k)) ∙ set_at (seen_again m) old i w below ∙ ap (looked_at (seen_again m) old) next
 
-or_true : (a : Bool) → true ≡ (a || true)
-or_true true = refl
-or_true false = refl
+-- where none has changed, the words are seen as they were
+same_watch : (m : TaggedMemory) (w : WatchValue) → has_changed m w ≡ false → w ≡ seen_again m w
+same_watch m w e =
+    ap (λ c. record w { seen = c })
+    (no_difference w.seen (watched_part w.tags_alone (cell_at m w.address)) e)
 
-or_false : (a : Bool) → a ≡ (a || false)
-or_false true = refl
-or_false false = refl
-
--- one word more, which was read at two steps of the code
-pub record IsLook (m : TaggedMemory) (old words : List WatchedWord) (i : ℕ) (differs before : Bool) : Type 0 where
-  pub w : WatchedWord
-  pub first : WatchedWord
-  pub later : WatchedWord
-  pub below : i < length old
-  pub all : words ≡ looked_at (seen_again m) old i
-  pub again : later ≡ seen_again m (get_or words i w)
-  pub is : differs ≡ differs_at (get_or words i first) later
-  pub so_far : before ≡ list_any (has_changed m) (take i old)
-
-more_changed : (m : TaggedMemory) (old words : List WatchedWord) (i : ℕ) (differs before : Bool)
-    → IsLook m old words i differs before → (before || differs) ≡ list_any (has_changed m) (take (i + 1) old)
-more_changed m old words i differs before look =
-    let w = look.w in
-    let same = word_read m old words i look.first w look.below look.all in
-    let again = look.again ∙ ap (seen_again m) (word_read m old words i w w look.below look.all) in
-    (λ k. look.so_far k || look.is k)
-    ∙ (λ k. list_any (has_changed m) (take i old) || differs_at (same k) (again k))
-    ∙ sym (list_any_more (has_changed m) old i w look.below)
-
-pub changed_now : (m : TaggedMemory) (old words : List WatchedWord) (i : ℕ) (differs before changed : Bool)
-    → IsLook m old words i differs before → differs ≡ true → changed ≡ true
-    → changed ≡ list_any (has_changed m) (take (i + 1) old)
-changed_now m old words i differs before changed look does e =
-    e ∙ or_true before ∙ sym (ap (λ b. before || b) does) ∙ more_changed m old words i differs before look
-
-pub changed_before : (m : TaggedMemory) (old words : List WatchedWord) (i : ℕ) (differs before changed : Bool)
-    → IsLook m old words i differs before → differs ≡ false → changed ≡ before
-    → changed ≡ list_any (has_changed m) (take (i + 1) old)
-changed_before m old words i differs before changed look does e =
-    e ∙ or_false before ∙ sym (ap (λ b. before || b) does) ∙ more_changed m old words i differs before look
+pub unchanged : (m : TaggedMemory) (words : List WatchValue)
+    → list_any (has_changed m) words ≡ false → words ≡ map (seen_again m) words
+unchanged m [] e = refl
+unchanged m (w ∷ ws) e =
+    let neither = or_parts (has_changed m w) (list_any (has_changed m) ws) e in
+    (λ i. same_watch m w neither.0 i ∷ unchanged m ws neither.1 i)

@@ -4,7 +4,7 @@ use Rattle.std.proofs.Common.{List, [], ◌∷◌, ◌++◌, map, Option, Some, 
 use Rattle.std.specs.List.{list_any}
 use Rattle.std.proofs.lemmas.List.{map-append}
 use Rattle.std.proofs.lemmas.List.Folds.{list_any-append}
-use Rattle.tag_memory.specs.Storage.{TaggedMemory}
+use Rattle.tag_memory.specs.Storage.{TaggedMemory, cell_at}
 use Rattle.processor.specs.World.{World}
 use Rattle.processor.specs.declared.steps.Step.{Step}
 use Rattle.replay_debugger.specs.declared.points.Point.{Point}
@@ -14,7 +14,8 @@ use Rattle.replay_debugger.specs.Stops.{stream_named, is_met, slot_stops, any_st
 use Rattle.replay_debugger.specs.Looks.{slot_breaks_at, has_place, AreBreakpoints, slot_watch_of, watches_of}
 use Rattle.replay_debugger.specs.Looks.{has_changed, seen_again, LooksFor}
 use Rattle.replay_debugger.specs.declared.stops.Stops.{Stops}
-use Rattle.replay_debugger.specs.declared.watched_words.WatchedWord.{WatchedWord}
+use Rattle.replay_debugger.specs.Watches.{WatchValue, watch_at}
+use Rattle.replay_debugger.proofs.WatchedParts.{tags_part}
 
 -- Sums of tests.
 
@@ -67,8 +68,11 @@ slot_split before w next (Some (Watch a)) =
     let x = slot_stops before w next (Some (Watch a)) in
     or_false x ∙ (λ i. or_false x i || met_none w next i)
 slot_split before w next (Some (WatchTags a)) =
-    let x = slot_stops before w next (Some (WatchTags a)) in
-    or_false x ∙ (λ i. or_false x i || met_none w next i)
+    let x = slot_changes before w (Some (WatchTags a)) in
+    tags_part (cell_at before.memory a) (cell_at w.memory a)
+    ∙ or_false (has_changed w.memory (watch_at a true (cell_at before.memory a)))
+    ∙ or_false x
+    ∙ (λ i. x || met_none w next i)
 
 -- All points.
 
@@ -116,7 +120,7 @@ watches_again m n (slot ∷ rest) =
 -- At a position, with the watched words in the code's hands.
 
 pub stop_changed : (before w : World) (next : Option Step) (points : List (Option Point)) (s : Stops)
-    (words : List WatchedWord) (changed : Bool)
+    (words : List WatchValue) (changed : Bool)
     → LooksFor points before.memory s → words ≡ s.words.items → changed ≡ list_any (has_changed w.memory) words
     → changed ≡ true → changed ≡ any_stops before w next points
 stop_changed before w next points s words changed looks same is does =
@@ -126,7 +130,7 @@ stop_changed before w next points s words changed looks same is does =
     ∙ stops_met before w next points s.breakpoints looks.breakpoints
 
 pub stop_unchanged : (before w : World) (next : Option Step) (points : List (Option Point)) (s : Stops)
-    (words : List WatchedWord) (changed met : Bool)
+    (words : List WatchValue) (changed met : Bool)
     → LooksFor points before.memory s → words ≡ s.words.items → changed ≡ list_any (has_changed w.memory) words
     → changed ≡ false → met ≡ is_met (has_place s.breakpoints) w next → met ≡ any_stops before w next points
 stop_unchanged before w next points s words changed met looks same is does e =
@@ -135,7 +139,7 @@ stop_unchanged before w next points s words changed met looks same is does e =
     ∙ ap (λ b. b || is_met (has_place s.breakpoints) w next) (sym does ∙ seen)
     ∙ stops_met before w next points s.breakpoints looks.breakpoints
 
-pub words_again : (m n : TaggedMemory) (points : List (Option Point)) (s : Stops) (words new : List WatchedWord)
+pub words_again : (m n : TaggedMemory) (points : List (Option Point)) (s : Stops) (words new : List WatchValue)
     → LooksFor points m s → words ≡ s.words.items → new ≡ map (seen_again n) words → new ≡ watches_of n points
 words_again m n points s words new looks same is =
     is ∙ ap (map (seen_again n)) (same ∙ looks.words) ∙ watches_again m n points

@@ -10,4 +10,5 @@ pub mod Table
 -- looks at.
 pub mod Places
 pub mod Checkpoints
+pub mod Watches
 pub mod Looks

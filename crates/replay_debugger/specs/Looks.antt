@@ -1,14 +1,14 @@
 -- What a run to a stop looks at after each step: the breakpoints as a set, and the watched words as they were last
 -- seen.
-use Rattle.std.specs.Prelude.{◌≡◌, ℕ, ◌-◌, ◌<◌, ◌≤◌, ◌==◌, ◌&&◌, Bool, true, false, if◌then◌else◌}
+use Rattle.std.specs.Prelude.{◌≡◌, ℕ, ◌-◌, ◌<◌, ◌≤◌, ◌==◌, ◌&&◌, Bool, true, false}
 use Rattle.std.specs.Prelude.{List, [], ◌∷◌, ◌++◌, Option, Some, None}
 use Rattle.std.specs.List.{list_any}
 use Rattle.tag_memory.specs.Storage.{TaggedMemory, cell_at}
 use Rattle.replay_debugger.specs.declared.points.Point.{Point}
 use Rattle.replay_debugger.specs.declared.points.Point.TheVariants.{Break, Watch, WatchTags}
-use Rattle.replay_debugger.specs.declared.watched_words.WatchedWord.{WatchedWord}
 use Rattle.replay_debugger.specs.declared.stops.Stops.{Stops}
-use Rattle.replay_debugger.specs.Stops.{word_differs, tags_differ}
+use Rattle.replay_debugger.specs.Watches.{WatchValue, watched_part, watch_at}
+use Rattle.replay_debugger.specs.Stops.{word_differs}
 use Rattle.replay_debugger.specs.Stops.{IsLeastAbove, NoneAbove, IsGreatestBelow, NoneBelow}
 
 -- Breakpoints.
@@ -32,30 +32,27 @@ AreBreakpoints points places = (p pc : ℕ) → has_place places p pc ≡ list_a
 
 -- Watched words.
 
-abbrev pub watch_of : TaggedMemory → Point → List WatchedWord
+abbrev pub watch_of : TaggedMemory → Point → List WatchValue
 watch_of m (Break p pc) = []
-watch_of m (Watch a) = record { address = a; tags_alone = false; seen = cell_at m a } ∷ []
-watch_of m (WatchTags a) = record { address = a; tags_alone = true; seen = cell_at m a } ∷ []
+watch_of m (Watch a) = watch_at a false (cell_at m a) ∷ []
+watch_of m (WatchTags a) = watch_at a true (cell_at m a) ∷ []
 
-abbrev pub slot_watch_of : TaggedMemory → Option Point → List WatchedWord
+abbrev pub slot_watch_of : TaggedMemory → Option Point → List WatchValue
 slot_watch_of m None = []
 slot_watch_of m (Some point) = watch_of m point
 
 -- the watched words of points, as a memory shows them
-abbrev pub watches_of : TaggedMemory → List (Option Point) → List WatchedWord
+abbrev pub watches_of : TaggedMemory → List (Option Point) → List WatchValue
 watches_of m [] = []
 watches_of m (slot ∷ slots) = slot_watch_of m slot ++ watches_of m slots
 
--- whether what is watched of a word is otherwise at a later look
-abbrev pub differs_at : WatchedWord → WatchedWord → Bool
-differs_at w later = if w.tags_alone then tags_differ w.seen later.seen else word_differs w.seen later.seen
+-- a watched word as a memory shows it
+abbrev pub seen_again : TaggedMemory → WatchValue → WatchValue
+seen_again m w = watch_at w.address w.tags_alone (cell_at m w.address)
 
-abbrev pub seen_again : TaggedMemory → WatchedWord → WatchedWord
-seen_again m w = record w { seen = cell_at m w.address }
-
--- whether a watched word is not as it was last seen
-abbrev pub has_changed : TaggedMemory → WatchedWord → Bool
-has_changed m w = differs_at w (seen_again m w)
+-- whether what is watched of a word is not as it was last seen
+abbrev pub has_changed : TaggedMemory → WatchValue → Bool
+has_changed m w = word_differs w.seen (watched_part w.tags_alone (cell_at m w.address))
 
 -- Both.
 

@@ -59,6 +59,7 @@ impl Breakpoints {
     }
 
     /// Whether the step that follows is of a running stream at a breakpoint.
+    #[inline(always)]
     pub(crate) fn are_met<const S: usize>(&self, machine: &Machine<S>, next: Option<Step>) -> bool
         ensures { result ≡ is_met (has_place self.now) machine.now.world next }
     {

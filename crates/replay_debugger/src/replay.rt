@@ -66,6 +66,7 @@ impl<'i, const S: usize> Replay<'i, S> {
     }
 
     /// Takes the next step, and says whether the position behind it is a stop.
+    #[inline(always)]
     fn advance(&mut self, schedule: &[Step], stops: &mut Stops) -> bool
         requires within { self.old.position < length schedule.now }
         requires stands { StandsAt schedule.now self.old.machine self.old.position }

@@ -45,6 +45,7 @@ impl Stops {
     }
 
     /// Looks at the machine after a step, and says whether its position is a stop. `next` is the step that follows.
+    #[inline(always)]
     pub(crate) fn meet<const S: usize>(&mut self, machine: &Machine<S>, next: Option<Step>) -> bool
         ensures stop { (points : List (Option Point)) (before : World)
             → LooksFor points before.memory self.old

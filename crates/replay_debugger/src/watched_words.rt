@@ -3,20 +3,29 @@
 ghost use Rattle.std.specs.Prelude.{◌≡◌, map, IfOk};
 ghost use Rattle.std.specs.List.{list_any};
 ghost use Rattle.std.specs.Option.{option_to_list};
-ghost use Rattle.replay_debugger.specs.Looks.{watches_of, watch_of, has_changed, seen_again, differs_at};
+ghost use Rattle.replay_debugger.specs.Looks.{watches_of, watch_of, has_changed, seen_again};
 ghost use Rattle.replay_debugger.specs.Stops.{word_differs, tags_differ};
 
 use crate::points::{Point, Points};
 use machine::Machine;
 use std::alloc::{AllocError, Global};
+use std::marker::Model;
 use tag_memory::Word;
 
-/// A watched word, as it was last seen.
-#[derive(Clone, Copy, Debug, PartialEq, Eq)]
+/// A watched word, as it was last seen. Contracts see no value of a word whose tags alone are watched.
+#[derive(Drop)]
 pub(crate) struct WatchedWord {
     address: u64,
     tags_alone: bool,
     seen: Option<Word>,
+}
+
+impl Model for WatchedWord {
+    ghost use Rattle.replay_debugger.specs.Watches.{WatchValue, watch_at};
+
+    ghost Value = { WatchValue };
+
+    ghost view = { λ w. watch_at w.address w.tags_alone w.seen };
 }
 
 impl WatchedWord {
@@ -46,14 +55,16 @@ impl WatchedWord {
         }
     }
 
-    /// Whether what is watched of the word is otherwise at a later look.
-    fn differs(&self, later: &WatchedWord) -> bool
-        ensures { result ≡ differs_at self.now later.now }
+    /// Whether what is watched of the word has changed since it was seen.
+    #[inline(always)]
+    fn has_changed<const S: usize>(&self, machine: &Machine<S>) -> bool
+        ensures { result ≡ has_changed machine.now.world.memory self.now }
     {
+        let now = machine.word(self.address);
         if self.tags_alone {
-            tags_differ(self.seen, later.seen)
+            tags_differ(self.seen, now)
         } else {
-            word_differs(self.seen, later.seen)
+            word_differs(self.seen, now)
         }
     }
 }
@@ -75,18 +86,39 @@ pub(crate) fn watched_words<const S: usize>(
     Ok(words)
 }
 
-/// Looks at all watched words again, and says whether one has changed.
+/// Looks at all watched words again, and says whether one has changed. Nothing is written where none has.
+#[inline(always)]
 pub(crate) fn look_again<const S: usize>(words: &mut [WatchedWord], machine: &Machine<S>) -> bool
     ensures seen { words.new ≡ map (seen_again machine.now.world.memory) words.old }
     ensures changed { result ≡ list_any (has_changed machine.now.world.memory) words.old }
 {
-    let mut changed = false;
-    for place in 0..words.len() {
-        let word = words[place].again(machine);
-        changed = words[place].differs(&word) || changed;
-        words[place] = word;
+    if any_changed(words, machine) {
+        see_again(words, machine);
+        return true;
     }
-    changed
+    false
+}
+
+/// Whether one of the words has changed since they were seen.
+#[inline(always)]
+fn any_changed<const S: usize>(words: &[WatchedWord], machine: &Machine<S>) -> bool
+    ensures { result ≡ list_any (has_changed machine.now.world.memory) words.now }
+{
+    words.iter().any(
+        |word: &WatchedWord| -> bool
+            ensures { result ≡ has_changed machine.entry.now.world.memory word.now }
+        { word.has_changed(machine) },
+    )
+}
+
+/// Sees each of the words as a machine shows it.
+#[cold]
+fn see_again<const S: usize>(words: &mut [WatchedWord], machine: &Machine<S>)
+    ensures { words.new ≡ map (seen_again machine.now.world.memory) words.old }
+{
+    for place in 0..words.len() {
+        words[place] = words[place].again(machine);
+    }
 }
 
 /// Whether a word has another value or other tags.

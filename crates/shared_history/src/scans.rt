@@ -8,7 +8,7 @@ ghost use Rattle.shared_history.specs.Parts.{FailsFirst};
 use crate::SharedMemory;
 use image_file::Image;
 use processor::{Asked, Entry, Recorded};
-use tag_memory::{Reply, Request};
+use tag_memory::{MemOp, Reply, Request};
 
 /// The least place where there is a record but no processor of the memory's image, or a processor but no record, or
 /// a record of another processor or image.
@@ -97,8 +97,19 @@ fn is_pair_of(pair: &Asked, entry: &Entry) -> bool
         && is_same_reply(&pair.reply, &entry.reply)
 }
 
+// Field by field, since the proof that goes through the cases of all fields at once is past the search.
 fn is_same_request(a: &Request, b: &Request) -> bool
     ensures { IsTrue result ↔ (a.now ≡ b.now) }
+{
+    is_same_operation(a.op, b.op)
+        && a.pointer == b.pointer
+        && a.acc == b.acc
+        && a.value == b.value
+        && a.masked == b.masked
+}
+
+fn is_same_operation(a: MemOp, b: MemOp) -> bool
+    ensures { IsTrue result ↔ (a ≡ b) }
 {
     a == b
 }

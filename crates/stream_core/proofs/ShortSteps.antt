@@ -1,8 +1,12 @@
--- What instructions of the short forms do and ask.
-use Rattle.std.proofs.Common.{◌≡◌, ℕ, Bool, true, false, List, Some, refl, sym, ap, ◌∙◌, if◌then◌else◌}
+-- What instructions of the short forms are found by, do and ask.
+use Rattle.std.proofs.Common.{◌≡◌, ℕ, Bool, true, false, List, Option, Some, None, IfSome, refl, sym, ap, ◌∙◌}
+use Rattle.std.proofs.Common.{if◌then◌else◌}
 use Rattle.insn_word.specs.Words.{memory_destination, arithmetic_destination}
-use Rattle.insn_word.specs.ShortInsns.{control_part, reference_operation, memory_part}
+use Rattle.insn_word.specs.ShortInsns.{short_control_part, reference_operation, reference_part}
 use Rattle.insn_word.specs.ShortInsns.{short_instruction, reference_instruction}
+use Rattle.insn_word.specs.Reading.{instruction_in}
+use Rattle.insn_word.specs.declared.profiles.Profile.{Profile}
+use Rattle.insn_word.specs.declared.profiles.Profile.TheVariants as profile
 use Rattle.insn_word.specs.declared.insn.APart.{APart}
 use Rattle.insn_word.specs.declared.short_insns.ShortControl.{ShortControl}
 use Rattle.insn_word.specs.declared.short_insns.ShortControl.TheVariants as short
@@ -20,11 +24,28 @@ use Rattle.stream_core.specs.Streams.{StreamValue}
 use Rattle.stream_core.specs.Effects.{displaced_pointer, access_of, request_by, request_of, retries_after}
 use Rattle.stream_core.specs.Effects.{arithmetic_value, ssw_before_control, code_at, next_pc, skip_pc}
 use Rattle.stream_core.specs.Effects.{after_instruction}
-use Rattle.stream_core.specs.StreamRow.{control_by, control_of}
+use Rattle.stream_core.specs.StreamRow.{fetch_instruction, fetch_word, fetch_of, control_by, control_of}
+use Rattle.stream_core.specs.declared.steps.Fetched.TheVariants as fetch
 use Rattle.stream_core.specs.declared.steps.Control.TheVariants as asks
 use Rattle.stream_core.specs.ShortEffects.{pc_after_control, asked_operation, asked_value}
 use Rattle.stream_core.specs.declared.status_words.StatusWord.{StatusWord}
 use Rattle.stream_core.specs.declared.status_words.Codes.{Codes}
+
+-- What they are found by.
+
+pub short_found : (program : List ℕ) (s : StreamValue) (word : ℕ) (found : Option ShortInsn)
+    → fetch_of program s ≡ fetch_word (Some word)
+    → ((p : Profile) → IfSome found (λ i. instruction_in p word ≡ Some (short_instruction i)))
+    → IfSome found (λ i. fetch_of program s ≡ fetch.Runs (short_instruction i))
+short_found program s word None e h = tt
+short_found program s word (Some i) e h = e ∙ ap fetch_instruction (h profile.One)
+
+pub reference_found : (program : List ℕ) (s : StreamValue) (word : ℕ) (found : Option ReferenceInsn)
+    → fetch_of program s ≡ fetch_word (Some word)
+    → ((p : Profile) → IfSome found (λ r. instruction_in p word ≡ Some (reference_instruction r)))
+    → IfSome found (λ r. fetch_of program s ≡ fetch.Runs (reference_instruction r))
+reference_found program s word None e h = tt
+reference_found program s word (Some r) e h = e ∙ ap fetch_instruction (h profile.One)
 
 -- What they do.
 
@@ -128,7 +149,7 @@ asked_with s op pointer acc value = record {
 }
 
 asked_by : (s : StreamValue) (m : ReferencePart) (op : ReferenceOp)
-    → request_by s (memory_part m) (reference_operation op)
+    → request_by s (reference_part m) (reference_operation op)
     ≡ Some (asked_with s (asked_operation op) (displaced_pointer (register_at s.registers m.base) m.disp)
     (access_of m.acc) (asked_value s m op))
 asked_by s m reference.Load = refl
@@ -159,7 +180,7 @@ pub reference_asks : (s : StreamValue) (r : ReferenceInsn)
 unfolding request_of
 reference_asks s r = (_, asked_by s r.m r.m.op)
 
-plain_by : (s : StreamValue) (c : ShortControl) → control_by s (control_part c) (control_part c).op ≡ asks.Plain
+plain_by : (s : StreamValue) (c : ShortControl) → control_by s (short_control_part c) (short_control_part c).op ≡ asks.Plain
 plain_by s short.Nop = refl
 plain_by s (short.Skip cond code n) = refl
 

@@ -58,6 +58,7 @@ request_by s m memory.Store = Some (request_with s m op.Store (register_at s.reg
 request_by s m memory.FetchAdd = Some (request_with s m op.Fadd (register_at s.registers m.rd))
 request_by s m memory.TagGet = Some (request_with s m op.TagGet 0)
 request_by s m memory.TagSet = Some (request_with s m op.TagSet (register_at s.registers m.rd % 16))
+request_by s m memory.Purge = Some (request_with s m op.Purge (register_at s.registers m.rd))
 
 -- what the instruction asks the memory, if anything
 unfoldable pub request_of : StreamValue → Insn → Option Request
@@ -72,6 +73,7 @@ retries_after memory.Store n = 0
 retries_after memory.FetchAdd n = 0
 retries_after memory.TagGet n = 0
 retries_after memory.TagSet n = 0
+retries_after memory.Purge n = 0
 
 -- The arithmetic operation.
 

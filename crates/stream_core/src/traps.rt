@@ -10,7 +10,7 @@ pub enum TrapKind {
     Program = 1,
     /// ILLEGAL: the word at the pc spells no instruction.
     Illegal = 2,
-    /// CREATE: a CREATE where no stream is reserved.
+    /// CREATE: a CREATE where every reserved stream is in use.
     Create = 3,
     /// POINTER: a pointer that no reference may use.
     Pointer = 4,

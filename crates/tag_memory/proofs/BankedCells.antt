@@ -8,7 +8,7 @@ use Rattle.std.proofs.lemmas.Bool.{cases_eq, cases_lt, false≢true}
 use Rattle.std.proofs.lemmas.List.FromFn.{length-map-range_with_len, get_or-map-range_with_len, fill_by_all}
 use Rattle.std.proofs.lemmas.Option.{slice_get-get_or, slice_get_past}
 use Rattle.tag_memory.specs.Cell.{Cell}
-use Rattle.tag_memory.specs.Storage.{memory_of, IsWithinLimits}
+use Rattle.tag_memory.specs.Storage.{memory_with_chain, IsWithinLimits}
 use Rattle.tag_memory.specs.Banks.{blank_cell, bank_count, bank_size, every_eighth, banked_cells, AreBanks}
 
 pub length-banked_cells : (banks : List (List Cell)) (n : ℕ) → length (banked_cells banks n) ≡ n
@@ -47,13 +47,15 @@ slice_get-banked_cells banks n w bank are stands = by_place (cases_lt w n) where
       slice_get_past bank (w / bank_count) past_bank ∙ sym (slice_get_past (banked_cells banks n) w past_memory)
 
 -- a memory of as many words
-pub within_limits-kept : (banks others : List (List Cell)) (n : ℕ)
-    → IsWithinLimits (memory_of (banked_cells banks n)) → IsWithinLimits (memory_of (banked_cells others n))
-within_limits-kept banks others n within =
+pub within_limits-kept : (banks others : List (List Cell)) (n limit : ℕ)
+    → IsWithinLimits (memory_with_chain (banked_cells banks n) limit)
+    → IsWithinLimits (memory_with_chain (banked_cells others n) limit)
+within_limits-kept banks others n limit within =
     let long = length-banked_cells banks n in
     let long_too = length-banked_cells others n in record {
       some = omega (arith, within.some, long, long_too);
       few = omega (arith, within.few, long, long_too);
+      chain = within.chain;
     }
 
 -- ---- writing
@@ -204,10 +206,11 @@ banked_cells-eighths banks cells eighths =
     ∙ get_or-every_eighth cells (w % bank_count) (w / bank_count) within
     ∙ ap (λ u. get_or cells u blank_cell) back)))
 
-pub kept_eighths : (banks : List (List Cell)) (cells : List Cell) → length banks ≡ bank_count
-    → AreEighths banks cells → IsWithinLimits (memory_of cells)
-    → IsWithinLimits (memory_of (banked_cells banks (length cells))) × AreBanks banks (length cells)
-kept_eighths banks cells eight eighths within = (
-  subst (λ (xs : List Cell). IsWithinLimits (memory_of xs)) (sym (banked_cells-eighths banks cells eighths)) within,
+pub kept_eighths : (banks : List (List Cell)) (cells : List Cell) (limit : ℕ) → length banks ≡ bank_count
+    → AreEighths banks cells → IsWithinLimits (memory_with_chain cells limit)
+    → IsWithinLimits (memory_with_chain (banked_cells banks (length cells)) limit) × AreBanks banks (length cells)
+kept_eighths banks cells limit eight eighths within = (
+  subst (λ (xs : List Cell). IsWithinLimits (memory_with_chain xs limit))
+      (sym (banked_cells-eighths banks cells eighths)) within,
   are_banks-eighths banks cells eight eighths,
 )

@@ -5,7 +5,7 @@ use Rattle.std.proofs.Common.{Some, None, List, [], ◌∷◌, ◌++◌, length,
 use Rattle.std.proofs.lemmas.Bool.Decides.{nat_tests}
 use Rattle.tag_memory.specs.Address.{address_of}
 use Rattle.tag_memory.specs.Storage.{TaggedMemory}
-use Rattle.tag_memory.specs.Chain.{probe, chain_limit, end_at_probe, Leads, end_from, end_of}
+use Rattle.tag_memory.specs.Chain.{probe, end_at_probe, Leads, end_from, end_of}
 use Rattle.tag_memory.specs.declared.requests.Request.{Request}
 use Rattle.tag_memory.specs.declared.requests.MemTrap.TheVariants as trap
 use Rattle.tag_memory.specs.declared.chain.Probe.{Probe}
@@ -16,7 +16,7 @@ use Rattle.tag_memory.proofs.Ends.{trap_ends, reach_ends, forward_goes, forward_
 
 -- from p on, with so many hops made, the pointers of `rest` are probed and the end is this
 abbrev LeadsOn : TaggedMemory → Request → ℕ → ℕ → List ℕ → End → Type 0
-LeadsOn m q hops p [] end = end_at_probe hops p (probe m q p) ≡ Some end
+LeadsOn m q hops p [] end = end_at_probe m.chain_limit hops p (probe m q p) ≡ Some end
 LeadsOn m q hops p (next ∷ rest) end = (probe m q p ≡ Forward next) × LeadsOn m q (hops + 1) next rest end
 
 -- a path that leads to an end does so from each of its pointers on
@@ -24,7 +24,7 @@ leads_on : (m : TaggedMemory) (q : Request) (path : List ℕ) (end : End) → Le
     → (rest front : List ℕ) (hops p : ℕ) → hops ≡ length front → path ≡ front ++ p ∷ rest
     → LeadsOn m q hops p rest end
 leads_on m q path end leads [] front hops p made cut =
-    ap (λ h. end_at_probe h p (probe m q p)) made ∙ leads.ends front p cut
+    ap (λ h. end_at_probe m.chain_limit h p (probe m q p)) made ∙ leads.ends front p cut
 leads_on m q path end leads (next ∷ rest) front hops p made cut = (
   leads.linked front rest p next cut,
   leads_on m q path end leads rest (front ++ p ∷ []) (hops + 1) next (omega (arith, length-append front (p ∷ [])))
@@ -39,26 +39,27 @@ below_limit : (b : Bool) (end t : End) → b ≡ true → (if b then None else S
 below_limit true end t h e = cc
 below_limit false end t h e = cc
 
-not_below : (hops : ℕ) → hops + zero ≡ chain_limit → nat_lt hops chain_limit ≡ false
-not_below hops h = grind (arith, nat_tests)
+not_below : (limit hops : ℕ) → hops + zero ≡ limit → nat_lt hops limit ≡ false
+not_below limit hops h = grind (arith, nat_tests)
 
-still_below : (hops n : ℕ) → hops + suc n ≡ chain_limit → nat_lt hops chain_limit ≡ true
-still_below hops n h = grind (arith, nat_tests)
+still_below : (limit hops n : ℕ) → hops + suc n ≡ limit → nat_lt hops limit ≡ true
+still_below limit hops n h = grind (arith, nat_tests)
 
 -- the last probe's end is the computed one
 last_end : (m : TaggedMemory) (q : Request) (n hops p : ℕ) (end : End) (x : Probe)
-    → hops + n ≡ chain_limit → x ≡ probe m q p → end_at_probe hops p x ≡ Some end → end ≡ end_from m q n p
+    → hops + n ≡ m.chain_limit → x ≡ probe m q p → end_at_probe m.chain_limit hops p x ≡ Some end
+    → end ≡ end_from m q n p
 last_end m q n hops p end (Trap kind) room e f =
     let it : end ≡ at.Trap kind (address_of p) = cc in it ∙ trap_ends m q n p (address_of p) kind e refl
 last_end m q n hops p end (Reach c) room e f = let it : end ≡ at.Last p c = cc in it ∙ reach_ends m q n p c e
 last_end m q zero hops p end (Forward next) room e f =
-    at_limit _ end (at.Trap trap.Forward (address_of p)) (not_below hops room) f
+    at_limit _ end (at.Trap trap.Forward (address_of p)) (not_below m.chain_limit hops room) f
     ∙ forward_stops m q p (address_of p) next e refl
 last_end m q (suc n) hops p end (Forward next) room e f =
-    absurd (below_limit _ end (at.Trap trap.Forward (address_of p)) (still_below hops n room) f)
+    absurd (below_limit _ end (at.Trap trap.Forward (address_of p)) (still_below m.chain_limit hops n room) f)
 
 rest_end : (m : TaggedMemory) (q : Request) (rest : List ℕ) (n hops p : ℕ) (end : End)
-    → hops + n ≡ chain_limit → length rest ≤ n → LeadsOn m q hops p rest end → end ≡ end_from m q n p
+    → hops + n ≡ m.chain_limit → length rest ≤ n → LeadsOn m q hops p rest end → end ≡ end_from m q n p
 rest_end m q [] n hops p end room short on = last_end m q n hops p end (probe m q p) room refl on
 rest_end m q (next ∷ rest) zero hops p end room short on = absurd (omega arith)
 rest_end m q (next ∷ rest) (suc n) hops p end room short on =
@@ -68,20 +69,22 @@ rest_end m q (next ∷ rest) (suc n) hops p end room short on =
 pub leads_end : (m : TaggedMemory) (q : Request) (path : List ℕ) (end : End) → Leads m q path end → end ≡ end_of m q
 leads_end m q [] end leads = absurd leads.begins
 leads_end m q (first ∷ rest) end leads =
-    rest_end m q rest chain_limit 0 first end refl (omega (arith, leads.at_most))
+    rest_end m q rest m.chain_limit 0 first end (omega arith) (omega (arith, leads.at_most))
     (leads_on m q _ end leads rest [] 0 first refl refl)
-    ∙ ap (λ p. end_from m q chain_limit p) leads.begins
+    ∙ ap (λ p. end_from m q m.chain_limit p) leads.begins
 
 -- a probe that ends a path with hops left does not lead on
 ends_here : (m : TaggedMemory) (q : Request) (hops p next : ℕ) (end : End)
-    → suc hops ≤ chain_limit → end_at_probe hops p (probe m q p) ≡ Some end → probe m q p ≡ Forward next → ⊥
+    → suc hops ≤ m.chain_limit → end_at_probe m.chain_limit hops p (probe m q p) ≡ Some end
+    → probe m q p ≡ Forward next → ⊥
 ends_here m q hops p next end room stops on =
-    let below : nat_lt hops chain_limit ≡ true = grind (arith, nat_tests) in
-    below_limit _ end (at.Trap trap.Forward (address_of p)) below (ap (λ x. end_at_probe hops p x) (sym on) ∙ stops)
+    let below : nat_lt hops m.chain_limit ≡ true = grind (arith, nat_tests) in
+    below_limit _ end (at.Trap trap.Forward (address_of p)) below
+    (ap (λ x. end_at_probe m.chain_limit hops p x) (sym on) ∙ stops)
 
 -- from one pointer on there is one path
 same_rest : (m : TaggedMemory) (q : Request) (rest other : List ℕ) (hops p : ℕ) (end last : End)
-    → hops + length rest ≤ chain_limit → hops + length other ≤ chain_limit
+    → hops + length rest ≤ m.chain_limit → hops + length other ≤ m.chain_limit
     → LeadsOn m q hops p rest end → LeadsOn m q hops p other last → rest ≡ other
 same_rest m q [] [] hops p end last short few on off = refl
 same_rest m q [] (next ∷ other) hops p end last short few on off =
@@ -115,24 +118,25 @@ record There (m : TaggedMemory) (q : Request) (n hops p : ℕ) : Type 0 where
   on : LeadsOn m q hops p rest (end_from m q n p)
 
 there_by : (m : TaggedMemory) (q : Request) (n hops p : ℕ) (x : Probe)
-    → hops + n ≡ chain_limit → x ≡ probe m q p
+    → hops + n ≡ m.chain_limit → x ≡ probe m q p
     → ((k next : ℕ) → suc k ≡ n → There m q k (hops + 1) next)
     → There m q n hops p
 there_by m q n hops p (Trap kind) room e further = record {
   rest = [];
   short = omega arith;
-  on = ap (λ y. end_at_probe hops p y) (sym e) ∙ ap (λ t. Some t) (trap_ends m q n p (address_of p) kind e refl);
+  on = ap (λ y. end_at_probe m.chain_limit hops p y) (sym e)
+      ∙ ap (λ t. Some t) (trap_ends m q n p (address_of p) kind e refl);
 }
 there_by m q n hops p (Reach c) room e further = record {
   rest = [];
   short = omega arith;
-  on = ap (λ y. end_at_probe hops p y) (sym e) ∙ ap (λ t. Some t) (reach_ends m q n p c e);
+  on = ap (λ y. end_at_probe m.chain_limit hops p y) (sym e) ∙ ap (λ t. Some t) (reach_ends m q n p c e);
 }
 there_by m q zero hops p (Forward next) room e further = record {
   rest = [];
   short = omega arith;
-  on = ap (λ y. end_at_probe hops p y) (sym e)
-      ∙ ap (λ b. if b then None else Some (at.Trap trap.Forward (address_of p))) (not_below hops room)
+  on = ap (λ y. end_at_probe m.chain_limit hops p y) (sym e)
+      ∙ ap (λ b. if b then None else Some (at.Trap trap.Forward (address_of p))) (not_below m.chain_limit hops room)
       ∙ ap (λ t. Some t) (forward_stops m q p (address_of p) next e refl);
 }
 there_by m q (suc n) hops p (Forward next) room e further =
@@ -143,7 +147,7 @@ there_by m q (suc n) hops p (Forward next) room e further =
       on = (sym e, subst (λ end. LeadsOn m q (hops + 1) next onward.rest end) same onward.on);
     }
 
-there : (m : TaggedMemory) (q : Request) (n hops p : ℕ) → hops + n ≡ chain_limit → There m q n hops p
+there : (m : TaggedMemory) (q : Request) (n hops p : ℕ) → hops + n ≡ m.chain_limit → There m q n hops p
 there m q zero hops p room = there_by m q zero hops p (probe m q p) room refl (λ k next e. absurd (omega arith))
 there m q (suc n) hops p room =
     there_by m q (suc n) hops p (probe m q p) room refl (λ k next e.
@@ -169,11 +173,13 @@ linked_of m q (r ∷ rest) hops p end on (f ∷ front) back stop next cut =
 
 ends_of : (m : TaggedMemory) (q : Request) (rest : List ℕ) (hops p : ℕ) (end : End) → LeadsOn m q hops p rest end
     → (front : List ℕ) (stop total : ℕ) → p ∷ rest ≡ front ++ stop ∷ [] → hops + length front ≡ total
-    → end_at_probe total stop (probe m q stop) ≡ Some end
+    → end_at_probe m.chain_limit total stop (probe m q stop) ≡ Some end
 ends_of m q [] hops p end on [] stop total cut made =
     let here : stop ≡ p = cc in
     let all : total ≡ hops = omega arith in
-    ap (λ h. end_at_probe h stop (probe m q stop)) all ∙ ap (λ x. end_at_probe hops x (probe m q x)) here ∙ on
+    ap (λ h. end_at_probe m.chain_limit h stop (probe m q stop)) all
+    ∙ ap (λ x. end_at_probe m.chain_limit hops x (probe m q x)) here
+    ∙ on
 ends_of m q [] hops p end on (f ∷ front) stop total cut made =
     let none : [] ≡ front ++ stop ∷ [] = cc in absurd (not_empty front [] stop none)
 ends_of m q (r ∷ rest) hops p end on [] stop total cut made = cc
@@ -184,7 +190,7 @@ ends_of m q (r ∷ rest) hops p end on (f ∷ front) stop total cut made =
 -- some path leads to the computed end
 pub path_there : (m : TaggedMemory) (q : Request) → (path : List ℕ) × Leads m q path (end_of m q)
 path_there m q =
-    let found : There m q chain_limit 0 q.pointer = there m q chain_limit 0 q.pointer refl in
+    let found : There m q m.chain_limit 0 q.pointer = there m q m.chain_limit 0 q.pointer (omega arith) in
     let on = found.on in (
       q.pointer ∷ found.rest,
       record {

@@ -4,7 +4,7 @@ use Rattle.std.proofs.Common.{sym, ◌∙◌, ap, arith}
 use Rattle.std.proofs.Common.{Option, Some, None, List, [], ◌∷◌, slice_get, set}
 use Rattle.std.proofs.lemmas.Bool.Decides.{nat_tests}
 use Rattle.tag_memory.specs.Cell.{Cell}
-use Rattle.tag_memory.specs.Storage.{TaggedMemory, memory_of, cell_at, with_cell}
+use Rattle.tag_memory.specs.Storage.{TaggedMemory, memory_with_chain, cell_at, with_cell}
 
 slice_get-set_other : {X : Type 0} (xs : List X) (i j : ℕ) (x : X) → (i ≢ j)
     → slice_get (set xs i x) j ≡ slice_get xs j
@@ -29,9 +29,11 @@ cell_at-eight m k =
     let place : 8 * k / 8 ≡ k = omega arith in
     ap (λ n. if n == 0 then slice_get m.cells (8 * k / 8) else None) aligned ∙ ap (slice_get m.cells) place
 
-pub same_memories : (m n : TaggedMemory) → ((a : ℕ) → cell_at m a ≡ cell_at n a) → m ≡ n
-same_memories m n same =
-    ap memory_of (same_lists m.cells n.cells (λ k. sym (cell_at-eight m k) ∙ same (8 * k) ∙ cell_at-eight n k))
+pub same_memories : (m n : TaggedMemory) → m.chain_limit ≡ n.chain_limit → ((a : ℕ) → cell_at m a ≡ cell_at n a)
+    → m ≡ n
+same_memories m n limits same =
+    let cells = same_lists m.cells n.cells (λ k. sym (cell_at-eight m k) ∙ same (8 * k) ∙ cell_at-eight n k) in
+    ap (λ xs. memory_with_chain xs m.chain_limit) cells ∙ ap (memory_with_chain n.cells) limits
 
 aligned_at : (m : TaggedMemory) (a : ℕ) (c : Cell) → cell_at m a ≡ Some c → a % 8 ≡ 0
 aligned_at m a c e = by_test (a % 8 == 0) refl e where

@@ -5,7 +5,7 @@ use Rattle.tag_memory.specs.Address.{pointer_control_number}
 use Rattle.tag_memory.specs.declared.pointers.Control.{Control}
 use Rattle.tag_memory.specs.declared.pointers.Control.TheVariants.{Normal, Future, Sync}
 use Rattle.tag_memory.specs.declared.requests.MemOp.{MemOp}
-use Rattle.tag_memory.specs.declared.requests.MemOp.TheVariants.{Load, Store, Fadd, TagGet, TagSet}
+use Rattle.tag_memory.specs.declared.requests.MemOp.TheVariants.{Load, Store, Fadd, TagGet, TagSet, Purge}
 use Rattle.tag_memory.specs.declared.requests.Acc.{Acc}
 use Rattle.tag_memory.specs.declared.requests.Acc.TheVariants as acc
 
@@ -28,6 +28,10 @@ with_value c v = record c { value = v }
 -- the word with this value, full
 abbrev pub with_value_full : Cell → ℕ → Cell
 with_value_full c v = record c { value = v; full = true }
+
+-- the word with this value, empty
+abbrev pub with_value_empty : Cell → ℕ → Cell
+with_value_empty c v = record c { value = v; full = false }
 
 -- the word made empty
 abbrev pub with_full_clear : Cell → Cell
@@ -54,3 +58,4 @@ effect Fadd Future c v = if c.full then Some (with_value c (sum_of c v), c.value
 effect Fadd Sync c v = if c.full then Some (with_value c (sum_of c v), c.value) else None
 effect TagGet control c v = Some (c, tag_number c)
 effect TagSet control c v = Some (with_tags c v, 0)
+effect Purge control c v = Some (with_value_empty c v, 0)

@@ -48,6 +48,8 @@ abbrev pub OthersStay : Type 0
 OthersStay =
     (m : TaggedMemory) (q : Request) (a : ℕ) → (address_at (end_of m q) ≢ a) → cell_at (answer m q).0 a ≡ cell_at m a
 
--- Memories with the same words at all addresses are one: a memory is a map from addresses to words.
+-- Memories with one chain limit and the same words at all addresses are one: a memory is a map from addresses to
+-- words, and a chain limit.
 abbrev pub IsDeterminedByWords : Type 0
-IsDeterminedByWords = (m n : TaggedMemory) → ((a : ℕ) → cell_at m a ≡ cell_at n a) → m ≡ n
+IsDeterminedByWords =
+    (m n : TaggedMemory) → m.chain_limit ≡ n.chain_limit → ((a : ℕ) → cell_at m a ≡ cell_at n a) → m ≡ n

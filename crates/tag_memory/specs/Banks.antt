@@ -4,6 +4,7 @@ use Rattle.std.specs.Prelude.{ℕ, ◌≡◌, ◌+◌, ◌-◌, ◌*◌, ◌/◌
 use Rattle.std.specs.Prelude.{slice_index, slice_index_or, false}
 use Rattle.std.specs.List.{range_with_len}
 use Rattle.tag_memory.specs.Cell.{Cell, cell_of}
+use Rattle.tag_memory.specs.Storage.{TaggedMemory, memory_with_chain}
 
 -- how many banks a memory has
 abbrev pub bank_count : ℕ
@@ -45,6 +46,10 @@ unfoldable pub banked_cells : List (List Cell) → ℕ → List Cell
 banked_cells banks n =
     map (λ w. slice_index_or (slice_index_or banks (w % bank_count) []) (w / bank_count) blank_cell)
     (range_with_len 0 n)
+
+-- the memory with these words and this chain limit
+abbrev pub banked_memory : List (List Cell) → ℕ → ℕ → TaggedMemory
+banked_memory banks n limit = memory_with_chain (banked_cells banks n) limit
 
 -- eight banks of the sizes that n words take
 pub record AreBanks (banks : List (List Cell)) (n : ℕ) : Type 0 where

@@ -5,7 +5,7 @@ use Rattle.tag_memory.specs.Cell.{Cell, has_bit}
 use Rattle.tag_memory.specs.Address.{address_of, is_reserved}
 use Rattle.tag_memory.specs.Storage.{TaggedMemory, cell_at}
 use Rattle.tag_memory.specs.declared.requests.MemOp.{MemOp}
-use Rattle.tag_memory.specs.declared.requests.MemOp.TheVariants.{Load, Store, Fadd, TagGet, TagSet}
+use Rattle.tag_memory.specs.declared.requests.MemOp.TheVariants.{Load, Store, Fadd, TagGet, TagSet, Purge}
 use Rattle.tag_memory.specs.declared.requests.Request.{Request}
 use Rattle.tag_memory.specs.declared.requests.MemTrap.TheVariants as trap
 use Rattle.tag_memory.specs.declared.chain.Probe.{Probe}
@@ -20,6 +20,7 @@ is_tag_operation Store = false
 is_tag_operation Fadd = false
 is_tag_operation TagGet = true
 is_tag_operation TagSet = true
+is_tag_operation Purge = false
 
 -- the first rule that holds decides, of a word that stands at the pointer p
 abbrev pub probe_cell : Request → ℕ → Option Cell → Probe
@@ -38,28 +39,25 @@ probe m q p =
     else if not (address_of p % 8 == 0) then Trap trap.Align
     else probe_cell q p (cell_at m (address_of p))
 
--- how many words may forward one reference
-abbrev pub chain_limit : ℕ
-chain_limit = 8
-
--- how a probe at p ends the reference, with so many hops made; none where there is another probe
-abbrev pub end_at_probe : ℕ → ℕ → Probe → Option End
-end_at_probe hops p (Trap kind) = Some (at.Trap kind (address_of p))
-end_at_probe hops p (Reach c) = Some (at.Last p c)
-end_at_probe hops p (Forward next) = if nat_lt hops chain_limit then None else Some (at.Trap trap.Forward (address_of p))
+-- how a probe at p ends the reference, with this chain limit and so many hops made; none where there is another probe
+abbrev pub end_at_probe : ℕ → ℕ → ℕ → Probe → Option End
+end_at_probe limit hops p (Trap kind) = Some (at.Trap kind (address_of p))
+end_at_probe limit hops p (Reach c) = Some (at.Last p c)
+end_at_probe limit hops p (Forward next) = if nat_lt hops limit then None else Some (at.Trap trap.Forward (address_of p))
 
 -- whether a path begins with this pointer
 abbrev pub Begins : List ℕ → ℕ → Type 0
 Begins [] p = ⊥
 Begins (first ∷ path) p = first ≡ p
 
--- The pointers that a request is probed with, and how it ends: each probe but the last asks for another one at the
--- next pointer, and the last one's decides.
+-- The pointers that a request is probed with, one more than the memory's chain limit at most, and how it ends: each
+-- probe but the last asks for another one at the next pointer, and the last one's decides.
 pub record Leads (m : TaggedMemory) (q : Request) (path : List ℕ) (end : End) : Type 0 where
   pub begins : Begins path q.pointer
   pub linked : (front back : List ℕ) (p next : ℕ) → path ≡ front ++ p ∷ next ∷ back → probe m q p ≡ Forward next
-  pub at_most : length path ≤ chain_limit + 1
-  pub ends : (front : List ℕ) (p : ℕ) → path ≡ front ++ p ∷ [] → end_at_probe (length front) p (probe m q p) ≡ Some end
+  pub at_most : length path ≤ m.chain_limit + 1
+  pub ends : (front : List ℕ) (p : ℕ) → path ≡ front ++ p ∷ []
+      → end_at_probe m.chain_limit (length front) p (probe m q p) ≡ Some end
 
 -- A request is led along one path, to one end.
 abbrev pub IsLedAlongOnePath : Type 0
@@ -81,4 +79,4 @@ end_from m q (suc left) p = end_by_probe p (probe m q p) (λ next. end_from m q 
 
 -- where the request ends
 abbrev pub end_of : TaggedMemory → Request → End
-end_of m q = end_from m q chain_limit q.pointer
+end_of m q = end_from m q m.chain_limit q.pointer

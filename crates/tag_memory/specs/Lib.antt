@@ -1,11 +1,11 @@
--- The definitions, in the order of reading.
+-- The promises, in the order of reading: clauses of public functions cite them.
 pub mod Cell
 pub mod Address
 pub mod Storage
 pub mod Access
 pub mod Chain
 pub mod Answer
--- How the words are kept, which only the storage knows.
+-- The aids: how the words are kept, which only the storage knows;
 pub mod Banks
--- A proof on which the model of a word rests; a model can take none from proofs/.
+-- and a proof on which the model of a word rests, since a model can take none from proofs/.
 pub mod TagNumber

@@ -1,11 +1,8 @@
 //! How a reference is led through forwarding words to the word that it acts on.
 ghost use Rattle.std.specs.Prelude.{◌≡◌, Some};
-ghost use Rattle.tag_memory.specs.Chain.{probe_cell, probe, end_of};
+ghost use Rattle.tag_memory.specs.Chain.{probe_cell, probe, end_from, end_of};
 
 use crate::{MemTrap, Memory, Pointer, Request, Word};
-
-/// How many words may forward one reference.
-const CHAIN_LIMIT: usize = 8;
 
 /// What one probe decides.
 pub(crate) enum Probe {
@@ -30,19 +27,32 @@ impl Memory {
     pub(crate) fn end(&self, request: &Request) -> End
         ensures { result ≡ end_of self.now request.now }
     {
-        let mut pointer = request.pointer;
-        for _ in 0..CHAIN_LIMIT {
-            match self.probe(request, pointer) {
-                Probe::Trap(kind) => return End::Trap(kind, pointer.address()),
-                Probe::Reach(word) => return End::Last(pointer, word),
-                Probe::Forward(next) => pointer = next,
-            }
-        }
+        let pointer = request.pointer;
         match self.probe(request, pointer) {
             Probe::Trap(kind) => End::Trap(kind, pointer.address()),
             Probe::Reach(word) => End::Last(pointer, word),
-            Probe::Forward(_) => End::Trap(MemTrap::Forward, pointer.address()),
+            Probe::Forward(next) => self.forwarded_end(request, pointer, next),
         }
+    }
+
+    /// Where the request's chain ends, whose first word, at `first`, forwards it to `next`.
+    fn forwarded_end(&self, request: &Request, first: Pointer, next: Pointer) -> End
+        requires { probe self.now request.now first ≡ Probe.Forward next }
+        ensures { result ≡ end_from self.now request.now self.now.chain_limit first }
+    {
+        let mut forwarding = first;
+        let mut pointer = next;
+        for _ in 0..self.chain_limit() {
+            match self.probe(request, pointer) {
+                Probe::Trap(kind) => return End::Trap(kind, pointer.address()),
+                Probe::Reach(word) => return End::Last(pointer, word),
+                Probe::Forward(next) => {
+                    forwarding = pointer;
+                    pointer = next;
+                }
+            }
+        }
+        End::Trap(MemTrap::Forward, forwarding.address())
     }
 
     /// What the probe at a pointer decides: the first of the request rules that holds.

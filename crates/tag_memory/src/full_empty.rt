@@ -26,5 +26,6 @@ pub(crate) fn effect(op: MemOp, control: Control, word: Word, value: u64) -> Opt
         (MemOp::Fadd, Control::Future | Control::Sync, false) => None,
         (MemOp::TagGet, _, _) => Some((word, u64::from(word.tag_number()))),
         (MemOp::TagSet, _, _) => Some((word.with_tags(value), 0)),
+        (MemOp::Purge, _, _) => Some((word.with_value(value).with_full_clear(), 0)),
     }
 }

@@ -17,6 +17,6 @@ mod tagged_word;
 pub use pointers::{Control, Pointer};
 pub use requests::{Acc, Masked, MemOp, MemTrap, Reply, Request};
 pub use serving::serving_laws;
-pub use storage::{MAX_WORDS, Memory};
+pub use storage::{DEFAULT_CHAIN_LIMIT, MAX_CHAIN_LIMIT, MAX_WORDS, Memory};
 pub use tag_set::Tags;
 pub use tagged_word::Word;

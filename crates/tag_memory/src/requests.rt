@@ -18,6 +18,8 @@ pub enum MemOp {
     TagGet,
     /// TAGSET: writes the four tags of the word at the pointer itself, whatever they are.
     TagSet,
+    /// PURGE: writes the value and empties the word, whatever the control. It waits for nothing.
+    Purge,
 }
 
 impl MemOp {
@@ -26,7 +28,7 @@ impl MemOp {
         ensures { result ≡ is_tag_operation self }
     {
         match self {
-            MemOp::Load | MemOp::Store | MemOp::Fadd => false,
+            MemOp::Load | MemOp::Store | MemOp::Fadd | MemOp::Purge => false,
             MemOp::TagGet | MemOp::TagSet => true,
         }
     }
@@ -72,7 +74,7 @@ pub enum MemTrap {
     Trap0,
     /// TRAP1: the word's trap1 bit is set, and neither disabled by the pointer nor masked.
     Trap1,
-    /// FORWARD: the word forwards a reference that was forwarded eight times already.
+    /// FORWARD: the word forwards a reference that was forwarded as often as the chain limit allows already.
     Forward,
 }
 
@@ -95,8 +97,8 @@ pub struct Request {
     pub pointer: Pointer,
     /// Where the control comes from.
     pub acc: Acc,
-    /// What `Store` writes, what `Fadd` adds, and for `TagSet` the tags as a number, of which the four low bits
-    /// count. `Load` and `TagGet` make nothing of it.
+    /// What `Store` and `Purge` write, what `Fadd` adds, and for `TagSet` the tags as a number, of which the four low
+    /// bits count. `Load` and `TagGet` make nothing of it.
     pub value: u64,
     /// The trap bits that are passed over.
     pub masked: Masked,

@@ -31,7 +31,7 @@ impl Memory {
 
 /// Does nothing: its clauses are the laws of answers. A request is led along one path (`one_path`) and has one answer,
 /// the computed one (`computed`); it changes no word but the one at the address where it ends (`others`); a memory is
-/// known by its words (`words`).
+/// known by its words and its chain limit (`words`).
 pub fn serving_laws()
     ensures one_path { IsLedAlongOnePath }
     ensures computed { AnswersAreComputed }

@@ -1,3 +1,4 @@
+pub mod FirstByte
 pub mod Pieces
 pub mod FirstLine
 pub mod RunLaws

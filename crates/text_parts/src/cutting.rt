@@ -5,6 +5,11 @@ ghost use Rattle.std.specs.List.{position};
 ghost use Rattle.std.specs.Option.{option_copied};
 ghost use Rattle.text_parts.specs.Parts.{parts, text_before, text_after, rest_parts, rest_length};
 
+use memchr::memchr;
+
+/// From how many bytes on `memchr` compares so many at once; a shorter text is searched sooner byte by byte.
+const VECTOR: usize = 32;
+
 /// What stands before the first of a byte, and what stands after it. Where the byte stands nowhere, the first is the
 /// whole text, and the second is None.
 #[tactic(auto, unfolding(crate::specs::Parts::text_after), using(crate::proofs::Pieces::parts_cut))]
@@ -24,5 +29,8 @@ pub fn cut(text: &[u8], byte: u8) -> (&[u8], Option<&[u8]>)
 fn find(text: &[u8], byte: u8) -> Option<usize>
     ensures { result ≡ position (λ b. b == byte) text.now }
 {
-    text.iter().position(|b| *b == byte)
+    if text.len() < VECTOR {
+        return text.iter().position(|b| *b == byte);
+    }
+    memchr(byte, text)
 }

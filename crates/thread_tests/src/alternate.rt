@@ -1,7 +1,7 @@
 //! A producer and a consumer over one full/empty word, whose requests alternate.
-use crate::runs::{Way, assert_replays, image_of, run_under, steps_of};
+use crate::runs::{Way, assert_replays, image_of, run_twice, run_under, steps_of};
 use crate::turns::Turns;
-use memory_lock::Gate;
+use memory_lock::{Gate, gather};
 use std::alloc::Global;
 use std::process::Abort;
 use std::sync::Wait;
@@ -26,6 +26,15 @@ const ALTERNATING: usize = 20;
 struct AlternateGate<'c, C: Clock> {
     turns: Turns<'c, C>,
     replies: AtomicUsize,
+}
+
+impl<'c, C: Clock> AlternateGate<'c, C> {
+    fn new(clock: &'c C) -> AlternateGate<'c, C> {
+        AlternateGate {
+            turns: Turns::new(clock),
+            replies: AtomicUsize::new(0),
+        }
+    }
 }
 
 impl<'c, C: Clock> Gate for AlternateGate<'c, C> {
@@ -55,10 +64,7 @@ fn assert_never_blocked<R: Abort + Clock + Threads + Wait + Sync>(
     way: Way,
 ) -> Result<(), Fail> {
     let image = image_of(alloc, PUT_AND_TAKE)?;
-    let gate = AlternateGate {
-        turns: Turns::new(rt),
-        replies: AtomicUsize::new(0),
-    };
+    let gate = AlternateGate::new(rt);
     let woven = run_under(rt, alloc, &image, 100, &gate, way)?;
     assert!(rt; !gate.turns.ran_out());
     assert_eq!(rt; woven.history().len(), 21);
@@ -75,4 +81,26 @@ fn assert_never_blocked<R: Abort + Clock + Threads + Wait + Sync>(
     );
     assert_eq!(rt; woven.word(8), Word::from_number(55, 1));
     assert_replays(rt, alloc, &image, &woven)
+}
+
+#[test]
+fn parts_that_have_run_are_left_alone(rt: HostRuntime) -> Result<(), Fail> {
+    let image = image_of(rt.alloc(), PUT_AND_TAKE)?;
+    let gate = AlternateGate::new(&rt);
+    let parts = run_twice(&rt, rt.alloc(), &image, 100, &gate)?;
+    assert!(rt; !gate.turns.ran_out());
+    // the second run adds no step and no entry
+    assert_eq!(rt;
+        (parts.records().len(), parts.shared().entries().len()),
+        (2, 21)
+    );
+    assert_eq!(rt; gate.replies.load(Ordering::SeqCst), 21);
+    for (record, steps) in parts.records().iter().zip(&[32, 33]) {
+        assert_eq!(rt; record.steps().len(), *steps);
+        assert!(rt; !record.any_running());
+    }
+    let woven = gather(rt.alloc(), parts).map_err(|refused| refused.1)?;
+    assert_eq!(rt; (woven.history().len(), woven.schedule().len()), (21, 65));
+    assert_eq!(rt; woven.word(8), Word::from_number(55, 1));
+    assert_replays(&rt, rt.alloc(), &image, &woven)
 }

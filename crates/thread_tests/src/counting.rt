@@ -1,6 +1,6 @@
 //! Sixteen processors that count one word up, all at once.
 use crate::runs::{assert_replays, image_of, run_twice};
-use memory_lock::gather;
+use memory_lock::{FreeGate, gather};
 use std::test::Fail;
 use tag_memory::Word;
 
@@ -17,7 +17,7 @@ fn sixteen_processors_count_one_word_up(rt: HostRuntime) -> Result<(), Fail> {
     source.push_str(COUNT)?;
     let image = image_of(rt.alloc(), source.as_str())?;
     // the second run finds every record finished, and adds nothing
-    let parts = run_twice(&rt, rt.alloc(), &image, 400)?;
+    let parts = run_twice(&rt, rt.alloc(), &image, 400, &FreeGate)?;
     assert_eq!(rt; (parts.fuel(), parts.records().len()), (400, 16));
     assert_eq!(rt; parts.shared().entries().len(), 1_600);
     assert_eq!(rt; parts.shared().word(0), Word::from_number(1_600, 1));

@@ -1,5 +1,5 @@
 //! Gates that pass only where processors step at once, and where local steps take no lock.
-use crate::runs::{Way, image_of, run_under};
+use crate::runs::{Way, assert_replays, image_of, run_under};
 use crate::turns::Turns;
 use memory_lock::Gate;
 use std::alloc::Global;
@@ -38,7 +38,8 @@ impl<'c, C: Clock> Gate for TwoWayGate<'c, C> {
 #[test]
 fn two_way_gate(rt: HostRuntime) -> Result<(), Fail> {
     assert_two_ways(&rt, rt.alloc(), Way::Lock)?;
-    assert_two_ways(&rt, rt.alloc(), Way::Turns)
+    assert_two_ways(&rt, rt.alloc(), Way::Turns)?;
+    assert_gives_up(&rt, rt.alloc())
 }
 
 fn assert_two_ways<R: Abort + Clock + Threads + Wait + Sync>(
@@ -59,6 +60,24 @@ fn assert_two_ways<R: Abort + Clock + Threads + Wait + Sync>(
     assert!(rt; !gate.turns.ran_out());
     assert_eq!(rt; (woven.history().len(), woven.schedule().len()), (4, 6));
     Ok(())
+}
+
+/// One processor alone waits for another in vain, until its gate gives up, and then goes on to its end.
+fn assert_gives_up<R: Abort + Clock + Threads + Wait + Sync>(
+    rt: &R,
+    alloc: Global,
+) -> Result<(), Fail> {
+    let source = ".slim 1\n.entry 0\nFADD.N r1, r0, 0\nFADD.N r1, r0, 0\nQUIT\n.data 0\n";
+    let image = image_of(alloc, source)?;
+    let gate = TwoWayGate {
+        turns: Turns::new(rt),
+        first: AtomicUsize::new(0),
+        second: AtomicUsize::new(0),
+    };
+    let woven = run_under(rt, alloc, &image, 3, &gate, Way::Turns)?;
+    assert!(rt; gate.turns.ran_out());
+    assert_eq!(rt; (woven.history().len(), woven.schedule().len()), (2, 3));
+    assert_replays(rt, alloc, &image, &woven)
 }
 
 /// Processor 1 waits before its request until processor 0 takes a local step, and that local step until processor 1

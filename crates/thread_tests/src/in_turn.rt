@@ -1,13 +1,11 @@
 //! Runs of two processors through the turn memory.
 use crate::runs::{Way, assert_replays, image_of, run_under};
-use memory_lock::{FreeGate, Parts, gather};
+use memory_lock::FreeGate;
 use std::alloc::Global;
 use std::process::Abort;
 use std::sync::Wait;
 use std::test::Fail;
 use std::thread::Threads;
-use tag_memory::Word;
-use turn_memory::run_threads;
 
 /// How often each program is run.
 const RUNS: u32 = 500;
@@ -46,22 +44,4 @@ fn runs_in_turn_are_replayed(rt: HostRuntime) -> Result<(), Fail> {
     assert_runs_replay(&rt, rt.alloc(), PRODUCER_CONSUMER)?;
     assert_runs_replay(&rt, rt.alloc(), LOST_COUNTS)?;
     assert_runs_replay(&rt, rt.alloc(), COUNT)
-}
-
-#[test]
-fn parts_that_have_run_are_left_alone(rt: HostRuntime) -> Result<(), Fail> {
-    let image = image_of(rt.alloc(), COUNT)?;
-    let parts = Parts::<1>::new(rt.alloc(), &image, 400)?;
-    let parts = run_threads(&rt, parts, &FreeGate);
-    assert_eq!(rt; parts.shared().entries().len(), 200);
-    assert_eq!(rt; parts.shared().word(0), Word::from_number(200, 1));
-    let parts = run_threads(&rt, parts, &FreeGate);
-    assert_eq!(rt; parts.shared().entries().len(), 200);
-    for record in parts.records() {
-        assert_eq!(rt; (record.steps().len(), record.pairs().len()), (302, 100));
-        assert!(rt; !record.any_running());
-    }
-    let woven = gather(rt.alloc(), parts).map_err(|refused| refused.1)?;
-    assert_eq!(rt; (woven.schedule().len(), woven.history().len()), (604, 200));
-    assert_replays(&rt, rt.alloc(), &image, &woven)
 }

@@ -2,13 +2,14 @@
 use asm_text::assemble;
 use image_file::Image;
 use machine::Machine;
-use memory_lock::{FreeGate, Gate, Parts, ThreadsFault, Woven, run_threads};
+use memory_lock::{Gate, Parts, ThreadsFault, Woven};
 use processor::Step;
 use std::alloc::Global;
 use std::process::Abort;
 use std::sync::Wait;
 use std::test::Fail;
 use std::thread::Threads;
+use turn_memory::run_threads;
 
 pub(crate) fn image_of(alloc: Global, source: &str) -> Result<Image, Fail> {
     Ok(assemble(alloc, source.as_bytes())?)
@@ -67,16 +68,18 @@ pub(crate) fn run_under<'i, R: Threads + Wait + Sync, G: Gate + Sync>(
     }
 }
 
-/// The parts that two runs with no gate, one after the other, leave of an image whose processors have one stream.
-pub(crate) fn run_twice<'i, R: Threads + Wait + Sync>(
+/// The parts that two runs, one after the other, leave of an image whose processors have one stream. The second goes
+/// through the lock in any case, and the first where there are not two processors.
+pub(crate) fn run_twice<'i, R: Threads + Wait + Sync, G: Gate + Sync>(
     rt: &R,
     alloc: Global,
     image: &'i Image,
     fuel: usize,
+    gate: &G,
 ) -> Result<Parts<'i, 1>, Fail> {
     let parts = Parts::new(alloc, image, fuel)?;
-    let parts = run_threads(rt, parts, &FreeGate);
-    Ok(run_threads(rt, parts, &FreeGate))
+    let parts = run_threads(rt, parts, gate);
+    Ok(run_threads(rt, parts, gate))
 }
 
 /// How many steps of the schedule are the processor's.

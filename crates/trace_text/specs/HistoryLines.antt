@@ -23,6 +23,7 @@ program_operation op.Store = memory.Store
 program_operation op.Fadd = memory.FetchAdd
 program_operation op.TagGet = memory.TagGet
 program_operation op.TagSet = memory.TagSet
+program_operation op.Purge = memory.Purge
 
 -- with blanks behind, up to the width
 abbrev pub left_aligned : ℕ → List ℕ → List ℕ

@@ -1,4 +1,4 @@
--- The definitions, in the order of reading.
+-- The promises, in the order of reading: clauses of public functions cite them.
 pub mod ScheduleLines
 pub mod ScheduleFaults
 pub mod Schedules
@@ -8,7 +8,7 @@ pub mod TraceLines
 pub mod HistoryLines
 pub mod WorldTexts
 pub mod Laws
--- What the code has of them on its way.
+-- The aids: what the code has of them on its way.
 pub mod Fields
 pub mod LineNumbers
 pub mod LineRuns

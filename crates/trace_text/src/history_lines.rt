@@ -121,6 +121,7 @@ fn operation_column(op: MemOp) -> &'static str
         MemOp::Fadd => "FADD  ",
         MemOp::TagGet => "TAGGET",
         MemOp::TagSet => "TAGSET",
+        MemOp::Purge => "PURGE ",
     }
 }
 

@@ -1,5 +1,5 @@
 -- One request, from the steps that it takes.
-use Rattle.std.proofs.Common.{ℕ, ◌≡◌, ◌+◌, List, [], ◌∷◌, ◌++◌, Some, None, Result, Ok, Err, sym, ◌∙◌, ap}
+use Rattle.std.proofs.Common.{ℕ, ◌≡◌, ◌+◌, List, [], ◌∷◌, ◌++◌, Some, Result, Ok, Err, sym, ◌∙◌, ap}
 use Rattle.std.proofs.Common.{subst, map, append-nil}
 use Rattle.std.specs.Prelude.{IfOk, OnErr}
 use Rattle.atomic_table.specs.Table.{rest}
@@ -13,7 +13,7 @@ use Rattle.processor.specs.Histories.{pairs_of}
 use Rattle.processor.specs.Histories.{entry_by}
 use Rattle.turn_memory.specs.declared.views.Stage.TheVariants.{Idle, Waits, Holds}
 use Rattle.turn_memory.specs.declared.views.View.{View}
-use Rattle.turn_memory.specs.Seats.{with_stage, slot_history, after_ask, IsAt}
+use Rattle.turn_memory.specs.Seats.{Slot, with_stage, slot_history, after_ask, IsAt}
 use Rattle.turn_memory.proofs.Callers.{more-own}
 use Rattle.turn_memory.proofs.Keeping.{M}
 
@@ -45,20 +45,22 @@ pub record HasAsked (v : View) (m : M) (k : ℕ) (x x2 : SharedValue) : Type 0 w
   pub me : m ≡ (with_stage v (v.own.asks + 1) (Holds k x.history), (0, Some x2) ∷ [])
   pub kept : pairs_of v.number x.history ≡ v.own.made
 
-pub goes-out : (m0 m1 m2 m3 m4 : M) (k : ℕ) (y x x2 : SharedValue)
+-- from the steps up to the end of the loan: m2 is the seat with the slot, z what is lent, and z2 what comes back
+pub goes-out : (m0 m1 m2 : M) (k : ℕ) (y x x2 : SharedValue) (z z2 : Slot)
     → m1 ≡ (with_stage m0.0 (m0.0.own.asks + 1) (Waits k), m0.1)
     → m2 ≡ (with_stage m1.0 m1.0.own.asks (Holds k y.history), (0, Some y) ∷ [])
-    → pairs_of m1.0.number y.history ≡ m1.0.own.made → m2.1 ≡ (0, Some x) ∷ rest m2.1
-    → m3 ≡ (m2.0, (0, None) ∷ rest m2.1) → m4 ≡ (m3.0, (0, Some x2) ∷ rest m3.1) → HasAsked m0.0 m4 k x x2
-goes-out m0 m1 m2 m3 m4 k y x x2 e1 e2 kept held e3 e4 =
-    let same : y.history ≡ x.history = sym (ap (λ (m : M). slot_history m.1) e2) ∙ ap slot_history held in
+    → pairs_of m1.0.number y.history ≡ m1.0.own.made → m2.1 ≡ (0, z) ∷ rest m2.1 → z ≡ Some x → z2 ≡ Some x2
+    → HasAsked m0.0 (m2.0, (0, z2) ∷ rest m2.1) k x x2
+goes-out m0 m1 m2 k y x x2 z z2 e1 e2 kept held is now =
+    let found : m2.1 ≡ (0, Some x) ∷ rest m2.1 = held ∙ ap (λ (o : Slot). (0, o) ∷ rest m2.1) is in
+    let same : y.history ≡ x.history = sym (ap (λ (m : M). slot_history m.1) e2) ∙ ap slot_history found in
     let v : View = m0.0 in
     let two : m2 ≡ (with_stage v (v.own.asks + 1) (Holds k x.history), (0, Some y) ∷ []) =
     e2 ∙ ap (λ (m : M). (with_stage m.0 m.0.own.asks (Holds k y.history), (0, Some y) ∷ [])) e1
     ∙ ap (λ h. (with_stage v (v.own.asks + 1) (Holds k h), (0, Some y) ∷ [])) same in
     let E : View × List Entry → Type 0 = λ z. pairs_of z.0.number z.1 ≡ z.0.own.made in
     record {
-      me = e4 ∙ ap (λ (m : M). (m.0, (0, Some x2) ∷ rest m.1)) e3
+      me = ap (λ (o : Slot). (m2.0, (0, o) ∷ rest m2.1)) now
           ∙ ap (λ (m : M). (m.0, (0, Some x2) ∷ rest m.1)) two;
       kept = subst E (λ i. (ap (λ (m : M). m.0) e1 i, same i)) kept;
     }

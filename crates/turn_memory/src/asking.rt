@@ -45,9 +45,7 @@ pub(crate) fn ask_in_turn<'i, R: Wait>(
     await_no_ticket(table);
     let ticket = table.fetch_add::<Draw>(seat, NEXT, 1);
     wait_turn(rt, table, seat, ticket);
-    let mut memory = table.exchange(seat, 0, None).unwrap();
-    let reply = ask_memory(&mut memory, p, s, request);
-    table.exchange(seat, 0, Some(memory));
+    let reply = ask_slot(seat.slot_mut(&*table, 0), p, s, request);
     table.fetch_add::<Raise>(seat, SERVED, 1);
     reply
 }
@@ -94,6 +92,23 @@ fn wait_turn<'i, R: Wait>(rt: &R, table: &TurnTable<'i>, seat: &mut TurnSeat<'i>
         looks = looks.saturating_add(1);
     }
     unreachable!()
+}
+
+/// Asks the memory in the slot, where it stays.
+fn ask_slot(
+    slot: &mut Option<SharedMemory>,
+    p: u8,
+    s: u8,
+    request: &Request,
+) -> Result<Reply, NoRoom>
+    requires has { (m : SharedValue) × (slot.old ≡ Some m) }
+    ensures asked { (m : SharedValue) × (x : SharedValue) × (slot.old ≡ Some m) × (slot.new ≡ Some x)
+        × IfOk result (λ reply. x.history
+        ≡ m.history ++ record { p = p; s = s; request = request.now; reply = reply } ∷ [])
+        × OnErr result (x ≡ m) }
+{
+    let Some(memory) = slot else { unreachable!() };
+    ask_memory(memory, p, s, request)
 }
 
 /// Asks the memory, if it has the processor.

@@ -1,4 +1,5 @@
 ; Counts to ten and stores the count: a loop by SUB.T and SKIP. Processor 1 has both in one word and counts to eleven.
+; Look at: the last SKIP of each, which asks a condition code; processor 1's asks the code of the turn before.
         .slim 1
         .entry start
         .entry hasty

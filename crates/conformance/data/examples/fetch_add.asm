@@ -1,5 +1,6 @@
 ; Four streams of one processor add to one word by FADD, which no other step can come between. They add to a second
 ; word too, by LOAD.N, ADD and STORE.N: what another stream stores there between these is lost.
+; Look at: the two words at the end, and the two LOAD.N that find the same number.
         .slim 4
         .entry start
         .data 0                 ; word 0: the sum by FADD

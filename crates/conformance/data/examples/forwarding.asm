@@ -1,4 +1,5 @@
 ; A word with the forward bit sends references on to where it points. Word 1 points to itself: processor 1 is caught.
+; Look at: the word that the store changes, and the trap, 9, with the address at which the chain was given up in xr.
         .slim 1
         .entry start
         .entry chase

@@ -1,4 +1,5 @@
 ; A trap handler repairs a pointer and goes back to the word that trapped. Processor 1 has no handler.
+; Look at: the pc after TRAPPED, which is the handler's, and after its XCHG; processor 1 is STOPPED at the same word.
         .slim 1
         .trap handler
         .entry start

@@ -4,7 +4,7 @@ ghost use Rattle.std.specs.Prelude.{◌≡◌, ◌+◌, ◌*◌, ◌/◌, ◌%�
 ghost use Rattle.insn_word.specs.Operations.{condition_number};
 ghost use Rattle.insn_word.specs.Fields.{number_of_fields, AreInRange};
 ghost use Rattle.insn_word.specs.Words.{argument_fields, control_fields, used_control, control_destination};
-ghost use Rattle.insn_word.specs.ShortInsns.{control_part};
+ghost use Rattle.insn_word.specs.ShortInsns.{short_control_part};
 ghost use Rattle.insn_word.specs.Parts.{IsControlPart};
 ghost use Rattle.insn_word.specs.declared.operations.Condition.{Condition};
 ghost use Rattle.insn_word.specs.declared.insn.CPart.{CPart};
@@ -204,7 +204,7 @@ impl ShortControl {
     #[inline(always)]
     pub(crate) fn from_bits(bits: u64) -> Option<ShortControl>
         requires { bits < 2 ^ 18 }
-        ensures { IfSome result (λ c. IsControlPart bits (control_part c)) }
+        ensures { IfSome result (λ c. IsControlPart bits (short_control_part c)) }
     {
         if bits == 0 {
             return Some(ShortControl::Nop);

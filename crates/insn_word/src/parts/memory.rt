@@ -3,7 +3,7 @@
 ghost use Rattle.std.specs.Prelude.{◌≡◌, ◌<◌, ◌^◌, ◌↔◌, IsTrue, IfSome};
 ghost use Rattle.insn_word.specs.Fields.{number_of_fields, AreInRange};
 ghost use Rattle.insn_word.specs.Words.{memory_fields, used_memory, memory_destination};
-ghost use Rattle.insn_word.specs.ShortInsns.{reference_operation, memory_part};
+ghost use Rattle.insn_word.specs.ShortInsns.{reference_operation, reference_part};
 ghost use Rattle.insn_word.specs.Operations.{memory_number};
 ghost use Rattle.insn_word.specs.Parts.{IsMemoryPart};
 ghost use Rattle.insn_word.specs.declared.insn.MPart.{MPart};
@@ -76,7 +76,8 @@ impl MPart {
         match self.op {
             MemoryOp::Nop => *self == MPart::NOP,
             MemoryOp::Load | MemoryOp::Store | MemoryOp::FetchAdd => true,
-            MemoryOp::TagGet | MemoryOp::TagSet => self.acc == Access::FromPointer,
+            MemoryOp::TagGet | MemoryOp::TagSet | MemoryOp::Purge => self.acc
+                == Access::FromPointer,
         }
     }
 
@@ -87,17 +88,17 @@ impl MPart {
     {
         match self.op {
             MemoryOp::Load | MemoryOp::FetchAdd | MemoryOp::TagGet => self.rd,
-            MemoryOp::Nop | MemoryOp::Store | MemoryOp::TagSet => 0,
+            MemoryOp::Nop | MemoryOp::Store | MemoryOp::TagSet | MemoryOp::Purge => 0,
         }
     }
 }
 
 impl ReferencePart {
-    /// The part that 21 digits spell, where it asks the memory; None for all others.
+    /// The part that 21 digits spell, where it asks the memory for an operation of Profile 1; None for all others.
     #[inline(always)]
     pub(crate) fn from_bits(bits: u64) -> Option<ReferencePart>
         requires { bits < 2 ^ 21 }
-        ensures { IfSome result (λ m. IsMemoryPart bits (memory_part m)) }
+        ensures { IfSome result (λ m. IsMemoryPart bits (reference_part m)) }
     {
         let part = ReferencePart::read(bits)?;
         if part.is_bare() { Some(part) } else { None }
@@ -107,8 +108,8 @@ impl ReferencePart {
     #[inline(always)]
     fn read(bits: u64) -> Option<ReferencePart>
         requires { bits < 2 ^ 21 }
-        ensures in_range { IfSome result (λ m. AreInRange (memory_fields (memory_part m))) }
-        ensures number { IfSome result (λ m. number_of_fields (memory_fields (memory_part m)) ≡ bits) }
+        ensures in_range { IfSome result (λ m. AreInRange (memory_fields (reference_part m))) }
+        ensures number { IfSome result (λ m. number_of_fields (memory_fields (reference_part m)) ≡ bits) }
     {
         Some(ReferencePart {
             op: ReferenceOp::from_number(field(bits, OPERATION_PLACE, OPERATION_WIDTH))?,
@@ -135,7 +136,7 @@ impl ReferencePart {
     #[inline(always)]
     fn is_bare(&self) -> bool
         ensures { IsTrue result
-            → used_memory (reference_operation self.now.op) (memory_part self.now) ≡ memory_part self.now }
+            → used_memory (reference_operation self.now.op) (reference_part self.now) ≡ reference_part self.now }
     {
         match self.op {
             ReferenceOp::Load | ReferenceOp::Store | ReferenceOp::FetchAdd => true,
@@ -145,7 +146,7 @@ impl ReferencePart {
 }
 
 impl ReferenceOp {
-    /// The operation with this number; None where there is none that asks the memory.
+    /// The operation with this number; None where there is none of Profile 1 that asks the memory.
     #[inline(always)]
     fn from_number(number: u64) -> Option<ReferenceOp>
         ensures { IfSome result (λ op. memory_number (reference_operation op) ≡ number) }

@@ -342,7 +342,8 @@ fn retries_after(op: MemoryOp, retries: u32) -> u32
         | MemoryOp::Store
         | MemoryOp::FetchAdd
         | MemoryOp::TagGet
-        | MemoryOp::TagSet => 0,
+        | MemoryOp::TagSet
+        | MemoryOp::Purge => 0,
     }
 }
 

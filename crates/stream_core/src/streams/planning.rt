@@ -45,7 +45,6 @@ impl Stream {
 
     /// The instruction at the pc of this program, where the stream runs and `decode_short` reads it; None where `fetch`
     /// has to say what stands there.
-    #[tactic(auto, unfolding(crate::specs::StreamRow::fetch_of))]
     #[inline(always)]
     pub fn fetch_short(&self, program: &[u64]) -> Option<ShortInsn>
         ensures { IfSome result (λ short. fetch_of program.now self.now ≡ Fetched.Runs (short_instruction short)) }
@@ -54,7 +53,6 @@ impl Stream {
     }
 
     /// The same of `decode_reference`.
-    #[tactic(auto, unfolding(crate::specs::StreamRow::fetch_of))]
     #[inline(always)]
     pub fn fetch_reference(&self, program: &[u64]) -> Option<ReferenceInsn>
         ensures { IfSome result (λ r. fetch_of program.now self.now ≡ Fetched.Runs (reference_instruction r)) }
@@ -95,6 +93,7 @@ impl Stream {
                 MemOp::TagSet,
                 self.register(m.rd) % (1 << TAGS_WIDTH),
             )),
+            MemoryOp::Purge => Some(self.request_with(m, MemOp::Purge, self.register(m.rd))),
         }
     }
 

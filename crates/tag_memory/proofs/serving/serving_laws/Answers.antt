@@ -3,7 +3,7 @@ use Rattle.std.proofs.Common.{◌≡◌, ◌≢◌, ℕ, refl, sym, ◌∙◌, a
 use Rattle.tag_memory.specs.Address.{address_of}
 use Rattle.tag_memory.specs.Cell.{Cell}
 use Rattle.tag_memory.specs.Storage.{TaggedMemory, cell_at}
-use Rattle.tag_memory.specs.Chain.{chain_limit, end_of}
+use Rattle.tag_memory.specs.Chain.{end_of}
 use Rattle.tag_memory.specs.Answer.{answer_by_effect, at_end, address_at}
 use Rattle.tag_memory.specs.declared.requests.Request.{Request}
 use Rattle.tag_memory.specs.declared.chain.End.{End}
@@ -22,7 +22,7 @@ at_end_others : (m : TaggedMemory) (q : Request) (b : ℕ) (end : End)
     → end_of m q ≡ end → (address_at end ≢ b) → cell_at (at_end m q end).0 b ≡ cell_at m b
 at_end_others m q b (at.Trap kind a) e apart = refl
 at_end_others m q b (at.Last p c) e apart =
-    settled_others m (address_of p) b c _ (cell_at-last m q chain_limit q.pointer p c e) apart
+    settled_others m (address_of p) b c _ (cell_at-last m q m.chain_limit q.pointer p c e) apart
 
 pub returns-clause-one_path : goal.returns-clause-one_path
 returns-clause-one_path c = λ m q path other end last leads leads_too. (

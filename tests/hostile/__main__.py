@@ -1,0 +1,57 @@
+#!/usr/bin/env python3
+"""Runs the built program on hostile inputs, in parts: damaged images, random texts, inputs at and beyond their limits,
+the command threads with and without its threads, the debugger's lines, files that fail, and refused memory. Each run
+has to end with the answer that the documents give, or, where only that much is known beforehand, done, or refused with
+one line on standard error and nothing printed; each refusal within a second of processor time, and within ten times its
+input and 40 MB. Arguments name the parts to be run; without any all of them are. Needs Python 3 and a C compiler."""
+
+import sys
+
+sys.dont_write_bytecode = True
+
+import concurrent.futures
+import os
+import tempfile
+import time
+
+import allocations
+import debugger
+import files
+import images
+import limits
+import program
+import texts
+import threads
+
+PARTS = {
+    "images": images.part,
+    "texts": texts.part,
+    "limits": limits.part,
+    "threads": threads.part,
+    "debugger": debugger.part,
+    "files": files.part,
+    "allocations": allocations.part,
+}
+# how many of the things that were not as they have to be are printed for a part
+SHOWN = 20
+
+
+def main(names):
+    if not os.access(program.TOOL, os.X_OK):
+        sys.exit("nothing is built yet: make run proves and builds the program")
+    unknown = [name for name in names if name not in PARTS]
+    if unknown:
+        sys.exit(f"no part is named {unknown[0]}; the parts: {', '.join(PARTS)}")
+    wrong = 0
+    for name in names or PARTS:
+        begin = time.monotonic()
+        with tempfile.TemporaryDirectory() as folder, concurrent.futures.ProcessPoolExecutor(os.cpu_count()) as pool:
+            tally = PARTS[name](pool, folder)
+        for what in tally.wrong[:SHOWN]:
+            print(f"not so: {what}")
+        wrong += len(tally.wrong)
+        print(f"{name}: {tally}, {time.monotonic() - begin:.0f} s", flush=True)
+    sys.exit(1 if wrong else 0)
+
+
+main(sys.argv[1:])
