@@ -3,6 +3,7 @@ PREFIX ?= /usr/local
 SHARE = $(DESTDIR)$(PREFIX)/share
 PROGRAM = crates/mta_sim/out/mta_sim
 BENCH = crates/bench/out/bench
+CALLS = crates/refused_calls/out/refused_calls
 # how many crates are proved side by side
 JOBS ?= $(shell nproc)
 
@@ -58,13 +59,16 @@ bench: build
 	@test -x $(BENCH) || (cd crates/bench && rt run -- arithmetic 1 > /dev/null)
 	@bench/run.sh
 
-# refuses each allocation of the commands in turn, on the examples and the programs of conformance/data
+# refuses each allocation of the commands in turn, on the examples and the programs of conformance/data, and of each call
+# of the libraries that takes memory
 refuse: build
-	@python3 tests/hostile allocations
+	@test -x $(CALLS) || (cd crates/refused_calls && rt run < /dev/null > /dev/null)
+	@python3 tests/hostile allocations calls
 
 # that, and damaged images, random texts, inputs at their limits and beyond, threads that are not started, the lines of
 # the debugger, inputs and outputs that fail
 hostile: build
+	@test -x $(CALLS) || (cd crates/refused_calls && rt run < /dev/null > /dev/null)
 	@python3 tests/hostile
 
 # the statuses with which the built program ends

@@ -10,6 +10,7 @@ import tempfile
 
 ROOT = os.path.dirname(os.path.dirname(os.path.dirname(os.path.abspath(__file__))))
 TOOL = os.path.join(ROOT, "crates/mta_sim/out/mta_sim")
+CALLS = os.path.join(ROOT, "crates/refused_calls/out/refused_calls")
 EXAMPLES = os.path.join(ROOT, "examples")
 DATA = os.path.join(ROOT, "crates/conformance/data")
 MOST_INPUT = 33_554_432
@@ -51,8 +52,8 @@ class Ended:
         return self.is_done() or self.is_refused()
 
 
-def run(words, text=b"", setup=None, output=None, **variables):
-    """Runs the program on a text, which may be an open file; setup is called in the new process."""
+def run(words, text=b"", setup=None, output=None, tool=TOOL, **variables):
+    """Runs the program, or another one, on a text, which may be an open file; setup is called in the new process."""
     def begin():
         signal.alarm(PATIENCE)
         if setup is not None:
@@ -63,7 +64,7 @@ def run(words, text=b"", setup=None, output=None, **variables):
             given.write(text)
             given.seek(0)
         process = subprocess.Popen(
-            [TOOL, *words], stdin=given if isinstance(text, bytes) else text, stdout=output or out, stderr=err,
+            [tool, *words], stdin=given if isinstance(text, bytes) else text, stdout=output or out, stderr=err,
             preexec_fn=begin, env={**os.environ, **variables})
         _, status, usage = os.wait4(process.pid, 0)
         process.returncode = os.waitstatus_to_exitcode(status)

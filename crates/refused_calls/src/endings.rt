@@ -1,0 +1,45 @@
+//! How a call ends.
+
+/// How a call ended.
+#[derive(Clone, Copy, Debug, PartialEq, Eq)]
+pub(crate) enum Ended {
+    /// With the right answer.
+    Done,
+    /// Memory was refused, and what the call may change is as before or handed back.
+    Refused,
+    /// With another answer, or it changed something all the same.
+    Wrong,
+}
+
+impl Ended {
+    pub(crate) fn text(self) -> &'static str {
+        match self {
+            Ended::Done => "done",
+            Ended::Refused => "refused, all as before",
+            Ended::Wrong => "wrong",
+        }
+    }
+
+    /// The ending of a call that was answered.
+    pub(crate) fn answered(is_right: bool) -> Ended {
+        if is_right { Ended::Done } else { Ended::Wrong }
+    }
+
+    /// The ending of a call that was refused memory.
+    pub(crate) fn refused(is_as_before: bool) -> Ended {
+        if is_as_before {
+            Ended::Refused
+        } else {
+            Ended::Wrong
+        }
+    }
+
+    /// The ending of two calls.
+    pub(crate) fn and(self, other: Ended) -> Ended {
+        match (self, other) {
+            (Ended::Wrong, _) | (_, Ended::Wrong) => Ended::Wrong,
+            (Ended::Refused, _) | (_, Ended::Refused) => Ended::Refused,
+            (Ended::Done, Ended::Done) => Ended::Done,
+        }
+    }
+}

@@ -1,0 +1,88 @@
+//! Calls that read and write images, sources and schedules.
+use crate::endings::Ended;
+use crate::programs::{SCHEDULE, SOURCE, STEPS, image};
+use anyhow::Result;
+use asm_text::{Fault, assemble, listing, reassemble};
+use image_file::{Image, ImageFault, read_image, write_image};
+use std::alloc::{AllocError, Global};
+use trace_text::{ScheduleFaultKind, read_schedule, round_schedule, write_schedule};
+
+/// How many bytes the image has: a header of 26, two entries of 4, six words of 8 and two words of 9.
+const IMAGE_BYTES: usize = 100;
+
+pub(crate) fn of_assemble(alloc: Global) -> Ended {
+    match assemble(alloc, SOURCE.as_bytes()) {
+        Ok(image) => Ended::answered(is_program(&image)),
+        Err(fault) => Ended::refused(fault.kind == Fault::NoMemory && fault.line == 0),
+    }
+}
+
+/// Whether it is the image of the program.
+fn is_program(image: &Image) -> bool {
+    let values = image.cells().iter().map(|cell| cell.value());
+    image.slim() == 2
+        && (image.retry_limit(), image.trap_entry()) == (0, u32::MAX)
+        && (image.entry(0), image.entry(1), image.entry(2)) == (Some(0), Some(3), None)
+        && image.program().len() == 6
+        && values.eq([5u64, 6])
+}
+
+pub(crate) fn of_listing(alloc: Global) -> Result<Ended> {
+    let image = image(alloc)?;
+    match listing(alloc, &image) {
+        Ok(text) => {
+            let again = assemble(alloc, text.as_bytes()).ok();
+            Ok(Ended::answered(again == Some(image)))
+        }
+        Err(AllocError) => Ok(Ended::Refused),
+    }
+}
+
+pub(crate) fn of_reassemble(alloc: Global) -> Result<Ended> {
+    let image = image(alloc)?;
+    Ok(match reassemble(alloc, &image) {
+        Ok(again) => Ended::answered(again == image),
+        Err(fault) => Ended::refused(fault.kind == Fault::NoMemory && fault.line == 0),
+    })
+}
+
+pub(crate) fn of_write_image(alloc: Global) -> Result<Ended> {
+    let image = image(alloc)?;
+    Ok(match write_image(alloc, &image) {
+        Ok(bytes) => Ended::answered(bytes.len() == IMAGE_BYTES && bytes.starts_with(b"MTAP")),
+        Err(AllocError) => Ended::Refused,
+    })
+}
+
+pub(crate) fn of_read_image(alloc: Global) -> Result<Ended> {
+    let image = image(alloc)?;
+    let bytes = write_image(alloc, &image)?;
+    Ok(match read_image(alloc, &bytes) {
+        Ok(again) => Ended::answered(again == image),
+        Err(fault) => Ended::refused(fault == ImageFault::NoMemory),
+    })
+}
+
+pub(crate) fn of_read_schedule(alloc: Global) -> Ended {
+    match read_schedule(alloc, SCHEDULE.as_bytes()) {
+        Ok(steps) => Ended::answered(steps.as_slice() == STEPS.as_slice()),
+        Err(fault) => Ended::refused(fault.kind == ScheduleFaultKind::NoMemory && fault.line == 0),
+    }
+}
+
+pub(crate) fn of_write_schedule(alloc: Global) -> Ended {
+    match write_schedule(alloc, &STEPS) {
+        Ok(text) => Ended::answered(text.as_str() == SCHEDULE),
+        Err(AllocError) => Ended::Refused,
+    }
+}
+
+pub(crate) fn of_round_schedule(alloc: Global) -> Ended {
+    match round_schedule(alloc, 2, 1, 3) {
+        Ok(steps) => {
+            let turns = steps.iter().map(|step| (step.p, step.s));
+            Ended::answered(turns.eq([(0u8, 0u8), (1, 0), (0, 0), (1, 0), (0, 0), (1, 0)]))
+        }
+        Err(AllocError) => Ended::Refused,
+    }
+}
