@@ -41,12 +41,10 @@ pub(crate) fn is_of_profile_two(alloc: Global, line: &str) -> Result<bool> {
         return Ok(found.is_none());
     }
     let insn = instruction(alloc, text)?;
-    Ok(
-        found == Some(insn)
-            && !insn.is_valid()
-            && insn.is_valid_as(Profile::Two)
-            && encode(&insn) == word,
-    )
+    if !insn.is_valid_as(Profile::Two) {
+        return Ok(false);
+    }
+    Ok(found == Some(insn) && !insn.is_valid() && encode(&insn) == word)
 }
 
 /// Whether the line's word spells no instruction.

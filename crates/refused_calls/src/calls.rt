@@ -6,7 +6,7 @@ use std::sync::Wait;
 use std::thread::Threads;
 
 /// A public call that takes memory.
-#[derive(Clone, Copy, Debug, PartialEq, Eq)]
+#[derive(Clone, Copy)]
 pub(crate) enum Call {
     Assemble,
     Listing,
@@ -17,7 +17,8 @@ pub(crate) enum Call {
     WriteSchedule,
     RoundSchedule,
     Lines,
-    Numbers,
+    Hexadecimals,
+    Decimals,
     Labels,
     WordList,
     StreamText,
@@ -43,7 +44,7 @@ pub(crate) enum Call {
 
 impl Call {
     /// All of them.
-    pub(crate) const ALL: [Call; 31] = [
+    pub(crate) const ALL: [Call; 32] = [
         Call::Assemble,
         Call::Listing,
         Call::Reassemble,
@@ -53,7 +54,8 @@ impl Call {
         Call::WriteSchedule,
         Call::RoundSchedule,
         Call::Lines,
-        Call::Numbers,
+        Call::Hexadecimals,
+        Call::Decimals,
         Call::Labels,
         Call::WordList,
         Call::StreamText,
@@ -90,7 +92,8 @@ impl Call {
             Call::RoundSchedule => "round_schedule",
             Call::Lines =>
                 "trace_line, history_line, push_trace_line, push_history_line, push_word_line",
-            Call::Numbers => "push_hexadecimal_16 and the other numbers",
+            Call::Hexadecimals => "push_hexadecimal_16, _12, _8, _digit",
+            Call::Decimals => "push_two_digits, push_five_digits, push_right_aligned",
             Call::Labels => "Labels::note",
             Call::WordList => "WordList::push",
             Call::StreamText => "stream_text",
@@ -128,7 +131,8 @@ impl Call {
             Call::WriteSchedule => Ok(written::of_write_schedule(alloc)),
             Call::RoundSchedule => Ok(written::of_round_schedule(alloc)),
             Call::Lines => Ok(texts::of_lines(alloc)),
-            Call::Numbers => Ok(texts::of_numbers(alloc)),
+            Call::Hexadecimals => Ok(texts::of_hexadecimals(alloc)),
+            Call::Decimals => Ok(texts::of_decimals(alloc)),
             Call::Labels => Ok(texts::of_labels(alloc)),
             Call::WordList => texts::of_word_list(alloc),
             Call::StreamText => texts::of_stream_text(alloc),

@@ -1,7 +1,7 @@
 //! How a call ends.
 
 /// How a call ended.
-#[derive(Clone, Copy, Debug, PartialEq, Eq)]
+#[derive(Clone, Copy)]
 pub(crate) enum Ended {
     /// With the right answer.
     Done,

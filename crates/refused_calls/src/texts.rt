@@ -58,14 +58,9 @@ fn made(text: Result<String, AllocError>, wanted: &str) -> Ended {
     }
 }
 
-/// How a call ends that appends to a text, which is empty.
-fn appended(
-    alloc: Global,
-    wanted: &str,
-    push: impl FnOnce(&mut String) -> Result<(), AllocError>,
-) -> Ended {
-    let mut text = String::new(alloc);
-    match push(&mut text) {
+/// How a call ended that appended to a text, which was empty.
+fn appended(pushed: Result<(), AllocError>, text: &String, wanted: &str) -> Ended {
+    match pushed {
         Ok(()) => Ended::answered(text.as_str() == wanted),
         Err(AllocError) => Ended::refused(text.is_empty()),
     }
@@ -73,35 +68,44 @@ fn appended(
 
 pub(crate) fn of_lines(alloc: Global) -> Ended {
     let entry = first_entry();
+    let mut trace = String::new(alloc);
+    let step = push_trace_line(&mut trace, 1, FIRST, 0, Outcome::Done);
+    let mut history = String::new(alloc);
+    let request = push_history_line(&mut history, 1, &entry);
+    let mut listing = String::new(alloc);
+    let word = push_word_line(&mut listing, 0, 0x8010_0000_0000_0003);
     made(trace_line(alloc, 1, FIRST, 0, Outcome::Done), TRACE_LINE)
         .and(made(history_line(alloc, 1, &entry), HISTORY_LINE))
-        .and(appended(alloc, TRACE_LINE, |text| {
-            push_trace_line(text, 1, FIRST, 0, Outcome::Done)
-        }))
-        .and(appended(alloc, HISTORY_LINE, |text| {
-            push_history_line(text, 1, &entry)
-        }))
-        .and(appended(alloc, WORD_LINE, |text| {
-            push_word_line(text, 0, 0x8010_0000_0000_0003)
-        }))
+        .and(appended(step, &trace, TRACE_LINE))
+        .and(appended(request, &history, HISTORY_LINE))
+        .and(appended(word, &listing, WORD_LINE))
 }
 
-pub(crate) fn of_numbers(alloc: Global) -> Ended {
-    appended(alloc, "0000000000000ABC", |text| {
-        push_hexadecimal_16(text, 0xABC)
-    })
-    .and(appended(alloc, "000000000ABC", |text| {
-        push_hexadecimal_12(text, 0xABC)
-    }))
-    .and(appended(alloc, "00000ABC", |text| {
-        push_hexadecimal_8(text, 0xABC)
-    }))
-    .and(appended(alloc, "A", |text| { push_hexadecimal_digit(text, 0xA) }))
-    .and(appended(alloc, "07", |text| push_two_digits(text, 7)))
-    .and(appended(alloc, "65535", |text| { push_five_digits(text, 65_535) }))
-    .and(appended(alloc, "   1234", |text| {
-        push_right_aligned::<7>(text, 1_234)
-    }))
+pub(crate) fn of_hexadecimals(alloc: Global) -> Ended {
+    let mut sixteen = String::new(alloc);
+    let to_sixteen = push_hexadecimal_16(&mut sixteen, 0xABC);
+    let mut twelve = String::new(alloc);
+    let to_twelve = push_hexadecimal_12(&mut twelve, 0xABC);
+    let mut eight = String::new(alloc);
+    let to_eight = push_hexadecimal_8(&mut eight, 0xABC);
+    let mut one = String::new(alloc);
+    let to_one = push_hexadecimal_digit(&mut one, 0xA);
+    appended(to_sixteen, &sixteen, "0000000000000ABC")
+        .and(appended(to_twelve, &twelve, "000000000ABC"))
+        .and(appended(to_eight, &eight, "00000ABC"))
+        .and(appended(to_one, &one, "A"))
+}
+
+pub(crate) fn of_decimals(alloc: Global) -> Ended {
+    let mut two = String::new(alloc);
+    let to_two = push_two_digits(&mut two, 7);
+    let mut five = String::new(alloc);
+    let to_five = push_five_digits(&mut five, 65_535);
+    let mut aligned = String::new(alloc);
+    let to_aligned = push_right_aligned::<7>(&mut aligned, 1_234);
+    appended(to_two, &two, "07")
+        .and(appended(to_five, &five, "65535"))
+        .and(appended(to_aligned, &aligned, "   1234"))
 }
 
 /// Two lines with one label, which keeps its first place.
