@@ -11,7 +11,7 @@ ghost use Rattle.image_file.specs.Answers.{Reads, SaysFault};
 
 use crate::checking::body_fault;
 use crate::fields::{from_place, u8_of, u32_of, u64_of};
-use crate::header::{HEADER_LENGTH, Header};
+use crate::header::Header;
 use crate::{Image, ImageFault};
 use std::alloc::{AllocError, Global};
 use tag_memory::Word;
@@ -72,7 +72,7 @@ fn sound_image(alloc: Global, header: Header, bytes: &[u8]) -> Result<Image, All
     let entries = entries_of(
         alloc,
         usize::from(header.processors),
-        from_place(bytes, HEADER_LENGTH),
+        from_place(bytes, header.entries_place()),
     )?;
     let program = program_of(
         alloc,
@@ -85,7 +85,9 @@ fn sound_image(alloc: Global, header: Header, bytes: &[u8]) -> Result<Image, All
         from_place(bytes, header.cells_place()),
     )?;
     Ok(Image {
+        profile: header.profile,
         slim: header.slim,
+        chain_limit: header.chain_limit as u8,
         retry_limit: header.retry_limit,
         trap_entry: header.trap_entry,
         entries,

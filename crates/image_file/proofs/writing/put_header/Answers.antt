@@ -1,5 +1,6 @@
 use Rattle.std.proofs.Common.{◌≡◌, ◌++◌, ◌∙◌, length}
-use Rattle.image_file.specs.Spelling.{magic, version, header_bytes}
+use Rattle.image_file.specs.Versions.{version_of, chain_size}
+use Rattle.image_file.specs.Spelling.{magic, header_bytes}
 use Rattle.image_file.proofs.Headers.{header_put}
 use Rattle.image_file.proofs.writing.put_header.Goals as goal
 
