@@ -1,9 +1,7 @@
 -- What the version of bytes tells of their profile, and of their chain limit.
-use Rattle.std.proofs.Common.{◌≡◌, ℕ, ◌+◌, ◌^◌, ◌<◌, ◌≤◌, Bool, true, false, List, length, drop}
+use Rattle.std.proofs.Common.{◌≡◌, ℕ, ◌^◌, ◌<◌, ◌≤◌, List, ◌++◌, length, drop, append-nil}
 use Rattle.std.proofs.Common.{Option, Some, None, refl, sym, ap, ◌∙◌, arith}
-use Rattle.std.specs.Prelude.{nat_lt, ◌==◌}
 use Rattle.std.proofs.lemmas.Bool.Decides.{nat_tests}
-use Rattle.std.proofs.lemmas.List.{drop-drop}
 use Rattle.insn_word.specs.declared.profiles.Profile.{Profile}
 use Rattle.insn_word.specs.declared.profiles.Profile.TheVariants.{One, Two}
 use Rattle.tag_memory.specs.Storage.{default_chain_limit, most_chain_limit}
@@ -45,6 +43,11 @@ profile_from b p is = ap (λ v. profile_or_one (profile_of v)) is ∙ ap profile
 pub chain_of_one : (p : Profile) (b : List ℕ) → p ≡ One → chain_limit_in p b ≡ default_chain_limit
 chain_of_one One b is = refl
 chain_of_one Two b is = absurd cc
+
+-- an image of Profile One writes none
+pub no_chain : (out : List ℕ) (limit : ℕ) → out ≡ out ++ number_bytes (chain_size One) limit
+unfolding number_bytes
+no_chain out limit = sym (append-nil out)
 
 -- the bytes of what is read are those that are there
 pub chain_back : (p : Profile) (b : List ℕ)

@@ -17,11 +17,11 @@ use Rattle.image_file.specs.Parts.{count_fault, entry_fault}
 use Rattle.image_file.specs.Versions.{version_of, profile_of, chain_size}
 use Rattle.image_file.specs.Spelling.{magic, entry_bytes, word_bytes, cell_bytes, header_bytes, bytes_of_image}
 use Rattle.image_file.specs.Spelling.{Stands}
-use Rattle.image_file.specs.Reading.{version_at, profile_at, chain_limit_at, processors_at, words_at, cells_at}
+use Rattle.image_file.specs.Reading.{profile_at, chain_limit_at, processors_at, words_at, cells_at}
 use Rattle.image_file.specs.Reading.{entries_place, program_place, cells_place, asked_length}
 use Rattle.image_file.specs.Reading.{entries_from, program_from, tag_byte, tags_from, cell_from, cells_from, image_at}
 use Rattle.image_file.specs.Reading.{tag_fault}
-use Rattle.image_file.proofs.Profiles.{IsVersioned, profile_again, profile_from, chain_again}
+use Rattle.image_file.proofs.Profiles.{profile_again, profile_from, chain_again}
 use Rattle.image_file.proofs.Limits.{AreCounts, no_count_fault}
 use Rattle.image_file.proofs.Searches.{none_where_all_pass}
 use Rattle.image_file.proofs.Numbers.{length-number_bytes, number_again}

@@ -5,15 +5,15 @@ use Rattle.std.specs.Prelude.{nat_lt, ◌==◌}
 use Rattle.std.specs.Option.{option_map}
 use Rattle.std.proofs.lemmas.Bool.Decides.{nat_tests}
 use Rattle.image_file.specs.declared.fault.ImageFault.{ImageFault}
-use Rattle.image_file.specs.declared.fault.ImageFault.TheVariants.{Short, Magic, Version, Trailing, Entry, TagByte}
+use Rattle.image_file.specs.declared.fault.ImageFault.TheVariants.{Short, Magic, Trailing, Entry, TagByte}
 use Rattle.image_file.specs.declared.fault.ImageFault.TheVariants.{Count}
 use Rattle.image_file.specs.Fault.{first_of}
 use Rattle.image_file.specs.Fields.{number_of_bytes}
 use Rattle.image_file.specs.Parts.{count_fault, entry_fault}
-use Rattle.image_file.specs.Versions.{profile_of, header_length}
+use Rattle.image_file.specs.Versions.{header_length}
 use Rattle.image_file.specs.Spelling.{magic}
 use Rattle.image_file.proofs.Profiles.{IsVersioned, versioned}
-use Rattle.image_file.specs.Reading.{version_at, profile_at, chain_limit_at, entries_place, version_fault}
+use Rattle.image_file.specs.Reading.{profile_at, chain_limit_at, entries_place}
 use Rattle.image_file.specs.Reading.{front_fault, header_fault, body_fault, image_fault, tag_fault}
 use Rattle.image_file.specs.Reading.{processors_at, slim_at, words_at, cells_at, asked_length, program_place}
 use Rattle.image_file.specs.Reading.{cells_place}

@@ -139,7 +139,7 @@ impl Image {
     /// The image of a profile, with a chain limit, which is 8 in Profile 1.
     fn in_profile(
         profile: Profile,
-        chain_limit: u8,
+        chain: u8,
         entries: &mut Vec<u32>,
         slim: u16,
         retry_limit: u32,
@@ -147,13 +147,13 @@ impl Image {
         program: &mut Vec<u64>,
         cells: &mut Vec<Word>,
     ) -> Result<Image, ImageFault>
-        requires { profile ≡ Profile.One → chain_limit ≡ default_chain_limit }
+        requires { profile ≡ Profile.One → chain ≡ default_chain_limit }
         ensures within { IsOk result
             ↔ IsWithin
-            (image_in profile chain_limit entries.old.items slim retry_limit trap_entry program.old.items
+            (image_in profile chain entries.old.items slim retry_limit trap_entry program.old.items
             cells.old.items) }
         ensures is { let parts =
-            image_in profile chain_limit entries.old.items slim retry_limit trap_entry program.old.items
+            image_in profile chain entries.old.items slim retry_limit trap_entry program.old.items
             cells.old.items in
             MatchResult result (λ i. i ≡ parts) (λ fault. parts_fault parts ≡ Some fault) }
         ensures ok { OnOk result ((entries.new.items ≡ []) × (program.new.items ≡ []) × (cells.new.items ≡ [])) }
@@ -163,7 +163,7 @@ impl Image {
         if let Some(field) = count_fault(
             entries.len(),
             usize::from(slim),
-            usize::from(chain_limit),
+            usize::from(chain),
             program.len(),
             cells.len(),
         ) {
@@ -175,7 +175,7 @@ impl Image {
         Ok(Image {
             profile,
             slim,
-            chain_limit,
+            chain_limit: chain,
             retry_limit,
             trap_entry,
             entries: taken(entries),

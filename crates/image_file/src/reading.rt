@@ -69,6 +69,7 @@ fn sound_image(alloc: Global, header: Header, bytes: &[u8]) -> Result<Image, All
     requires sound_body { body_fault bytes.now ≡ None }
     ensures { IfOk result (λ i. i ≡ image_at bytes.now) }
 {
+    let chain_limit = header.chain_limit as u8;
     let entries = entries_of(
         alloc,
         usize::from(header.processors),
@@ -87,7 +88,7 @@ fn sound_image(alloc: Global, header: Header, bytes: &[u8]) -> Result<Image, All
     Ok(Image {
         profile: header.profile,
         slim: header.slim,
-        chain_limit: header.chain_limit as u8,
+        chain_limit,
         retry_limit: header.retry_limit,
         trap_entry: header.trap_entry,
         entries,

@@ -16,7 +16,7 @@ invariant_of-result c =
 
 pub returns-clause-within : goal.returns-clause-within
 returns-clause-within c =
-    let parts = image_in c.args.profile c.args.chain_limit c.args.entries.now.items c.args.slim c.args.retry_limit
+    let parts = image_in c.args.profile c.args.chain c.args.entries.now.items c.args.slim c.args.retry_limit
     c.args.trap_entry c.args.program.now.items c.args.cells.now.items in (
       λ _. within_none parts c.count_fault.result c.len-4.result c.entry_fault.result c.requires (cc)
           c.in_default.not-Some (cc) (cc)
