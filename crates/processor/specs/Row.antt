@@ -18,6 +18,7 @@
 use Rattle.std.specs.Prelude.{ℕ, ◌+◌, ◌-◌, ◌==◌, min, Bool, false, Option, Some, None}
 use Rattle.std.specs.Prelude.{if◌then◌else◌, slice_get, slice_set}
 use Rattle.std.specs.List.{position_or_len}
+use Rattle.insn_word.specs.declared.profiles.Profile.TheVariants.{One}
 use Rattle.tag_memory.specs.declared.requests.Request.{Request}
 use Rattle.tag_memory.specs.declared.requests.Reply.{Reply}
 use Rattle.tag_memory.specs.Storage.{TaggedMemory}
@@ -41,6 +42,10 @@ use Rattle.processor.specs.declared.steps.Next.TheVariants as next
 
 -- What a step begins with.
 
+-- what stands at the pc of the stream, in Profile 1
+abbrev pub image_fetch : ImageValue → StreamValue → Fetched
+image_fetch image s = fetch_of One image.program s
+
 -- whether a CREATE finds no reserved stream that is free
 abbrev pub lacks_stream : ProcessorValue → Control → Bool
 lacks_stream proc asks.Plain = false
@@ -58,7 +63,7 @@ step_fetch_from proc s (fetch.Runs i) =
 -- rest where the stream does not run; a trap where there is no word, no instruction or no stream for a CREATE, in
 -- this order; else the instruction at the pc
 unfoldable pub step_fetch : ImageValue → ProcessorValue → StreamValue → Fetched
-step_fetch image proc s = step_fetch_from proc s (fetch_of image.program s)
+step_fetch image proc s = step_fetch_from proc s (image_fetch image s)
 
 abbrev pub step_fetch_at : ImageValue → ProcessorValue → Option StreamValue → Fetched
 step_fetch_at image proc None = fetch.Rest
