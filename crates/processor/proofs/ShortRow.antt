@@ -3,7 +3,6 @@ use Rattle.std.proofs.Common.{◌≡◌, ℕ, true, false, refl, sym, ap, ◌∙
 use Rattle.std.proofs.Common.{if◌then◌else◌, slice_get}
 use Rattle.insn_word.specs.ShortInsns.{short_instruction, reference_instruction}
 use Rattle.insn_word.specs.declared.profiles.Profile.{Profile}
-use Rattle.insn_word.specs.declared.profiles.Profile.TheVariants.{One}
 use Rattle.insn_word.specs.declared.insn.Insn.{Insn}
 use Rattle.insn_word.specs.declared.short_insns.ShortInsn.{ShortInsn}
 use Rattle.insn_word.specs.declared.short_insns.ReferenceInsn.{ReferenceInsn}
@@ -47,8 +46,8 @@ pub short_begun : (image : ImageValue) (proc : ProcessorValue) (n : ℕ) (s : St
     → IfSome o (λ short. step_fetch_of image proc n ≡ fetch.Runs (short_instruction short))
 short_begun image proc n s program None there same found = tt
 short_begun image proc n s program (Some short) there same found =
-    plain_begun image proc n s (short_instruction short) there (ap (λ x. fetch_of One x s) (sym same) ∙ found One)
-    (short_plain s short)
+    plain_begun image proc n s (short_instruction short) there
+    (ap (λ x. fetch_of image.profile x s) (sym same) ∙ found image.profile) (short_plain s short)
 
 pub reference_begun : (image : ImageValue) (proc : ProcessorValue) (n : ℕ) (s : StreamValue) (program : List ℕ)
     (o : Option ReferenceInsn) → slice_get proc.streams n ≡ Some s → program ≡ image.program
@@ -56,8 +55,8 @@ pub reference_begun : (image : ImageValue) (proc : ProcessorValue) (n : ℕ) (s 
     → IfSome o (λ r. step_fetch_of image proc n ≡ fetch.Runs (reference_instruction r))
 reference_begun image proc n s program None there same found = tt
 reference_begun image proc n s program (Some r) there same found =
-    plain_begun image proc n s (reference_instruction r) there (ap (λ x. fetch_of One x s) (sym same) ∙ found One)
-    (reference_plain s r)
+    plain_begun image proc n s (reference_instruction r) there
+    (ap (λ x. fetch_of image.profile x s) (sym same) ∙ found image.profile) (reference_plain s r)
 
 -- With no reference.
 

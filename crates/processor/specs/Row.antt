@@ -3,7 +3,7 @@
 --
 --   1 no such stream, or it does not run: all stays; Skipped                            row_at; fetch_if*, row_on_fetch
 --   2 the pc is at or past the program's end: trap PROGRAM                              fetch_word*
---   3 the word there is no instruction: trap ILLEGAL                                    fetch_instruction*
+--   3 the word there is no instruction in the image's profile: trap ILLEGAL             fetch_instruction*
 --   4 it has CREATE, and scur = sres: trap CREATE                                       step_fetch_from, lacks_stream
 --   5 it has a reference, and the reply is Trap: that trap, at the reply's address      after_reply*
 --   6 the reply is Blocked                                                              after_blocked_reply*
@@ -18,7 +18,6 @@
 use Rattle.std.specs.Prelude.{ℕ, ◌+◌, ◌-◌, ◌==◌, min, Bool, false, Option, Some, None}
 use Rattle.std.specs.Prelude.{if◌then◌else◌, slice_get, slice_set}
 use Rattle.std.specs.List.{position_or_len}
-use Rattle.insn_word.specs.declared.profiles.Profile.TheVariants.{One}
 use Rattle.tag_memory.specs.declared.requests.Request.{Request}
 use Rattle.tag_memory.specs.declared.requests.Reply.{Reply}
 use Rattle.tag_memory.specs.Storage.{TaggedMemory}
@@ -42,9 +41,9 @@ use Rattle.processor.specs.declared.steps.Next.TheVariants as next
 
 -- What a step begins with.
 
--- what stands at the pc of the stream, in Profile 1
+-- what stands at the pc of the stream, in the image's profile
 abbrev pub image_fetch : ImageValue → StreamValue → Fetched
-image_fetch image s = fetch_of One image.program s
+image_fetch image s = fetch_of image.profile image.program s
 
 -- whether a CREATE finds no reserved stream that is free
 abbrev pub lacks_stream : ProcessorValue → Control → Bool

@@ -14,7 +14,7 @@ ghost use Rattle.processor.specs.Row.{row_on_fetch};
 
 use crate::stream_table::StreamTable;
 use image_file::Image;
-use insn_word::{CPart, ControlOp, Insn, Profile, ReferenceInsn, ShortInsn};
+use insn_word::{CPart, ControlOp, Insn, ReferenceInsn, ShortInsn};
 use std::alloc::{AllocError, Global};
 use std::marker::Model;
 use stream_core::{Control, Fetched, Outcome, Stream, TrapKind};
@@ -83,7 +83,7 @@ impl<const S: usize> CountedStreams<S> {
         let Some(stream) = self.table.used(place) else {
             return Fetched::Rest;
         };
-        match stream.fetch(Profile::One, image.program()) {
+        match stream.fetch(image.profile(), image.program()) {
             Fetched::Rest => Fetched::Rest,
             Fetched::Trap(kind) => Fetched::Trap(kind),
             Fetched::Runs(insn) => {
