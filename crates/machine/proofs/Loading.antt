@@ -3,7 +3,7 @@ use Rattle.std.proofs.Common.{◌≡◌, ℕ, zero, suc, ◌+◌, ◌<◌, ◌�
 use Rattle.std.proofs.Common.{◌++◌, length, take, get_or, map, slice_index}
 use Rattle.std.proofs.lemmas.List.{length-map, take_more, take_all, map-append}
 use Rattle.image_file.specs.ImageValue.{ImageValue}
-use Rattle.tag_memory.specs.Storage.{TaggedMemory, memory_of}
+use Rattle.tag_memory.specs.Storage.{TaggedMemory, memory_with_chain}
 use Rattle.tag_memory.specs.Cell.{Cell}
 use Rattle.processor.specs.World.{start}
 use Rattle.processor.specs.Processors.{ProcessorValue, opening}
@@ -44,10 +44,10 @@ pub all_opened : (image : ImageValue) (ps : List ProcessorValue) (n : ℕ)
     → ps ≡ map (opening image) image.entries
 all_opened image ps n all past = all ∙ ap (map (opening image)) (take_all n image.entries past)
 
-pub at_start : (image : ImageValue) (ps : List ProcessorValue) (m : TaggedMemory) (cells : List Cell)
-    → ps ≡ map (opening image) image.entries → m ≡ memory_of cells → cells ≡ image.cells
-    → machine_of image ps m ≡ record { image = image; world = start image }
+pub at_start : (image : ImageValue) (ps : List ProcessorValue) (m : TaggedMemory) (cells : List Cell) (limit : ℕ)
+    → ps ≡ map (opening image) image.entries → m ≡ memory_with_chain cells limit → cells ≡ image.cells
+    → limit ≡ image.chain_limit → machine_of image ps m ≡ record { image = image; world = start image }
 unfolding start
-at_start image ps m cells all is same =
-    let filled = is ∙ ap memory_of same in
+at_start image ps m cells limit all is same chain =
+    let filled = is ∙ λ i. memory_with_chain (same i) (chain i) in
     λ i. record { image = image; world = record { processors = all i; memory = filled i } }

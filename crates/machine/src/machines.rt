@@ -37,7 +37,7 @@ impl<'i, const S: usize> Model for Machine<'i, S> {
 
 impl<'i, const S: usize> Machine<'i, S> {
     /// The machine of an image at its start: each processor has the one stream that runs from its entry, and the
-    /// memory holds the image's cells.
+    /// memory holds the image's cells and has its chain limit.
     ///
     /// `Streams` exactly where the image's slim is above `S`: it comes before any want of memory.
     pub fn load(alloc: Global, image: &'i Image) -> Result<Machine<'i, S>, LoadFault>
@@ -47,7 +47,7 @@ impl<'i, const S: usize> Machine<'i, S> {
         if usize::from(image.slim()) > S {
             return Err(LoadFault::Streams);
         }
-        let memory = Memory::new(alloc, image.cells())?;
+        let memory = Memory::with_chain(alloc, image.cells(), image.chain_limit())?;
         let count = image.processors();
         let mut processors = Vec::with_capacity(alloc, count)?;
         for number in 0..count {

@@ -1,6 +1,6 @@
 //! What stands at the pc and what it needs, readers, and that the calls over a program do what those over its
 //! instruction do.
-use insn_word::{APart, Access, CPart, Insn, MPart, MemoryOp};
+use insn_word::{APart, Access, CPart, Insn, MPart, MemoryOp, Profile};
 use std::alloc::AllocError;
 use std::process::Abort;
 use stream_core::{
@@ -48,9 +48,9 @@ fn running(pc: u32) -> Stream {
 
 /// Asserts that each call over the program does what the calls over its instruction do.
 fn assert_agree(rt: &impl Abort, stream: &Stream, program: &[u64]) {
-    let plan = stream.plan(program);
-    let asks = stream.control(program);
-    match stream.fetch(program) {
+    let plan = stream.plan(Profile::One, program);
+    let asks = stream.control(Profile::One, program);
+    match stream.fetch(Profile::One, program) {
         Fetched::Rest => assert_eq!(rt; (plan, asks), (Plan::Rest, Control::Plain)),
         Fetched::Trap(kind) => assert_eq!(rt; (plan, asks), (Plan::Trap(kind), Control::Plain)),
         Fetched::Runs(insn) => {
@@ -61,13 +61,13 @@ fn assert_agree(rt: &impl Abort, stream: &Stream, program: &[u64]) {
 }
 
 fn assert_steps_agree(rt: &impl Abort, stream: &Stream, program: &[u64], insn: &Insn) {
-    match stream.plan(program) {
+    match stream.plan(Profile::One, program) {
         Plan::Rest | Plan::Trap(_) => panic!(rt; "an instruction is planned"),
         Plan::Local => {
             assert_eq!(rt; stream.request(insn), None);
             let mut whole = *stream;
             let mut parted = *stream;
-            whole.finish_local(program, 3);
+            whole.finish_local(Profile::One, program, 3);
             parted.execute(insn, 0, 3);
             assert_eq!(rt; whole, parted);
         }
@@ -76,7 +76,7 @@ fn assert_steps_agree(rt: &impl Abort, stream: &Stream, program: &[u64], insn: &
             for reply in [Reply::Done(9), Reply::Blocked(8)] {
                 let mut whole = *stream;
                 let mut parted = *stream;
-                let outcome = whole.finish_reply(program, reply, 2, 3);
+                let outcome = whole.finish_reply(Profile::One, program, reply, 2, 3);
                 assert_eq!(rt; outcome, parted.reply(insn, reply, 2, 3));
                 assert_eq!(rt; whole, parted);
             }
@@ -114,11 +114,11 @@ fn plans(rt: HostRuntime) {
     ];
     for (pc, plan, asks) in table {
         let stream = running(pc);
-        assert_eq!(rt; stream.plan(&PROGRAM), plan, "at {pc}");
-        assert_eq!(rt; stream.control(&PROGRAM), asks, "at {pc}");
+        assert_eq!(rt; stream.plan(Profile::One, &PROGRAM), plan, "at {pc}");
+        assert_eq!(rt; stream.control(Profile::One, &PROGRAM), asks, "at {pc}");
         assert_agree(&rt, &stream, &PROGRAM);
     }
-    assert_eq!(rt; running(0).plan(&[]), past);
+    assert_eq!(rt; running(0).plan(Profile::One, &[]), past);
 }
 
 #[test]
@@ -132,8 +132,8 @@ fn a_stream_that_does_not_run_rests(rt: HostRuntime) {
     let outcome = stopped.trap(TrapKind::Create, 0);
     assert_eq!(rt; outcome, Outcome::Stopped(TrapKind::Create));
     for stream in [Stream::idle(), stopped] {
-        assert_eq!(rt; stream.fetch(&PROGRAM), Fetched::Rest);
-        assert_eq!(rt; stream.plan(&PROGRAM), Plan::Rest);
+        assert_eq!(rt; stream.fetch(Profile::One, &PROGRAM), Fetched::Rest);
+        assert_eq!(rt; stream.plan(Profile::One, &PROGRAM), Plan::Rest);
         assert_agree(&rt, &stream, &PROGRAM);
     }
 }

@@ -2,6 +2,7 @@
 use Rattle.std.proofs.Common.{◌≡◌, ℕ, ◌<◌, Bool, true, false, refl, sym, ap, ◌∙◌, length, Option, Some, None}
 use Rattle.std.proofs.Common.{List, is_some, if◌then◌else◌, unwrap_or, slice_get}
 use Rattle.std.proofs.lemmas.Option.{unwrap_or-slice_get, slice_get_within}
+use Rattle.insn_word.specs.declared.profiles.Profile.{Profile}
 use Rattle.insn_word.specs.declared.insn.Insn.{Insn}
 use Rattle.tag_memory.specs.declared.requests.Request.{Request}
 use Rattle.tag_memory.specs.declared.requests.Reply.{Reply}
@@ -16,7 +17,7 @@ use Rattle.stream_core.specs.declared.steps.Status.TheVariants.{Idle, Running, S
 use Rattle.stream_core.specs.declared.steps.Fetched.{Fetched}
 use Rattle.stream_core.specs.declared.steps.Fetched.TheVariants as fetch
 use Rattle.processor.specs.Processors.{ProcessorValue, is_idle, is_idle_status, stream_at}
-use Rattle.processor.specs.Row.{lacks_stream, step_fetch_from, step_fetch, step_fetch_at, step_fetch_of}
+use Rattle.processor.specs.Row.{lacks_stream, image_fetch, step_fetch_from, step_fetch, step_fetch_at, step_fetch_of}
 use Rattle.processor.specs.Row.{request_on_fetch, request_at}
 use Rattle.processor.specs.Row.{request, next_asking, next_on_fetch, next_at, next_of, next_step_of}
 use Rattle.processor.specs.Row.{row_on_fetch, row_at, row, memory_reply, row_over_memory}
@@ -111,11 +112,11 @@ rests fetch.Rest = true
 rests (fetch.Trap k) = false
 rests (fetch.Runs i) = false
 
-awake_status : (st : Status) (program : List ℕ) (pc : ℕ) → rests (fetch_if st program pc) ≡ false
+awake_status : (p : Profile) (st : Status) (program : List ℕ) (pc : ℕ) → rests (fetch_if p st program pc) ≡ false
     → is_idle_status st ≡ false
-awake_status Idle program pc e = cc
-awake_status Running program pc e = refl
-awake_status (Stopped k) program pc e = refl
+awake_status p Idle program pc e = cc
+awake_status p Running program pc e = refl
+awake_status p (Stopped k) program pc e = refl
 
 awake_from : (proc : ProcessorValue) (s : StreamValue) (f : Fetched) → rests (step_fetch_from proc s f) ≡ false
     → rests f ≡ false
@@ -127,7 +128,7 @@ awake_begun : (image : ImageValue) (proc : ProcessorValue) (s : StreamValue) →
     → is_idle s ≡ false
 unfolding step_fetch fetch_of
 awake_begun image proc s e =
-    awake_status s.status image.program s.ssw.pc (awake_from proc s (fetch_of image.program s) e)
+    awake_status _ s.status image.program s.ssw.pc (awake_from proc s (image_fetch image s) e)
 
 awake_seen : (image : ImageValue) (proc : ProcessorValue) (n : ℕ) (o : Option StreamValue) (s : StreamValue)
     → slice_get proc.streams n ≡ o → unwrap_or o idle ≡ s → rests (step_fetch_at image proc o) ≡ false
@@ -163,7 +164,7 @@ free_seen : (image : ImageValue) (proc : ProcessorValue) (o : Option StreamValue
 unfolding step_fetch
 free_seen image proc None s i e runs = cc
 free_seen image proc (Some t) s i e runs =
-    ap (λ x. lacks_stream proc (control_of x i)) (sym e) ∙ free_from proc t (fetch_of image.program t) i runs
+    ap (λ x. lacks_stream proc (control_of x i)) (sym e) ∙ free_from proc t (image_fetch image t) i runs
 
 -- an instruction that runs lacks no stream
 pub free : (image : ImageValue) (proc : ProcessorValue) (n : ℕ) (i : Insn) → step_fetch_of image proc n ≡ fetch.Runs i

@@ -1,6 +1,9 @@
 -- Steps that begin with an instruction in a short form, which asks nothing of its processor.
-use Rattle.std.proofs.Common.{◌≡◌, ℕ, true, false, refl, sym, ap, ◌∙◌, Option, None, Some, is_some}
+use Rattle.std.proofs.Common.{◌≡◌, ℕ, true, false, refl, sym, ap, ◌∙◌, List, Option, None, Some, is_some, IfSome}
+use Rattle.std.proofs.Common.{if◌then◌else◌, slice_get}
 use Rattle.insn_word.specs.ShortInsns.{short_instruction, reference_instruction}
+use Rattle.insn_word.specs.declared.profiles.Profile.{Profile}
+use Rattle.insn_word.specs.declared.insn.Insn.{Insn}
 use Rattle.insn_word.specs.declared.short_insns.ShortInsn.{ShortInsn}
 use Rattle.insn_word.specs.declared.short_insns.ReferenceInsn.{ReferenceInsn}
 use Rattle.tag_memory.specs.declared.requests.Request.{Request}
@@ -10,19 +13,50 @@ use Rattle.tag_memory.specs.Answer.{answer}
 use Rattle.image_file.specs.ImageValue.{ImageValue}
 use Rattle.stream_core.specs.Streams.{StreamValue}
 use Rattle.stream_core.specs.Effects.{request_of, after_instruction}
-use Rattle.stream_core.specs.StreamRow.{after_reply, row_asking}
+use Rattle.stream_core.specs.StreamRow.{fetch_of, control_of, after_reply, row_asking}
 use Rattle.stream_core.proofs.ShortSteps.{short_plain, reference_plain, reference_asks}
 use Rattle.stream_core.specs.declared.traps.TrapKind.{TrapKind}
+use Rattle.stream_core.specs.declared.traps.TrapKind.TheVariants as kind
 use Rattle.stream_core.specs.declared.steps.Outcome.{Outcome}
 use Rattle.stream_core.specs.declared.steps.Outcome.TheVariants as outcome
 use Rattle.stream_core.specs.declared.steps.Fetched.TheVariants as fetch
 use Rattle.stream_core.specs.declared.steps.Control.{Control}
 use Rattle.stream_core.specs.declared.steps.Control.TheVariants as asks
 use Rattle.processor.specs.Processors.{ProcessorValue, stream_at}
-use Rattle.processor.specs.Row.{grant_of, with_stream, after_control_if_done, step_fetch_of, row_on_fetch, row}
+use Rattle.processor.specs.Row.{lacks_stream, image_fetch, step_fetch_from, step_fetch, step_fetch_at, step_fetch_of}
+use Rattle.processor.specs.Row.{grant_of, with_stream, after_control_if_done, row_on_fetch, row}
 use Rattle.processor.specs.Row.{next_of, request, put_back, memory_reply, row_over_memory}
 use Rattle.processor.specs.declared.steps.Next.TheVariants as next
 use Rattle.processor.proofs.Begun.{next_begun, request_begun, row_begun, row_over_memory_begun}
+
+-- What they are found by.
+
+plain_begun : (image : ImageValue) (proc : ProcessorValue) (n : ℕ) (s : StreamValue) (i : Insn)
+    → slice_get proc.streams n ≡ Some s → image_fetch image s ≡ fetch.Runs i → control_of s i ≡ asks.Plain
+    → step_fetch_of image proc n ≡ fetch.Runs i
+unfolding step_fetch_of step_fetch
+plain_begun image proc n s i there found plain =
+    ap (step_fetch_at image proc) there
+    ∙ ap (step_fetch_from proc s) found
+    ∙ ap (λ (asking : Control). if lacks_stream proc asking then fetch.Trap kind.Create else fetch.Runs i) plain
+
+pub short_begun : (image : ImageValue) (proc : ProcessorValue) (n : ℕ) (s : StreamValue) (program : List ℕ)
+    (o : Option ShortInsn) → slice_get proc.streams n ≡ Some s → program ≡ image.program
+    → ((p : Profile) → IfSome o (λ short. fetch_of p program s ≡ fetch.Runs (short_instruction short)))
+    → IfSome o (λ short. step_fetch_of image proc n ≡ fetch.Runs (short_instruction short))
+short_begun image proc n s program None there same found = tt
+short_begun image proc n s program (Some short) there same found =
+    plain_begun image proc n s (short_instruction short) there
+    (ap (λ x. fetch_of image.profile x s) (sym same) ∙ found image.profile) (short_plain s short)
+
+pub reference_begun : (image : ImageValue) (proc : ProcessorValue) (n : ℕ) (s : StreamValue) (program : List ℕ)
+    (o : Option ReferenceInsn) → slice_get proc.streams n ≡ Some s → program ≡ image.program
+    → ((p : Profile) → IfSome o (λ r. fetch_of p program s ≡ fetch.Runs (reference_instruction r)))
+    → IfSome o (λ r. step_fetch_of image proc n ≡ fetch.Runs (reference_instruction r))
+reference_begun image proc n s program None there same found = tt
+reference_begun image proc n s program (Some r) there same found =
+    plain_begun image proc n s (reference_instruction r) there
+    (ap (λ x. fetch_of image.profile x s) (sym same) ∙ found image.profile) (reference_plain s r)
 
 -- With no reference.
 

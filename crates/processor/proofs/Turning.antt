@@ -6,7 +6,8 @@ use Rattle.std.specs.List.{list_any}
 use Rattle.std.proofs.lemmas.List.{take_at, take-append-le, length-append}
 use Rattle.std.proofs.lemmas.Option.{same_Some, slice_get_within}
 use Rattle.insn_word.specs.declared.insn.Insn.{Insn}
-use Rattle.insn_word.specs.Reading.{instruction}
+use Rattle.insn_word.specs.Reading.{instruction_in}
+use Rattle.insn_word.specs.declared.profiles.Profile.{Profile}
 use Rattle.tag_memory.specs.declared.requests.Request.{Request}
 use Rattle.image_file.specs.ImageValue.{ImageValue}
 use Rattle.stream_core.specs.Streams.{StreamValue}
@@ -166,15 +167,15 @@ rests-instruction : (o : Option Insn) → rests (fetch_instruction o) ≡ false
 rests-instruction None = refl
 rests-instruction (Some i) = refl
 
-rests-word : (o : Option ℕ) → rests (fetch_word o) ≡ false
-rests-word None = refl
-rests-word (Some w) = rests-instruction (instruction w)
+rests-word : (p : Profile) (o : Option ℕ) → rests (fetch_word p o) ≡ false
+rests-word p None = refl
+rests-word p (Some w) = rests-instruction (instruction_in p w)
 
-rests-running : (st : Status) (program : List ℕ) (pc : ℕ) → is_running_status st ≡ true
-    → rests (fetch_if st program pc) ≡ false
-rests-running Idle program pc h = absurd (let e : ⊥ = cc in e)
-rests-running Running program pc h = rests-word (slice_get program pc)
-rests-running (Stopped k) program pc h = absurd (let e : ⊥ = cc in e)
+rests-running : (p : Profile) (st : Status) (program : List ℕ) (pc : ℕ) → is_running_status st ≡ true
+    → rests (fetch_if p st program pc) ≡ false
+rests-running p Idle program pc h = absurd (let e : ⊥ = cc in e)
+rests-running p Running program pc h = rests-word p (slice_get program pc)
+rests-running p (Stopped k) program pc h = absurd (let e : ⊥ = cc in e)
 
 rests-if : (b : Bool) (f g : Fetched) → rests f ≡ false → rests g ≡ false → rests (cond b f g) ≡ false
 rests-if true f g h k = h
@@ -200,7 +201,7 @@ seen-skip : (image : ImageValue) (proc : ProcessorValue) (s : StreamValue) → i
     → next_at image proc (Some s) ≡ next.Skip → ⊥
 unfolding step_fetch fetch_of
 seen-skip image proc s h k =
-    fetched-skip s _ (rests-from proc s _ (rests-running s.status image.program s.ssw.pc h)) k
+    fetched-skip s _ (rests-from proc s _ (rests-running _ s.status image.program s.ssw.pc h)) k
 
 -- nor is the one whose turn it is
 pub turn-skip : (image : ImageValue) (proc : ProcessorValue) (last : Option ℕ) (s : ℕ)

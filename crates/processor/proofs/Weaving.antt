@@ -7,12 +7,12 @@ use Rattle.std.proofs.lemmas.Bool.{eq-eqb}
 use Rattle.std.proofs.lemmas.List.{length-map, take-append-drop, take-take}
 use Rattle.std.proofs.lemmas.Option.{slice_get_within, same_Some, slice_get-map}
 use Rattle.tag_memory.specs.declared.requests.Request.{Request}
-use Rattle.tag_memory.specs.Storage.{TaggedMemory, memory_of}
+use Rattle.tag_memory.specs.Storage.{TaggedMemory}
 use Rattle.tag_memory.specs.Answer.{answer}
 use Rattle.image_file.specs.ImageValue.{ImageValue}
 use Rattle.processor.specs.Processors.{ProcessorValue, opening}
 use Rattle.processor.specs.Row.{request, row}
-use Rattle.processor.specs.World.{World, start, run, after, step_entries}
+use Rattle.processor.specs.World.{World, image_memory, start, run, after, step_entries}
 use Rattle.processor.specs.World.{history_from, history_of}
 use Rattle.processor.specs.Histories.{memory_after, replay, IsLegal, IsLegalFrom, steps_of, pairs_of, step_by, entry_by}
 use Rattle.processor.specs.OwnSteps.{IsOwnStep, IsOwnFrom, IsOwn}
@@ -104,7 +104,7 @@ unfolding start
 start-at image p e h =
     slice_get-map (opening image) image.entries p ∙ ap (option_map (opening image)) h
 
-start-memory : (image : ImageValue) → (start image).memory ≡ memory_of image.cells
+start-memory : (image : ImageValue) → (start image).memory ≡ image_memory image
 unfolding start
 start-memory image = refl
 

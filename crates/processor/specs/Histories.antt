@@ -1,8 +1,9 @@
 -- What was asked of a memory, in order, with its replies: the memory that it leaves, and the part of each processor.
 use Rattle.std.specs.Prelude.{ℕ, ◌≡◌, ◌==◌, List, [], ◌∷◌, if◌then◌else◌}
-use Rattle.tag_memory.specs.Storage.{TaggedMemory, memory_of}
+use Rattle.tag_memory.specs.Storage.{TaggedMemory}
 use Rattle.tag_memory.specs.Answer.{answer}
 use Rattle.image_file.specs.ImageValue.{ImageValue}
+use Rattle.processor.specs.World.{image_memory}
 use Rattle.processor.specs.declared.steps.Step.{Step}
 use Rattle.processor.specs.declared.steps.Asked.{Asked}
 use Rattle.processor.specs.declared.steps.Entry.{Entry}
@@ -19,11 +20,11 @@ IsLegalFrom m (e ∷ es) = (e.reply ≡ (answer m e.request).1) × IsLegalFrom (
 
 -- the image's memory after the requests of a history
 abbrev pub replay : ImageValue → List Entry → TaggedMemory
-replay image es = memory_after (memory_of image.cells) es
+replay image es = memory_after (image_memory image) es
 
 -- a history that the image's memory can have
 abbrev pub IsLegal : ImageValue → List Entry → Type 0
-IsLegal image es = IsLegalFrom (memory_of image.cells) es
+IsLegal image es = IsLegalFrom (image_memory image) es
 
 -- an entry without its processor
 abbrev pub pair_of : Entry → Asked

@@ -3,7 +3,7 @@
 --
 --   1 no such stream, or it does not run: all stays; Skipped                            row_at; fetch_if*, row_on_fetch
 --   2 the pc is at or past the program's end: trap PROGRAM                              fetch_word*
---   3 the word there is no instruction: trap ILLEGAL                                    fetch_instruction*
+--   3 the word there is no instruction in the image's profile: trap ILLEGAL             fetch_instruction*
 --   4 it has CREATE, and scur = sres: trap CREATE                                       step_fetch_from, lacks_stream
 --   5 it has a reference, and the reply is Trap: that trap, at the reply's address      after_reply*
 --   6 the reply is Blocked                                                              after_blocked_reply*
@@ -41,6 +41,10 @@ use Rattle.processor.specs.declared.steps.Next.TheVariants as next
 
 -- What a step begins with.
 
+-- what stands at the pc of the stream, in the image's profile
+abbrev pub image_fetch : ImageValue → StreamValue → Fetched
+image_fetch image s = fetch_of image.profile image.program s
+
 -- whether a CREATE finds no reserved stream that is free
 abbrev pub lacks_stream : ProcessorValue → Control → Bool
 lacks_stream proc asks.Plain = false
@@ -58,7 +62,7 @@ step_fetch_from proc s (fetch.Runs i) =
 -- rest where the stream does not run; a trap where there is no word, no instruction or no stream for a CREATE, in
 -- this order; else the instruction at the pc
 unfoldable pub step_fetch : ImageValue → ProcessorValue → StreamValue → Fetched
-step_fetch image proc s = step_fetch_from proc s (fetch_of image.program s)
+step_fetch image proc s = step_fetch_from proc s (image_fetch image s)
 
 abbrev pub step_fetch_at : ImageValue → ProcessorValue → Option StreamValue → Fetched
 step_fetch_at image proc None = fetch.Rest

@@ -1,7 +1,7 @@
 -- All processors over one memory, and the operation table folded over a schedule.
 use Rattle.std.specs.Prelude.{ℕ, List, [], ◌∷◌, ◌++◌, map, Option, Some, None, slice_get, slice_set}
 use Rattle.tag_memory.specs.declared.requests.Request.{Request}
-use Rattle.tag_memory.specs.Storage.{TaggedMemory, memory_of}
+use Rattle.tag_memory.specs.Storage.{TaggedMemory, memory_with_chain}
 use Rattle.tag_memory.specs.Answer.{answer}
 use Rattle.image_file.specs.ImageValue.{ImageValue}
 use Rattle.stream_core.specs.declared.steps.Outcome.{Outcome}
@@ -17,9 +17,13 @@ pub record World : Type 0 where
   pub processors : List ProcessorValue
   pub memory : TaggedMemory
 
+-- the memory of an image before any request
+abbrev pub image_memory : ImageValue → TaggedMemory
+image_memory image = memory_with_chain image.cells image.chain_limit
+
 -- the world of an image before any step
 unfoldable pub start : ImageValue → World
-start image = record { processors = map (opening image) image.entries; memory = memory_of image.cells }
+start image = record { processors = map (opening image) image.entries; memory = image_memory image }
 
 -- What is seen of it.
 

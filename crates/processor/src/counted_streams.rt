@@ -83,7 +83,7 @@ impl<const S: usize> CountedStreams<S> {
         let Some(stream) = self.table.used(place) else {
             return Fetched::Rest;
         };
-        match stream.fetch(image.program()) {
+        match stream.fetch(image.profile(), image.program()) {
             Fetched::Rest => Fetched::Rest,
             Fetched::Trap(kind) => Fetched::Trap(kind),
             Fetched::Runs(insn) => {

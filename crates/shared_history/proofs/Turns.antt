@@ -6,10 +6,9 @@ use Rattle.std.proofs.lemmas.Bool.Decides.{eqb_tells}
 use Rattle.std.proofs.lemmas.List.{length_push, length-append, length-set, get_or-set_same, get_or-set_other, take_at}
 use Rattle.std.proofs.lemmas.List.{append_assoc, length-take-le, get_or_read}
 use Rattle.std.proofs.lemmas.Option.{slice_get_within}
-use Rattle.tag_memory.specs.Storage.{memory_of}
 use Rattle.image_file.specs.ImageValue.{ImageValue}
 use Rattle.processor.specs.Processors.{ProcessorValue}
-use Rattle.processor.specs.World.{history_of}
+use Rattle.processor.specs.World.{image_memory, history_of}
 use Rattle.processor.specs.Histories.{IsLegal, IsLegalFrom, pairs_of, pair_of}
 use Rattle.processor.specs.OwnSteps.{IsOwn, IsPlace}
 use Rattle.processor.specs.Records.{RecordValue}
@@ -181,8 +180,8 @@ turns shared records ts done taken i e r k n t so all whole legal is place =
     (omega (arith, turn-within shared records i e r t, all.one_each)) in
     let from = cut_order shared.image e.p r.steps (get_or done e.p 0) (n + 1) (pairs_of e.p (take i es)) (pair_of e)
     now.0 upto.0 now.1 upto.1 in
-    let W : List Entry → Type 0 = λ l. IsLegalFrom (memory_of shared.image.cells) l in
-    let right = legal-rest (memory_of shared.image.cells) (take i es) (e ∷ drop (i + 1) es) (subst W h.whole legal) in
+    let W : List Entry → Type 0 = λ l. IsLegalFrom (image_memory shared.image) l in
+    let right = legal-rest (image_memory shared.image) (take i es) (e ∷ drop (i + 1) es) (subst W h.whole legal) in
     record {
       from = from;
       upto = omega (arith, place.within);

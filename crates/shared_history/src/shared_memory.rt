@@ -46,7 +46,7 @@ impl<'i> SharedMemory<'i> {
     pub fn new(alloc: Global, image: &'i Image, room: usize) -> Result<SharedMemory<'i>, AllocError>
         ensures { IfOk result (λ m. m ≡ record { image = image.entry.now; history = []; spare = room }) }
     {
-        let memory = Memory::new(alloc, image.cells())?;
+        let memory = Memory::with_chain(alloc, image.cells(), image.chain_limit())?;
         let history = Vec::with_capacity(alloc, room)?;
         Ok(SharedMemory {
             image,

@@ -1,5 +1,6 @@
 -- What the plan says of the instruction at the pc.
 use Rattle.std.proofs.Common.{◌≡◌, ℕ, List, Option, None, Some, sym, ◌∙◌, ap, refl}
+use Rattle.insn_word.specs.declared.profiles.Profile.{Profile}
 use Rattle.insn_word.specs.declared.insn.Insn.{Insn}
 use Rattle.tag_memory.specs.declared.requests.Request.{Request}
 use Rattle.tag_memory.specs.declared.requests.Reply.{Reply}
@@ -31,28 +32,28 @@ runs_asks s Rest q e = cc
 runs_asks s (Trap k) q e = cc
 runs_asks s (Runs i) q e = (i, refl)
 
-pub local_runs : (program : List ℕ) (s : StreamValue) → plan_of program s ≡ plan.Local
-    → (i : Insn) × (fetch_of program s ≡ Runs i)
+pub local_runs : (profile : Profile) (program : List ℕ) (s : StreamValue) → plan_of profile program s ≡ plan.Local
+    → (i : Insn) × (fetch_of profile program s ≡ Runs i)
 unfolding plan_of
-local_runs program s e = runs_local s (fetch_of program s) e
+local_runs profile program s e = runs_local s (fetch_of profile program s) e
 
-pub asked_runs : (program : List ℕ) (s : StreamValue) (q : Request) → plan_of program s ≡ plan.Ask q
-    → (i : Insn) × (fetch_of program s ≡ Runs i)
+pub asked_runs : (profile : Profile) (program : List ℕ) (s : StreamValue) (q : Request)
+    → plan_of profile program s ≡ plan.Ask q → (i : Insn) × (fetch_of profile program s ≡ Runs i)
 unfolding plan_of
-asked_runs program s q e = runs_asks s (fetch_of program s) q e
+asked_runs profile program s q e = runs_asks s (fetch_of profile program s) q e
 
-pub row_local : (program : List ℕ) (limit : ℕ) (s : StreamValue) (i : Insn) (grant : ℕ) (r : Option Reply)
-    → fetch_of program s ≡ Runs i → plan_of program s ≡ plan.Local
-    → stream_row program limit s grant r ≡ (after_instruction s i 0 grant, outcome.Done)
+pub row_local : (profile : Profile) (program : List ℕ) (limit : ℕ) (s : StreamValue) (i : Insn) (grant : ℕ)
+    (r : Option Reply) → fetch_of profile program s ≡ Runs i → plan_of profile program s ≡ plan.Local
+    → stream_row profile program limit s grant r ≡ (after_instruction s i 0 grant, outcome.Done)
 unfolding plan_of stream_row
-row_local program limit s i grant r found e =
+row_local profile program limit s i grant r found e =
     ap (row_from limit s grant r) found
     ∙ ap (row_asking limit s i grant r) (plan_local (request_of s i) (sym (ap (plan_from s) found) ∙ e))
 
-pub row_asked : (program : List ℕ) (limit : ℕ) (s : StreamValue) (i : Insn) (grant : ℕ) (r : Reply) (q : Request)
-    → fetch_of program s ≡ Runs i → plan_of program s ≡ plan.Ask q
-    → stream_row program limit s grant (Some r) ≡ after_reply limit s i grant r
+pub row_asked : (profile : Profile) (program : List ℕ) (limit : ℕ) (s : StreamValue) (i : Insn) (grant : ℕ)
+    (r : Reply) (q : Request) → fetch_of profile program s ≡ Runs i → plan_of profile program s ≡ plan.Ask q
+    → stream_row profile program limit s grant (Some r) ≡ after_reply limit s i grant r
 unfolding plan_of stream_row
-row_asked program limit s i grant r q found e =
+row_asked profile program limit s i grant r q found e =
     ap (row_from limit s grant (Some r)) found
     ∙ ap (row_asking limit s i grant (Some r)) (plan_asks (request_of s i) q (sym (ap (plan_from s) found) ∙ e))

@@ -6,7 +6,6 @@ use Rattle.insn_word.specs.ShortInsns.{short_control_part, reference_operation, 
 use Rattle.insn_word.specs.ShortInsns.{short_instruction, reference_instruction}
 use Rattle.insn_word.specs.Reading.{instruction_in}
 use Rattle.insn_word.specs.declared.profiles.Profile.{Profile}
-use Rattle.insn_word.specs.declared.profiles.Profile.TheVariants as profile
 use Rattle.insn_word.specs.declared.insn.APart.{APart}
 use Rattle.insn_word.specs.declared.short_insns.ShortControl.{ShortControl}
 use Rattle.insn_word.specs.declared.short_insns.ShortControl.TheVariants as short
@@ -34,18 +33,18 @@ use Rattle.stream_core.specs.declared.status_words.Codes.{Codes}
 -- What they are found by.
 
 pub short_found : (program : List ℕ) (s : StreamValue) (word : ℕ) (found : Option ShortInsn)
-    → fetch_of program s ≡ fetch_word (Some word)
+    → ((p : Profile) → fetch_of p program s ≡ fetch_word p (Some word))
     → ((p : Profile) → IfSome found (λ i. instruction_in p word ≡ Some (short_instruction i)))
-    → IfSome found (λ i. fetch_of program s ≡ fetch.Runs (short_instruction i))
-short_found program s word None e h = tt
-short_found program s word (Some i) e h = e ∙ ap fetch_instruction (h profile.One)
+    → (p : Profile) → IfSome found (λ i. fetch_of p program s ≡ fetch.Runs (short_instruction i))
+short_found program s word None e h p = tt
+short_found program s word (Some i) e h p = e p ∙ ap fetch_instruction (h p)
 
 pub reference_found : (program : List ℕ) (s : StreamValue) (word : ℕ) (found : Option ReferenceInsn)
-    → fetch_of program s ≡ fetch_word (Some word)
+    → ((p : Profile) → fetch_of p program s ≡ fetch_word p (Some word))
     → ((p : Profile) → IfSome found (λ r. instruction_in p word ≡ Some (reference_instruction r)))
-    → IfSome found (λ r. fetch_of program s ≡ fetch.Runs (reference_instruction r))
-reference_found program s word None e h = tt
-reference_found program s word (Some r) e h = e ∙ ap fetch_instruction (h profile.One)
+    → (p : Profile) → IfSome found (λ r. fetch_of p program s ≡ fetch.Runs (reference_instruction r))
+reference_found program s word None e h p = tt
+reference_found program s word (Some r) e h p = e p ∙ ap fetch_instruction (h p)
 
 -- What they do.
 

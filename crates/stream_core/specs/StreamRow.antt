@@ -1,8 +1,9 @@
 -- A step of a stream: the first line that holds decides.
 use Rattle.std.specs.Prelude.{ℕ, ◌+◌, ◌==◌, nat_lt, List, Option, Some, None, if◌then◌else◌, slice_get}
-use Rattle.insn_word.specs.Reading.{instruction}
+use Rattle.insn_word.specs.Reading.{instruction_in}
 use Rattle.insn_word.specs.declared.operations.ControlOp.{ControlOp}
 use Rattle.insn_word.specs.declared.operations.ControlOp.TheVariants as control
+use Rattle.insn_word.specs.declared.profiles.Profile.{Profile}
 use Rattle.insn_word.specs.declared.insn.CPart.{CPart}
 use Rattle.insn_word.specs.declared.insn.Insn.{Insn}
 use Rattle.insn_word.specs.declared.insn.Insn.TheVariants.{Wide, Normal}
@@ -25,24 +26,24 @@ use Rattle.stream_core.specs.declared.steps.Plan.TheVariants as plan
 use Rattle.stream_core.specs.declared.steps.Control.{Control}
 use Rattle.stream_core.specs.declared.steps.Control.TheVariants as asks
 
--- The instruction that stands at the pc.
+-- The instruction that stands at the pc, in the profile of the machine.
 
 abbrev pub fetch_instruction : Option Insn → Fetched
 fetch_instruction None = fetch.Trap kind.Illegal
 fetch_instruction (Some i) = fetch.Runs i
 
-abbrev pub fetch_word : Option ℕ → Fetched
-fetch_word None = fetch.Trap kind.Program
-fetch_word (Some word) = fetch_instruction (instruction word)
+abbrev pub fetch_word : Profile → Option ℕ → Fetched
+fetch_word profile None = fetch.Trap kind.Program
+fetch_word profile (Some word) = fetch_instruction (instruction_in profile word)
 
-abbrev pub fetch_if : Status → List ℕ → ℕ → Fetched
-fetch_if Running program pc = fetch_word (slice_get program pc)
-fetch_if Idle program pc = fetch.Rest
-fetch_if (Stopped k) program pc = fetch.Rest
+abbrev pub fetch_if : Profile → Status → List ℕ → ℕ → Fetched
+fetch_if profile Running program pc = fetch_word profile (slice_get program pc)
+fetch_if profile Idle program pc = fetch.Rest
+fetch_if profile (Stopped k) program pc = fetch.Rest
 
 -- what a step of the stream finds
-unfoldable pub fetch_of : List ℕ → StreamValue → Fetched
-fetch_of program s = fetch_if s.status program s.ssw.pc
+unfoldable pub fetch_of : Profile → List ℕ → StreamValue → Fetched
+fetch_of profile program s = fetch_if profile s.status program s.ssw.pc
 
 -- What the step needs.
 
@@ -55,8 +56,8 @@ plan_from s fetch.Rest = plan.Rest
 plan_from s (fetch.Trap k) = plan.Trap k
 plan_from s (fetch.Runs i) = plan_asking (request_of s i)
 
-unfoldable pub plan_of : List ℕ → StreamValue → Plan
-plan_of program s = plan_from s (fetch_of program s)
+unfoldable pub plan_of : Profile → List ℕ → StreamValue → Plan
+plan_of profile program s = plan_from s (fetch_of profile program s)
 
 -- What the step asks of its processor.
 
@@ -89,8 +90,8 @@ control_from s (fetch.Runs i) = control_of s i
 control_from s fetch.Rest = asks.Plain
 control_from s (fetch.Trap k) = asks.Plain
 
-unfoldable pub control_at : List ℕ → StreamValue → Control
-control_at program s = control_from s (fetch_of program s)
+unfoldable pub control_at : Profile → List ℕ → StreamValue → Control
+control_at profile program s = control_from s (fetch_of profile program s)
 
 -- The step itself.
 
@@ -122,5 +123,5 @@ row_from limit s grant r (fetch.Trap k) = after_trap k 0 s
 row_from limit s grant r (fetch.Runs i) = row_asking limit s i grant r (request_of s i)
 
 -- the stream after a step, and the outcome
-unfoldable pub stream_row : List ℕ → ℕ → StreamValue → ℕ → Option Reply → StreamValue × Outcome
-stream_row program limit s grant r = row_from limit s grant r (fetch_of program s)
+unfoldable pub stream_row : Profile → List ℕ → ℕ → StreamValue → ℕ → Option Reply → StreamValue × Outcome
+stream_row profile program limit s grant r = row_from limit s grant r (fetch_of profile program s)

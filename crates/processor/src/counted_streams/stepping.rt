@@ -15,7 +15,6 @@ use tag_memory::{Memory, Reply, Request};
 
 impl<const S: usize> CountedStreams<S> {
     /// The instruction at the pc of the stream at this place, where `fetch_short` finds it.
-    #[tactic(auto, unfolding(crate::specs::Row::step_fetch_of, crate::specs::Row::step_fetch, stream_core::specs::StreamRow::control_of))]
     #[inline(always)]
     fn short_fetch(&self, image: &Image, place: usize) -> Option<ShortInsn>
         ensures { IfSome result (λ short. step_fetch_of image.now self.now place
@@ -25,7 +24,6 @@ impl<const S: usize> CountedStreams<S> {
     }
 
     /// The same of `fetch_reference`.
-    #[tactic(auto, unfolding(crate::specs::Row::step_fetch_of, crate::specs::Row::step_fetch, stream_core::specs::StreamRow::control_of))]
     #[inline(always)]
     fn reference_fetch(&self, image: &Image, place: usize) -> Option<ReferenceInsn>
         ensures { IfSome result (λ r. step_fetch_of image.now self.now place

@@ -19,8 +19,8 @@ use crate::status_words::{StatusWord, TrapMask};
 use crate::steps::{Fetched, Outcome, Plan};
 use crate::traps::TrapKind;
 use insn_word::{
-    APart, CPart, Condition, ControlOp, Insn, MPart, MemoryOp, ReferenceInsn, ShortControl,
-    ShortInsn, WideOp,
+    APart, CPart, Condition, ControlOp, Insn, MPart, MemoryOp, Profile, ReferenceInsn,
+    ShortControl, ShortInsn, WideOp,
 };
 use tag_memory::Reply;
 
@@ -308,24 +308,32 @@ impl Stream {
         self.trap(TrapKind::Blocked, address)
     }
 
-    /// Completes a step that needs no memory ("One step", docs/MACHINE.md), with so many streams granted to RESERVE.
-    /// QUIT, QUITP and CREATE do here what NOP does; the processor completes them.
-    pub fn finish_local(&mut self, program: &[u64], grant: u64)
-        requires local { plan_of program.now self.old ≡ Plan.Local }
-        ensures { (limit : ℕ) → (self.new, Outcome.Done) ≡ stream_row program.now limit self.old grant None }
+    /// Completes a step over this program, read in this profile, that needs no memory ("One step", docs/MACHINE.md),
+    /// with so many streams granted to RESERVE. QUIT, QUITP and CREATE do here what NOP does; the processor completes
+    /// them.
+    pub fn finish_local(&mut self, profile: Profile, program: &[u64], grant: u64)
+        requires local { plan_of profile program.now self.old ≡ Plan.Local }
+        ensures { (limit : ℕ) → (self.new, Outcome.Done) ≡ stream_row profile program.now limit self.old grant None }
     {
-        let Fetched::Runs(insn) = self.fetch(program) else {
+        let Fetched::Runs(insn) = self.fetch(profile, program) else {
             unreachable!();
         };
         self.execute(&insn, 0, grant);
     }
 
     /// Completes a step whose request the memory replied to, as `reply` does over the instruction at the pc.
-    pub fn finish_reply(&mut self, program: &[u64], reply: Reply, limit: u32, grant: u64) -> Outcome
-        requires asks { (q : Request) × (plan_of program.now self.old ≡ Plan.Ask q) }
-        ensures { (self.new, result) ≡ stream_row program.now limit self.old grant (Some reply) }
+    pub fn finish_reply(
+        &mut self,
+        profile: Profile,
+        program: &[u64],
+        reply: Reply,
+        limit: u32,
+        grant: u64,
+    ) -> Outcome
+        requires asks { (q : Request) × (plan_of profile program.now self.old ≡ Plan.Ask q) }
+        ensures { (self.new, result) ≡ stream_row profile program.now limit self.old grant (Some reply) }
     {
-        let Fetched::Runs(insn) = self.fetch(program) else {
+        let Fetched::Runs(insn) = self.fetch(profile, program) else {
             unreachable!();
         };
         self.reply(&insn, reply, limit, grant)

@@ -1,6 +1,7 @@
 //! What the next step of a stream finds and needs. It reads the stream and changes nothing.
 
 ghost use Rattle.std.specs.Prelude.{◌≡◌, Some, IfSome};
+ghost use Rattle.insn_word.specs.declared.profiles.Profile.{Profile};
 ghost use Rattle.insn_word.specs.ShortInsns.{short_instruction, reference_instruction};
 ghost use Rattle.stream_core.specs.Effects.{displaced_pointer, request_with, request_of};
 ghost use Rattle.stream_core.specs.ShortEffects.{asked_value};
@@ -11,8 +12,8 @@ use crate::conversions::{acc_of, operation_of};
 use crate::steps::{Child, Control, Fetched, Plan, Status};
 use crate::traps::TrapKind;
 use insn_word::{
-    ControlOp, Insn, MPart, MemoryOp, ReferenceInsn, ReferenceOp, ReferencePart, ShortInsn, decode,
-    decode_reference, decode_short,
+    ControlOp, Insn, MPart, MemoryOp, Profile, ReferenceInsn, ReferenceOp, ReferencePart,
+    ShortInsn, decode_as, decode_reference, decode_short,
 };
 use tag_memory::{Masked, MemOp, Pointer, Request};
 
@@ -24,19 +25,19 @@ const ADDRESS_WIDTH: u32 = 48;
 const WORD_BYTES: i64 = 8;
 
 impl Stream {
-    /// What stands at the pc of this program: nothing where the stream does not run, else the instruction or the trap
-    /// PROGRAM or ILLEGAL ("Traps", docs/MACHINE.md). One step needs one call: `request`, `control_of`, `execute` and
-    /// `reply` go by its instruction.
+    /// What stands at the pc of this program, read in this profile: nothing where the stream does not run, else the
+    /// instruction or the trap PROGRAM or ILLEGAL ("Traps", docs/MACHINE.md). One step needs one call: `request`,
+    /// `control_of`, `execute` and `reply` go by its instruction.
     #[tactic(auto, unfolding(crate::specs::StreamRow::fetch_of))]
-    pub fn fetch(&self, program: &[u64]) -> Fetched
-        ensures { result ≡ fetch_of program.now self.now }
+    pub fn fetch(&self, profile: Profile, program: &[u64]) -> Fetched
+        ensures { result ≡ fetch_of profile program.now self.now }
     {
         if self.status != Status::Running {
             return Fetched::Rest;
         }
         match program.get(self.ssw.pc as usize) {
             None => Fetched::Trap(TrapKind::Program),
-            Some(word) => match decode(*word) {
+            Some(word) => match decode_as(profile, *word) {
                 None => Fetched::Trap(TrapKind::Illegal),
                 Some(insn) => Fetched::Runs(insn),
             },
@@ -44,10 +45,11 @@ impl Stream {
     }
 
     /// The instruction at the pc of this program, where the stream runs and `decode_short` reads it; None where `fetch`
-    /// has to say what stands there.
+    /// has to say what stands there. It is the same in each profile.
     #[inline(always)]
     pub fn fetch_short(&self, program: &[u64]) -> Option<ShortInsn>
-        ensures { IfSome result (λ short. fetch_of program.now self.now ≡ Fetched.Runs (short_instruction short)) }
+        ensures { (p : Profile) → IfSome result (λ short. fetch_of p program.now self.now
+            ≡ Fetched.Runs (short_instruction short)) }
     {
         decode_short(self.fetch_word(program)?)
     }
@@ -55,7 +57,8 @@ impl Stream {
     /// The same of `decode_reference`.
     #[inline(always)]
     pub fn fetch_reference(&self, program: &[u64]) -> Option<ReferenceInsn>
-        ensures { IfSome result (λ r. fetch_of program.now self.now ≡ Fetched.Runs (reference_instruction r)) }
+        ensures { (p : Profile) → IfSome result (λ r. fetch_of p program.now self.now
+            ≡ Fetched.Runs (reference_instruction r)) }
     {
         decode_reference(self.fetch_word(program)?)
     }
@@ -64,7 +67,7 @@ impl Stream {
     #[tactic(auto, unfolding(crate::specs::StreamRow::fetch_of))]
     #[inline(always)]
     fn fetch_word(&self, program: &[u64]) -> Option<u64>
-        ensures { IfSome result (λ word. fetch_of program.now self.now ≡ fetch_word (Some word)) }
+        ensures { (p : Profile) → IfSome result (λ word. fetch_of p program.now self.now ≡ fetch_word p (Some word)) }
     {
         if self.status == Status::Running {
             program.get(self.ssw.pc as usize).copied()
@@ -173,13 +176,13 @@ impl Stream {
         }
     }
 
-    /// What the next step needs: nothing where the stream does not run, a trap PROGRAM or ILLEGAL, a reply of the
-    /// memory, or nothing but the stream ("One step", docs/MACHINE.md).
+    /// What the next step over this program, read in this profile, needs: nothing where the stream does not run, a
+    /// trap PROGRAM or ILLEGAL, a reply of the memory, or nothing but the stream ("One step", docs/MACHINE.md).
     #[tactic(auto, unfolding(crate::specs::StreamRow::plan_of))]
-    pub fn plan(&self, program: &[u64]) -> Plan
-        ensures { result ≡ plan_of program.now self.now }
+    pub fn plan(&self, profile: Profile, program: &[u64]) -> Plan
+        ensures { result ≡ plan_of profile program.now self.now }
     {
-        match self.fetch(program) {
+        match self.fetch(profile, program) {
             Fetched::Rest => Plan::Rest,
             Fetched::Trap(kind) => Plan::Trap(kind),
             Fetched::Runs(insn) => match self.request(&insn) {
@@ -189,13 +192,13 @@ impl Stream {
         }
     }
 
-    /// What the instruction at the pc asks of the processor; `Plain` where the stream does not run or no instruction
-    /// stands there.
+    /// What the instruction at the pc, read in this profile, asks of the processor; `Plain` where the stream does not
+    /// run or no instruction stands there.
     #[tactic(auto, unfolding(crate::specs::StreamRow::control_at))]
-    pub fn control(&self, program: &[u64]) -> Control
-        ensures { result ≡ control_at program.now self.now }
+    pub fn control(&self, profile: Profile, program: &[u64]) -> Control
+        ensures { result ≡ control_at profile program.now self.now }
     {
-        match self.fetch(program) {
+        match self.fetch(profile, program) {
             Fetched::Runs(insn) => self.control_of(&insn),
             Fetched::Rest | Fetched::Trap(_) => Control::Plain,
         }

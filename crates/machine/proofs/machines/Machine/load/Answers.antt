@@ -11,6 +11,7 @@ invariant_of-result g c =
 pub returns-clause-is : goal.returns-clause-is
 returns-clause-is g c =
     at_start c.args.image.now c.loop-number.processors.items c.in_ok-memory.memory c.cells.result.now
+    c.chain_limit.result
     (all_opened c.args.image.now c.loop-number.processors.items c.loop-number.number c.loop-number.invariant
     (search rules))
-    c.in_ok-memory.ensures c.cells.ensures.is
+    c.in_ok-memory.ensures c.cells.ensures.is c.chain_limit.ensures.is
