@@ -11,6 +11,8 @@ use Rattle.std.proofs.lemmas.List.Elements.{All-push, All-nil}
 use Rattle.tag_memory.specs.Cell.{Cell, cell_of}
 use Rattle.insn_word.specs.Fields.{number_of_fields}
 use Rattle.insn_word.specs.Words.{fields}
+use Rattle.insn_word.specs.declared.profiles.Profile.{Profile}
+use Rattle.insn_word.specs.declared.profiles.Profile.TheVariants as profile
 use Rattle.image_file.specs.ImageValue.{IsWithin}
 use Rattle.asm_line.specs.Faults.{map_ok}
 use Rattle.asm_line.specs.declared.fault.Fault.{Fault}
@@ -24,16 +26,17 @@ use Rattle.asm_text.specs.Drafts.{DraftValue, empty, add, with_settings, with_en
 use Rattle.asm_text.specs.Drafts.{image_of_draft}
 use Rattle.asm_text.specs.Limits.{KeepsLimits, IsReady}
 
-pub ready : (words : ℕ) (i : Item) → IsItemInRange words i → IsReady i
-ready words item.Nothing h = tt
-ready words item.Profile h = tt
-ready words (item.Slim n) h = tt
-ready words (item.Retry n) h = tt
-ready words (item.Trap n) h = tt
-ready words (item.Entry n) h = tt
-ready words (item.Instruction i) h = h
-ready words (item.Word w) h = tt
-ready words (item.Cells count value tags) h = h.3
+pub ready : (p : Profile) (words : ℕ) (i : Item) → IsItemInRange p words i → IsReady i
+ready p words item.Nothing h = tt
+ready p words (item.Profile q) h = tt
+ready p words (item.Chain n) h = tt
+ready p words (item.Slim n) h = tt
+ready p words (item.Retry n) h = tt
+ready p words (item.Trap n) h = tt
+ready p words (item.Entry n) h = tt
+ready p words (item.Instruction i) h = (p, h)
+ready p words (item.Word w) h = tt
+ready p words (item.Cells count value tags) h = h.3
 
 abbrev HasSlim : Settings → Type 0
 HasSlim s = IfSome s.slim (λ n. (1 ≤ n) × (n ≤ 128))
@@ -123,22 +126,24 @@ cells_kept words d e n c k is =
     })
 
 -- what a line adds keeps the limits
-pub add_kept : (words : ℕ) (d e : DraftValue) (i : Item) → KeepsLimits words d → IsItemInRange words i
+pub add_kept : (p : Profile) (words : ℕ) (d e : DraftValue) (i : Item) → KeepsLimits words d → IsItemInRange p words i
     → add d i ≡ Ok e → KeepsLimits words e
 unfolding add
-add_kept words d e item.Nothing k h is = let at : d ≡ e = cc in subst (KeepsLimits words) at k
-add_kept words d e item.Profile k h is =
+add_kept p words d e item.Nothing k h is = let at : d ≡ e = cc in subst (KeepsLimits words) at k
+add_kept p words d e (item.Profile profile.Two) k h is = absurd cc
+add_kept p words d e (item.Chain n) k h is = absurd cc
+add_kept p words d e (item.Profile profile.One) k h is =
     settings_kept words d e (profile_set d.settings) k (λ s. profile_kept d.settings s k.slim) is
-add_kept words d e (item.Slim n) k h is =
+add_kept p words d e (item.Slim n) k h is =
     settings_kept words d e (slim_set d.settings n) k (λ s. slim_kept d.settings s n h) is
-add_kept words d e (item.Retry n) k h is =
+add_kept p words d e (item.Retry n) k h is =
     settings_kept words d e (retry_set d.settings n) k (λ s. retry_kept d.settings s n k.slim) is
-add_kept words d e (item.Trap n) k h is =
+add_kept p words d e (item.Trap n) k h is =
     settings_kept words d e (trap_set d.settings n) k (λ s. trap_kept d.settings s n k.slim) is
-add_kept words d e (item.Entry n) k h is = entry_kept words d e n k h is
-add_kept words d e (item.Instruction i) k h is = word_kept words d e (number_of_fields (fields i)) k is
-add_kept words d e (item.Word w) k h is = word_kept words d e w k is
-add_kept words d e (item.Cells count value tags) k h is = cells_kept words d e count (cell_of value tags) k is
+add_kept p words d e (item.Entry n) k h is = entry_kept words d e n k h is
+add_kept p words d e (item.Instruction i) k h is = word_kept words d e (number_of_fields (fields i)) k is
+add_kept p words d e (item.Word w) k h is = word_kept words d e w k is
+add_kept p words d e (item.Cells count value tags) k h is = cells_kept words d e count (cell_of value tags) k is
 
 pub empty_kept : (words : ℕ) → KeepsLimits words empty
 empty_kept words = record {
@@ -172,8 +177,9 @@ within words d k count all =
       entries_stand = subst (λ n. All (λ e. e < n) d.entries) (sym count) k.entries_stand;
     }
 
-pub add_keeps : (words : ℕ) (d e : DraftValue) (i : Item) (r : Result (Unit {0}) Fault) (Refused : Fault → Type 0)
-    → IsItemInRange words i → MatchResult r (λ _. add d i ≡ Ok e) Refused → KeepsLimits words d
+pub add_keeps : (p : Profile) (words : ℕ) (d e : DraftValue) (i : Item) (r : Result (Unit {0}) Fault)
+    (Refused : Fault → Type 0)
+    → IsItemInRange p words i → MatchResult r (λ _. add d i ≡ Ok e) Refused → KeepsLimits words d
     → OnOk r (KeepsLimits words e)
-add_keeps words d e i (Ok x) refused h is k = add_kept words d e i k h is
-add_keeps words d e i (Err f) refused h is k = tt
+add_keeps p words d e i (Ok x) refused h is k = add_kept p words d e i k h is
+add_keeps p words d e i (Err f) refused h is k = tt

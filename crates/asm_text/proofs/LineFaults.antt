@@ -4,6 +4,7 @@ use Rattle.std.proofs.Common.{Result, Ok, Err}
 use Rattle.std.proofs.Common.{refl, sym, ◌∙◌, ap, arith, inl, inr, ⊎_elim}
 use Rattle.std.specs.Str.{IsAscii}
 use Rattle.image_file.specs.ImageValue.{ImageValue}
+use Rattle.insn_word.specs.declared.profiles.Profile.TheVariants.{One}
 use Rattle.asm_line.specs.Lines.{Line, lines, place, count_words}
 use Rattle.asm_line.specs.declared.fault.Fault.{Fault}
 use Rattle.asm_line.specs.declared.fault.Fault.TheVariants as fault
@@ -20,14 +21,14 @@ use Rattle.asm_text.proofs.LineSteps.{fault_is}
 -- Lines counted from the first.
 
 abbrev AddsAll : List Line → ℕ → DraftValue → Type 0
-AddsAll ls k d = Adds (place ls) (count_words ls) 0 empty ls k d
+AddsAll ls k d = Adds One (place ls) (count_words ls) 0 empty ls k d
 
 up_to : (ls : List Line) (k : ℕ) (d : DraftValue) → AddsAll ls k d → AddUpTo ls k d
 up_to ls k d a = record {
   drafts = a.drafts;
   first = a.first;
   each = λ j l less is.
-      at_line (place ls) (count_words ls) (0 + j) j (a.drafts j) l (Ok (a.drafts (suc j))) (omega arith)
+      at_line One (place ls) (count_words ls) (0 + j) j (a.drafts j) l (Ok (a.drafts (suc j))) (omega arith)
       (a.each j l less is);
   last = a.last;
 }
@@ -37,13 +38,13 @@ adds_all ls k d a = record {
   drafts = a.drafts;
   first = a.first;
   each = λ j l less is.
-      at_line (place ls) (count_words ls) j (0 + j) (a.drafts j) l (Ok (a.drafts (suc j))) (omega arith)
+      at_line One (place ls) (count_words ls) j (0 + j) (a.drafts j) l (Ok (a.drafts (suc j))) (omega arith)
       (a.each j l less is);
   last = a.last;
 }
 
 abbrev FailsAll : List Line → ℕ → Fault → Type 0
-FailsAll ls k kind = Fails (place ls) (count_words ls) 0 empty ls k kind
+FailsAll ls k kind = Fails One (place ls) (count_words ls) 0 empty ls k kind
 
 first_fault : (ls : List Line) (k : ℕ) (kind : Fault) → FailsAll ls k kind → IsFirstFault ls k kind
 first_fault ls k kind f = record {
@@ -52,7 +53,7 @@ first_fault ls k kind f = record {
   line = f.line;
   stands = f.stands;
   refuses =
-      at_line (place ls) (count_words ls) (0 + k) k f.draft f.line (Err kind) (omega arith) f.refuses;
+      at_line One (place ls) (count_words ls) (0 + k) k f.draft f.line (Err kind) (omega arith) f.refuses;
 }
 
 fails_all : (ls : List Line) (k : ℕ) (kind : Fault) → IsFirstFault ls k kind → FailsAll ls k kind
@@ -62,18 +63,18 @@ fails_all ls k kind f = record {
   line = f.line;
   stands = f.stands;
   refuses =
-      at_line (place ls) (count_words ls) k (0 + k) f.draft f.line (Err kind) (omega arith) f.refuses;
+      at_line One (place ls) (count_words ls) k (0 + k) f.draft f.line (Err kind) (omega arith) f.refuses;
 }
 
 -- What the lines of a text give.
 
 abbrev all_lines : List ℕ → Result DraftValue AsmFault
-all_lines text = with_lines (place (lines text)) (count_words (lines text)) 0 empty (lines text)
+all_lines text = with_lines One (place (lines text)) (count_words (lines text)) 0 empty (lines text)
 
 without_foreign : (text : List ℕ) → not_ascii text ≡ None → meaning_of text ≡ complete (all_lines text)
 without_foreign text none =
-    by_lines text (place (lines text)) (count_words (lines text))
-    (record { ascii = none; places_are = refl; words_are = refl })
+    by_lines text One (place (lines text)) (count_words (lines text))
+    (record { ascii = none; profile_is = refl; places_are = refl; words_are = refl })
 
 ascii_text : (text : List ℕ) → IsAscii text → meaning_of text ≡ complete (all_lines text)
 ascii_text text ascii = without_foreign text (ascii_all text ascii)
@@ -94,7 +95,7 @@ lacking text e d false ascii is whole told =
       draft = d;
       all =
           up_to (lines text) (length (lines text)) d
-          (lines_add (place (lines text)) (count_words (lines text)) 0 empty d (lines text) is);
+          (lines_add One (place (lines text)) (count_words (lines text)) 0 empty d (lines text) is);
       lacks = whole;
       line = ap (λ (f : AsmFault). f.line) (sym at);
       kind = ap (λ (f : AsmFault). f.kind) (sym at);
@@ -102,7 +103,7 @@ lacking text e d false ascii is whole told =
 
 line_fault : (text : List ℕ) (e : AsmFault) → IsAscii text → all_lines text ≡ Err e → IsLineFault text e
 line_fault text e ascii is =
-    let f = lines_fail (place (lines text)) (count_words (lines text)) 0 empty (lines text) e is in
+    let f = lines_fail One (place (lines text)) (count_words (lines text)) 0 empty (lines text) e is in
     record {
       ascii = ascii;
       k = f.0;
@@ -145,12 +146,12 @@ from_line text e f =
     let line : e.line ≡ 0 + f.k + 1 = omega (arith, f.line) in
     ascii_text text f.ascii
     ∙ ap complete
-    (failed_lines (place (lines text)) (count_words (lines text)) 0 empty (lines text) e f.k line
+    (failed_lines One (place (lines text)) (count_words (lines text)) 0 empty (lines text) e f.k line
     (fails_all (lines text) f.k e.kind f.first))
 
 all_added : (text : List ℕ) (d : DraftValue) → AddUpTo (lines text) (length (lines text)) d → all_lines text ≡ Ok d
 all_added text d a =
-    added_lines (place (lines text)) (count_words (lines text)) 0 empty d (lines text)
+    added_lines One (place (lines text)) (count_words (lines text)) 0 empty d (lines text)
     (adds_all (lines text) (length (lines text)) d a)
 
 from_incomplete : (text : List ℕ) (e : AsmFault) → IsIncomplete text e → HasFault text e
@@ -180,7 +181,7 @@ whole_by text i d true ascii is whole means =
       draft = d;
       all =
           up_to (lines text) (length (lines text)) d
-          (lines_add (place (lines text)) (count_words (lines text)) 0 empty d (lines text) is);
+          (lines_add One (place (lines text)) (count_words (lines text)) 0 empty d (lines text) is);
       whole = whole;
       image = at;
     }

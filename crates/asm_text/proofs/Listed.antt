@@ -9,6 +9,7 @@ use Rattle.std.proofs.lemmas.List.Concat.{flat_map-append}
 use Rattle.std.proofs.lemmas.Option.{get_or_from_slice_get}
 use Rattle.tag_memory.specs.Cell.{Cell}
 use Rattle.image_file.specs.ImageValue.{ImageValue}
+use Rattle.insn_word.specs.declared.profiles.Profile.TheVariants.{One}
 use Rattle.listing_line.specs.WordText.{word_line}
 use Rattle.listing_line.specs.DirectiveLines.{entry_line}
 use Rattle.text_parts.specs.Runs.{Run}
@@ -50,11 +51,12 @@ words_at program k word here is =
     ∙ ap (λ n. word ∷ drop n program) (sym (add-one k))
 
 pub word_pushed : (program : List ℕ) (k word : ℕ) (before whole now : List ℕ) → k < length program
-    → word ≡ get_or program k word → now ≡ before ++ with_line_end (word_line k word)
+    → word ≡ get_or program k word → now ≡ before ++ with_line_end (word_line One k word)
     → before ++ text_of_lines (word_lines k (drop k program)) ≡ whole
     → now ++ text_of_lines (word_lines (k + 1) (drop (k + 1) program)) ≡ whole
 word_pushed program k word before whole now here at is h =
-    pushed before (with_line_end (word_line k word)) (text_of_lines (word_lines (k + 1) (drop (k + 1) program))) whole
+    pushed before (with_line_end (word_line One k word))
+    (text_of_lines (word_lines (k + 1) (drop (k + 1) program))) whole
     now is
     (sym (ap (λ ws. before ++ text_of_lines (word_lines k ws)) (words_at program k word here at)) ∙ h)
 

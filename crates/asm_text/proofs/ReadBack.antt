@@ -9,6 +9,7 @@ use Rattle.std.proofs.lemmas.Bool.{eqb-true, and_from, false≢true}
 use Rattle.tag_memory.specs.Cell.{Cell}
 use Rattle.image_file.specs.ImageValue.{ImageValue, IsWithin}
 use Rattle.image_file.specs.Spelling.{Fits}
+use Rattle.insn_word.specs.declared.profiles.Profile.TheVariants.{One}
 use Rattle.asm_line.specs.Lines.{line, lines, place, count_words}
 use Rattle.asm_line.specs.declared.fault.Fault.TheVariants as fault
 use Rattle.asm_line.specs.declared.item.Item.{Item}
@@ -32,21 +33,23 @@ use Rattle.asm_text.proofs.Sections.{words_read, words_added, words_count}
 use Rattle.asm_text.proofs.Sections.{run_item, runs_read, runs_added, runs_count}
 
 abbrev items : ImageValue → List Item
-items i = setting_items i ++ (entry_items i.entries ++ (map word_item i.program ++ map run_item (cell_runs i.cells)))
+items i =
+    setting_items i ++ (entry_items i.entries ++ (map (word_item One) i.program ++ map run_item (cell_runs i.cells)))
 
 lines_read : (laws : Laws) (i : ImageValue) → IsWithin i → Fits i
-    → AreRead (length i.program) (listing_lines i) (items i)
+    → AreRead One (length i.program) (listing_lines i) (items i)
 unfolding listing_lines
 lines_read laws i w f =
     let words = length i.program in
-    read_both words (setting_lines i)
+    read_both One words (setting_lines i)
     (map entry_line i.entries ++ (word_lines 0 i.program ++ map cell_run_line (cell_runs i.cells)))
-    (setting_items i) (entry_items i.entries ++ (map word_item i.program ++ map run_item (cell_runs i.cells)))
+    (setting_items i) (entry_items i.entries ++ (map (word_item One) i.program ++ map run_item (cell_runs i.cells)))
     (settings_read laws words i w.some_slim w.few_slim f.retry_limit f.trap_entry)
-    (read_both words (map entry_line i.entries) (word_lines 0 i.program ++ map cell_run_line (cell_runs i.cells))
-    (entry_items i.entries) (map word_item i.program ++ map run_item (cell_runs i.cells))
+    (read_both One words (map entry_line i.entries) (word_lines 0 i.program ++ map cell_run_line (cell_runs i.cells))
+    (entry_items i.entries) (map (word_item One) i.program ++ map run_item (cell_runs i.cells))
     (entries_read laws words i.entries w.few_words w.entries_stand)
-    (read_both words (word_lines 0 i.program) (map cell_run_line (cell_runs i.cells)) (map word_item i.program)
+    (read_both One words (word_lines 0 i.program) (map cell_run_line (cell_runs i.cells))
+    (map (word_item One) i.program)
     (map run_item (cell_runs i.cells))
     (words_read laws words 0 i.program (omega (arith, w.few_words))
     (All-from_recursion (λ n. n < 2 ^ 64) i.program f.program))
@@ -56,9 +59,10 @@ lines_read laws i w f =
 items_count : (i : ImageValue) → count_items (items i) ≡ length i.program
 items_count i =
     let all = count_both (setting_items i)
-    (entry_items i.entries ++ (map word_item i.program ++ map run_item (cell_runs i.cells))) in
-    let behind = count_both (entry_items i.entries) (map word_item i.program ++ map run_item (cell_runs i.cells)) in
-    let last = count_both (map word_item i.program) (map run_item (cell_runs i.cells)) in
+    (entry_items i.entries ++ (map (word_item One) i.program ++ map run_item (cell_runs i.cells))) in
+    let behind = count_both (entry_items i.entries)
+    (map (word_item One) i.program ++ map run_item (cell_runs i.cells)) in
+    let last = count_both (map (word_item One) i.program) (map run_item (cell_runs i.cells)) in
     let s = settings_count i in
     let e = entries_count i.entries in
     let w = words_count i.program in
@@ -80,11 +84,11 @@ items_added i w =
     let p : DraftValue = record e { words = i.program } in
     let cells = ap length (runs_are_cells i.cells) in
     add_both empty s (setting_items i)
-    (entry_items i.entries ++ (map word_item i.program ++ map run_item (cell_runs i.cells)))
+    (entry_items i.entries ++ (map (word_item One) i.program ++ map run_item (cell_runs i.cells)))
     (settings_added i)
-    ∙ add_both s e (entry_items i.entries) (map word_item i.program ++ map run_item (cell_runs i.cells))
+    ∙ add_both s e (entry_items i.entries) (map (word_item One) i.program ++ map run_item (cell_runs i.cells))
     (entries_added s i.entries (omega (arith, w.few_processors)))
-    ∙ add_both e p (map word_item i.program) (map run_item (cell_runs i.cells))
+    ∙ add_both e p (map (word_item One) i.program) (map run_item (cell_runs i.cells))
     (words_added e i.program (omega (arith, w.few_words)))
     ∙ runs_added p (cell_runs i.cells) (omega (arith, cells, w.few_cells))
 
@@ -135,18 +139,19 @@ reads_back laws i w f =
     let words = length i.program in
     let ls = listing_lines i in
     let read = lines_read laws i w f in
-    let cut = text_cut words ls (items i) read in
+    let cut = text_cut One words ls (items i) read in
     let places = place (lines (text_of_lines ls)) in
-    let found : IsFound (text_of_lines ls) places words = record {
-      ascii = text_is_ascii words ls (items i) read;
+    let found : IsFound (text_of_lines ls) One places words = record {
+      ascii = text_is_ascii One words ls (items i) read;
+      profile_is = refl;
       places_are = refl;
-      words_are = sym (ap count_words cut ∙ lines_counted words ls (items i) read ∙ items_count i);
+      words_are = sym (ap count_words cut ∙ lines_counted One words ls (items i) read ∙ items_count i);
     } in
-    draft_whole (text_of_lines ls) places words (draft_of i) (Ok i) found
-    (ap (with_lines places words 0 empty) cut
-    ∙ lines_added places words 0 empty (draft_of i) ls (items i) (line [] ∷ []) (Ok (draft_of i)) read
+    draft_whole (text_of_lines ls) One places words (draft_of i) (Ok i) found
+    (ap (with_lines One places words 0 empty) cut
+    ∙ lines_added One places words 0 empty (draft_of i) ls (items i) (line [] ∷ []) (Ok (draft_of i)) read
     (items_added i w)
-    (last_line places words (draft_of i)))
+    (last_line One places words (draft_of i)))
     (completes i w)
 
 same_image : (i j : ImageValue) → ◌≡◌ {A = Result ImageValue AsmFault} (Ok i) (Ok j) → i ≡ j

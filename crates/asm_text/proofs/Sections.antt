@@ -9,7 +9,9 @@ use Rattle.std.proofs.lemmas.Bool.{le-leb}
 use Rattle.std.proofs.lemmas.List.{length-replicate}
 use Rattle.std.proofs.lemmas.List.Elements.{All-head, All-tail}
 use Rattle.tag_memory.specs.Cell.{Cell, tag_number}
-use Rattle.insn_word.specs.Reading.{instruction}
+use Rattle.insn_word.specs.Reading.{instruction_in}
+use Rattle.insn_word.specs.declared.profiles.Profile.{Profile}
+use Rattle.insn_word.specs.declared.profiles.Profile.TheVariants.{One}
 use Rattle.insn_word.specs.declared.insn.Insn.{Insn}
 use Rattle.image_file.specs.ImageValue.{ImageValue}
 use Rattle.image_file.specs.SameLaws.{cell_of-tag_number}
@@ -56,7 +58,7 @@ abbrev pub trap_items : ℕ → List Item
 trap_items trap = cond (eqb trap 4294967295) [] (item.Trap trap ∷ [])
 
 abbrev pub setting_items : ImageValue → List Item
-setting_items i = item.Profile ∷ item.Slim i.slim ∷ item.Retry i.retry_limit ∷ trap_items i.trap_entry
+setting_items i = item.Profile One ∷ item.Slim i.slim ∷ item.Retry i.retry_limit ∷ trap_items i.trap_entry
 
 abbrev pub trap_set_to : ℕ → Option ℕ
 trap_set_to trap = cond (eqb trap 4294967295) None (Some trap)
@@ -68,18 +70,18 @@ with_settings_of i = record empty {
 }
 
 trap_read : (laws : Laws) (words trap : ℕ) (none : Bool) → trap < 2 ^ 32
-    → AreRead words (cond none [] (trap_line trap ∷ [])) (cond none [] (item.Trap trap ∷ []))
+    → AreRead One words (cond none [] (trap_line trap ∷ [])) (cond none [] (item.Trap trap ∷ []))
 trap_read laws words trap true h = tt
-trap_read laws words trap false h = (laws.trap trap words h, tt)
+trap_read laws words trap false h = (laws.trap One trap words h, tt)
 
 pub settings_read : (laws : Laws) (words : ℕ) (i : ImageValue) → 1 ≤ i.slim → i.slim ≤ 128 → i.retry_limit < 2 ^ 32
-    → i.trap_entry < 2 ^ 32 → AreRead words (setting_lines i) (setting_items i)
+    → i.trap_entry < 2 ^ 32 → AreRead One words (setting_lines i) (setting_items i)
 settings_read laws words i some few retry trap = (
-  laws.profile words,
+  laws.profile One One words,
   (
-    laws.slim i.slim words some few,
+    laws.slim One i.slim words some few,
     (
-      laws.retry i.retry_limit words retry,
+      laws.retry One i.retry_limit words retry,
       trap_read laws words i.trap_entry (eqb i.trap_entry 4294967295) trap,
     ),
   ),
@@ -116,11 +118,11 @@ abbrev pub entry_items : List ℕ → List Item
 entry_items entries = map (λ (n : ℕ). item.Entry n) entries
 
 pub entries_read : (laws : Laws) (words : ℕ) (entries : List ℕ) → words ≤ 65536 → All (λ e. e < words) entries
-    → AreRead words (map entry_line entries) (entry_items entries)
+    → AreRead One words (map entry_line entries) (entry_items entries)
 entries_read laws words [] few h = tt
 entries_read laws words (e ∷ es) few h =
     let here = All-head (λ n. n < words) e es h in
-    (laws.entry e words here (omega arith), entries_read laws words es few (All-tail (λ n. n < words) e es h))
+    (laws.entry One e words here (omega arith), entries_read laws words es few (All-tail (λ n. n < words) e es h))
 
 entry_added : (d : DraftValue) (e : ℕ) → length d.entries < 16
     → add d (item.Entry e) ≡ Ok (record d { entries = d.entries ++ e ∷ [] })
@@ -151,46 +153,46 @@ counts_word : (w : ℕ) (o : Option Insn) → counts (item_of w o) ≡ true
 counts_word w None = refl
 counts_word w (Some i) = refl
 
-word_item_counts : (w : ℕ) → counts (word_item w) ≡ true
+word_item_counts : (w : ℕ) → counts (word_item One w) ≡ true
 unfolding word_item
-word_item_counts w = counts_word w (instruction w)
+word_item_counts w = counts_word w (instruction_in One w)
 
 pub words_read : (laws : Laws) (words place : ℕ) (ws : List ℕ) → place + length ws ≤ 65536 → All (λ w. w < 2 ^ 64) ws
-    → AreRead words (word_lines place ws) (map word_item ws)
+    → AreRead One words (word_lines place ws) (map (word_item One) ws)
 words_read laws words place [] few h = tt
 words_read laws words place (w ∷ ws) few h =
     let here = All-head (λ n. n < 2 ^ 64) w ws h in (
-      subst (λ c. IsReadAs (word_line place w) c words (word_item w)) (sym (word_item_counts w))
-          (laws.word place w words (omega arith) here),
+      subst (λ c. IsReadAs One (word_line One place w) c words (word_item One w)) (sym (word_item_counts w))
+          (laws.word One place w words (omega arith) here),
       words_read laws words (place + 1) ws (omega arith) (All-tail (λ n. n < 2 ^ 64) w ws h),
     )
 
-added_as : (d : DraftValue) (w : ℕ) (o : Option Insn) → instruction w ≡ o → add d (item_of w o) ≡ with_word d w
+added_as : (d : DraftValue) (w : ℕ) (o : Option Insn) → instruction_in One w ≡ o → add d (item_of w o) ≡ with_word d w
 unfolding add
 added_as d w None e = refl
-added_as d w (Some i) e = ap (with_word d) (number_of_spelt w i e)
+added_as d w (Some i) e = ap (with_word d) (number_of_spelt One w i e)
 
 word_added : (d : DraftValue) (w : ℕ) → length d.words < 65536
-    → add d (word_item w) ≡ Ok (record d { words = d.words ++ w ∷ [] })
+    → add d (word_item One w) ≡ Ok (record d { words = d.words ++ w ∷ [] })
 unfolding word_item
 word_added d w room =
-    added_as d w (instruction w) refl
+    added_as d w (instruction_in One w) refl
     ∙ ap (λ b. cond b (Ok (record d { words = d.words ++ w ∷ [] })) (Err fault.Limit))
     (lt-ltb (length d.words) 65536 room)
 
 pub words_added : (d : DraftValue) (ws : List ℕ) → length d.words + length ws ≤ 65536
-    → add_all d (map word_item ws) ≡ Ok (record d { words = d.words ++ ws })
+    → add_all d (map (word_item One) ws) ≡ Ok (record d { words = d.words ++ ws })
 words_added d [] room = ap (with_words d) (sym (append-nil d.words))
 words_added d (w ∷ ws) room =
     let f : DraftValue = record d { words = d.words ++ w ∷ [] } in
-    ap (λ r. r >>= λ g. add_all g (map word_item ws)) (word_added d w (omega arith))
+    ap (λ r. r >>= λ g. add_all g (map (word_item One) ws)) (word_added d w (omega arith))
     ∙ words_added f ws (omega (arith, length-append d.words (w ∷ [])))
     ∙ ap (with_words d) (append_assoc d.words (w ∷ []) ws)
 
-one_word : (w : ℕ) → ◌≡◌ {A = ℕ} (cond (counts (word_item w)) 1 0) 1
+one_word : (w : ℕ) → ◌≡◌ {A = ℕ} (cond (counts (word_item One w)) 1 0) 1
 one_word w = ap (λ b. cond b 1 0) (word_item_counts w)
 
-pub words_count : (ws : List ℕ) → count_items (map word_item ws) ≡ length ws
+pub words_count : (ws : List ℕ) → count_items (map (word_item One) ws) ≡ length ws
 words_count [] = refl
 words_count (w ∷ ws) = omega (arith, one_word w, words_count ws)
 
@@ -226,10 +228,10 @@ few_tags c = four c.full c.forward c.trap0 c.trap1
 
 pub runs_read : (laws : Laws) (words n : ℕ) (rs : List (Run Cell)) → n ≤ 262144
     → AllByRecursion (λ (r : Run Cell). (1 ≤ r.times) × (r.times ≤ n) × (r.thing.value < 2 ^ 64)) rs
-    → AreRead words (map cell_run_line rs) (map run_item rs)
+    → AreRead One words (map cell_run_line rs) (map run_item rs)
 runs_read laws words n [] few h = tt
 runs_read laws words n (r ∷ rs) few h = (
-  laws.fill r.times r.thing.value (tag_number r.thing) words h.0.0 (omega arith) h.0.2 (few_tags r.thing),
+  laws.fill One r.times r.thing.value (tag_number r.thing) words h.0.0 (omega arith) h.0.2 (few_tags r.thing),
   runs_read laws words n rs few h.1,
 )
 

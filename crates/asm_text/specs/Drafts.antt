@@ -3,6 +3,7 @@ use Rattle.std.specs.Prelude.{ℕ, ◌+◌, Bool, nat_lt, nat_le, ◌&&◌, if�
 use Rattle.std.specs.Prelude.{List, [], ◌∷◌, ◌++◌, length, replicate, Result, Ok, Err, unwrap_or}
 use Rattle.insn_word.specs.Fields.{number_of_fields}
 use Rattle.insn_word.specs.Words.{fields}
+use Rattle.insn_word.specs.declared.profiles.Profile.TheVariants as profile
 use Rattle.tag_memory.specs.Cell.{Cell, cell_of}
 use Rattle.image_file.specs.ImageValue.{ImageValue}
 use Rattle.asm_line.specs.Faults.{map_ok}
@@ -42,8 +43,10 @@ with_cells d n c =
 -- What a line's item adds, if it may. An instruction adds the word of its fields.
 unfoldable pub add : DraftValue → Item → Result DraftValue Fault
 add d item.Nothing = Ok d
-add d item.Profile = with_settings d (profile_set d.settings)
+add d (item.Profile profile.One) = with_settings d (profile_set d.settings)
+add d (item.Profile profile.Two) = Err fault.Range
 add d (item.Slim n) = with_settings d (slim_set d.settings n)
+add d (item.Chain n) = Err fault.Range
 add d (item.Retry n) = with_settings d (retry_set d.settings n)
 add d (item.Trap n) = with_settings d (trap_set d.settings n)
 add d (item.Entry n) = with_entry d n

@@ -2,6 +2,7 @@
 use Rattle.std.specs.Prelude.{ℕ, ◌+◌, ◌==◌, if◌then◌else◌, List, [], ◌∷◌, ◌++◌, map, codes}
 use Rattle.std.specs.List.{flat_map}
 use Rattle.tag_memory.specs.Cell.{Cell, tag_number}
+use Rattle.insn_word.specs.declared.profiles.Profile.TheVariants as profile
 use Rattle.image_file.specs.ImageValue.{ImageValue}
 use Rattle.listing_line.specs.WordText.{word_line}
 use Rattle.listing_line.specs.DirectiveLines.{profile_line, slim_line, retry_line, trap_line, entry_line, fill_line}
@@ -13,12 +14,12 @@ abbrev pub trap_lines : ℕ → List (List ℕ)
 trap_lines trap = if trap == 4294967295 then [] else trap_line trap ∷ []
 
 abbrev pub setting_lines : ImageValue → List (List ℕ)
-setting_lines i = profile_line ∷ slim_line i.slim ∷ retry_line i.retry_limit ∷ trap_lines i.trap_entry
+setting_lines i = profile_line profile.One ∷ slim_line i.slim ∷ retry_line i.retry_limit ∷ trap_lines i.trap_entry
 
 -- the words of which the first is at this place of the program
 abbrev pub word_lines : ℕ → List ℕ → List (List ℕ)
 word_lines place [] = []
-word_lines place (w ∷ ws) = word_line place w ∷ word_lines (place + 1) ws
+word_lines place (w ∷ ws) = word_line profile.One place w ∷ word_lines (place + 1) ws
 
 abbrev pub cell_run_line : Run Cell → List ℕ
 cell_run_line r = fill_line r.times r.thing.value (tag_number r.thing)

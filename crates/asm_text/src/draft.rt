@@ -14,6 +14,7 @@ use crate::settings::Settings;
 use crate::spelled::spelled;
 use asm_line::{Fault, Item};
 use image_file::Image;
+use insn_word::Profile;
 use std::alloc::Global;
 use std::marker::Model;
 use tag_memory::Word;
@@ -72,7 +73,8 @@ impl Draft {
     {
         match item {
             Item::Nothing => {}
-            Item::Profile => self.settings = self.settings.with_profile()?,
+            Item::Profile(Profile::One) => self.settings = self.settings.with_profile()?,
+            Item::Profile(Profile::Two) | Item::Chain(_) => return Err(Fault::Range),
             Item::Slim(slim) => self.settings = self.settings.with_slim(slim)?,
             Item::Retry(retry) => self.settings = self.settings.with_retry(retry)?,
             Item::Trap(trap) => self.settings = self.settings.with_trap(trap)?,

@@ -3,6 +3,7 @@
 ghost use Rattle.std.specs.Prelude.{◌≡◌, ◌<◌, ◌^◌, ◌++◌, map, IfOk, OnOk, string_bytes};
 ghost use Rattle.std.specs.List.{All};
 ghost use Rattle.tag_memory.specs.Cell.{tag_number};
+ghost use Rattle.insn_word.specs.declared.profiles.Profile.TheVariants.{One};
 ghost use Rattle.image_file.specs.ImageValue.{IsWithin};
 ghost use Rattle.listing_line.specs.DirectiveLines.{profile_line, slim_line, retry_line, number_line};
 ghost use Rattle.listing_line.specs.DirectiveLines.{entry_line, fill_line};
@@ -15,14 +16,12 @@ use crate::laws::listings_are_read_back;
 use crate::runs::first_run;
 use asm_line::{Directive, names};
 use image_file::Image;
+use insn_word::Profile;
 use listing_line::push_word_line;
 use number_text::push_hexadecimal_16;
 use std::alloc::{AllocError, Global};
 use std::fmt::Write;
 use tag_memory::Word;
-
-/// The profile of every image.
-const PROFILE: u32 = 1;
 
 /// The listing of an image ("Listing", docs/FORMATS.md): its directives, its entries, its program words and its data
 /// cells, each run of equal cells in one line.
@@ -55,9 +54,13 @@ fn push_settings(text: &mut String, image: &Image) -> Result<(), AllocError>
 
 #[tactic(auto, unfolding(listing_line::specs::DirectiveLines::profile_line))]
 fn push_profile(text: &mut String) -> Result<(), AllocError>
-    ensures { OnOk result (string_bytes text.new ≡ string_bytes text.old ++ with_line_end profile_line) }
+    ensures { OnOk result (string_bytes text.new ≡ string_bytes text.old ++ with_line_end (profile_line One)) }
 {
-    push_number(text, Directive::Profile, PROFILE)
+    push_number(
+        text,
+        Directive::Profile,
+        names::profile_number(Profile::One),
+    )
 }
 
 #[tactic(auto, unfolding(listing_line::specs::DirectiveLines::slim_line))]
@@ -123,7 +126,7 @@ fn push_program(text: &mut String, image: &Image) -> Result<(), AllocError>
 {
     words_fit(image.program());
     for (place, word) in image.program().iter().enumerate() {
-        push_word_line(text, place as u16, *word)?;
+        push_word_line(text, Profile::One, place as u16, *word)?;
     }
     Ok(())
 }

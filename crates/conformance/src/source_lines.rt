@@ -2,6 +2,7 @@
 use crate::escapes::bytes_of;
 use anyhow::{Context, Result};
 use asm_line::{Labels, Place, cut_line, is_word, read_line};
+use insn_word::Profile;
 use std::alloc::{AllocError, Global};
 
 /// The labels of the text, the line of each (from 0), and its value.
@@ -27,7 +28,8 @@ pub(crate) fn adds(alloc: Global, line: &str) -> Result<bool> {
     let (text, answer) = line.split_once('\t').context("two fields")?;
     let text = bytes_of(alloc, text)?;
     let labels = labels(alloc)?;
-    let item = read_line(&labels, WORDS, LINE, HERE, &cut_line(&text));
+    let line = cut_line(&text);
+    let item = read_line(Profile::One, &labels, WORDS, LINE, HERE, &line);
     Ok(format!(in alloc; "{item:?}")?.as_str() == answer)
 }
 

@@ -4,8 +4,8 @@ use Rattle.asm_line.specs.Lines.{rest_lines}
 use Rattle.text_parts.specs.Parts.{rest_length}
 use Rattle.asm_line.specs.Seen.{line_seen}
 use Rattle.asm_text.proofs.Standing.{labels_taken, labels_end, words_taken, one_word, few_more, then_one, else_none}
-use Rattle.asm_text.proofs.source.places.Goals as goal
-use Rattle.asm_text.proofs.source.places.Goals.{then-is_word, else-is_word}
+use Rattle.asm_text.proofs.source.outline_of.Goals as goal
+use Rattle.asm_text.proofs.source.outline_of.Goals.{then-is_word, else-is_word}
 
 pub loop-rest-preserved : goal.loop-rest-preserved
 loop-rest-preserved c =

@@ -4,7 +4,7 @@ use Rattle.asm_line.specs.Lines.{lines, place, count_words, rest_lines}
 use Rattle.asm_line.specs.Labels.{places_of}
 use Rattle.text_parts.specs.Parts.{rest_length}
 use Rattle.asm_text.proofs.Standing.{moved}
-use Rattle.asm_text.proofs.source.places.Given as goal
+use Rattle.asm_text.proofs.source.outline_of.Given as goal
 
 abbrev pub invariant-loop-rest : goal.invariant-loop-rest
 invariant-loop-rest l = record {
