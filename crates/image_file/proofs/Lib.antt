@@ -1,5 +1,6 @@
 pub mod Searches
 pub mod Limits
+pub mod Profiles
 pub mod Numbers
 pub mod TagNumbers
 pub mod Sequences

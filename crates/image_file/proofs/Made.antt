@@ -6,11 +6,12 @@ use Rattle.tag_memory.specs.Cell.{Cell}
 use Rattle.image_file.specs.declared.fault.ImageFault.{ImageFault}
 use Rattle.image_file.specs.declared.fault.ImageFault.TheVariants.{NoMemory}
 use Rattle.image_file.specs.declared.header.Header.{Header}
-use Rattle.image_file.specs.ImageValue.{ImageValue, image_of}
+use Rattle.image_file.specs.ImageValue.{ImageValue, image_in}
 use Rattle.image_file.specs.Fields.{IsBytes}
 use Rattle.image_file.specs.Spelling.{Stands}
 use Rattle.image_file.specs.Header.{header_at}
-use Rattle.image_file.specs.Reading.{processors_at, words_at, cells_at, program_place, cells_place}
+use Rattle.image_file.specs.Reading.{processors_at, words_at, cells_at, entries_place, program_place}
+use Rattle.image_file.specs.Reading.{cells_place}
 use Rattle.image_file.specs.Reading.{entries_from, program_from, cells_from, image_at}
 use Rattle.image_file.specs.Answers.{Reads}
 use Rattle.image_file.proofs.Sound.{sound_from, no_fault}
@@ -19,13 +20,15 @@ use Rattle.image_file.proofs.ReadBack.{image_again, sound_again}
 
 -- the image of the header's numbers and of the lists behind it
 pub image_made : (b : List ℕ) (h : Header) (entries program : List ℕ) (cells : List Cell) → h ≡ header_at b
-    → entries ≡ entries_from (processors_at b) (drop 26 b)
+    → entries ≡ entries_from (processors_at b) (drop (entries_place b) b)
     → program ≡ program_from (words_at b) (drop (program_place b) b)
     → cells ≡ cells_from (cells_at b) (drop (cells_place b) b)
-    → image_of entries h.slim h.retry_limit h.trap_entry program cells ≡ image_at b
+    → image_in h.profile h.chain_limit entries h.slim h.retry_limit h.trap_entry program cells ≡ image_at b
 unfolding image_at
 image_made b h entries program cells h-is entries-is program-is cells-is = λ i. record {
+  profile = (h-is i).profile;
   slim = (h-is i).slim;
+  chain_limit = (h-is i).chain_limit;
   retry_limit = (h-is i).retry_limit;
   trap_entry = (h-is i).trap_entry;
   entries = entries-is i;

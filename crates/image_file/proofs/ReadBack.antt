@@ -1,23 +1,27 @@
 -- Bytes that stand for an image have no fault, and the image is read at their places.
 use Rattle.std.proofs.Common.{◌≡◌, ℕ, ◌*◌, ◌^◌, ◌<◌, ◌≤◌, false, List, [], ◌∷◌, ◌++◌, length, map, drop}
-use Rattle.std.proofs.Common.{None, sym, ap, ◌∙◌, append_assoc, append-nil, arith, length-append}
+use Rattle.std.proofs.Common.{None, Some, subst, sym, ap, ◌∙◌, append_assoc, append-nil, arith, length-append}
 use Rattle.std.specs.Prelude.{nat_le}
 use Rattle.std.specs.List.{flat_map, All, AllByRecursion}
 use Rattle.std.proofs.lemmas.Bool.Decides.{nat_tests}
 use Rattle.std.proofs.lemmas.List.{drop-drop, drop_at}
 use Rattle.std.proofs.lemmas.List.Elements.{recursion_from_All}
+use Rattle.insn_word.specs.declared.profiles.Profile.{Profile}
+use Rattle.insn_word.specs.declared.profiles.Profile.TheVariants.{One, Two}
 use Rattle.tag_memory.specs.Cell.{Cell, cell_of, tag_number}
 use Rattle.image_file.specs.ImageValue.{ImageValue, IsWithin}
 use Rattle.image_file.specs.SameLaws.{cell_of-tag_number}
 use Rattle.image_file.proofs.TagNumbers.{tag_number-below}
 use Rattle.image_file.specs.Fields.{number_bytes, number_of_bytes}
 use Rattle.image_file.specs.Parts.{count_fault, entry_fault}
-use Rattle.image_file.specs.Spelling.{magic, version, entry_bytes, word_bytes, cell_bytes, header_bytes, bytes_of_image}
+use Rattle.image_file.specs.Versions.{version_of, profile_of, chain_size}
+use Rattle.image_file.specs.Spelling.{magic, entry_bytes, word_bytes, cell_bytes, header_bytes, bytes_of_image}
 use Rattle.image_file.specs.Spelling.{Stands}
-use Rattle.image_file.specs.Reading.{processors_at, words_at, cells_at}
-use Rattle.image_file.specs.Reading.{program_place, cells_place, asked_length}
+use Rattle.image_file.specs.Reading.{profile_at, chain_limit_at, processors_at, words_at, cells_at}
+use Rattle.image_file.specs.Reading.{entries_place, program_place, cells_place, asked_length}
 use Rattle.image_file.specs.Reading.{entries_from, program_from, tag_byte, tags_from, cell_from, cells_from, image_at}
 use Rattle.image_file.specs.Reading.{tag_fault}
+use Rattle.image_file.proofs.Profiles.{profile_again, profile_from, chain_again}
 use Rattle.image_file.proofs.Limits.{AreCounts, no_count_fault}
 use Rattle.image_file.proofs.Searches.{none_where_all_pass}
 use Rattle.image_file.proofs.Numbers.{length-number_bytes, number_again}
@@ -73,25 +77,48 @@ program_text i = flat_map word_bytes i.program
 abbrev cells_text : ImageValue → List ℕ
 cells_text i = flat_map cell_bytes i.cells
 
-abbrev Says : List ℕ → ImageValue → Type 0
-Says b i =
-    HasHeader b magic version (length i.entries) i.slim i.retry_limit i.trap_entry (length i.program) (length i.cells)
+-- the header of the image, where the chain limit has as many bytes as in profile p
+abbrev SaysIn : Profile → List ℕ → ImageValue → Type 0
+SaysIn p b i =
+    HasHeader (chain_size p) b magic (version_of i.profile) (length i.entries) i.slim i.chain_limit i.retry_limit
+    i.trap_entry (length i.program) (length i.cells)
     (entries_text i ++ (program_text i ++ cells_text i))
 
-says : (b : List ℕ) (i : ImageValue) → Stands b i → Says b i
+version_fits : (p : Profile) → version_of p < 2 ^ 16
+version_fits One = omega arith
+version_fits Two = omega arith
+
+says_in : (b : List ℕ) (i : ImageValue) → Stands b i → SaysIn i.profile b i
 unfolding bytes_of_image
-says b i stands =
+says_in b i stands =
     let w = stands.within in
     let f = stands.fits in
-    header_again b magic version (length i.entries) i.slim i.retry_limit i.trap_entry (length i.program)
-    (length i.cells)
-    (entries_text i ++ (program_text i ++ cells_text i)) (omega arith) (omega arith) (omega arith) (omega arith)
+    header_again (chain_size i.profile) b magic (version_of i.profile) (length i.entries) i.slim i.chain_limit
+    i.retry_limit i.trap_entry (length i.program) (length i.cells)
+    (entries_text i ++ (program_text i ++ cells_text i)) (omega arith) (version_fits i.profile) (omega arith)
+    (omega arith)
     f.retry_limit
     f.trap_entry (omega arith) (omega arith) stands.spelled
 
+profile_is : (b : List ℕ) (i : ImageValue) → Stands b i → profile_at b ≡ i.profile
+profile_is b i stands = profile_from b i.profile ((says_in b i stands).version)
+
+abbrev Says : List ℕ → ImageValue → Type 0
+Says b i = SaysIn (profile_at b) b i
+
+says : (b : List ℕ) (i : ImageValue) → Stands b i → Says b i
+says b i stands = subst (λ p. SaysIn p b i) (sym (profile_is b i stands)) (says_in b i stands)
+
+chain_is : (b : List ℕ) (i : ImageValue) → Stands b i → chain_limit_at b ≡ i.chain_limit
+chain_is b i stands =
+    let w = stands.within in
+    let profile = profile_is b i stands in
+    chain_again (profile_at b) i.chain_limit b (λ one. w.chain_of_one (sym profile ∙ one)) w.chain
+    ((says b i stands).chain_limit)
+
 -- what stands at each place
 pub record HasLists (b : List ℕ) (i : ImageValue) : Type 0 where
-  pub entries : drop 26 b ≡ entries_text i ++ (program_text i ++ cells_text i)
+  pub entries : drop (entries_place b) b ≡ entries_text i ++ (program_text i ++ cells_text i)
   pub program : drop (program_place b) b ≡ program_text i ++ cells_text i
   pub cells : drop (cells_place b) b ≡ cells_text i
   pub whole : length b ≡ asked_length b
@@ -106,15 +133,15 @@ lists b i stands h =
     let words-is = h.words in
     let cells-is = h.cells in
     let program : drop (program_place b) b ≡ program_text i ++ cells_text i =
-    sym (drop-drop (4 * processors_at b) 26 b)
+    sym (drop-drop (4 * processors_at b) (entries_place b) b)
     ∙ ap (drop (4 * processors_at b)) h.after
     ∙ drop_at (entries_text i) (program_text i ++ cells_text i) (4 * processors_at b) (omega arith) in
     let last : drop (cells_place b) b ≡ cells_text i =
     sym (drop-drop (8 * words_at b) (program_place b) b)
     ∙ ap (drop (8 * words_at b)) program
     ∙ drop_at (program_text i) (cells_text i) (8 * words_at b) (omega arith) in
-    let header = header_bytes magic version (length i.entries) i.slim i.retry_limit i.trap_entry (length i.program)
-    (length i.cells) in
+    let header = header_bytes magic (version_of i.profile) (length i.entries) i.slim (chain_size i.profile)
+    i.chain_limit i.retry_limit i.trap_entry (length i.program) (length i.cells) in
     let whole : length b ≡ asked_length b =
     omega (
       arith,
@@ -122,15 +149,16 @@ lists b i stands h =
       length-append header (entries_text i ++ (program_text i ++ cells_text i)),
       length-append (entries_text i) (program_text i ++ cells_text i),
       length-append (program_text i) (cells_text i),
-      length-header_bytes magic version (length i.entries) i.slim i.retry_limit i.trap_entry (length i.program)
-          (length i.cells),
+      length-header_bytes magic (version_of i.profile) (length i.entries) i.slim (chain_size i.profile)
+          i.chain_limit i.retry_limit i.trap_entry (length i.program) (length i.cells),
+      ap chain_size (profile_is b i stands),
     ) in
     record { entries = h.after; program = program; cells = last; whole = whole }
 
 -- ---- what is read there
 
 entries_again : (b : List ℕ) (i : ImageValue) → Stands b i → Says b i
-    → entries_from (processors_at b) (drop 26 b) ≡ i.entries
+    → entries_from (processors_at b) (drop (entries_place b) b) ≡ i.entries
 entries_again b i stands h =
     let w = stands.within in
     let below : All (λ e. e < 2 ^ 32) i.entries = λ k d here. let e = w.entries_stand k d here in omega arith in
@@ -166,7 +194,9 @@ image_again b i stands =
     let h = says b i stands in
     let l = lists b i stands h in
     λ j. record {
+      profile = profile_is b i stands j;
       slim = h.slim j;
+      chain_limit = chain_is b i stands j;
       retry_limit = h.retry_limit j;
       trap_entry = h.trap_entry j;
       entries = entries_again b i stands h j;
@@ -176,12 +206,13 @@ image_again b i stands =
 
 -- ---- and there is no fault
 
-counts_of : (i : ImageValue) → IsWithin i → AreCounts (length i.entries) i.slim (length i.program) (length i.cells)
+counts_of : (i : ImageValue) → IsWithin i → AreCounts (length i.entries) i.slim i.chain_limit (length i.program) (length i.cells)
 counts_of i w = record {
   some_processors = w.some_processors;
   few_processors = w.few_processors;
   some_slim = w.some_slim;
   few_slim = w.few_slim;
+  few_hops = w.chain;
   some_words = w.some_words;
   few_words = w.few_words;
   some_cells = w.some_cells;
@@ -205,11 +236,13 @@ sound_again b i stands =
     let l = lists b i stands h in
     let whole = l.whole in
     record {
-      long = omega arith;
+      versioned = record {
+        known = ap profile_of h.version ∙ profile_again i.profile ∙ ap Some (sym (profile_is b i stands));
+        long = omega arith;
+      };
       magic_stands = h.magic;
-      version_stands = h.version;
-      counts = (λ j. count_fault (h.processors j) (h.slim j) (h.words j) (h.cells j))
-          ∙ no_count_fault (length i.entries) i.slim (length i.program) (length i.cells) (counts_of i stands.within);
+      counts = (λ j. count_fault (h.processors j) (h.slim j) (chain_is b i stands j) (h.words j) (h.cells j))
+          ∙ no_count_fault (length i.entries) i.slim i.chain_limit (length i.program) (length i.cells) (counts_of i stands.within);
       entries = (λ j. entry_fault (h.words j) (entries_again b i stands h j))
           ∙ entries_pass (length i.program) i.entries stands.within.entries_stand;
       tags = ap tag_fault (tags_again b i stands h l)

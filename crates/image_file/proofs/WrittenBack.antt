@@ -11,9 +11,12 @@ use Rattle.tag_memory.specs.TagNumber.{tag_number-cell_of}
 use Rattle.image_file.specs.ImageValue.{IsWithin}
 use Rattle.image_file.specs.Fields.{IsBytes, number_bytes, number_of_bytes}
 use Rattle.image_file.specs.Spelling.{entry_bytes, word_bytes, cell_bytes, header_bytes, bytes_of_image, Fits, Stands}
-use Rattle.image_file.specs.Reading.{processors_at, slim_at, retry_limit_at, trap_entry_at, words_at, cells_at}
-use Rattle.image_file.specs.Reading.{program_place, cells_place, header_length}
+use Rattle.image_file.specs.Versions.{chain_size, tail_place}
+use Rattle.image_file.specs.Reading.{profile_at, processors_at, slim_at, chain_limit_at, tail_at}
+use Rattle.image_file.specs.Reading.{retry_limit_at, trap_entry_at, words_at, cells_at}
+use Rattle.image_file.specs.Reading.{version_at, entries_place, program_place, cells_place}
 use Rattle.image_file.specs.Reading.{entries_from, program_from, tag_byte, tags_from, cell_from, cells_from, image_at}
+use Rattle.image_file.proofs.Profiles.{version_is, chain_of_one, chain_back}
 use Rattle.image_file.proofs.Limits.{within}
 use Rattle.image_file.proofs.Searches.{none_fails}
 use Rattle.image_file.proofs.Numbers.{number_back, number_below}
@@ -24,19 +27,20 @@ use Rattle.image_file.proofs.Sound.{IsSound}
 pub image_within : (b : List ℕ) → IsSound b → IsWithin (image_at b)
 unfolding image_at
 image_within b s =
-    let processors = length-parts_of 4 (number_of_bytes 4) (processors_at b) (drop header_length b) in
+    let processors = length-parts_of 4 (number_of_bytes 4) (processors_at b) (drop (entries_place b) b) in
     let words = length-parts_of 8 (number_of_bytes 8) (words_at b) (drop (program_place b) b) in
     let cells = length-parts_of 9 cell_from (cells_at b) (drop (cells_place b) b) in
-    within (image_at b) (rw (processors, words, cells) s.counts) (rw words s.entries)
+    within (image_at b) (chain_of_one (profile_at b) b) (rw (processors, words, cells) s.counts) (rw words s.entries)
 
 image_fits : (b : List ℕ) → IsBytes b → Fits (image_at b)
 unfolding image_at
 image_fits b are_bytes =
     let program = IsBytes-drop (program_place b) b are_bytes in
     let cells = IsBytes-drop (cells_place b) b are_bytes in
+    let tail = IsBytes-drop (tail_place (profile_at b)) b are_bytes in
     record {
-      retry_limit = number_below 4 (drop 10 b) (IsBytes-drop 10 b are_bytes);
-      trap_entry = number_below 4 (drop 14 b) (IsBytes-drop 14 b are_bytes);
+      retry_limit = number_below 4 (tail_at b) tail;
+      trap_entry = number_below 4 (drop 4 (tail_at b)) (IsBytes-drop 4 (tail_at b) tail);
       program = parts_all (λ w. w < 2 ^ 64) 8 (number_of_bytes 8) (number_below 8) (words_at b)
           (drop (program_place b) b) program;
       cells = parts_all (λ c. c.value < 2 ^ 64) 9 cell_from (number_below 8) (cells_at b)
@@ -63,16 +67,16 @@ tag_below b s k here =
 
 -- the three lists, each in front of the next
 entries_back : (b : List ℕ) → IsBytes b → IsSound b
-    → drop 26 b ≡ flat_map entry_bytes (entries_from (processors_at b) (drop 26 b)) ++ drop (program_place b) b
+    → drop (entries_place b) b ≡ flat_map entry_bytes (entries_from (processors_at b) (drop (entries_place b) b)) ++ drop (program_place b) b
 entries_back b are_bytes s =
-    let rest = drop 26 b in
+    let rest = drop (entries_place b) b in
     let p = processors_at b in
-    let bytes = IsBytes-drop 26 b are_bytes in
+    let bytes = IsBytes-drop (entries_place b) b are_bytes in
     let whole = s.whole in
-    let room : 4 * p ≤ length rest = omega (arith, length-drop 26 b) in
+    let room : 4 * p ≤ length rest = omega (arith, length-drop (entries_place b) b) in
     parts_back IsBytes 4 (number_of_bytes 4) entry_bytes (number_back 4) p rest room
     (λ k below. IsBytes-drop (4 * k) rest bytes)
-    ∙ ap (λ r. flat_map entry_bytes (entries_from p rest) ++ r) (drop-drop (4 * p) 26 b)
+    ∙ ap (λ r. flat_map entry_bytes (entries_from p rest) ++ r) (drop-drop (4 * p) (entries_place b) b)
 
 program_back : (b : List ℕ) → IsBytes b → IsSound b
     → drop (program_place b) b
@@ -107,16 +111,19 @@ cells_back b are_bytes s =
 image_back : (b : List ℕ) → IsBytes b → IsSound b → b ≡ bytes_of_image (image_at b)
 unfolding image_at bytes_of_image
 image_back b are_bytes s =
-    let processors = length-parts_of 4 (number_of_bytes 4) (processors_at b) (drop 26 b) in
+    let processors = length-parts_of 4 (number_of_bytes 4) (processors_at b) (drop (entries_place b) b) in
     let words = length-parts_of 8 (number_of_bytes 8) (words_at b) (drop (program_place b) b) in
     let cells = length-parts_of 9 cell_from (cells_at b) (drop (cells_place b) b) in
     let last = program_back b are_bytes s
     ∙ ap (λ r. flat_map word_bytes (program_from (words_at b) (drop (program_place b) b)) ++ r)
     (cells_back b are_bytes s) in
     let lists = entries_back b are_bytes s
-    ∙ ap (λ r. flat_map entry_bytes (entries_from (processors_at b) (drop 26 b)) ++ r) last in
-    header_back b are_bytes s.long
-    ∙ (λ i. header_bytes (s.magic_stands i) (s.version_stands i) (sym processors i) (slim_at b) (retry_limit_at b)
+    ∙ ap (λ r. flat_map entry_bytes (entries_from (processors_at b) (drop (entries_place b) b)) ++ r) last in
+    let profile = profile_at b in
+    let version = version_is (version_at b) profile s.versioned.known in
+    header_back (chain_size profile) (chain_limit_at b) b are_bytes s.versioned.long (chain_back profile b)
+    ∙ (λ i. header_bytes (s.magic_stands i) (version i) (sym processors i) (slim_at b) (chain_size profile)
+    (chain_limit_at b) (retry_limit_at b)
     (trap_entry_at b) (sym words i) (sym cells i) ++ lists i)
 
 pub stands_at : (b : List ℕ) → IsBytes b → IsSound b → Stands b (image_at b)

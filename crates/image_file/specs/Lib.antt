@@ -3,6 +3,7 @@
 pub mod ImageValue
 pub mod Same
 pub mod Fields
+pub mod Versions
 pub mod Spelling
 pub mod Fault
 pub mod Parts

@@ -1,9 +1,10 @@
 -- The first fault of an image's parts.
-use Rattle.std.specs.Prelude.{ℕ, Bool, not, ◌&&◌, nat_le, List, length, Option, Some, None, if◌then◌else◌}
+use Rattle.std.specs.Prelude.{ℕ, Bool, not, ◌&&◌, nat_le, nat_lt, List, length, Option, Some, None, if◌then◌else◌}
 use Rattle.std.specs.Option.{option_map}
 use Rattle.std.specs.List.{position}
+use Rattle.tag_memory.specs.Storage.{most_chain_limit}
 use Rattle.image_file.specs.declared.fault.CountField.{CountField}
-use Rattle.image_file.specs.declared.fault.CountField.TheVariants.{Processors, Slim, Program, Cells}
+use Rattle.image_file.specs.declared.fault.CountField.TheVariants.{Processors, Slim, Chain, Program, Cells}
 use Rattle.image_file.specs.declared.fault.ImageFault.{ImageFault}
 use Rattle.image_file.specs.declared.fault.ImageFault.TheVariants.{Count, Entry}
 use Rattle.image_file.specs.Fault.{first_of}
@@ -14,10 +15,11 @@ abbrev pub is_one_to : ℕ → ℕ → Bool
 is_one_to most n = nat_le 1 n && nat_le n most
 
 -- the first number that is out of its limits
-abbrev pub count_fault : (processors slim words cells : ℕ) → Option CountField
-count_fault processors slim words cells =
+abbrev pub count_fault : (processors slim chain words cells : ℕ) → Option CountField
+count_fault processors slim chain words cells =
     if not (is_one_to 16 processors) then Some Processors
     else if not (is_one_to 128 slim) then Some Slim
+    else if nat_lt most_chain_limit chain then Some Chain
     else if not (is_one_to 65536 words) then Some Program
     else if not (is_one_to 262144 cells) then Some Cells
     else None
@@ -30,5 +32,5 @@ entry_fault words entries = position (λ e. nat_le words e) entries
 abbrev pub parts_fault : ImageValue → Option ImageFault
 parts_fault i =
     first_of
-    (option_map Count (count_fault (length i.entries) i.slim (length i.program) (length i.cells)))
+    (option_map Count (count_fault (length i.entries) i.slim i.chain_limit (length i.program) (length i.cells)))
     (option_map Entry (entry_fault (length i.program) i.entries))

@@ -4,13 +4,11 @@ use Rattle.std.specs.List.{concat, flat_map, AllByRecursion}
 use Rattle.tag_memory.specs.Cell.{Cell, tag_number}
 use Rattle.image_file.specs.ImageValue.{ImageValue, IsWithin}
 use Rattle.image_file.specs.Fields.{number_bytes}
+use Rattle.image_file.specs.Versions.{version_of, chain_size}
 
 -- the text MTAP
 abbrev pub magic : ℕ
 magic = 0x4d544150
-
-abbrev pub version : ℕ
-version = 1
 
 abbrev pub entry_bytes : ℕ → List ℕ
 entry_bytes e = number_bytes 4 e
@@ -22,14 +20,16 @@ word_bytes w = number_bytes 8 w
 abbrev pub cell_bytes : Cell → List ℕ
 cell_bytes c = number_bytes 8 c.value ++ number_bytes 1 (tag_number c)
 
--- the header of these numbers
-unfoldable pub header_bytes : (magic version processors slim retry_limit trap_entry words cells : ℕ) → List ℕ
-header_bytes magic version processors slim retry_limit trap_entry words cells =
+-- the header of these numbers, with so many bytes of the chain limit
+unfoldable pub header_bytes : (magic version processors slim chain_size chain_limit : ℕ)
+    → (retry_limit trap_entry words cells : ℕ) → List ℕ
+header_bytes magic version processors slim chain_size chain_limit retry_limit trap_entry words cells =
     concat (
     number_bytes 4 magic
     ∷ number_bytes 2 version
     ∷ number_bytes 2 processors
     ∷ number_bytes 2 slim
+    ∷ number_bytes chain_size chain_limit
     ∷ number_bytes 4 retry_limit
     ∷ number_bytes 4 trap_entry
     ∷ number_bytes 4 words
@@ -38,8 +38,8 @@ header_bytes magic version processors slim retry_limit trap_entry words cells =
 
 abbrev pub header_of : ImageValue → List ℕ
 header_of i =
-    header_bytes magic version (length i.entries) i.slim i.retry_limit i.trap_entry (length i.program)
-    (length i.cells)
+    header_bytes magic (version_of i.profile) (length i.entries) i.slim (chain_size i.profile) i.chain_limit
+    i.retry_limit i.trap_entry (length i.program) (length i.cells)
 
 unfoldable pub bytes_of_image : ImageValue → List ℕ
 bytes_of_image i =

@@ -7,7 +7,7 @@ ghost use Rattle.image_file.specs.Reading.{body_fault, entries_from, tags_from, 
 
 use crate::ImageFault;
 use crate::fields::{from_place, u8_of, u32_of};
-use crate::header::{HEADER_LENGTH, Header};
+use crate::header::Header;
 
 /// The least of so many entries that is not below the number of program words.
 fn entry_fault(words: u32, count: usize, bytes: &[u8]) -> Option<usize>
@@ -51,7 +51,7 @@ pub(crate) fn body_fault(header: Header, bytes: &[u8]) -> Option<ImageFault>
     if bytes.len() < header.file_length() {
         return Some(ImageFault::Short);
     }
-    let entries = from_place(bytes, HEADER_LENGTH);
+    let entries = from_place(bytes, header.entries_place());
     if let Some(processor) = entry_fault(header.words, usize::from(header.processors), entries) {
         return Some(ImageFault::Entry(processor as u8));
     }

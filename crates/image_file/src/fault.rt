@@ -13,6 +13,8 @@ pub enum CountField {
     Processors,
     /// The most streams of a processor, 1 to 128.
     Slim,
+    /// The chain limit of an image of Profile 2, 0 to 64.
+    Chain,
     /// The number of program words, 1 to 65,536.
     Program,
     /// The number of data words, 1 to 262,144.
@@ -22,11 +24,12 @@ pub enum CountField {
 /// The first fault of parts or bytes that are no image, in the order of the variants.
 #[derive(Clone, Copy, Debug, PartialEq, Eq)]
 pub enum ImageFault {
-    /// There are fewer than the 26 bytes of a header, or fewer than the header asks for.
+    /// There are fewer than the 26 bytes of a header of version 1, or fewer than the header asks for; in version 2
+    /// also fewer than the 28 bytes of its header.
     Short,
     /// The first four bytes are not `MTAP`.
     Magic,
-    /// The version is not 1.
+    /// The version is neither 1 nor 2.
     Version,
     /// A number is out of its limits: the first such field.
     Count(CountField),

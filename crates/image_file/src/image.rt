@@ -2,20 +2,25 @@
 
 ghost use Rattle.std.specs.Prelude.{◌≡◌, ◌<◌, ◌≤◌, ◌↔◌, length, slice_get, IsSome, IfSome};
 ghost use Rattle.std.specs.Bool.{IsTrue};
+ghost use Rattle.tag_memory.specs.Storage.{default_chain_limit, most_chain_limit};
 ghost use Rattle.image_file.specs.ImageValue.{IsWithin};
 ghost use Rattle.image_file.specs.Same.{same_image};
 ghost use Rattle.image_file.specs.SameLaws.{same_image-laws};
 
+use insn_word::Profile;
 use std::marker::Model;
 use tag_memory::Word;
 
 /// An image: what a machine starts with ("Images", docs/MACHINE.md).
 ///
 /// Every image has 1 to 16 processors, a slim of 1 to 128, 1 to 65,536 program words and 1 to 262,144 data words,
-/// and the entry of each processor is below the number of program words.
+/// and the entry of each processor is below the number of program words. Its chain limit is at most 64, and 8 in
+/// Profile 1.
 #[derive(Debug, Drop)]
 pub struct Image {
+    pub(crate) profile: Profile,
     pub(crate) slim: u16,
+    pub(crate) chain_limit: u8,
     pub(crate) retry_limit: u32,
     pub(crate) trap_entry: u32,
     pub(crate) entries: Vec<u32>,
@@ -24,17 +29,37 @@ pub struct Image {
 }
 
 impl Model for Image {
-    ghost use Rattle.image_file.specs.ImageValue.{ImageValue, IsWithin, image_of};
+    ghost use Rattle.image_file.specs.ImageValue.{ImageValue, IsWithin, image_in};
 
     ghost Value = { ImageValue };
 
-    ghost view = { λ i. image_of i.entries.items i.slim i.retry_limit i.trap_entry i.program.items i.cells.items };
+    ghost view = { λ i.
+        image_in i.profile i.chain_limit i.entries.items i.slim i.retry_limit i.trap_entry i.program.items
+        i.cells.items };
 
     ghost invariant = { λ i.
-        IsWithin (image_of i.entries.items i.slim i.retry_limit i.trap_entry i.program.items i.cells.items) };
+        IsWithin
+        (image_in i.profile i.chain_limit i.entries.items i.slim i.retry_limit i.trap_entry i.program.items
+        i.cells.items) };
 }
 
 impl Image {
+    /// The profile: which operations the program words may have.
+    pub fn profile(&self) -> Profile
+        ensures { result ≡ self.now.profile }
+    {
+        self.profile
+    }
+
+    /// How many words may forward one reference, at most 64; 8 in Profile 1.
+    pub fn chain_limit(&self) -> u8
+        ensures is { result ≡ self.now.chain_limit }
+        ensures few { result ≤ most_chain_limit }
+        ensures of_one { self.now.profile ≡ Profile.One → result ≡ default_chain_limit }
+    {
+        self.chain_limit
+    }
+
     /// The number of processors, 1 to 16.
     pub fn processors(&self) -> usize
         ensures is { result ≡ length self.now.entries }
@@ -106,8 +131,10 @@ impl Image {
     fn is_same(&self, other: &Image) -> bool
         ensures { result ≡ same_image self.now other.now }
     {
-        self.entries == other.entries
+        self.profile == other.profile
+            && self.entries == other.entries
             && self.slim == other.slim
+            && self.chain_limit == other.chain_limit
             && self.retry_limit == other.retry_limit
             && self.trap_entry == other.trap_entry
             && self.program == other.program
@@ -115,7 +142,7 @@ impl Image {
     }
 }
 
-/// Equal exactly where the images have the same numbers, entries, program words and cells.
+/// Equal exactly where the images have the same profile, numbers, entries, program words and cells.
 impl PartialEq for Image {
     ghost eq = { same_image };
 

@@ -10,6 +10,7 @@ mod image;
 mod laws;
 mod parts;
 mod reading;
+mod versions;
 mod writing;
 
 pub use fault::{CountField, ImageFault};

@@ -11,7 +11,7 @@ ghost use Rattle.image_file.specs.Answers.{Reads, SaysFault};
 
 use crate::checking::body_fault;
 use crate::fields::{from_place, u8_of, u32_of, u64_of};
-use crate::header::{HEADER_LENGTH, Header};
+use crate::header::Header;
 use crate::{Image, ImageFault};
 use std::alloc::{AllocError, Global};
 use tag_memory::Word;
@@ -69,10 +69,11 @@ fn sound_image(alloc: Global, header: Header, bytes: &[u8]) -> Result<Image, All
     requires sound_body { body_fault bytes.now ≡ None }
     ensures { IfOk result (λ i. i ≡ image_at bytes.now) }
 {
+    let chain_limit = header.chain_limit as u8;
     let entries = entries_of(
         alloc,
         usize::from(header.processors),
-        from_place(bytes, HEADER_LENGTH),
+        from_place(bytes, header.entries_place()),
     )?;
     let program = program_of(
         alloc,
@@ -85,7 +86,9 @@ fn sound_image(alloc: Global, header: Header, bytes: &[u8]) -> Result<Image, All
         from_place(bytes, header.cells_place()),
     )?;
     Ok(Image {
+        profile: header.profile,
         slim: header.slim,
+        chain_limit,
         retry_limit: header.retry_limit,
         trap_entry: header.trap_entry,
         entries,
