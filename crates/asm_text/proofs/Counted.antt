@@ -13,7 +13,6 @@ use Rattle.insn_word.specs.Fields.{number_of_fields}
 use Rattle.insn_word.specs.Words.{fields}
 use Rattle.insn_word.specs.declared.insn.Insn.{Insn}
 use Rattle.insn_word.specs.declared.profiles.Profile.{Profile}
-use Rattle.insn_word.specs.declared.profiles.Profile.TheVariants as variant
 use Rattle.asm_line.specs.Text.{head, operands}
 use Rattle.asm_line.specs.Faults.{map_ok, ◌>>=◌, both, unless_unknown}
 use Rattle.asm_line.specs.Heads.{directive_of, directive_named}
@@ -32,7 +31,7 @@ use Rattle.asm_line.specs.declared.operation.Directive.{Directive}
 use Rattle.asm_line.specs.declared.operation.Directive.TheVariants as directive
 use Rattle.asm_text.specs.declared.fault.AsmFault.{AsmFault}
 use Rattle.asm_text.specs.declared.settings.Settings.{Settings}
-use Rattle.asm_text.specs.Settings.{profile_set, slim_set, retry_set, trap_set}
+use Rattle.asm_text.specs.Settings.{profile_set, slim_set, chain_set, retry_set, trap_set}
 use Rattle.asm_text.specs.Drafts.{DraftValue, add, with_settings, with_entry, with_word, with_cells}
 use Rattle.asm_text.specs.Sources.{with_line, with_lines, after_line}
 use Rattle.asm_text.proofs.Kept.{mapped, passed}
@@ -222,9 +221,8 @@ unfolding add
 add_counts d e item.Nothing is =
     let at : d ≡ e = cc in
     let same : length d.words ≡ length e.words = ap (λ (f : DraftValue). length f.words) at in omega arith
-add_counts d e (item.Profile variant.Two) is = absurd cc
-add_counts d e (item.Chain n) is = absurd cc
-add_counts d e (item.Profile variant.One) is = settings_count d e (profile_set d.settings) is
+add_counts d e (item.Chain n) is = settings_count d e (chain_set d.settings n) is
+add_counts d e (item.Profile p) is = settings_count d e (profile_set d.settings) is
 add_counts d e (item.Slim n) is = settings_count d e (slim_set d.settings n) is
 add_counts d e (item.Retry n) is = settings_count d e (retry_set d.settings n) is
 add_counts d e (item.Trap n) is = settings_count d e (trap_set d.settings n) is

@@ -2,7 +2,7 @@
 use Rattle.std.proofs.Common.{◌≡◌, ◌≢◌, ℕ, ◌+◌, Bool, true, false, not, cond, eqb, List, [], ◌∷◌, ◌++◌, map, length}
 use Rattle.std.proofs.Common.{reverse, codes, All, Option, Some, None, Ok, Err, option_map, refl, sym, ◌∙◌, ap, subst}
 use Rattle.std.proofs.Common.{arith}
-use Rattle.std.proofs.Common.{ne_eqb}
+use Rattle.std.proofs.Common.{ne_eqb, unwrap_or}
 use Rattle.std.specs.Prelude.{◌&&◌, ◌||◌, ⊤, nat_lt}
 use Rattle.std.specs.List.{list_any}
 use Rattle.std.proofs.lemmas.List.{reverse-append, reverse-reverse}
@@ -15,11 +15,11 @@ use Rattle.asm_line.specs.Text.{skip_blanks, trim, is_name, head, behind_head, o
 use Rattle.asm_line.specs.Faults.{map_ok, ◌>>=◌, both}
 use Rattle.asm_line.specs.Heads.{directive_of, directive_named}
 use Rattle.insn_word.specs.declared.profiles.Profile.{Profile}
-use Rattle.insn_word.specs.declared.profiles.Profile.TheVariants.{One}
 use Rattle.asm_line.specs.Operands.{Places}
 use Rattle.asm_line.specs.Numbers.{count_within, number_within}
 use Rattle.asm_line.specs.Directives.{item_of_directive, cells, data_cell, fill, word_number, tags_number}
 use Rattle.asm_line.specs.Lines.{Line, line_item, statement_item, directive_item, label_fault, is_word}
+use Rattle.asm_line.specs.Profiles.{profile_of, profile_told}
 use Rattle.asm_line.specs.Lines.{word_count, count_words, place, further, stands, stands_earlier}
 use Rattle.asm_line.specs.declared.fault.Fault.TheVariants as fault
 use Rattle.asm_line.specs.declared.item.Item.{Item}
@@ -232,14 +232,30 @@ places_same (b ∷ bs) after l m name labels counts =
     ap (λ o. cond (stands name b.label) (Some (record { line = 0; value = 0 })) (option_map (further b) o))
     (places_same bs after l m name labels counts)
 
+data_no_profile : (label : Option (List ℕ)) (v : List ℕ) → profile_told (data_line label v) ≡ None
+unfolding profile_told head
+data_no_profile label v = refl
+
+fill_no_profile : (label : Option (List ℕ)) (v : List ℕ) → profile_told (fill_line label v) ≡ None
+unfolding profile_told head
+fill_no_profile label v = refl
+
+profile_same : (before after : List Line) (l m : Line) → profile_told l ≡ profile_told m
+    → profile_of (before ++ l ∷ after) ≡ profile_of (before ++ m ∷ after)
+profile_same [] after l m same = ap (λ o. unwrap_or o (profile_of after)) same
+profile_same (b ∷ bs) after l m same = ap (λ p. unwrap_or (profile_told b) p) (profile_same bs after l m same)
+
 pub data_lines : DataLinesAreFills
 unfolding meaning_of_lines
 data_lines before after label v o =
     let l = data_line label v in
     let m = fill_line label v in
+    let ls = before ++ l ∷ after in
     let count = count_same before after l m (same_count label v) in
-    ap complete
-    (lines_same One (place (before ++ l ∷ after)) (count_words (before ++ l ∷ after)) 0 empty before after l m
-    (λ n e. same_added One (place (before ++ l ∷ after)) (count_words (before ++ l ∷ after)) n e label v o)
-    ∙ λ i. with_lines One (λ name. places_same before after l m name refl (same_count label v) i) (count i) 0 empty
+    let profile = profile_same before after l m (data_no_profile label v ∙ sym (fill_no_profile label v)) in
+    ap (complete (profile_of ls))
+    (lines_same (profile_of ls) (place ls) (count_words ls) 0 empty before after l m
+    (λ n e. same_added (profile_of ls) (place ls) (count_words ls) n e label v o))
+    ∙ λ i. complete (profile i)
+    (with_lines (profile i) (λ name. places_same before after l m name refl (same_count label v) i) (count i) 0 empty
     (before ++ m ∷ after))

@@ -4,7 +4,9 @@ ghost use Rattle.std.specs.Prelude.{◌≡◌, ◌≢◌, ◌+◌, ◌≤◌, na
 ghost use Rattle.std.specs.List.{position, count_by};
 ghost use Rattle.asm_line.specs.Lines.{line, lines, place, count_words};
 ghost use Rattle.asm_line.specs.Labels.{places_of};
-ghost use Rattle.insn_word.specs.declared.profiles.Profile.TheVariants.{One};
+ghost use Rattle.asm_line.specs.Profiles.{profile_of, profile_told};
+ghost use Rattle.asm_line.specs.Seen.{line_seen};
+ghost use Rattle.std.specs.Option.{option_or};
 ghost use Rattle.asm_line.specs.declared.fault.Fault.TheVariants.{NoMemory};
 ghost use Rattle.asm_text.specs.Drafts.{empty};
 ghost use Rattle.asm_text.specs.Limits.{KeepsLimits};
@@ -13,7 +15,9 @@ ghost use Rattle.asm_text.specs.Sources.{with_line, with_lines, not_ascii, Means
 
 use crate::draft::Draft;
 use crate::fault::AsmFault;
-use asm_line::{Fault, Labels, Place, cut_line, is_word, next_line, read_line};
+use asm_line::{
+    Fault, Labels, Place, SourceLine, cut_line, is_word, next_line, profile_told, read_line,
+};
 use image_file::Image;
 use insn_word::Profile;
 use std::alloc::{AllocError, Global};
@@ -55,10 +59,11 @@ struct Outline<'t> {
 }
 
 fn outline_of(alloc: Global, text: &[u8]) -> Result<Outline<'_>, AllocError>
-    ensures profile { IfOk result (λ o. o.profile ≡ One) }
+    ensures profile { IfOk result (λ o. o.profile ≡ profile_of (lines text.now)) }
     ensures labels { IfOk result (λ o. places_of o.labels ≡ place (lines text.now)) }
     ensures words { IfOk result (λ o. o.words ≡ count_words (lines text.now)) }
 {
+    let mut profile = None;
     let mut labels = Labels::new(alloc);
     let mut number = 0;
     let mut words = 0;
@@ -66,6 +71,7 @@ fn outline_of(alloc: Global, text: &[u8]) -> Result<Outline<'_>, AllocError>
     while let Some(bytes) = rest {
         let (first, following) = next_line(bytes);
         let line = cut_line(first);
+        profile = profile_after(profile, &line);
         labels.note(
             line.label,
             Place {
@@ -80,10 +86,20 @@ fn outline_of(alloc: Global, text: &[u8]) -> Result<Outline<'_>, AllocError>
         rest = following;
     }
     Ok(Outline {
-        profile: Profile::One,
+        profile: profile.unwrap_or(Profile::One),
         labels,
         words,
     })
+}
+
+/// What is said of a text's profile up to this line, where it is `earlier` before the line.
+fn profile_after(earlier: Option<Profile>, line: &SourceLine) -> Option<Profile>
+    ensures { result ≡ option_or earlier (profile_told (line_seen line.now)) }
+{
+    match earlier {
+        Some(profile) => Some(profile),
+        None => profile_told(line),
+    }
 }
 
 /// Takes what line `number` adds.
@@ -92,7 +108,8 @@ fn take_line(outline: &Outline, number: usize, draft: &mut Draft, bytes: &[u8]) 
     ensures takes { let o = outline.now in MatchResult result
         (λ _. with_line o.profile (places_of o.labels) o.words number draft.old (line bytes.now) ≡ Ok draft.new)
         (λ e. Told e (with_line o.profile (places_of o.labels) o.words number draft.old (line bytes.now))) }
-    ensures kept { KeepsLimits outline.now.words draft.old → OnOk result (KeepsLimits outline.now.words draft.new) }
+    ensures kept { let o = outline.now in
+        KeepsLimits o.profile o.words draft.old → OnOk result (KeepsLimits o.profile o.words draft.new) }
 {
     let line = cut_line(bytes);
     let item = read_line(
@@ -111,7 +128,7 @@ fn all_lines(alloc: Global, outline: &Outline, text: &[u8]) -> Result<Draft, Asm
     ensures takes { let o = outline.now in MatchResult result
         (λ d. with_lines o.profile (places_of o.labels) o.words 0 empty (lines text.now) ≡ Ok d)
         (λ e. ToldAt e (with_lines o.profile (places_of o.labels) o.words 0 empty (lines text.now))) }
-    ensures kept { IfOk result (KeepsLimits outline.now.words) }
+    ensures kept { IfOk result (KeepsLimits outline.now.profile outline.now.words) }
     ensures no_memory { IfErr result (λ e. e.kind ≡ NoMemory → e ≡ asm_no_memory) }
 {
     let mut draft = Draft::new(alloc);
@@ -144,5 +161,5 @@ pub fn assemble(alloc: Global, text: &[u8]) -> Result<Image, AsmFault>
     }
     let outline = outline_of(alloc, text)?;
     let draft = all_lines(alloc, &outline, text)?;
-    draft.finish()
+    draft.finish(outline.profile)
 }

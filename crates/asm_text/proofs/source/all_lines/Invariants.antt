@@ -13,7 +13,7 @@ invariant-loop-rest l = record {
   lines : with_lines l.outline.profile (places_of l.outline.labels) l.outline.words l.number l.draft
       (rest_lines (option_copied l.rest))
       ≡ with_lines l.outline.profile (places_of l.outline.labels) l.outline.words 0 empty (lines l.text);
-  kept : KeepsLimits l.outline.words l.draft;
+  kept : KeepsLimits l.outline.profile l.outline.words l.draft;
   number : l.number + rest_length (option_copied l.rest) ≤ length l.text + 1;
 }
 

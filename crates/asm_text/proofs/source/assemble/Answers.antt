@@ -35,7 +35,7 @@ finish-requires c =
     let n = counted c.in_ok-outline.outline.profile
     (places_of c.in_ok-outline.outline.labels) c.in_ok-outline.outline.words 0 empty c.in_ok-draft.draft _
     c.in_ok-draft.ensures.takes in
-    within c.in_ok-outline.outline.words c.in_ok-draft.draft c.in_ok-draft.ensures.kept
+    within c.in_ok-outline.outline.profile c.in_ok-outline.outline.words c.in_ok-draft.draft c.in_ok-draft.ensures.kept
     (omega (arith, n, c.in_ok-outline.ensures.words))
 
 pub returns-clause-means : goal.returns-clause-means
@@ -47,7 +47,7 @@ returns-clause-means c =
       places_are = c.in_ok-outline.ensures.labels;
       words_are = c.in_ok-outline.ensures.words;
     } in
-    finished_means c.args.text.now c.in_ok-draft.draft c.finish.result
+    finished_means c.args.text.now c.in_ok-outline.outline.profile c.in_ok-draft.draft c.finish.result
     (λ s. draft_whole c.args.text.now c.in_ok-outline.outline.profile
     (places_of c.in_ok-outline.outline.labels) c.in_ok-outline.outline.words c.in_ok-draft.draft s f
     c.in_ok-draft.ensures.takes)
@@ -62,7 +62,7 @@ returns-clause-fault c =
       places_are = c.in_ok-outline.ensures.labels;
       words_are = c.in_ok-outline.ensures.words;
     } in
-    finished_fault c.args.text.now c.in_ok-draft.draft c.finish.result
+    finished_fault c.args.text.now c.in_ok-outline.outline.profile c.in_ok-draft.draft c.finish.result
     (λ s. draft_whole c.args.text.now c.in_ok-outline.outline.profile
     (places_of c.in_ok-outline.outline.labels) c.in_ok-outline.outline.words c.in_ok-draft.draft s f
     c.in_ok-draft.ensures.takes)
