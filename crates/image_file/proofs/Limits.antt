@@ -12,12 +12,12 @@ use Rattle.image_file.proofs.Searches.{none_fails}
 use Rattle.image_file.specs.Parts.{count_fault, entry_fault}
 use Rattle.image_file.specs.declared.fault.CountField.{CountField}
 
-pub record AreCounts (processors slim chain words cells : ℕ) : Type 0 where
+pub record AreCounts (processors slim limit words cells : ℕ) : Type 0 where
   pub some_processors : 1 ≤ processors
   pub few_processors : processors ≤ 16
   pub some_slim : 1 ≤ slim
   pub few_slim : slim ≤ 128
-  pub few_hops : chain ≤ most_chain_limit
+  pub chain : limit ≤ most_chain_limit
   pub some_words : 1 ≤ words
   pub few_words : words ≤ 65536
   pub some_cells : 1 ≤ cells
@@ -29,7 +29,7 @@ counts_stand p s l w c e = record {
   few_processors = grind (arith, nat_tests);
   some_slim = grind (arith, nat_tests);
   few_slim = grind (arith, nat_tests);
-  few_hops = grind (arith, nat_tests);
+  chain = grind (arith, nat_tests);
   some_words = grind (arith, nat_tests);
   few_words = grind (arith, nat_tests);
   some_cells = grind (arith, nat_tests);
@@ -60,7 +60,7 @@ within i of_one counts entries =
       few_processors = h.few_processors;
       some_slim = h.some_slim;
       few_slim = h.few_slim;
-      chain = h.few_hops;
+      chain = h.chain;
       chain_of_one = of_one;
       some_words = h.some_words;
       few_words = h.few_words;

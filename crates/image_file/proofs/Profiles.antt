@@ -1,13 +1,14 @@
 -- What the version of bytes tells of their profile, and of their chain limit.
 use Rattle.std.proofs.Common.{◌≡◌, ℕ, ◌^◌, ◌<◌, ◌≤◌, List, ◌++◌, length, drop, append-nil}
 use Rattle.std.proofs.Common.{Option, Some, None, refl, sym, ap, ◌∙◌, arith}
+use Rattle.std.specs.Prelude.{unwrap_or}
 use Rattle.std.proofs.lemmas.Bool.Decides.{nat_tests}
 use Rattle.insn_word.specs.declared.profiles.Profile.{Profile}
 use Rattle.insn_word.specs.declared.profiles.Profile.TheVariants.{One, Two}
 use Rattle.tag_memory.specs.Storage.{default_chain_limit, most_chain_limit}
 use Rattle.image_file.specs.Fields.{number_bytes, number_of_bytes}
 use Rattle.image_file.specs.Versions.{version_of, profile_of, chain_size, chain_place, header_length}
-use Rattle.image_file.specs.Reading.{version_at, profile_or_one, profile_at, chain_limit_in, version_fault}
+use Rattle.image_file.specs.Reading.{version_at, profile_at, chain_limit_in, version_fault}
 
 -- a version that has a profile is the version of it
 pub version_is : (v : ℕ) (p : Profile) → profile_of v ≡ Some p → v ≡ version_of p
@@ -20,7 +21,7 @@ profile_again Two = refl
 
 -- bytes of a known version that have its header
 some_version : (found : Option Profile) (b : List ℕ) → version_fault found b ≡ None
-    → (found ≡ Some (profile_or_one found)) × (header_length (profile_or_one found) ≤ length b)
+    → (found ≡ Some (unwrap_or found One)) × (header_length (unwrap_or found One) ≤ length b)
 some_version None b none = absurd cc
 some_version (Some p) b none = (refl, grind (arith, nat_tests))
 
@@ -36,7 +37,7 @@ versioned b none =
 -- the profile of bytes whose version is that of p
 pub profile_from : (b : List ℕ) (p : Profile) → version_at b ≡ version_of p → profile_at b ≡ p
 unfolding profile_at
-profile_from b p is = ap (λ v. profile_or_one (profile_of v)) is ∙ ap profile_or_one (profile_again p)
+profile_from b p is = ap (λ v. unwrap_or (profile_of v) One) is ∙ ap (λ found. unwrap_or found One) (profile_again p)
 
 -- ---- the chain limit
 

@@ -1,6 +1,6 @@
 -- What bytes say at each place, and the first fault that they have.
 use Rattle.std.specs.Prelude.{ℕ, ◌+◌, ◌*◌, ◌==◌, not, nat_le, nat_lt, List, length, drop}
-use Rattle.std.specs.Prelude.{Option, Some, None, if◌then◌else◌}
+use Rattle.std.specs.Prelude.{Option, Some, None, unwrap_or, if◌then◌else◌}
 use Rattle.std.specs.Option.{option_map}
 use Rattle.std.specs.List.{position}
 use Rattle.insn_word.specs.declared.profiles.Profile.{Profile}
@@ -22,13 +22,9 @@ use Rattle.image_file.specs.Spelling.{magic}
 abbrev pub version_at : List ℕ → ℕ
 version_at bytes = number_of_bytes 2 (drop 4 bytes)
 
-abbrev pub profile_or_one : Option Profile → Profile
-profile_or_one None = One
-profile_or_one (Some profile) = profile
-
 -- the profile whose images the version has; One where no images have it, and the bytes have a fault
 unfoldable pub profile_at : List ℕ → Profile
-profile_at bytes = profile_or_one (profile_of (version_at bytes))
+profile_at bytes = unwrap_or (profile_of (version_at bytes)) One
 
 abbrev pub processors_at : List ℕ → ℕ
 processors_at bytes = number_of_bytes 2 (drop 6 bytes)
@@ -36,7 +32,7 @@ processors_at bytes = number_of_bytes 2 (drop 6 bytes)
 abbrev pub slim_at : List ℕ → ℕ
 slim_at bytes = number_of_bytes 2 (drop 8 bytes)
 
--- version 1 does not say it
+-- version 1 has no bytes for it
 abbrev pub chain_limit_in : Profile → List ℕ → ℕ
 chain_limit_in One bytes = default_chain_limit
 chain_limit_in Two bytes = number_of_bytes 2 (drop chain_place bytes)
@@ -109,7 +105,7 @@ image_at bytes =
 
 -- ---- the first fault
 
--- a version that no images have, or fewer bytes than its header has
+-- no images have the version, or there are fewer bytes than its header has
 abbrev pub version_fault : Option Profile → (bytes : List ℕ) → Option ImageFault
 version_fault None bytes = Some Version
 version_fault (Some profile) bytes = if nat_lt (length bytes) (header_length profile) then Some Short else None

@@ -24,8 +24,8 @@ pub enum CountField {
 /// The first fault of parts or bytes that are no image, in the order of the variants.
 #[derive(Clone, Copy, Debug, PartialEq, Eq)]
 pub enum ImageFault {
-    /// There are fewer than the 26 bytes of a header of version 1, or fewer than the header asks for; in version 2
-    /// also fewer than the 28 bytes of its header.
+    /// There are fewer than 26 bytes; or, after `Magic` and `Version`, fewer than the 28 of a header of version 2; or,
+    /// after `Count`, fewer than the header asks for.
     Short,
     /// The first four bytes are not `MTAP`.
     Magic,

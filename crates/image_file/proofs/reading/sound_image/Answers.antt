@@ -1,9 +1,8 @@
 use Rattle.std.proofs.Common.{◌≡◌, ◌*◌, ◌+◌, drop, arith, ap, subst, ◌∙◌, sym}
 use Rattle.image_file.specs.ImageValue.{IsWithin, image_in}
 use Rattle.image_file.specs.Versions.{header_length}
-use Rattle.image_file.specs.Reading.{entries_place, program_place, cells_place, tag_fault, tags_from, entries_from, program_from}
-use Rattle.image_file.specs.Reading.{cells_from}
-use Rattle.image_file.specs.Reading.{image_at}
+use Rattle.image_file.specs.Reading.{entries_place, program_place, cells_place, tag_fault, tags_from}
+use Rattle.image_file.specs.Reading.{entries_from, program_from, cells_from, image_at}
 use Rattle.image_file.proofs.Sound.{sound, room}
 use Rattle.image_file.proofs.WrittenBack.{image_within}
 use Rattle.image_file.proofs.Made.{image_made}
