@@ -23,13 +23,13 @@ const LINE: usize = 15;
 
 const HERE: usize = 10;
 
-/// Whether the line of source text adds the item, or has the fault, that follows it.
-pub(crate) fn adds(alloc: Global, line: &str) -> Result<bool> {
+/// Whether the line of source text adds the item, or has the fault, that follows it, in a text of this profile.
+pub(crate) fn adds(alloc: Global, profile: Profile, line: &str) -> Result<bool> {
     let (text, answer) = line.split_once('\t').context("two fields")?;
     let text = bytes_of(alloc, text)?;
     let labels = labels(alloc)?;
     let line = cut_line(&text);
-    let item = read_line(Profile::One, &labels, WORDS, LINE, HERE, &line);
+    let item = read_line(profile, &labels, WORDS, LINE, HERE, &line);
     Ok(format!(in alloc; "{item:?}")?.as_str() == answer)
 }
 
