@@ -14,7 +14,7 @@ use Rattle.tag_memory.specs.Storage.{default_chain_limit, most_chain_limit}
 use Rattle.insn_word.specs.Fields.{number_of_fields}
 use Rattle.insn_word.specs.Words.{fields}
 use Rattle.insn_word.specs.declared.profiles.Profile.{Profile}
-use Rattle.insn_word.specs.declared.profiles.Profile.TheVariants.{One, Two}
+use Rattle.insn_word.specs.declared.profiles.Profile.TheVariants.{One}
 use Rattle.image_file.specs.ImageValue.{IsWithin}
 use Rattle.asm_line.specs.Names.{has_chain}
 use Rattle.asm_line.specs.Faults.{map_ok}
