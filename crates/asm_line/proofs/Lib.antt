@@ -2,6 +2,7 @@ pub mod Pieces
 pub mod Limits
 pub mod Combined
 pub mod Noted
+pub mod ProfileHeads
 pub mod OkRules
 pub mod NumberRanges
 pub mod NamedRanges

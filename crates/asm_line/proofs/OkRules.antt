@@ -51,6 +51,25 @@ found_in {A} p Q (x ∷ xs) h = by_test (p x) (found_in p Q xs h.1)
     by_test true k = h.0
     by_test false k = k
 
+-- what is found passes the test
+pub found_passes : {A : Type 0} (p : A → Bool) (xs : List A) → IfSome (find p xs) (λ x. p x ≡ true)
+found_passes p [] = tt
+found_passes {A} p (x ∷ xs) = by_test (p x) refl (found_passes p xs)
+  where
+    by_test : (b : Bool) → p x ≡ b → IfSome (find p xs) (λ x. p x ≡ true)
+        → IfSome (cond b (Some x) (find p xs)) (λ x. p x ≡ true)
+    by_test true e k = e
+    by_test false e k = k
+
+pub some_any : {A : Type 0} (o : Option A) → IfSome o (λ _. ⊤)
+some_any None = tt
+some_any (Some x) = tt
+
+pub some_and : {A : Type 0} (P Q R : A → Type 0) (o : Option A) → ((x : A) → P x → Q x → R x) → IfSome o P
+    → IfSome o Q → IfSome o R
+some_and P Q R None f h k = tt
+some_and P Q R (Some x) f h k = f x h k
+
 pub all_append : {A : Type 0} (P : A → Type 0) (xs ys : List A) → AllByRecursion P xs → AllByRecursion P ys
     → AllByRecursion P (xs ++ ys)
 all_append P [] ys h k = k

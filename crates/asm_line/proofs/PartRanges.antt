@@ -13,7 +13,7 @@ use Rattle.insn_word.specs.declared.operations.ArithmeticOp.{ArithmeticOp}
 use Rattle.insn_word.specs.declared.operations.ArithmeticOp.TheVariants as arithmetic
 use Rattle.insn_word.specs.declared.operations.Condition.{Condition}
 use Rattle.insn_word.specs.declared.operations.Condition.TheVariants as condition
-use Rattle.insn_word.specs.declared.profiles.Profile.TheVariants as profile
+use Rattle.insn_word.specs.declared.profiles.Profile.{Profile}
 use Rattle.insn_word.specs.declared.insn.MPart.{MPart}
 use Rattle.insn_word.specs.declared.insn.APart.{APart}
 use Rattle.insn_word.specs.declared.insn.CPart.{CPart}
@@ -24,10 +24,10 @@ use Rattle.asm_line.proofs.OkRules.{ok_both, ok_map}
 use Rattle.asm_line.proofs.NumberRanges.{register_range, displacement_range, source_range}
 use Rattle.asm_line.proofs.NamedRanges.{IsWithAccess, IsArithmetic}
 
-pub record IsGoodMemory (m : MPart) : Type 0 where
+pub record IsGoodMemory (profile : Profile) (m : MPart) : Type 0 where
   pub ranges : AreInRange (memory_fields m)
   pub rest : used_memory m.op m ≡ m
-  pub in_profile : has_operation profile.One m.op ≡ true
+  pub in_profile : has_operation profile m.op ≡ true
 
 pub record IsGoodArithmetic (a : APart) : Type 0 where
   pub ranges : AreInRange (arithmetic_fields a)
@@ -92,46 +92,49 @@ flag_small false = omega arith
 
 -- Memory.
 
-used_access : (op : MemoryOp) (acc : Access) (rd base : ℕ) (disp : ℤ) → IsWithAccess op acc
+used_access : (profile : Profile) (op : MemoryOp) (acc : Access) (rd base : ℕ) (disp : ℤ) → IsWithAccess profile op acc
     → (let m : MPart = record { op = op; acc = acc; rd = rd; base = base; disp = disp } in used_memory op m ≡ m)
-used_access memory.Nop acc rd base disp h = absurd h
-used_access memory.Load acc rd base disp h = refl
-used_access memory.Store acc rd base disp h = refl
-used_access memory.FetchAdd acc rd base disp h = refl
-used_access memory.TagGet acc rd base disp h =
+used_access profile memory.Nop acc rd base disp h = absurd h
+used_access profile memory.Load acc rd base disp h = refl
+used_access profile memory.Store acc rd base disp h = refl
+used_access profile memory.FetchAdd acc rd base disp h = refl
+used_access profile memory.TagGet acc rd base disp h =
     λ i. record { op = memory.TagGet; acc = h i; rd = rd; base = base; disp = disp }
-used_access memory.TagSet acc rd base disp h =
+used_access profile memory.TagSet acc rd base disp h =
     λ i. record { op = memory.TagSet; acc = h i; rd = rd; base = base; disp = disp }
-used_access memory.Purge acc rd base disp h = absurd h
+used_access profile memory.Purge acc rd base disp h =
+    λ i. record { op = memory.Purge; acc = h.0 i; rd = rd; base = base; disp = disp }
 
-profile_has : (op : MemoryOp) (acc : Access) → IsWithAccess op acc → has_operation profile.One op ≡ true
-profile_has memory.Nop acc h = refl
-profile_has memory.Load acc h = refl
-profile_has memory.Store acc h = refl
-profile_has memory.FetchAdd acc h = refl
-profile_has memory.TagGet acc h = refl
-profile_has memory.TagSet acc h = refl
-profile_has memory.Purge acc h = absurd h
+profile_has : (profile : Profile) (op : MemoryOp) (acc : Access) → IsWithAccess profile op acc
+    → has_operation profile op ≡ true
+profile_has profile memory.Nop acc h = refl
+profile_has profile memory.Load acc h = refl
+profile_has profile memory.Store acc h = refl
+profile_has profile memory.FetchAdd acc h = refl
+profile_has profile memory.TagGet acc h = refl
+profile_has profile memory.TagSet acc h = refl
+profile_has profile memory.Purge acc h = h.1
 
-pub memory_part_range : (op : MemoryOp) (acc : Access) (os : List (List ℕ)) → IsWithAccess op acc
-    → IfOk (memory_part op acc os) IsGoodMemory
-memory_part_range op acc (x ∷ y ∷ z ∷ []) h =
+pub memory_part_range : (profile : Profile) (op : MemoryOp) (acc : Access) (os : List (List ℕ))
+    → IsWithAccess profile op acc
+    → IfOk (memory_part op acc os) (IsGoodMemory profile)
+memory_part_range profile op acc (x ∷ y ∷ z ∷ []) h =
     ok_map (λ v. record { op = op; acc = acc; rd = v.0.0; base = v.0.1; disp = v.1 })
-    (λ v. ((v.0.0 < 32) × (v.0.1 < 32)) × IsFieldInRange (signed 6 v.1)) IsGoodMemory
+    (λ v. ((v.0.0 < 32) × (v.0.1 < 32)) × IsFieldInRange (signed 6 v.1)) (IsGoodMemory profile)
     (both (both (register x) (register y)) (displacement z))
     (λ v r. record {
       ranges = (memory_small op, (access_small acc, (r.0.0, (r.0.1, (r.1, tt)))));
-      rest = used_access op acc v.0.0 v.0.1 v.1 h;
-      in_profile = profile_has op acc h;
+      rest = used_access profile op acc v.0.0 v.0.1 v.1 h;
+      in_profile = profile_has profile op acc h;
     })
     (ok_both (λ w. (w.0 < 32) × (w.1 < 32)) (λ z. IsFieldInRange (signed 6 z)) (both (register x) (register y))
     (displacement z)
     (ok_both (λ n. n < 32) (λ n. n < 32) (register x) (register y) (register_range x) (register_range y))
     (displacement_range z))
-memory_part_range op acc [] h = tt
-memory_part_range op acc (x ∷ []) h = tt
-memory_part_range op acc (x ∷ y ∷ []) h = tt
-memory_part_range op acc (x ∷ y ∷ z ∷ w ∷ os) h = tt
+memory_part_range profile op acc [] h = tt
+memory_part_range profile op acc (x ∷ []) h = tt
+memory_part_range profile op acc (x ∷ y ∷ []) h = tt
+memory_part_range profile op acc (x ∷ y ∷ z ∷ w ∷ os) h = tt
 
 -- Arithmetic.
 

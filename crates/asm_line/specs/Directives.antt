@@ -1,5 +1,7 @@
 -- What a directive says.
-use Rattle.std.specs.Prelude.{ℕ, ◌-◌, ◌^◌, nat_lt, if◌then◌else◌, List, [], ◌∷◌, Result, Ok, Err}
+use Rattle.std.specs.Prelude.{ℕ, ◌-◌, ◌^◌, ◌==◌, nat_lt, if◌then◌else◌, List, [], ◌∷◌, Result, Ok, Err}
+use Rattle.insn_word.specs.declared.profiles.Profile.{Profile}
+use Rattle.insn_word.specs.declared.profiles.Profile.TheVariants as profile
 use Rattle.asm_line.specs.Faults.{map_ok, ◌>>=◌, both}
 use Rattle.asm_line.specs.Numbers.{number_within, count_within}
 use Rattle.asm_line.specs.Operands.{Places}
@@ -40,13 +42,24 @@ entry_number places words text = immediate places text >>= below words
 
 -- Directives of one operand.
 
-abbrev pub profile : List (List ℕ) → Result Item Fault
-profile (x ∷ []) = map_ok (λ n. item.Profile) (count_within 1 x)
-profile _ = Err fault.Operand
+-- of 1 and 2
+abbrev pub profile_numbered : ℕ → Profile
+profile_numbered n = if n == 2 then profile.Two else profile.One
+
+unfoldable pub profile_read : List (List ℕ) → Result Profile Fault
+profile_read (x ∷ []) = map_ok profile_numbered (count_within 2 x)
+profile_read _ = Err fault.Operand
+
+abbrev pub profile_item : List (List ℕ) → Result Item Fault
+profile_item ops = map_ok item.Profile (profile_read ops)
 
 abbrev pub slim : List (List ℕ) → Result Item Fault
 slim (x ∷ []) = map_ok item.Slim (count_within 128 x)
 slim _ = Err fault.Operand
+
+abbrev pub chain : List (List ℕ) → Result Item Fault
+chain (x ∷ []) = map_ok item.Chain (number_within 64 x)
+chain _ = Err fault.Operand
 
 abbrev pub retry : List (List ℕ) → Result Item Fault
 retry (x ∷ []) = map_ok item.Retry (number_within (2 ^ 32 - 1) x)
@@ -66,8 +79,9 @@ word (x ∷ []) = map_ok item.Word (word_number x)
 word _ = Err fault.Operand
 
 unfoldable pub item_of_directive : Places → ℕ → Directive → List (List ℕ) → Result Item Fault
-item_of_directive places words directive.Profile ops = profile ops
+item_of_directive places words directive.Profile ops = profile_item ops
 item_of_directive places words directive.Slim ops = slim ops
+item_of_directive places words directive.Chain ops = chain ops
 item_of_directive places words directive.Retry ops = retry ops
 item_of_directive places words directive.Trap ops = trap places ops
 item_of_directive places words directive.Entry ops = entry_item places words ops

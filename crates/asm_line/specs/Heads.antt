@@ -1,5 +1,5 @@
 -- The operation or directive that a head names. An operation's head is its name and perhaps, after a dot, a suffix.
-use Rattle.std.specs.Prelude.{ℕ, Bool, true, false, if◌then◌else◌, List, drop, codes, Option, Some, None, Result}
+use Rattle.std.specs.Prelude.{ℕ, Bool, true, false, ◌&&◌, if◌then◌else◌, List, drop, codes, Option, Some, None, Result}
 use Rattle.std.specs.Option.{option_map, option_or}
 use Rattle.std.specs.List.{find}
 use Rattle.std.specs.Str.{bytes_eq}
@@ -15,22 +15,23 @@ use Rattle.text_parts.specs.Parts.{text_before, text_after}
 use Rattle.asm_line.specs.Faults.{unless_unknown}
 use Rattle.asm_line.specs.Names.{wide_name, memory_name, arithmetic_name, control_name, condition_name}
 use Rattle.asm_line.specs.Names.{access_suffix, test_suffix, directive_name}
-use Rattle.asm_line.specs.Names.{directives}
-use Rattle.insn_word.specs.Operations.{wide_operations, profile_one_memory_operations, accesses, arithmetic_operations}
-use Rattle.insn_word.specs.Operations.{control_operations, conditions}
+use Rattle.asm_line.specs.Names.{directives, has_directive}
+use Rattle.insn_word.specs.Operations.{wide_operations, memory_operations, accesses, arithmetic_operations}
+use Rattle.insn_word.specs.Operations.{control_operations, conditions, has_operation}
+use Rattle.insn_word.specs.declared.profiles.Profile.{Profile}
 use Rattle.asm_line.specs.declared.fault.Fault.{Fault}
 use Rattle.asm_line.specs.declared.operation.Operation.{Operation}
 use Rattle.asm_line.specs.declared.operation.Operation.TheVariants as operation
 use Rattle.asm_line.specs.declared.operation.Directive.{Directive}
 
 -- Names. NOP, the first operation of each part of a normal word, is named by no part: it is an instruction of its
--- own. Texts have Profile 1, so PURGE names nothing.
+-- own. A memory operation or directive that the profile lacks is named by nothing.
 
 unfoldable pub wide_named : List ℕ → Option WideOp
 wide_named name = find (λ o. bytes_eq name (wide_name o)) wide_operations
 
-unfoldable pub memory_named : List ℕ → Option MemoryOp
-memory_named name = find (λ o. bytes_eq name (memory_name o)) (drop 1 profile_one_memory_operations)
+unfoldable pub memory_named : Profile → List ℕ → Option MemoryOp
+memory_named p name = find (λ o. bytes_eq name (memory_name o) && has_operation p o) (drop 1 memory_operations)
 
 unfoldable pub arithmetic_named : List ℕ → Option ArithmeticOp
 arithmetic_named name = find (λ o. bytes_eq name (arithmetic_name o)) (drop 1 arithmetic_operations)
@@ -41,8 +42,8 @@ control_named name = find (λ o. bytes_eq name (control_name o)) (drop 1 control
 unfoldable pub condition_named : List ℕ → Option Condition
 condition_named name = find (λ o. bytes_eq name (condition_name o)) conditions
 
-unfoldable pub directive_named : List ℕ → Option Directive
-directive_named name = find (λ o. bytes_eq name (directive_name o)) directives
+unfoldable pub directive_named : Profile → List ℕ → Option Directive
+directive_named p name = find (λ d. bytes_eq name (directive_name d) && has_directive p d) directives
 
 abbrev pub nop_named : List ℕ → Option Operation
 nop_named name = if bytes_eq name (codes "NOP") then Some operation.Nop else None
@@ -95,15 +96,15 @@ abbrev pub memory_or_plain : List ℕ → Option (List ℕ) → Option MemoryOp 
 memory_or_plain name suffix (Some op) = memory_suffixed suffix op
 memory_or_plain name suffix None = without_suffix suffix (plain_named name)
 
-abbrev pub arithmetic_or_other : List ℕ → Option (List ℕ) → Option ArithmeticOp → Option Operation
-arithmetic_or_other name suffix (Some op) = arithmetic_suffixed suffix op
-arithmetic_or_other name suffix None = memory_or_plain name suffix (memory_named name)
+abbrev pub arithmetic_or_other : Profile → List ℕ → Option (List ℕ) → Option ArithmeticOp → Option Operation
+arithmetic_or_other p name suffix (Some op) = arithmetic_suffixed suffix op
+arithmetic_or_other p name suffix None = memory_or_plain name suffix (memory_named p name)
 
-unfoldable pub operation_named : List ℕ → Option (List ℕ) → Option Operation
-operation_named name suffix = arithmetic_or_other name suffix (arithmetic_named name)
+unfoldable pub operation_named : Profile → List ℕ → Option (List ℕ) → Option Operation
+operation_named p name suffix = arithmetic_or_other p name suffix (arithmetic_named name)
 
-unfoldable pub operation_of : List ℕ → Result Operation Fault
-operation_of head = unless_unknown (operation_named (text_before 46 head) (text_after 46 head))
+unfoldable pub operation_of : Profile → List ℕ → Result Operation Fault
+operation_of p head = unless_unknown (operation_named p (text_before 46 head) (text_after 46 head))
 
-unfoldable pub directive_of : List ℕ → Result Directive Fault
-directive_of head = unless_unknown (directive_named head)
+unfoldable pub directive_of : Profile → List ℕ → Result Directive Fault
+directive_of p head = unless_unknown (directive_named p head)

@@ -6,6 +6,7 @@ use Rattle.insn_word.specs.Words.{memory_nop, arithmetic_nop, only_control}
 use Rattle.insn_word.specs.Words.{memory_destination, arithmetic_destination, control_destination}
 use Rattle.insn_word.specs.Reading.{are_apart}
 use Rattle.insn_word.specs.declared.operations.ControlOp.TheVariants as control
+use Rattle.insn_word.specs.declared.profiles.Profile.{Profile}
 use Rattle.insn_word.specs.declared.insn.MPart.{MPart}
 use Rattle.insn_word.specs.declared.insn.APart.{APart}
 use Rattle.insn_word.specs.declared.insn.CPart.{CPart}
@@ -141,43 +142,43 @@ is_ok (Ok _) = true
 is_ok (Err _) = false
 
 -- more parts than there can be: an unknown head among them is answered first
-unfoldable pub too_many : List (List ℕ) → Result Insn Fault
-too_many texts =
-    if list_all (λ text. is_ok (operation_of (head text))) texts then Err fault.Operand else Err fault.Unknown
+unfoldable pub too_many : Profile → List (List ℕ) → Result Insn Fault
+too_many p texts =
+    if list_all (λ text. is_ok (operation_of p (head text))) texts then Err fault.Operand else Err fault.Unknown
 
 -- All heads are looked at first.
 
-abbrev pub one_part : Places → ℕ → List ℕ → Result Insn Fault
-one_part places here x = operation_of (head x) >>= λ o. single places here o (operands x)
+abbrev pub one_part : Profile → Places → ℕ → List ℕ → Result Insn Fault
+one_part p places here x = operation_of p (head x) >>= λ o. single places here o (operands x)
 
-abbrev pub two_parts : Places → ℕ → List ℕ → List ℕ → Result Insn Fault
-two_parts places here x y =
-    both (operation_of (head x)) (operation_of (head y))
+abbrev pub two_parts : Profile → Places → ℕ → List ℕ → List ℕ → Result Insn Fault
+two_parts p places here x y =
+    both (operation_of p (head x)) (operation_of p (head y))
     >>= λ o. double places here o.0 o.1 (operands x) (operands y)
 
-abbrev pub three_parts : Places → ℕ → List ℕ → List ℕ → List ℕ → Result Insn Fault
-three_parts places here x y z =
-    both (both (operation_of (head x)) (operation_of (head y))) (operation_of (head z))
+abbrev pub three_parts : Profile → Places → ℕ → List ℕ → List ℕ → List ℕ → Result Insn Fault
+three_parts p places here x y z =
+    both (both (operation_of p (head x)) (operation_of p (head y))) (operation_of p (head z))
     >>= λ o. triple places here o.0.0 o.0.1 o.1 (operands x) (operands y) (operands z)
 
-abbrev pub instruction_of : Places → ℕ → List (List ℕ) → Result Insn Fault
-instruction_of places here (x ∷ []) = one_part places here x
-instruction_of places here (x ∷ y ∷ []) = two_parts places here x y
-instruction_of places here (x ∷ y ∷ z ∷ []) = three_parts places here x y z
-instruction_of places here texts = too_many texts
+abbrev pub instruction_of : Profile → Places → ℕ → List (List ℕ) → Result Insn Fault
+instruction_of p places here (x ∷ []) = one_part p places here x
+instruction_of p places here (x ∷ y ∷ []) = two_parts p places here x y
+instruction_of p places here (x ∷ y ∷ z ∷ []) = three_parts p places here x y z
+instruction_of p places here texts = too_many p texts
 
 -- the operations, separated by |
-unfoldable pub operations : Places → ℕ → List ℕ → Result Insn Fault
-operations places here text = instruction_of places here (map trim (parts 124 text))
+unfoldable pub operations : Profile → Places → ℕ → List ℕ → Result Insn Fault
+operations p places here text = instruction_of p places here (map trim (parts 124 text))
 
 abbrev pub with_lookahead : ℕ → Insn → Insn
 with_lookahead n (insn.Wide look op reg imm) = insn.Wide n op reg imm
 with_lookahead n (insn.Normal look m a c) = insn.Normal n m a c
 
 -- @n, a blank and then the operations; with no @n the lookahead is 0
-unfoldable pub instruction_of_text : Places → ℕ → List ℕ → Result Insn Fault
-instruction_of_text places here text =
+unfoldable pub instruction_of_text : Profile → Places → ℕ → List ℕ → Result Insn Fault
+instruction_of_text p places here text =
     if slice_index text 0 == 64
     then map_ok (λ v. with_lookahead v.0 v.1)
-    (both (number_within 7 (drop 1 (head text))) (operations places here (behind_head text)))
-    else operations places here text
+    (both (number_within 7 (drop 1 (head text))) (operations p places here (behind_head text)))
+    else operations p places here text

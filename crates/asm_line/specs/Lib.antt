@@ -10,6 +10,7 @@ pub mod Parts
 pub mod Instructions
 pub mod Directives
 pub mod Lines
+pub mod Profiles
 pub mod Seen
 pub mod Labels
 pub mod Ranges

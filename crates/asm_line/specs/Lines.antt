@@ -4,6 +4,7 @@ use Rattle.std.specs.Prelude.{List, [], ◌∷◌, length, slice_index, map, cod
 use Rattle.std.specs.Option.{option_map}
 use Rattle.std.specs.List.{list_any}
 use Rattle.std.specs.Str.{bytes_eq}
+use Rattle.insn_word.specs.declared.profiles.Profile.{Profile}
 use Rattle.asm_line.specs.Text.{trim, is_name, head, operands}
 use Rattle.text_parts.specs.Parts.{parts, text_before, text_after}
 use Rattle.asm_line.specs.Faults.{map_ok, ◌>>=◌, both}
@@ -82,18 +83,19 @@ label_fault places k (Some name) statement =
     if is_label name statement then (if stands_earlier k (places name) then Err fault.LabelTwice else Ok tt)
     else Err fault.Unknown
 
-abbrev pub directive_item : Places → ℕ → List ℕ → Result Item Fault
-directive_item places words text = directive_of (head text) >>= λ d. item_of_directive places words d (operands text)
+abbrev pub directive_item : Profile → Places → ℕ → List ℕ → Result Item Fault
+directive_item p places words text =
+    directive_of p (head text) >>= λ d. item_of_directive places words d (operands text)
 
 -- a statement at the place here of the program, where there are so many words
-unfoldable pub statement_item : Places → ℕ → ℕ → List ℕ → Result Item Fault
-statement_item places words here text =
+unfoldable pub statement_item : Profile → Places → ℕ → ℕ → List ℕ → Result Item Fault
+statement_item p places words here text =
     if length text == 0 then Ok item.Nothing
-    else (if slice_index text 0 == 46 then directive_item places words text
-    else map_ok item.Instruction (instruction_of_text places here text))
+    else (if slice_index text 0 == 46 then directive_item p places words text
+    else map_ok item.Instruction (instruction_of_text p places here text))
 
 -- What line k (from 0) adds, behind so many words, or its least fault. The lines' labels stand at these places, and
 -- the lines have so many words in all.
-unfoldable pub line_item : Places → ℕ → ℕ → ℕ → Line → Result Item Fault
-line_item places words k here l =
-    map_ok (λ v. v.1) (both (label_fault places k l.label l.statement) (statement_item places words here l.statement))
+unfoldable pub line_item : Profile → Places → ℕ → ℕ → ℕ → Line → Result Item Fault
+line_item p places words k here l =
+    map_ok (λ v. v.1) (both (label_fault places k l.label l.statement) (statement_item p places words here l.statement))

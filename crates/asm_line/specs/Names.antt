@@ -1,4 +1,5 @@
--- The names of operations, conditions and directives. Reader and lister go by these tables.
+-- The names of operations, conditions and directives, and which directives each profile has (which operations it has:
+-- has_operation of insn_word). Reader and lister go by these tables.
 use Rattle.std.specs.Prelude.{ℕ, Bool, true, false, List, [], ◌∷◌, ◌++◌, codes}
 use Rattle.insn_word.specs.declared.operations.WideOp.{WideOp}
 use Rattle.insn_word.specs.declared.operations.WideOp.TheVariants as wide
@@ -12,6 +13,8 @@ use Rattle.insn_word.specs.declared.operations.ControlOp.{ControlOp}
 use Rattle.insn_word.specs.declared.operations.ControlOp.TheVariants as control
 use Rattle.insn_word.specs.declared.operations.Condition.{Condition}
 use Rattle.insn_word.specs.declared.operations.Condition.TheVariants as condition
+use Rattle.insn_word.specs.declared.profiles.Profile.{Profile}
+use Rattle.insn_word.specs.declared.profiles.Profile.TheVariants as profile
 use Rattle.asm_line.specs.declared.operation.Operation.{Operation}
 use Rattle.asm_line.specs.declared.operation.Operation.TheVariants as operation
 use Rattle.asm_line.specs.declared.operation.Directive.{Directive}
@@ -83,6 +86,7 @@ condition_name condition.NoOverflow = codes "NOV"
 abbrev pub directive_name : Directive → List ℕ
 directive_name directive.Profile = codes ".profile"
 directive_name directive.Slim = codes ".slim"
+directive_name directive.Chain = codes ".chain"
 directive_name directive.Retry = codes ".retry"
 directive_name directive.Trap = codes ".trap"
 directive_name directive.Entry = codes ".entry"
@@ -111,5 +115,28 @@ operation_name (operation.Control o) = control_name o
 -- what the head of a directive may name
 abbrev pub directives : List Directive
 directives =
-    directive.Profile ∷ directive.Slim ∷ directive.Retry ∷ directive.Trap ∷ directive.Entry ∷ directive.Word
-    ∷ directive.Data ∷ directive.Fill ∷ []
+    directive.Profile ∷ directive.Slim ∷ directive.Chain ∷ directive.Retry ∷ directive.Trap ∷ directive.Entry
+    ∷ directive.Word ∷ directive.Data ∷ directive.Fill ∷ []
+
+-- Profile 2 has all of Profile 1, and .chain.
+
+abbrev pub has_chain : Profile → Bool
+has_chain profile.One = false
+has_chain profile.Two = true
+
+abbrev pub has_directive : Profile → Directive → Bool
+has_directive p directive.Profile = true
+has_directive p directive.Slim = true
+has_directive p directive.Chain = has_chain p
+has_directive p directive.Retry = true
+has_directive p directive.Trap = true
+has_directive p directive.Entry = true
+has_directive p directive.Word = true
+has_directive p directive.Data = true
+has_directive p directive.Fill = true
+
+-- The number of a profile, as .profile has it.
+
+abbrev pub profile_number : Profile → ℕ
+profile_number profile.One = 1
+profile_number profile.Two = 2

@@ -3,7 +3,8 @@
 ghost use Rattle.std.specs.Prelude.{◌≡◌, ◌-◌, ℕ, List};
 ghost use Rattle.asm_line.specs.Labels.{places_of};
 ghost use Rattle.asm_line.specs.OperandsSeen.{AreOperands};
-ghost use Rattle.asm_line.specs.Directives.{profile, slim, retry, trap, entry_item, word, data_cell, fill, cells};
+ghost use Rattle.asm_line.specs.Directives.{profile_read, profile_numbered, profile_item, slim, chain, retry, trap};
+ghost use Rattle.asm_line.specs.Directives.{entry_item, word, data_cell, fill, cells};
 ghost use Rattle.asm_line.specs.Directives.{item_of_directive};
 ghost use Rattle.asm_line.specs.Directives.{entry_number, word_number, tags_number};
 
@@ -14,6 +15,7 @@ use crate::labels::Labels;
 use crate::numbers::{count_within, number_32, number_64, small_count, small_within};
 use crate::operand::immediate;
 use crate::operation::Directive;
+use insn_word::Profile;
 
 /// What a directive adds, where the text has so many words.
 #[tactic(auto, unfolding(crate::specs::Directives::item_of_directive))]
@@ -29,6 +31,7 @@ pub(crate) fn directed(
     match directive {
         Directive::Profile => profile(operands),
         Directive::Slim => slim(operands),
+        Directive::Chain => chain(operands),
         Directive::Retry => retry(operands),
         Directive::Trap => trap(labels, operands),
         Directive::Entry => entry(labels, words, operands),
@@ -38,15 +41,35 @@ pub(crate) fn directed(
     }
 }
 
-/// `.profile 1`
+/// `.profile`: 1 or 2
 fn profile(operands: &Arguments) -> Result<Item, Fault>
-    ensures { (os : List (List ℕ)) → AreOperands operands.now os → result ≡ profile os }
+    ensures { (os : List (List ℕ)) → AreOperands operands.now os → result ≡ profile_item os }
+{
+    let profile = read_profile(operands)?;
+    Ok(Item::Profile(profile))
+}
+
+/// The profile that the operand of `.profile` says.
+#[tactic(auto, unfolding(crate::specs::Directives::profile_read))]
+pub(crate) fn read_profile(operands: &Arguments) -> Result<Profile, Fault>
+    ensures { (os : List (List ℕ)) → AreOperands operands.now os → result ≡ profile_read os }
 {
     let Arguments::One(x) = *operands else {
         return Err(Fault::Operand);
     };
-    count_within(1, x)?;
-    Ok(Item::Profile)
+    let number = count_within(2, x)?;
+    Ok(numbered(number))
+}
+
+/// The profile of this number, 1 or 2.
+fn numbered(number: u32) -> Profile
+    ensures { result ≡ profile_numbered number }
+{
+    if number == 2 {
+        Profile::Two
+    } else {
+        Profile::One
+    }
 }
 
 /// `.slim`: 1 to 128
@@ -58,6 +81,17 @@ fn slim(operands: &Arguments) -> Result<Item, Fault>
     };
     let streams = small_count(x)?;
     Ok(Item::Slim(streams))
+}
+
+/// `.chain`: 0 to 64
+fn chain(operands: &Arguments) -> Result<Item, Fault>
+    ensures { (os : List (List ℕ)) → AreOperands operands.now os → result ≡ chain os }
+{
+    let Arguments::One(x) = *operands else {
+        return Err(Fault::Operand);
+    };
+    let limit = small_within(64, x)?;
+    Ok(Item::Chain(limit))
 }
 
 /// `.retry`: a number of 32 bits

@@ -1,7 +1,7 @@
-//! The operation, condition or directive that a name stands for.
+//! The operation, condition or directive that a name stands for in a profile.
 //!
 //! NOP, the first operation of each part of a normal word, is named by no part: it is an instruction of its own. The
-//! first access, which is the pointer's, has no suffix. Texts have Profile 1, so PURGE names nothing.
+//! first access, which is the pointer's, has no suffix.
 
 ghost use Rattle.std.specs.Prelude.{◌≡◌};
 ghost use Rattle.std.specs.Option.{option_copied};
@@ -9,18 +9,21 @@ ghost use Rattle.asm_line.specs.Heads.{wide_named, memory_named, arithmetic_name
 ghost use Rattle.asm_line.specs.Heads.{directive_named, access_named, test_named, operation_named, has_access};
 ghost use Rattle.asm_line.specs.Heads.{plain_named, letter_access};
 ghost use Rattle.asm_line.specs.Heads.{operation_of, directive_of, memory_suffixed, arithmetic_suffixed};
+ghost use Rattle.asm_line.specs.Names.{has_directive};
+ghost use Rattle.insn_word.specs.Operations.{has_operation};
 
 use crate::fault::Fault;
 use crate::names;
 use crate::operation::{Directive, Operation};
 use crate::text::tail;
-use insn_word::{Access, ArithmeticOp, Condition, ControlOp, MemoryOp, WideOp};
+use insn_word::{Access, ArithmeticOp, Condition, ControlOp, MemoryOp, Profile, WideOp};
 use text_parts::cut;
 
 /// What the head of a directive may name.
-const DIRECTIVES: [Directive; 8] = [
+const DIRECTIVES: [Directive; 9] = [
     Directive::Profile,
     Directive::Slim,
+    Directive::Chain,
     Directive::Retry,
     Directive::Trap,
     Directive::Entry,
@@ -40,13 +43,18 @@ fn wide_named(name: &[u8]) -> Option<WideOp>
 }
 
 #[tactic(auto, unfolding(crate::specs::Heads::memory_named))]
-fn memory_named(name: &[u8]) -> Option<MemoryOp>
-    ensures { result ≡ memory_named name.now }
+fn memory_named(profile: Profile, name: &[u8]) -> Option<MemoryOp>
+    ensures { result ≡ memory_named profile name.now }
 {
-    MemoryOp::IN_PROFILE_ONE[1..]
-        .iter()
-        .copied()
-        .find(|op| name == names::memory(*op).as_bytes())
+    MemoryOp::ALL[1..].iter().copied().find(|op| name == names::memory(*op).as_bytes()
+        && has_operation(profile, *op))
+}
+
+/// Whether the profile has the memory operation.
+fn has_operation(profile: Profile, op: MemoryOp) -> bool
+    ensures { result ≡ has_operation profile op }
+{
+    profile == Profile::Two || MemoryOp::IN_PROFILE_ONE.contains(&op)
 }
 
 #[tactic(auto, unfolding(crate::specs::Heads::arithmetic_named))]
@@ -77,10 +85,28 @@ pub(crate) fn condition_named(name: &[u8]) -> Option<Condition>
 }
 
 #[tactic(auto, unfolding(crate::specs::Heads::directive_named))]
-fn directive_named(name: &[u8]) -> Option<Directive>
-    ensures { result ≡ directive_named name.now }
+fn directive_named(profile: Profile, name: &[u8]) -> Option<Directive>
+    ensures { result ≡ directive_named profile name.now }
 {
-    DIRECTIVES.iter().copied().find(|directive| name == names::directive(*directive).as_bytes())
+    DIRECTIVES.iter().copied().find(|directive| name == names::directive(*directive).as_bytes()
+        && has_directive(profile, *directive))
+}
+
+/// Whether the profile has the directive.
+fn has_directive(profile: Profile, directive: Directive) -> bool
+    ensures { result ≡ has_directive profile directive }
+{
+    match directive {
+        Directive::Profile
+        | Directive::Slim
+        | Directive::Retry
+        | Directive::Trap
+        | Directive::Entry
+        | Directive::Word
+        | Directive::Data
+        | Directive::Fill => true,
+        Directive::Chain => profile == Profile::Two,
+    }
 }
 
 /// The access that stands behind an operation's dot, if there is one.
@@ -159,13 +185,13 @@ fn arithmetic_operation(op: ArithmeticOp, suffix: Option<&[u8]>) -> Option<Opera
 }
 
 #[tactic(auto, unfolding(crate::specs::Heads::operation_named))]
-fn operation_named(name: &[u8], suffix: Option<&[u8]>) -> Option<Operation>
-    ensures { result ≡ operation_named name.now (option_copied suffix.entry) }
+fn operation_named(profile: Profile, name: &[u8], suffix: Option<&[u8]>) -> Option<Operation>
+    ensures { result ≡ operation_named profile name.now (option_copied suffix.entry) }
 {
     if let Some(op) = arithmetic_named(name) {
         return arithmetic_operation(op, suffix);
     }
-    if let Some(op) = memory_named(name) {
+    if let Some(op) = memory_named(profile, name) {
         return memory_operation(op, suffix);
     }
     match suffix {
@@ -176,17 +202,17 @@ fn operation_named(name: &[u8], suffix: Option<&[u8]>) -> Option<Operation>
 
 /// The operation that a head names.
 #[tactic(auto, unfolding(crate::specs::Heads::operation_of))]
-pub(crate) fn operation_of(head: &[u8]) -> Result<Operation, Fault>
-    ensures { result ≡ operation_of head.now }
+pub(crate) fn operation_of(profile: Profile, head: &[u8]) -> Result<Operation, Fault>
+    ensures { result ≡ operation_of profile head.now }
 {
     let (name, suffix) = cut(head, b'.');
-    operation_named(name, suffix).ok_or(Fault::Unknown)
+    operation_named(profile, name, suffix).ok_or(Fault::Unknown)
 }
 
 /// The directive that a head names.
 #[tactic(auto, unfolding(crate::specs::Heads::directive_of))]
-pub(crate) fn directive_of(head: &[u8]) -> Result<Directive, Fault>
-    ensures { result ≡ directive_of head.now }
+pub(crate) fn directive_of(profile: Profile, head: &[u8]) -> Result<Directive, Fault>
+    ensures { result ≡ directive_of profile head.now }
 {
-    directive_named(head).ok_or(Fault::Unknown)
+    directive_named(profile, head).ok_or(Fault::Unknown)
 }

@@ -1,16 +1,18 @@
 //! What a line adds to the program.
 
-use insn_word::Insn;
+use insn_word::{Insn, Profile};
 
 /// What one line of source text adds (docs/WRITING_PROGRAMS.md).
 #[derive(Clone, Copy, Debug, PartialEq, Eq)]
 pub enum Item {
     /// The line is empty, but for a label or a comment.
     Nothing,
-    /// `.profile 1`.
-    Profile,
+    /// `.profile`: the profile of its number, 1 or 2.
+    Profile(Profile),
     /// `.slim`: the number of streams of a processor, 1 to 128.
     Slim(u8),
+    /// `.chain`: the chain limit, 0 to 64. Profile 2 alone has it.
+    Chain(u8),
     /// `.retry`: the retry limit.
     Retry(u32),
     /// `.trap`: the trap entry.

@@ -18,6 +18,7 @@ mod operand;
 mod operation;
 mod parts;
 mod place;
+mod profiles;
 mod text;
 
 pub use fault::Fault;
@@ -26,3 +27,4 @@ pub use labels::Labels;
 pub use lines::{SourceLine, cut_line, is_word, next_line, read_line};
 pub use operation::Directive;
 pub use place::Place;
+pub use profiles::profile_told;

@@ -23,7 +23,7 @@ use crate::labels::Labels;
 use crate::names;
 use crate::operation::Directive;
 use crate::text::{begins, is_name, split_head, trim};
-use insn_word::spelling_is_one_to_one;
+use insn_word::{Profile, spelling_is_one_to_one};
 use text_parts::cut;
 
 /// A line without its comment: the label that stands before its first colon, and its statement.
@@ -79,34 +79,39 @@ pub fn is_word(statement: &[u8]) -> bool
     head == names::directive(Directive::Word).as_bytes()
 }
 
-/// What line `number` (from 0) adds, behind so many program words (`here`), or its least fault. The labels are those
-/// of the whole text, in which so many lines are `words`.
+/// What line `number` (from 0) adds, behind so many program words (`here`), or its least fault. The profile and the
+/// labels are those of the whole text, in which so many lines are `words`.
 pub fn read_line(
+    profile: Profile,
     labels: &Labels,
     words: usize,
     number: usize,
     here: usize,
     line: &SourceLine,
 ) -> Result<Item, Fault>
-    ensures item { result ≡ line_item (places_of labels.now) words number here (line_seen line.now) }
-    ensures range { IfOk result (IsItemInRange words) }
+    ensures item { result ≡ line_item profile (places_of labels.now) words number here (line_seen line.now) }
+    ensures range { IfOk result (IsItemInRange profile words) }
 {
     spelling_is_one_to_one();
-    line_item(labels, words, number, here, line)
+    line_item(profile, labels, words, number, here, line)
 }
 
 #[tactic(auto, unfolding(crate::specs::Lines::line_item))]
 fn line_item(
+    profile: Profile,
     labels: &Labels,
     words: usize,
     number: usize,
     here: usize,
     line: &SourceLine,
 ) -> Result<Item, Fault>
-    ensures { result ≡ line_item (places_of labels.now) words number here (line_seen line.now) }
+    ensures { result ≡ line_item profile (places_of labels.now) words number here (line_seen line.now) }
 {
     let label = label_fault(labels, number, line.label, line.statement);
-    let (_, item) = both(label, statement_item(labels, words, here, line.statement))?;
+    let (_, item) = both(
+        label,
+        statement_item(profile, labels, words, here, line.statement),
+    )?;
     Ok(item)
 }
 
@@ -146,23 +151,34 @@ fn has_colon(text: &[u8]) -> bool
 }
 
 #[tactic(auto, unfolding(crate::specs::Lines::statement_item))]
-fn statement_item(labels: &Labels, words: usize, here: usize, text: &[u8]) -> Result<Item, Fault>
-    ensures { result ≡ statement_item (places_of labels.now) words here text.now }
+fn statement_item(
+    profile: Profile,
+    labels: &Labels,
+    words: usize,
+    here: usize,
+    text: &[u8],
+) -> Result<Item, Fault>
+    ensures { result ≡ statement_item profile (places_of labels.now) words here text.now }
 {
     if text.is_empty() {
         return Ok(Item::Nothing);
     }
     if begins(text, b'.') {
-        return directive_item(labels, words, text);
+        return directive_item(profile, labels, words, text);
     }
-    let insn = instruction(labels, here, text)?;
+    let insn = instruction(profile, labels, here, text)?;
     Ok(Item::Instruction(insn))
 }
 
-fn directive_item(labels: &Labels, words: usize, text: &[u8]) -> Result<Item, Fault>
-    ensures { result ≡ directive_item (places_of labels.now) words text.now }
+fn directive_item(
+    profile: Profile,
+    labels: &Labels,
+    words: usize,
+    text: &[u8],
+) -> Result<Item, Fault>
+    ensures { result ≡ directive_item profile (places_of labels.now) words text.now }
 {
     let (head, behind) = split_head(text);
-    let directive = directive_of(head)?;
+    let directive = directive_of(profile, head)?;
     directed(labels, words, directive, &read_arguments(behind))
 }

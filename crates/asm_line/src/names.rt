@@ -3,10 +3,10 @@
 
 ghost use Rattle.std.specs.Prelude.{◌≡◌, ◌≤◌, length};
 ghost use Rattle.asm_line.specs.Names.{wide_name, memory_name, arithmetic_name, control_name, condition_name};
-ghost use Rattle.asm_line.specs.Names.{access_suffix, test_suffix, directive_name};
+ghost use Rattle.asm_line.specs.Names.{access_suffix, test_suffix, directive_name, profile_number};
 
 use crate::operation::Directive;
-use insn_word::{Access, ArithmeticOp, Condition, ControlOp, MemoryOp, WideOp};
+use insn_word::{Access, ArithmeticOp, Condition, ControlOp, MemoryOp, Profile, WideOp};
 
 /// The name of a wide operation.
 pub fn wide(op: WideOp) -> &'static str
@@ -135,11 +135,22 @@ pub fn directive(directive: Directive) -> &'static str
     match directive {
         Directive::Profile => ".profile",
         Directive::Slim => ".slim",
+        Directive::Chain => ".chain",
         Directive::Retry => ".retry",
         Directive::Trap => ".trap",
         Directive::Entry => ".entry",
         Directive::Word => ".word",
         Directive::Data => ".data",
         Directive::Fill => ".fill",
+    }
+}
+
+/// The number of a profile, which `.profile` has.
+pub fn profile_number(profile: Profile) -> u32
+    ensures { result ≡ profile_number profile }
+{
+    match profile {
+        Profile::One => 1,
+        Profile::Two => 2,
     }
 }

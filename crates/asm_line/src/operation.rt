@@ -24,6 +24,8 @@ pub enum Directive {
     Profile,
     /// `.slim`
     Slim,
+    /// `.chain`, which Profile 2 alone has
+    Chain,
     /// `.retry`
     Retry,
     /// `.trap`

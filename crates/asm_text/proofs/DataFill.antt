@@ -2,7 +2,7 @@
 use Rattle.std.proofs.Common.{◌≡◌, ◌≢◌, ℕ, ◌+◌, Bool, true, false, not, cond, eqb, List, [], ◌∷◌, ◌++◌, map, length}
 use Rattle.std.proofs.Common.{reverse, codes, All, Option, Some, None, Ok, Err, option_map, refl, sym, ◌∙◌, ap, subst}
 use Rattle.std.proofs.Common.{arith}
-use Rattle.std.proofs.Common.{ne_eqb}
+use Rattle.std.proofs.Common.{ne_eqb, unwrap_or}
 use Rattle.std.specs.Prelude.{◌&&◌, ◌||◌, ⊤, nat_lt}
 use Rattle.std.specs.List.{list_any}
 use Rattle.std.proofs.lemmas.List.{reverse-append, reverse-reverse}
@@ -14,10 +14,12 @@ use Rattle.text_parts.specs.Parts.{parts}
 use Rattle.asm_line.specs.Text.{skip_blanks, trim, is_name, head, behind_head, operands_of, operands}
 use Rattle.asm_line.specs.Faults.{map_ok, ◌>>=◌, both}
 use Rattle.asm_line.specs.Heads.{directive_of, directive_named}
+use Rattle.insn_word.specs.declared.profiles.Profile.{Profile}
 use Rattle.asm_line.specs.Operands.{Places}
 use Rattle.asm_line.specs.Numbers.{count_within, number_within}
 use Rattle.asm_line.specs.Directives.{item_of_directive, cells, data_cell, fill, word_number, tags_number}
 use Rattle.asm_line.specs.Lines.{Line, line_item, statement_item, directive_item, label_fault, is_word}
+use Rattle.asm_line.specs.Profiles.{profile_of, profile_told}
 use Rattle.asm_line.specs.Lines.{word_count, count_words, place, further, stands, stands_earlier}
 use Rattle.asm_line.specs.declared.fault.Fault.TheVariants as fault
 use Rattle.asm_line.specs.declared.item.Item.{Item}
@@ -105,13 +107,13 @@ data_says (x ∷ xs) =
     ap (λ b. data_cell (cond b [] ((x ∷ xs) ∷ [])))
     (ne_eqb (length (x ∷ xs)) 0 (λ e. absurd (omega (arith, e))))
 
-data_named : directive_of (codes ".data") ≡ Ok directive.Data
+data_named : (profile : Profile) → directive_of profile (codes ".data") ≡ Ok directive.Data
 unfolding directive_of directive_named
-data_named = refl
+data_named profile = refl
 
-fill_named : directive_of (codes ".fill") ≡ Ok directive.Fill
+fill_named : (profile : Profile) → directive_of profile (codes ".fill") ≡ Ok directive.Fill
 unfolding directive_of directive_named
-fill_named = refl
+fill_named profile = refl
 
 data_head : (v : List ℕ) → head (data_statement v) ≡ codes ".data"
 unfolding head
@@ -121,36 +123,37 @@ fill_head : (v : List ℕ) → head (fill_statement v) ≡ codes ".fill"
 unfolding head
 fill_head v = refl
 
-data_item : (places : Places) (words : ℕ) (v : List ℕ) → IsOneOperand v
-    → directive_item places words (data_statement v) ≡ cells (Ok 1) (word_number v) (Ok 1)
+data_item : (profile : Profile) (places : Places) (words : ℕ) (v : List ℕ) → IsOneOperand v
+    → directive_item profile places words (data_statement v) ≡ cells (Ok 1) (word_number v) (Ok 1)
 unfolding item_of_directive
-data_item places words v o =
+data_item profile places words v o =
     ap (λ r. r >>= λ d. item_of_directive places words d (operands (data_statement v)))
-    (ap directive_of (data_head v) ∙ data_named)
+    (ap (directive_of profile) (data_head v) ∙ data_named profile)
     ∙ ap (λ t. data_cell (operands_of t)) (data_behind v ∙ o.trimmed) ∙ ap data_cell (data_operands v o) ∙ data_says v
 
-fill_item : (places : Places) (words : ℕ) (v : List ℕ) → IsOneOperand v
-    → directive_item places words (fill_statement v) ≡ cells (Ok 1) (word_number v) (Ok 1)
+fill_item : (profile : Profile) (places : Places) (words : ℕ) (v : List ℕ) → IsOneOperand v
+    → directive_item profile places words (fill_statement v) ≡ cells (Ok 1) (word_number v) (Ok 1)
 unfolding item_of_directive
-fill_item places words v o =
+fill_item profile places words v o =
     ap (λ r. r >>= λ d. item_of_directive places words d (operands (fill_statement v)))
-    (ap directive_of (fill_head v) ∙ fill_named)
+    (ap (directive_of profile) (fill_head v) ∙ fill_named profile)
     ∙ ap fill (fill_operands v o) ∙ fill_says v
 
 -- a statement that begins with a dot is a directive
-with_dot : (places : Places) (words here : ℕ) (bs : List ℕ)
-    → statement_item places words here (46 ∷ bs) ≡ directive_item places words (46 ∷ bs)
+with_dot : (profile : Profile) (places : Places) (words here : ℕ) (bs : List ℕ)
+    → statement_item profile places words here (46 ∷ bs) ≡ directive_item profile places words (46 ∷ bs)
 unfolding statement_item
-with_dot places words here bs =
-    ap (λ b. cond b (Ok item.Nothing) (directive_item places words (46 ∷ bs)))
+with_dot profile places words here bs =
+    ap (λ b. cond b (Ok item.Nothing) (directive_item profile places words (46 ∷ bs)))
     (ne_eqb (length (46 ∷ bs)) 0 (λ e. absurd (omega (arith, e))))
 
-same_item : (places : Places) (words here : ℕ) (v : List ℕ) → IsOneOperand v
-    → statement_item places words here (data_statement v) ≡ statement_item places words here (fill_statement v)
-same_item places words here v o =
-    with_dot places words here (codes "data " ++ v) ∙ data_item places words v o
-    ∙ sym (fill_item places words v o)
-    ∙ sym (with_dot places words here (codes "fill 1, " ++ (v ++ codes ", 1")))
+same_item : (profile : Profile) (places : Places) (words here : ℕ) (v : List ℕ) → IsOneOperand v
+    → statement_item profile places words here (data_statement v) ≡ statement_item profile places words here
+    (fill_statement v)
+same_item profile places words here v o =
+    with_dot profile places words here (codes "data " ++ v) ∙ data_item profile places words v o
+    ∙ sym (fill_item profile places words v o)
+    ∙ sym (with_dot profile places words here (codes "fill 1, " ++ (v ++ codes ", 1")))
 
 or_false : (b : Bool) → (b || false) ≡ b
 or_false true = refl
@@ -176,12 +179,13 @@ data_line label v = record { label = label; statement = data_statement v }
 abbrev pub fill_line : Option (List ℕ) → List ℕ → Line
 fill_line label v = record { label = label; statement = fill_statement v }
 
-same_added : (places : Places) (words k : ℕ) (d : DraftValue) (label : Option (List ℕ)) (v : List ℕ) → IsOneOperand v
-    → with_line places words k d (data_line label v) ≡ with_line places words k d (fill_line label v)
+same_added : (profile : Profile) (places : Places) (words k : ℕ) (d : DraftValue) (label : Option (List ℕ))
+    (v : List ℕ) → IsOneOperand v
+    → with_line profile places words k d (data_line label v) ≡ with_line profile places words k d (fill_line label v)
 unfolding with_line line_item
-same_added places words k d label v o =
+same_added profile places words k d label v o =
     let labels = same_label places k label (data_statement v) (fill_statement v) (same_colons v) in
-    let items = same_item places words (length d.words) v o in
+    let items = same_item profile places words (length d.words) v o in
     λ i. map_ok (λ (w : ⊤ × Item). w.1) (both (labels i) (items i)) >>= add d
 
 and_false : (b : Bool) → (b && false) ≡ false
@@ -201,13 +205,16 @@ same_count label v = ap (λ b. cond b 1 0) (data_no_word v ∙ sym (fill_no_word
 
 -- Two lines that add the same are the same among other lines.
 
-lines_same : (places : Places) (words k : ℕ) (d : DraftValue) (before after : List Line) (l m : Line)
-    → ((n : ℕ) (e : DraftValue) → with_line places words n e l ≡ with_line places words n e m)
-    → with_lines places words k d (before ++ l ∷ after) ≡ with_lines places words k d (before ++ m ∷ after)
-lines_same places words k d [] after l m same =
-    ap (λ r. after_line r k (λ e. with_lines places words (k + 1) e after)) (same k d)
-lines_same places words k d (b ∷ bs) after l m same =
-    λ i. after_line (with_line places words k d b) k (λ e. lines_same places words (k + 1) e bs after l m same i)
+lines_same : (profile : Profile) (places : Places) (words k : ℕ) (d : DraftValue) (before after : List Line)
+    (l m : Line)
+    → ((n : ℕ) (e : DraftValue) → with_line profile places words n e l ≡ with_line profile places words n e m)
+    → with_lines profile places words k d (before ++ l ∷ after) ≡ with_lines profile places words k d
+    (before ++ m ∷ after)
+lines_same profile places words k d [] after l m same =
+    ap (λ r. after_line r k (λ e. with_lines profile places words (k + 1) e after)) (same k d)
+lines_same profile places words k d (b ∷ bs) after l m same =
+    λ i. after_line (with_line profile places words k d b) k
+    (λ e. lines_same profile places words (k + 1) e bs after l m same i)
 
 count_same : (before after : List Line) (l m : Line) → word_count l ≡ word_count m
     → count_words (before ++ l ∷ after) ≡ count_words (before ++ m ∷ after)
@@ -225,14 +232,30 @@ places_same (b ∷ bs) after l m name labels counts =
     ap (λ o. cond (stands name b.label) (Some (record { line = 0; value = 0 })) (option_map (further b) o))
     (places_same bs after l m name labels counts)
 
+data_no_profile : (label : Option (List ℕ)) (v : List ℕ) → profile_told (data_line label v) ≡ None
+unfolding profile_told head
+data_no_profile label v = refl
+
+fill_no_profile : (label : Option (List ℕ)) (v : List ℕ) → profile_told (fill_line label v) ≡ None
+unfolding profile_told head
+fill_no_profile label v = refl
+
+profile_same : (before after : List Line) (l m : Line) → profile_told l ≡ profile_told m
+    → profile_of (before ++ l ∷ after) ≡ profile_of (before ++ m ∷ after)
+profile_same [] after l m same = ap (λ o. unwrap_or o (profile_of after)) same
+profile_same (b ∷ bs) after l m same = ap (λ p. unwrap_or (profile_told b) p) (profile_same bs after l m same)
+
 pub data_lines : DataLinesAreFills
 unfolding meaning_of_lines
 data_lines before after label v o =
     let l = data_line label v in
     let m = fill_line label v in
+    let ls = before ++ l ∷ after in
     let count = count_same before after l m (same_count label v) in
-    ap complete
-    (lines_same (place (before ++ l ∷ after)) (count_words (before ++ l ∷ after)) 0 empty before after l m
-    (λ n e. same_added (place (before ++ l ∷ after)) (count_words (before ++ l ∷ after)) n e label v o)
-    ∙ λ i. with_lines (λ name. places_same before after l m name refl (same_count label v) i) (count i) 0 empty
+    let profile = profile_same before after l m (data_no_profile label v ∙ sym (fill_no_profile label v)) in
+    ap (complete (profile_of ls))
+    (lines_same (profile_of ls) (place ls) (count_words ls) 0 empty before after l m
+    (λ n e. same_added (profile_of ls) (place ls) (count_words ls) n e label v o))
+    ∙ λ i. complete (profile i)
+    (with_lines (profile i) (λ name. places_same before after l m name refl (same_count label v) i) (count i) 0 empty
     (before ++ m ∷ after))

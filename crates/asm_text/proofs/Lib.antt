@@ -13,5 +13,6 @@ pub mod LabelPlaces
 pub mod ForeignBytes
 pub mod LineSteps
 pub mod LineFaults
+pub mod FirstProfile
 pub mod DataFill
 pub mod DataTexts

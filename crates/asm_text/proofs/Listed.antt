@@ -9,6 +9,7 @@ use Rattle.std.proofs.lemmas.List.Concat.{flat_map-append}
 use Rattle.std.proofs.lemmas.Option.{get_or_from_slice_get}
 use Rattle.tag_memory.specs.Cell.{Cell}
 use Rattle.image_file.specs.ImageValue.{ImageValue}
+use Rattle.insn_word.specs.declared.profiles.Profile.{Profile}
 use Rattle.listing_line.specs.WordText.{word_line}
 use Rattle.listing_line.specs.DirectiveLines.{entry_line}
 use Rattle.text_parts.specs.Runs.{Run}
@@ -49,30 +50,31 @@ words_at program k word here is =
     ∙ ap (λ w. w ∷ drop (suc k) program) (sym is)
     ∙ ap (λ n. word ∷ drop n program) (sym (add-one k))
 
-pub word_pushed : (program : List ℕ) (k word : ℕ) (before whole now : List ℕ) → k < length program
-    → word ≡ get_or program k word → now ≡ before ++ with_line_end (word_line k word)
-    → before ++ text_of_lines (word_lines k (drop k program)) ≡ whole
-    → now ++ text_of_lines (word_lines (k + 1) (drop (k + 1) program)) ≡ whole
-word_pushed program k word before whole now here at is h =
-    pushed before (with_line_end (word_line k word)) (text_of_lines (word_lines (k + 1) (drop (k + 1) program))) whole
+pub word_pushed : (p : Profile) (program : List ℕ) (k word : ℕ) (before whole now : List ℕ) → k < length program
+    → word ≡ get_or program k word → now ≡ before ++ with_line_end (word_line p k word)
+    → before ++ text_of_lines (word_lines p k (drop k program)) ≡ whole
+    → now ++ text_of_lines (word_lines p (k + 1) (drop (k + 1) program)) ≡ whole
+word_pushed p program k word before whole now here at is h =
+    pushed before (with_line_end (word_line p k word))
+    (text_of_lines (word_lines p (k + 1) (drop (k + 1) program))) whole
     now is
-    (sym (ap (λ ws. before ++ text_of_lines (word_lines k ws)) (words_at program k word here at)) ∙ h)
+    (sym (ap (λ ws. before ++ text_of_lines (word_lines p k ws)) (words_at program k word here at)) ∙ h)
 
-pub words_end : (program : List ℕ) (k : ℕ) (now whole : List ℕ) → length program ≤ k
-    → now ++ text_of_lines (word_lines k (drop k program)) ≡ whole → now ≡ whole
-words_end program k now whole past h =
-    sym (append-nil now) ∙ sym (ap (λ ws. now ++ text_of_lines (word_lines k ws)) (drop_all k program past)) ∙ h
+pub words_end : (p : Profile) (program : List ℕ) (k : ℕ) (now whole : List ℕ) → length program ≤ k
+    → now ++ text_of_lines (word_lines p k (drop k program)) ≡ whole → now ≡ whole
+words_end p program k now whole past h =
+    sym (append-nil now) ∙ sym (ap (λ ws. now ++ text_of_lines (word_lines p k ws)) (drop_all k program past)) ∙ h
 
 -- the four parts of a listing, one after another
 pub parts_joined : (i : ImageValue)
     → ((text_of_lines (setting_lines i) ++ text_of_lines (map entry_line i.entries))
-    ++ text_of_lines (word_lines 0 i.program))
+    ++ text_of_lines (word_lines i.profile 0 i.program))
     ++ text_of_lines (map cell_run_line (cell_runs i.cells)) ≡ listing i
 unfolding listing listing_lines
 parts_joined i =
     let s = setting_lines i in
     let e = map entry_line i.entries in
-    let w = word_lines 0 i.program in
+    let w = word_lines i.profile 0 i.program in
     let c = map cell_run_line (cell_runs i.cells) in
     append_assoc (text_of_lines s ++ text_of_lines e) (text_of_lines w) (text_of_lines c)
     ∙ append_assoc (text_of_lines s) (text_of_lines e) (text_of_lines w ++ text_of_lines c)
@@ -82,12 +84,12 @@ parts_joined i =
 
 pub all_parts : (i : ImageValue) (t0 t1 t2 t3 t4 : List ℕ) (cells : List Cell) → t0 ≡ []
     → t1 ≡ t0 ++ text_of_lines (setting_lines i) → t2 ≡ t1 ++ text_of_lines (map entry_line i.entries)
-    → t3 ≡ t2 ++ text_of_lines (word_lines 0 i.program) → cells ≡ i.cells
+    → t3 ≡ t2 ++ text_of_lines (word_lines i.profile 0 i.program) → cells ≡ i.cells
     → t4 ≡ t3 ++ text_of_lines (map cell_run_line (cell_runs cells)) → t4 ≡ listing i
 all_parts i t0 t1 t2 t3 t4 cells e0 e1 e2 e3 ec e4 =
     let s = text_of_lines (setting_lines i) in
     let e = text_of_lines (map entry_line i.entries) in
-    let w = text_of_lines (word_lines 0 i.program) in
+    let w = text_of_lines (word_lines i.profile 0 i.program) in
     let c = text_of_lines (map cell_run_line (cell_runs i.cells)) in
     e4 ∙ ap (λ cs. t3 ++ text_of_lines (map cell_run_line (cell_runs cs))) ec
     ∙ ap (λ t. t ++ c) (e3 ∙ ap (λ t. t ++ w) (e2 ∙ ap (λ t. t ++ e) (e1 ∙ ap (λ t. t ++ s) e0)))

@@ -9,59 +9,70 @@ use Rattle.std.proofs.lemmas.Bool.{eqb-true, and_from, false≢true}
 use Rattle.tag_memory.specs.Cell.{Cell}
 use Rattle.image_file.specs.ImageValue.{ImageValue, IsWithin}
 use Rattle.image_file.specs.Spelling.{Fits}
+use Rattle.insn_word.specs.declared.profiles.Profile.{Profile}
+use Rattle.insn_word.specs.declared.profiles.Profile.TheVariants.{One, Two}
+use Rattle.asm_line.specs.Profiles.{profile_of}
+use Rattle.tag_memory.specs.Storage.{default_chain_limit}
 use Rattle.asm_line.specs.Lines.{line, lines, place, count_words}
 use Rattle.asm_line.specs.declared.fault.Fault.TheVariants as fault
 use Rattle.asm_line.specs.declared.item.Item.{Item}
 use Rattle.listing_line.specs.Laws.{word_item}
-use Rattle.listing_line.specs.DirectiveLines.{entry_line}
+use Rattle.listing_line.specs.DirectiveLines.{slim_line, retry_line, entry_line}
 use Rattle.asm_text.specs.declared.fault.AsmFault.{AsmFault}
 use Rattle.asm_text.specs.Drafts.{DraftValue, empty, has_all, image_of_draft}
 use Rattle.asm_text.specs.Sources.{with_lines, image_or_incomplete}
 use Rattle.text_parts.specs.Runs.{run_things}
 use Rattle.asm_text.specs.Runs.{cell_runs}
-use Rattle.asm_text.specs.Listing.{setting_lines, word_lines, cell_run_line, listing_lines, text_of_lines, listing}
+use Rattle.asm_text.specs.Listing.{setting_lines, chain_lines, trap_lines, word_lines, cell_run_line, listing_lines}
+use Rattle.asm_text.specs.Listing.{text_of_lines, listing}
 use Rattle.asm_text.specs.Laws.{OneMeaning, ListingsReadBack}
 use Rattle.asm_text.proofs.Assembly.{IsFound, draft_whole}
 use Rattle.asm_text.proofs.RunCells.{runs_are_cells, runs_fit}
 use Rattle.asm_text.proofs.ReadLines.{AreRead, read_both, add_all, lines_added, last_line, count_items, lines_counted}
 use Rattle.asm_text.proofs.ReadLines.{text_cut, text_is_ascii}
-use Rattle.asm_text.proofs.Sections.{Laws, add_both, count_both, with_settings_of}
+use Rattle.asm_text.proofs.Sections.{Laws, add_both, count_both, with_settings_of, chain_set_to}
 use Rattle.asm_text.proofs.Sections.{setting_items, settings_read, settings_added, settings_count}
 use Rattle.asm_text.proofs.Sections.{entry_items, entries_read, entries_added, entries_count}
 use Rattle.asm_text.proofs.Sections.{words_read, words_added, words_count}
 use Rattle.asm_text.proofs.Sections.{run_item, runs_read, runs_added, runs_count}
 
 abbrev items : ImageValue → List Item
-items i = setting_items i ++ (entry_items i.entries ++ (map word_item i.program ++ map run_item (cell_runs i.cells)))
+items i =
+    setting_items i ++
+    (entry_items i.entries ++ (map (word_item i.profile) i.program ++ map run_item (cell_runs i.cells)))
 
 lines_read : (laws : Laws) (i : ImageValue) → IsWithin i → Fits i
-    → AreRead (length i.program) (listing_lines i) (items i)
+    → AreRead i.profile (length i.program) (listing_lines i) (items i)
 unfolding listing_lines
 lines_read laws i w f =
     let words = length i.program in
-    read_both words (setting_lines i)
-    (map entry_line i.entries ++ (word_lines 0 i.program ++ map cell_run_line (cell_runs i.cells)))
-    (setting_items i) (entry_items i.entries ++ (map word_item i.program ++ map run_item (cell_runs i.cells)))
-    (settings_read laws words i w.some_slim w.few_slim f.retry_limit f.trap_entry)
-    (read_both words (map entry_line i.entries) (word_lines 0 i.program ++ map cell_run_line (cell_runs i.cells))
-    (entry_items i.entries) (map word_item i.program ++ map run_item (cell_runs i.cells))
-    (entries_read laws words i.entries w.few_words w.entries_stand)
-    (read_both words (word_lines 0 i.program) (map cell_run_line (cell_runs i.cells)) (map word_item i.program)
+    read_both i.profile words (setting_lines i)
+    (map entry_line i.entries ++ (word_lines i.profile 0 i.program ++ map cell_run_line (cell_runs i.cells)))
+    (setting_items i)
+    (entry_items i.entries ++ (map (word_item i.profile) i.program ++ map run_item (cell_runs i.cells)))
+    (settings_read laws words i w.some_slim w.few_slim w.chain f.retry_limit f.trap_entry)
+    (read_both i.profile words (map entry_line i.entries)
+    (word_lines i.profile 0 i.program ++ map cell_run_line (cell_runs i.cells))
+    (entry_items i.entries) (map (word_item i.profile) i.program ++ map run_item (cell_runs i.cells))
+    (entries_read laws i.profile words i.entries w.few_words w.entries_stand)
+    (read_both i.profile words (word_lines i.profile 0 i.program) (map cell_run_line (cell_runs i.cells))
+    (map (word_item i.profile) i.program)
     (map run_item (cell_runs i.cells))
-    (words_read laws words 0 i.program (omega (arith, w.few_words))
+    (words_read laws i.profile words 0 i.program (omega (arith, w.few_words))
     (All-from_recursion (λ n. n < 2 ^ 64) i.program f.program))
-    (runs_read laws words (length i.cells) (cell_runs i.cells) w.few_cells
+    (runs_read laws i.profile words (length i.cells) (cell_runs i.cells) w.few_cells
     (runs_fit i.cells (All-from_recursion (λ (c : Cell). c.value < 2 ^ 64) i.cells f.cells)))))
 
 items_count : (i : ImageValue) → count_items (items i) ≡ length i.program
 items_count i =
     let all = count_both (setting_items i)
-    (entry_items i.entries ++ (map word_item i.program ++ map run_item (cell_runs i.cells))) in
-    let behind = count_both (entry_items i.entries) (map word_item i.program ++ map run_item (cell_runs i.cells)) in
-    let last = count_both (map word_item i.program) (map run_item (cell_runs i.cells)) in
+    (entry_items i.entries ++ (map (word_item i.profile) i.program ++ map run_item (cell_runs i.cells))) in
+    let behind = count_both (entry_items i.entries)
+    (map (word_item i.profile) i.program ++ map run_item (cell_runs i.cells)) in
+    let last = count_both (map (word_item i.profile) i.program) (map run_item (cell_runs i.cells)) in
     let s = settings_count i in
     let e = entries_count i.entries in
-    let w = words_count i.program in
+    let w = words_count i.profile i.program in
     let r = runs_count (cell_runs i.cells) in
     omega arith
 
@@ -80,12 +91,12 @@ items_added i w =
     let p : DraftValue = record e { words = i.program } in
     let cells = ap length (runs_are_cells i.cells) in
     add_both empty s (setting_items i)
-    (entry_items i.entries ++ (map word_item i.program ++ map run_item (cell_runs i.cells)))
+    (entry_items i.entries ++ (map (word_item i.profile) i.program ++ map run_item (cell_runs i.cells)))
     (settings_added i)
-    ∙ add_both s e (entry_items i.entries) (map word_item i.program ++ map run_item (cell_runs i.cells))
+    ∙ add_both s e (entry_items i.entries) (map (word_item i.profile) i.program ++ map run_item (cell_runs i.cells))
     (entries_added s i.entries (omega (arith, w.few_processors)))
-    ∙ add_both e p (map word_item i.program) (map run_item (cell_runs i.cells))
-    (words_added e i.program (omega (arith, w.few_words)))
+    ∙ add_both e p (map (word_item i.profile) i.program) (map run_item (cell_runs i.cells))
+    (words_added i.profile e i.program (omega (arith, w.few_words)))
     ∙ runs_added p (cell_runs i.cells) (omega (arith, cells, w.few_cells))
 
 trap_kept : (trap : ℕ) (none : Bool) → eqb trap 4294967295 ≡ none
@@ -93,13 +104,21 @@ trap_kept : (trap : ℕ) (none : Bool) → eqb trap 4294967295 ≡ none
 trap_kept trap true e = sym (eqb-true trap 4294967295 e)
 trap_kept trap false e = refl
 
-image_is : (i : ImageValue) → image_of_draft (draft_of i) ≡ i
+chain_kept : (p : Profile) (limit : ℕ) → (p ≡ One → limit ≡ default_chain_limit)
+    → unwrap_or (chain_set_to p limit) default_chain_limit ≡ limit
+chain_kept One limit h = sym (h refl)
+chain_kept Two limit h = refl
+
+image_is : (i : ImageValue) → IsWithin i → image_of_draft i.profile (draft_of i) ≡ i
 unfolding image_of_draft
-image_is i =
+image_is i w =
+    let chain = chain_kept i.profile i.chain_limit w.chain_of_one in
     let trap = trap_kept i.trap_entry (eqb i.trap_entry 4294967295) refl in
     let cells = runs_are_cells i.cells in
     λ j. record {
+      profile = i.profile;
       slim = i.slim;
+      chain_limit = chain j;
       retry_limit = i.retry_limit;
       trap_entry = trap j;
       entries = i.entries;
@@ -124,10 +143,23 @@ passes : (b : Bool) (x y : ImageValue) (e : AsmFault) → b ≡ true → x ≡ y
 passes true x y e p q = ap (λ (j : ImageValue). Ok j) q
 passes false x y e p q = absurd (false≢true p)
 
-completes : (i : ImageValue) → IsWithin i → image_or_incomplete (draft_of i) ≡ Ok i
+completes : (i : ImageValue) → IsWithin i → image_or_incomplete i.profile (draft_of i) ≡ Ok i
 completes i w =
-    passes (has_all (draft_of i)) (image_of_draft (draft_of i)) i (record { line = 0; kind = fault.Directive })
-    (all_there i w) (image_is i)
+    passes (has_all (draft_of i)) (image_of_draft i.profile (draft_of i)) i
+    (record { line = 0; kind = fault.Directive })
+    (all_there i w) (image_is i w)
+
+-- the first line says the profile
+first_profile : (laws : Laws) (i : ImageValue)
+    → profile_of (map line (listing_lines i) ++ line [] ∷ []) ≡ i.profile
+unfolding listing_lines
+first_profile laws i =
+    let rest = slim_line i.slim ∷
+    (chain_lines i.profile i.chain_limit ++ retry_line i.retry_limit ∷ trap_lines i.trap_entry) in
+    ap (λ o. unwrap_or o (profile_of (map line
+    (rest ++ (map entry_line i.entries ++ (word_lines i.profile 0 i.program ++ map cell_run_line (cell_runs i.cells))))
+    ++ line [] ∷ [])))
+    (laws.tells i.profile)
 
 pub reads_back : Laws → ListingsReadBack
 unfolding listing
@@ -135,18 +167,19 @@ reads_back laws i w f =
     let words = length i.program in
     let ls = listing_lines i in
     let read = lines_read laws i w f in
-    let cut = text_cut words ls (items i) read in
+    let cut = text_cut i.profile words ls (items i) read in
     let places = place (lines (text_of_lines ls)) in
-    let found : IsFound (text_of_lines ls) places words = record {
-      ascii = text_is_ascii words ls (items i) read;
+    let found : IsFound (text_of_lines ls) i.profile places words = record {
+      ascii = text_is_ascii i.profile words ls (items i) read;
+      profile_is = sym (ap profile_of cut ∙ first_profile laws i);
       places_are = refl;
-      words_are = sym (ap count_words cut ∙ lines_counted words ls (items i) read ∙ items_count i);
+      words_are = sym (ap count_words cut ∙ lines_counted i.profile words ls (items i) read ∙ items_count i);
     } in
-    draft_whole (text_of_lines ls) places words (draft_of i) (Ok i) found
-    (ap (with_lines places words 0 empty) cut
-    ∙ lines_added places words 0 empty (draft_of i) ls (items i) (line [] ∷ []) (Ok (draft_of i)) read
+    draft_whole (text_of_lines ls) i.profile places words (draft_of i) (Ok i) found
+    (ap (with_lines i.profile places words 0 empty) cut
+    ∙ lines_added i.profile places words 0 empty (draft_of i) ls (items i) (line [] ∷ []) (Ok (draft_of i)) read
     (items_added i w)
-    (last_line places words (draft_of i)))
+    (last_line i.profile places words (draft_of i)))
     (completes i w)
 
 same_image : (i j : ImageValue) → ◌≡◌ {A = Result ImageValue AsmFault} (Ok i) (Ok j) → i ≡ j

@@ -12,6 +12,7 @@ use Rattle.std.proofs.lemmas.List.Sums.{position_or_len_is}
 use Rattle.asm_line.specs.Text.{trim}
 use Rattle.text_parts.specs.Parts.{text_after, parts}
 use Rattle.asm_line.specs.Faults.{◌>>=◌}
+use Rattle.insn_word.specs.declared.profiles.Profile.{Profile}
 use Rattle.asm_line.specs.Operands.{Places}
 use Rattle.asm_line.specs.Lines.{Line, line, lines, line_item, label_fault, statement_item, is_word}
 use Rattle.asm_line.specs.Lines.{count_words}
@@ -31,58 +32,62 @@ counts (item.Word w) = true
 counts _ = false
 
 -- each line is read as its item
-abbrev pub AreRead : ℕ → List (List ℕ) → List Item → Type 0
-AreRead words [] [] = Unit {0}
-AreRead words [] (i ∷ is) = ⊥
-AreRead words (l ∷ ls) [] = ⊥
-AreRead words (l ∷ ls) (i ∷ is) = IsReadAs l (counts i) words i × AreRead words ls is
+abbrev pub AreRead : Profile → ℕ → List (List ℕ) → List Item → Type 0
+AreRead profile words [] [] = Unit {0}
+AreRead profile words [] (i ∷ is) = ⊥
+AreRead profile words (l ∷ ls) [] = ⊥
+AreRead profile words (l ∷ ls) (i ∷ is) = IsReadAs profile l (counts i) words i × AreRead profile words ls is
 
-pub read_both : (words : ℕ) (ks ls : List (List ℕ)) (is js : List Item) → AreRead words ks is → AreRead words ls js
-    → AreRead words (ks ++ ls) (is ++ js)
-read_both words [] ls [] js h g = g
-read_both words [] ls (i ∷ is) js h g = absurd h
-read_both words (k ∷ ks) ls [] js h g = absurd h
-read_both words (k ∷ ks) ls (i ∷ is) js h g = (h.0, read_both words ks ls is js h.1 g)
+pub read_both : (profile : Profile) (words : ℕ) (ks ls : List (List ℕ)) (is js : List Item)
+    → AreRead profile words ks is → AreRead profile words ls js
+    → AreRead profile words (ks ++ ls) (is ++ js)
+read_both profile words [] ls [] js h g = g
+read_both profile words [] ls (i ∷ is) js h g = absurd h
+read_both profile words (k ∷ ks) ls [] js h g = absurd h
+read_both profile words (k ∷ ks) ls (i ∷ is) js h g = (h.0, read_both profile words ks ls is js h.1 g)
 
 -- what items add, one after another
 abbrev pub add_all : DraftValue → List Item → Result DraftValue Fault
 add_all d [] = Ok d
 add_all d (i ∷ is) = add d i >>= λ e. add_all e is
 
-line_added : (places : Places) (words k : ℕ) (d : DraftValue) (l : List ℕ) (c : Bool) (i : Item)
-    → IsReadAs l c words i
-    → with_line places words k d (line l) ≡ add d i
+line_added : (profile : Profile) (places : Places) (words k : ℕ) (d : DraftValue) (l : List ℕ) (c : Bool) (i : Item)
+    → IsReadAs profile l c words i
+    → with_line profile places words k d (line l) ≡ add d i
 unfolding with_line
-line_added places words k d l c i h = ap (λ r. r >>= add d) (h.adds places k (length d.words))
+line_added profile places words k d l c i h = ap (λ r. r >>= add d) (h.adds places k (length d.words))
 
-pub lines_added : (places : Places) (words k : ℕ) (d e : DraftValue) (ls : List (List ℕ)) (is : List Item)
+pub lines_added : (profile : Profile) (places : Places) (words k : ℕ) (d e : DraftValue) (ls : List (List ℕ))
+    (is : List Item)
     (tail : List Line)
     (whole : Result DraftValue AsmFault)
-    → AreRead words ls is → add_all d is ≡ Ok e → ((n : ℕ) → with_lines places words n e tail ≡ whole)
-    → with_lines places words k d (map line ls ++ tail) ≡ whole
-lines_added places words k d e [] [] tail whole h all rest =
-    let at : d ≡ e = cc in ap (λ f. with_lines places words k f tail) at ∙ rest k
-lines_added places words k d e [] (i ∷ is) tail whole h all rest = absurd h
-lines_added places words k d e (l ∷ ls) [] tail whole h all rest = absurd h
-lines_added places words k d e (l ∷ ls) (i ∷ is) tail whole h all rest =
+    → AreRead profile words ls is → add_all d is ≡ Ok e → ((n : ℕ) → with_lines profile places words n e tail ≡ whole)
+    → with_lines profile places words k d (map line ls ++ tail) ≡ whole
+lines_added profile places words k d e [] [] tail whole h all rest =
+    let at : d ≡ e = cc in ap (λ f. with_lines profile places words k f tail) at ∙ rest k
+lines_added profile places words k d e [] (i ∷ is) tail whole h all rest = absurd h
+lines_added profile places words k d e (l ∷ ls) [] tail whole h all rest = absurd h
+lines_added profile places words k d e (l ∷ ls) (i ∷ is) tail whole h all rest =
     let b = bound (add d i) (λ f. add_all f is) e all in
-    ap (λ r. after_line r k (λ f. with_lines places words (k + 1) f (map line ls ++ tail)))
-    (line_added places words k d l (counts i) i h.0 ∙ b.1)
-    ∙ lines_added places words (k + 1) b.0 e ls is tail whole h.1 b.2 rest
+    ap (λ r. after_line r k (λ f. with_lines profile places words (k + 1) f (map line ls ++ tail)))
+    (line_added profile places words k d l (counts i) i h.0 ∙ b.1)
+    ∙ lines_added profile places words (k + 1) b.0 e ls is tail whole h.1 b.2 rest
 
-empty_adds : (places : Places) (words k here : ℕ) → line_item places words k here (line []) ≡ Ok item.Nothing
+empty_adds : (profile : Profile) (places : Places) (words k here : ℕ)
+    → line_item profile places words k here (line []) ≡ Ok item.Nothing
 unfolding line_item label_fault statement_item line trim text_after
-empty_adds places words k here = refl
+empty_adds profile places words k here = refl
 
-empty_added : (places : Places) (words k : ℕ) (d : DraftValue) → with_line places words k d (line []) ≡ Ok d
+empty_added : (profile : Profile) (places : Places) (words k : ℕ) (d : DraftValue)
+    → with_line profile places words k d (line []) ≡ Ok d
 unfolding with_line add
-empty_added places words k d = ap (λ r. r >>= add d) (empty_adds places words k (length d.words))
+empty_added profile places words k d = ap (λ r. r >>= add d) (empty_adds profile places words k (length d.words))
 
 -- behind the last line end
-pub last_line : (places : Places) (words : ℕ) (d : DraftValue) (n : ℕ)
-    → with_lines places words n d (line [] ∷ []) ≡ Ok d
-last_line places words d n =
-    ap (λ r. after_line r n (λ f. with_lines places words (n + 1) f [])) (empty_added places words n d)
+pub last_line : (profile : Profile) (places : Places) (words : ℕ) (d : DraftValue) (n : ℕ)
+    → with_lines profile places words n d (line [] ∷ []) ≡ Ok d
+last_line profile places words d n =
+    ap (λ r. after_line r n (λ f. with_lines profile places words (n + 1) f [])) (empty_added profile places words n d)
 
 empty_counts : is_word (line []).statement ≡ false
 unfolding is_word line trim text_after
@@ -92,14 +97,14 @@ abbrev pub count_items : List Item → ℕ
 count_items [] = 0
 count_items (i ∷ is) = cond (counts i) 1 0 + count_items is
 
-pub lines_counted : (words : ℕ) (ls : List (List ℕ)) (is : List Item) → AreRead words ls is
+pub lines_counted : (profile : Profile) (words : ℕ) (ls : List (List ℕ)) (is : List Item) → AreRead profile words ls is
     → count_words (map line ls ++ line [] ∷ []) ≡ count_items is
-lines_counted words [] [] h = ap (λ b. cond b 1 0 + 0) empty_counts
-lines_counted words [] (i ∷ is) h = absurd h
-lines_counted words (l ∷ ls) [] h = absurd h
-lines_counted words (l ∷ ls) (i ∷ is) h =
+lines_counted profile words [] [] h = ap (λ b. cond b 1 0 + 0) empty_counts
+lines_counted profile words [] (i ∷ is) h = absurd h
+lines_counted profile words (l ∷ ls) [] h = absurd h
+lines_counted profile words (l ∷ ls) (i ∷ is) h =
     ap (λ b. cond b 1 0 + count_words (map line ls ++ line [] ∷ [])) h.0.counted
-    ∙ ap (λ n. cond (counts i) 1 0 + n) (lines_counted words ls is h.1)
+    ∙ ap (λ n. cond (counts i) 1 0 + n) (lines_counted profile words ls is h.1)
 
 -- The text of lines without line ends is cut into these lines.
 
@@ -112,30 +117,30 @@ no_end b e = grind (arith, nat_tests)
 is_ascii : (b : ℕ) → is_line_byte b ≡ true → leb 128 b ≡ false
 is_ascii b e = grind (arith, nat_tests)
 
-pub text_cut : (words : ℕ) (ls : List (List ℕ)) (is : List Item) → AreRead words ls is
+pub text_cut : (profile : Profile) (words : ℕ) (ls : List (List ℕ)) (is : List Item) → AreRead profile words ls is
     → lines (text_of_lines ls) ≡ map line ls ++ line [] ∷ []
-text_cut words [] [] h = refl
-text_cut words [] (i ∷ is) h = absurd h
-text_cut words (l ∷ ls) [] h = absurd h
-text_cut words (l ∷ ls) (i ∷ is) h =
+text_cut profile words [] [] h = refl
+text_cut profile words [] (i ∷ is) h = absurd h
+text_cut profile words (l ∷ ls) [] h = absurd h
+text_cut profile words (l ∷ ls) (i ∷ is) h =
     let whole =
     All-weaker (λ b. is_line_byte b ≡ true) (λ b. eqb b 10 ≡ false) no_end l (all_true is_line_byte l h.0.one_line) in
     ap (λ t. map line (parts 10 t)) (append_assoc l (codes "\n") (text_of_lines ls))
     ∙ ap (λ ps. map line ps) (slice_split_at (λ b. eqb b 10) l 10 (text_of_lines ls) whole refl)
-    ∙ ap (λ rest. line l ∷ rest) (text_cut words ls is h.1)
+    ∙ ap (λ rest. line l ∷ rest) (text_cut profile words ls is h.1)
 
-text_ascii : (words : ℕ) (ls : List (List ℕ)) (is : List Item) → AreRead words ls is
+text_ascii : (profile : Profile) (words : ℕ) (ls : List (List ℕ)) (is : List Item) → AreRead profile words ls is
     → All (λ b. leb 128 b ≡ false) (text_of_lines ls)
-text_ascii words [] [] h = All-nil (λ b. leb 128 b ≡ false)
-text_ascii words [] (i ∷ is) h = absurd h
-text_ascii words (l ∷ ls) [] h = absurd h
-text_ascii words (l ∷ ls) (i ∷ is) h =
+text_ascii profile words [] [] h = All-nil (λ b. leb 128 b ≡ false)
+text_ascii profile words [] (i ∷ is) h = absurd h
+text_ascii profile words (l ∷ ls) [] h = absurd h
+text_ascii profile words (l ∷ ls) (i ∷ is) h =
     let Ascii : ℕ → Type 0 = λ b. leb 128 b ≡ false in
     All-append Ascii (with_line_end l) (text_of_lines ls)
     (All-append Ascii l (codes "\n")
     (All-weaker (λ b. is_line_byte b ≡ true) Ascii is_ascii l (all_true is_line_byte l h.0.one_line))
     (All-cons Ascii 10 [] refl (All-nil Ascii)))
-    (text_ascii words ls is h.1)
+    (text_ascii profile words ls is h.1)
 
 none_passes : (p : ℕ → Bool) (xs : List ℕ) → All (λ b. p b ≡ false) xs → position p xs ≡ None
 none_passes p xs h =
@@ -145,8 +150,8 @@ none_passes p xs h =
     le-ltb (position_or_len p xs) (length xs) (omega arith) in
     ap (λ b. cond b (Some (position_or_len p xs)) None) test
 
-pub text_is_ascii : (words : ℕ) (ls : List (List ℕ)) (is : List Item) → AreRead words ls is
+pub text_is_ascii : (profile : Profile) (words : ℕ) (ls : List (List ℕ)) (is : List Item) → AreRead profile words ls is
     → not_ascii (text_of_lines ls) ≡ None
 unfolding not_ascii
-text_is_ascii words ls is h =
-    ap (line_of (text_of_lines ls)) (none_passes (λ b. leb 128 b) (text_of_lines ls) (text_ascii words ls is h))
+text_is_ascii profile words ls is h =
+    ap (line_of (text_of_lines ls)) (none_passes (λ b. leb 128 b) (text_of_lines ls) (text_ascii profile words ls is h))

@@ -9,7 +9,9 @@ use Rattle.std.proofs.lemmas.Bool.{le-leb}
 use Rattle.std.proofs.lemmas.List.{length-replicate}
 use Rattle.std.proofs.lemmas.List.Elements.{All-head, All-tail}
 use Rattle.tag_memory.specs.Cell.{Cell, tag_number}
-use Rattle.insn_word.specs.Reading.{instruction}
+use Rattle.insn_word.specs.Reading.{instruction_in}
+use Rattle.insn_word.specs.declared.profiles.Profile.{Profile}
+use Rattle.insn_word.specs.declared.profiles.Profile.TheVariants.{One, Two}
 use Rattle.insn_word.specs.declared.insn.Insn.{Insn}
 use Rattle.image_file.specs.ImageValue.{ImageValue}
 use Rattle.image_file.specs.SameLaws.{cell_of-tag_number}
@@ -19,22 +21,25 @@ use Rattle.asm_line.specs.declared.fault.Fault.TheVariants as fault
 use Rattle.asm_line.specs.declared.item.Item.{Item}
 use Rattle.asm_line.specs.declared.item.Item.TheVariants as item
 use Rattle.listing_line.specs.WordText.{word_line}
-use Rattle.listing_line.specs.DirectiveLines.{trap_line, entry_line}
+use Rattle.listing_line.specs.DirectiveLines.{retry_line, trap_line, entry_line}
 use Rattle.listing_line.specs.Laws.{IsReadAs, word_item, item_of}
-use Rattle.listing_line.specs.Laws.{WordLinesReadBack, ProfileLinesReadBack, SlimLinesReadBack, RetryLinesReadBack}
+use Rattle.listing_line.specs.Laws.{WordLinesReadBack, ProfileLinesReadBack, ProfileLinesTell, SlimLinesReadBack}
+use Rattle.listing_line.specs.Laws.{ChainLinesReadBack, RetryLinesReadBack}
 use Rattle.listing_line.specs.Laws.{TrapLinesReadBack, EntryLinesReadBack, FillLinesReadBack}
 use Rattle.asm_text.specs.Drafts.{DraftValue, empty, add, with_word, with_cells}
 use Rattle.text_parts.specs.Runs.{Run, run_things}
-use Rattle.asm_text.specs.Listing.{setting_lines, word_lines, cell_run_line}
+use Rattle.asm_text.specs.Listing.{setting_lines, chain_lines, trap_lines, word_lines, cell_run_line}
 use Rattle.asm_text.proofs.WordOfFields.{number_of_spelt}
 use Rattle.asm_text.proofs.Counted.{bound}
-use Rattle.asm_text.proofs.ReadLines.{counts, AreRead, add_all, count_items}
+use Rattle.asm_text.proofs.ReadLines.{counts, AreRead, read_both, add_all, count_items}
 
 -- the laws of lines
 pub record Laws : Type 0 where
   pub word : WordLinesReadBack
   pub profile : ProfileLinesReadBack
+  pub tells : ProfileLinesTell
   pub slim : SlimLinesReadBack
+  pub chain : ChainLinesReadBack
   pub retry : RetryLinesReadBack
   pub trap : TrapLinesReadBack
   pub entry : EntryLinesReadBack
@@ -52,60 +57,99 @@ count_both (i ∷ is) js = let rest = count_both is js in omega arith
 
 -- Settings.
 
+abbrev pub chain_items : Profile → ℕ → List Item
+chain_items One limit = []
+chain_items Two limit = item.Chain limit ∷ []
+
 abbrev pub trap_items : ℕ → List Item
 trap_items trap = cond (eqb trap 4294967295) [] (item.Trap trap ∷ [])
 
+abbrev last_items : ImageValue → List Item
+last_items i = item.Retry i.retry_limit ∷ trap_items i.trap_entry
+
 abbrev pub setting_items : ImageValue → List Item
-setting_items i = item.Profile ∷ item.Slim i.slim ∷ item.Retry i.retry_limit ∷ trap_items i.trap_entry
+setting_items i = item.Profile i.profile ∷ item.Slim i.slim ∷ (chain_items i.profile i.chain_limit ++ last_items i)
+
+abbrev pub chain_set_to : Profile → ℕ → Option ℕ
+chain_set_to One limit = None
+chain_set_to Two limit = Some limit
 
 abbrev pub trap_set_to : ℕ → Option ℕ
 trap_set_to trap = cond (eqb trap 4294967295) None (Some trap)
 
 abbrev pub with_settings_of : ImageValue → DraftValue
 with_settings_of i = record empty {
-  settings =
-      record { profile = true; slim = Some i.slim; retry = Some i.retry_limit; trap = trap_set_to i.trap_entry };
+  settings = record {
+    profile = true;
+    slim = Some i.slim;
+    chain = chain_set_to i.profile i.chain_limit;
+    retry = Some i.retry_limit;
+    trap = trap_set_to i.trap_entry;
+  };
 }
 
-trap_read : (laws : Laws) (words trap : ℕ) (none : Bool) → trap < 2 ^ 32
-    → AreRead words (cond none [] (trap_line trap ∷ [])) (cond none [] (item.Trap trap ∷ []))
-trap_read laws words trap true h = tt
-trap_read laws words trap false h = (laws.trap trap words h, tt)
+trap_read : (laws : Laws) (p : Profile) (words trap : ℕ) (none : Bool) → trap < 2 ^ 32
+    → AreRead p words (cond none [] (trap_line trap ∷ [])) (cond none [] (item.Trap trap ∷ []))
+trap_read laws p words trap true h = tt
+trap_read laws p words trap false h = (laws.trap p trap words h, tt)
 
-pub settings_read : (laws : Laws) (words : ℕ) (i : ImageValue) → 1 ≤ i.slim → i.slim ≤ 128 → i.retry_limit < 2 ^ 32
-    → i.trap_entry < 2 ^ 32 → AreRead words (setting_lines i) (setting_items i)
-settings_read laws words i some few retry trap = (
-  laws.profile words,
+chain_read : (laws : Laws) (p : Profile) (words limit : ℕ) → limit ≤ 64
+    → AreRead p words (chain_lines p limit) (chain_items p limit)
+chain_read laws One words limit h = tt
+chain_read laws Two words limit h = (laws.chain limit words h, tt)
+
+pub settings_read : (laws : Laws) (words : ℕ) (i : ImageValue) → 1 ≤ i.slim → i.slim ≤ 128 → i.chain_limit ≤ 64
+    → i.retry_limit < 2 ^ 32 → i.trap_entry < 2 ^ 32 → AreRead i.profile words (setting_lines i) (setting_items i)
+settings_read laws words i some few chain retry trap = (
+  laws.profile i.profile i.profile words,
   (
-    laws.slim i.slim words some few,
-    (
-      laws.retry i.retry_limit words retry,
-      trap_read laws words i.trap_entry (eqb i.trap_entry 4294967295) trap,
-    ),
+    laws.slim i.profile i.slim words some few,
+    read_both i.profile words (chain_lines i.profile i.chain_limit)
+        (retry_line i.retry_limit ∷ trap_lines i.trap_entry) (chain_items i.profile i.chain_limit) (last_items i)
+        (chain_read laws i.profile words i.chain_limit chain) (
+          laws.retry i.profile i.retry_limit words retry,
+          trap_read laws i.profile words i.trap_entry (eqb i.trap_entry 4294967295) trap,
+        ),
   ),
 )
 
-trap_added : (slim retry trap : ℕ) (none : Bool)
-    → add_all (record
-    empty { settings = record { profile = true; slim = Some slim; retry = Some retry; trap = None } })
-    (cond none [] (item.Trap trap ∷ []))
-    ≡ Ok (record empty {
-      settings = record { profile = true; slim = Some slim; retry = Some retry; trap = cond none None (Some trap) };
-    })
+abbrev with_last : ℕ → Option ℕ → ℕ → Option ℕ → DraftValue
+with_last slim chain retry trap = record empty {
+  settings = record { profile = true; slim = Some slim; chain = chain; retry = Some retry; trap = trap };
+}
+
+trap_added : (slim retry trap : ℕ) (chain : Option ℕ) (none : Bool)
+    → add_all (with_last slim chain retry None) (cond none [] (item.Trap trap ∷ []))
+    ≡ Ok (with_last slim chain retry (cond none None (Some trap)))
 unfolding add
-trap_added slim retry trap true = refl
-trap_added slim retry trap false = refl
+trap_added slim retry trap chain true = refl
+trap_added slim retry trap chain false = refl
+
+added : (p : Profile) (slim limit retry trap : ℕ)
+    → add_all empty
+    (item.Profile p ∷ item.Slim slim ∷ (chain_items p limit ++ item.Retry retry ∷ trap_items trap))
+    ≡ Ok (with_last slim (chain_set_to p limit) retry (trap_set_to trap))
+unfolding add
+added One slim limit retry trap = trap_added slim retry trap None (eqb trap 4294967295)
+added Two slim limit retry trap = trap_added slim retry trap (Some limit) (eqb trap 4294967295)
 
 pub settings_added : (i : ImageValue) → add_all empty (setting_items i) ≡ Ok (with_settings_of i)
-unfolding add
-settings_added i = trap_added i.slim i.retry_limit i.trap_entry (eqb i.trap_entry 4294967295)
+settings_added i = added i.profile i.slim i.chain_limit i.retry_limit i.trap_entry
 
 trap_counts : (trap : ℕ) (none : Bool) → count_items (cond none [] (item.Trap trap ∷ [])) ≡ 0
 trap_counts trap true = refl
 trap_counts trap false = refl
 
+chain_counts : (p : Profile) (limit : ℕ) → count_items (chain_items p limit) ≡ 0
+chain_counts One limit = refl
+chain_counts Two limit = refl
+
 pub settings_count : (i : ImageValue) → count_items (setting_items i) ≡ 0
-settings_count i = let t = trap_counts i.trap_entry (eqb i.trap_entry 4294967295) in omega arith
+settings_count i =
+    let t = trap_counts i.trap_entry (eqb i.trap_entry 4294967295) in
+    let c = chain_counts i.profile i.chain_limit in
+    let both = count_both (chain_items i.profile i.chain_limit) (last_items i) in
+    omega arith
 
 -- Entries.
 
@@ -115,12 +159,13 @@ with_entries d entries = Ok (record d { entries = entries })
 abbrev pub entry_items : List ℕ → List Item
 entry_items entries = map (λ (n : ℕ). item.Entry n) entries
 
-pub entries_read : (laws : Laws) (words : ℕ) (entries : List ℕ) → words ≤ 65536 → All (λ e. e < words) entries
-    → AreRead words (map entry_line entries) (entry_items entries)
-entries_read laws words [] few h = tt
-entries_read laws words (e ∷ es) few h =
+pub entries_read : (laws : Laws) (p : Profile) (words : ℕ) (entries : List ℕ) → words ≤ 65536
+    → All (λ e. e < words) entries
+    → AreRead p words (map entry_line entries) (entry_items entries)
+entries_read laws p words [] few h = tt
+entries_read laws p words (e ∷ es) few h =
     let here = All-head (λ n. n < words) e es h in
-    (laws.entry e words here (omega arith), entries_read laws words es few (All-tail (λ n. n < words) e es h))
+    (laws.entry p e words here (omega arith), entries_read laws p words es few (All-tail (λ n. n < words) e es h))
 
 entry_added : (d : DraftValue) (e : ℕ) → length d.entries < 16
     → add d (item.Entry e) ≡ Ok (record d { entries = d.entries ++ e ∷ [] })
@@ -151,48 +196,50 @@ counts_word : (w : ℕ) (o : Option Insn) → counts (item_of w o) ≡ true
 counts_word w None = refl
 counts_word w (Some i) = refl
 
-word_item_counts : (w : ℕ) → counts (word_item w) ≡ true
+word_item_counts : (p : Profile) (w : ℕ) → counts (word_item p w) ≡ true
 unfolding word_item
-word_item_counts w = counts_word w (instruction w)
+word_item_counts p w = counts_word w (instruction_in p w)
 
-pub words_read : (laws : Laws) (words place : ℕ) (ws : List ℕ) → place + length ws ≤ 65536 → All (λ w. w < 2 ^ 64) ws
-    → AreRead words (word_lines place ws) (map word_item ws)
-words_read laws words place [] few h = tt
-words_read laws words place (w ∷ ws) few h =
+pub words_read : (laws : Laws) (p : Profile) (words place : ℕ) (ws : List ℕ) → place + length ws ≤ 65536
+    → All (λ w. w < 2 ^ 64) ws
+    → AreRead p words (word_lines p place ws) (map (word_item p) ws)
+words_read laws p words place [] few h = tt
+words_read laws p words place (w ∷ ws) few h =
     let here = All-head (λ n. n < 2 ^ 64) w ws h in (
-      subst (λ c. IsReadAs (word_line place w) c words (word_item w)) (sym (word_item_counts w))
-          (laws.word place w words (omega arith) here),
-      words_read laws words (place + 1) ws (omega arith) (All-tail (λ n. n < 2 ^ 64) w ws h),
+      subst (λ c. IsReadAs p (word_line p place w) c words (word_item p w)) (sym (word_item_counts p w))
+          (laws.word p place w words (omega arith) here),
+      words_read laws p words (place + 1) ws (omega arith) (All-tail (λ n. n < 2 ^ 64) w ws h),
     )
 
-added_as : (d : DraftValue) (w : ℕ) (o : Option Insn) → instruction w ≡ o → add d (item_of w o) ≡ with_word d w
+added_as : (p : Profile) (d : DraftValue) (w : ℕ) (o : Option Insn) → instruction_in p w ≡ o
+    → add d (item_of w o) ≡ with_word d w
 unfolding add
-added_as d w None e = refl
-added_as d w (Some i) e = ap (with_word d) (number_of_spelt w i e)
+added_as p d w None e = refl
+added_as p d w (Some i) e = ap (with_word d) (number_of_spelt p w i e)
 
-word_added : (d : DraftValue) (w : ℕ) → length d.words < 65536
-    → add d (word_item w) ≡ Ok (record d { words = d.words ++ w ∷ [] })
+word_added : (p : Profile) (d : DraftValue) (w : ℕ) → length d.words < 65536
+    → add d (word_item p w) ≡ Ok (record d { words = d.words ++ w ∷ [] })
 unfolding word_item
-word_added d w room =
-    added_as d w (instruction w) refl
+word_added p d w room =
+    added_as p d w (instruction_in p w) refl
     ∙ ap (λ b. cond b (Ok (record d { words = d.words ++ w ∷ [] })) (Err fault.Limit))
     (lt-ltb (length d.words) 65536 room)
 
-pub words_added : (d : DraftValue) (ws : List ℕ) → length d.words + length ws ≤ 65536
-    → add_all d (map word_item ws) ≡ Ok (record d { words = d.words ++ ws })
-words_added d [] room = ap (with_words d) (sym (append-nil d.words))
-words_added d (w ∷ ws) room =
+pub words_added : (p : Profile) (d : DraftValue) (ws : List ℕ) → length d.words + length ws ≤ 65536
+    → add_all d (map (word_item p) ws) ≡ Ok (record d { words = d.words ++ ws })
+words_added p d [] room = ap (with_words d) (sym (append-nil d.words))
+words_added p d (w ∷ ws) room =
     let f : DraftValue = record d { words = d.words ++ w ∷ [] } in
-    ap (λ r. r >>= λ g. add_all g (map word_item ws)) (word_added d w (omega arith))
-    ∙ words_added f ws (omega (arith, length-append d.words (w ∷ [])))
+    ap (λ r. r >>= λ g. add_all g (map (word_item p) ws)) (word_added p d w (omega arith))
+    ∙ words_added p f ws (omega (arith, length-append d.words (w ∷ [])))
     ∙ ap (with_words d) (append_assoc d.words (w ∷ []) ws)
 
-one_word : (w : ℕ) → ◌≡◌ {A = ℕ} (cond (counts (word_item w)) 1 0) 1
-one_word w = ap (λ b. cond b 1 0) (word_item_counts w)
+one_word : (p : Profile) (w : ℕ) → ◌≡◌ {A = ℕ} (cond (counts (word_item p w)) 1 0) 1
+one_word p w = ap (λ b. cond b 1 0) (word_item_counts p w)
 
-pub words_count : (ws : List ℕ) → count_items (map word_item ws) ≡ length ws
-words_count [] = refl
-words_count (w ∷ ws) = omega (arith, one_word w, words_count ws)
+pub words_count : (p : Profile) (ws : List ℕ) → count_items (map (word_item p) ws) ≡ length ws
+words_count p [] = refl
+words_count p (w ∷ ws) = omega (arith, one_word p w, words_count p ws)
 
 -- Data cells.
 
@@ -224,13 +271,13 @@ four false false false false = omega arith
 few_tags : (c : Cell) → tag_number c < 16
 few_tags c = four c.full c.forward c.trap0 c.trap1
 
-pub runs_read : (laws : Laws) (words n : ℕ) (rs : List (Run Cell)) → n ≤ 262144
+pub runs_read : (laws : Laws) (p : Profile) (words n : ℕ) (rs : List (Run Cell)) → n ≤ 262144
     → AllByRecursion (λ (r : Run Cell). (1 ≤ r.times) × (r.times ≤ n) × (r.thing.value < 2 ^ 64)) rs
-    → AreRead words (map cell_run_line rs) (map run_item rs)
-runs_read laws words n [] few h = tt
-runs_read laws words n (r ∷ rs) few h = (
-  laws.fill r.times r.thing.value (tag_number r.thing) words h.0.0 (omega arith) h.0.2 (few_tags r.thing),
-  runs_read laws words n rs few h.1,
+    → AreRead p words (map cell_run_line rs) (map run_item rs)
+runs_read laws p words n [] few h = tt
+runs_read laws p words n (r ∷ rs) few h = (
+  laws.fill p r.times r.thing.value (tag_number r.thing) words h.0.0 (omega arith) h.0.2 (few_tags r.thing),
+  runs_read laws p words n rs few h.1,
 )
 
 run_added : (d : DraftValue) (r : Run Cell) → length d.cells + r.times ≤ 262144

@@ -1,8 +1,11 @@
 -- One line more among the labels.
 use Rattle.std.proofs.Common.{◌≡◌, ℕ, ◌+◌, ◌≤◌, Bool, true, false, cond, List, [], ◌∷◌, Option, Some, None}
-use Rattle.std.proofs.Common.{refl, sym, ◌∙◌, ap, arith}
+use Rattle.std.proofs.Common.{refl, sym, ◌∙◌, ap, arith, unwrap_or}
 use Rattle.std.specs.Option.{option_map, option_or}
 use Rattle.asm_line.specs.Lines.{Line, place, stands, word_count, count_words, is_word}
+use Rattle.insn_word.specs.declared.profiles.Profile.{Profile}
+use Rattle.insn_word.specs.declared.profiles.Profile.TheVariants.{One}
+use Rattle.asm_line.specs.Profiles.{profile_of, profile_told}
 use Rattle.asm_line.specs.Labels.{place_told}
 use Rattle.asm_line.specs.declared.place.Place.{Place}
 
@@ -89,3 +92,22 @@ then_one b w v e f = f ∙ ap (λ t. w + cond t 1 0) (sym e)
 
 pub else_none : (b : Bool) (w v : ℕ) → b ≡ false → v ≡ w → v ≡ w + cond b 1 0
 else_none b w v e f = let none : v ≡ w + 0 = omega arith in none ∙ ap (λ t. w + cond t 1 0) (sym e)
+
+-- The profile.
+
+or_rest : (before told : Option Profile) (rest : Profile)
+    → unwrap_or (option_or before told) rest ≡ unwrap_or before (unwrap_or told rest)
+or_rest None told rest = refl
+or_rest (Some p) told rest = refl
+
+pub profile_taken : (l : Line) (ls these all : List Line) (before now : Option Profile) → these ≡ l ∷ ls
+    → now ≡ option_or before (profile_told l) → unwrap_or before (profile_of these) ≡ profile_of all
+    → unwrap_or now (profile_of ls) ≡ profile_of all
+profile_taken l ls these all before now first is whole =
+    ap (λ o. unwrap_or o (profile_of ls)) is ∙ or_rest before (profile_told l) (profile_of ls)
+    ∙ ap (λ xs. unwrap_or before (profile_of xs)) (sym first) ∙ whole
+
+pub profile_end : (these all : List Line) (before : Option Profile) → these ≡ []
+    → unwrap_or before (profile_of these) ≡ profile_of all → unwrap_or before One ≡ profile_of all
+profile_end these all before none whole =
+    ap (λ xs. unwrap_or before (profile_of xs)) (sym none) ∙ whole

@@ -3,7 +3,9 @@ use Rattle.std.specs.Prelude.{ℕ, ◌+◌, Bool, nat_lt, nat_le, ◌&&◌, if�
 use Rattle.std.specs.Prelude.{List, [], ◌∷◌, ◌++◌, length, replicate, Result, Ok, Err, unwrap_or}
 use Rattle.insn_word.specs.Fields.{number_of_fields}
 use Rattle.insn_word.specs.Words.{fields}
+use Rattle.insn_word.specs.declared.profiles.Profile.{Profile}
 use Rattle.tag_memory.specs.Cell.{Cell, cell_of}
+use Rattle.tag_memory.specs.Storage.{default_chain_limit}
 use Rattle.image_file.specs.ImageValue.{ImageValue}
 use Rattle.asm_line.specs.Faults.{map_ok}
 use Rattle.asm_line.specs.declared.fault.Fault.{Fault}
@@ -11,7 +13,7 @@ use Rattle.asm_line.specs.declared.fault.Fault.TheVariants as fault
 use Rattle.asm_line.specs.declared.item.Item.{Item}
 use Rattle.asm_line.specs.declared.item.Item.TheVariants as item
 use Rattle.asm_text.specs.declared.settings.Settings.{Settings}
-use Rattle.asm_text.specs.Settings.{no_settings, profile_set, slim_set, retry_set, trap_set}
+use Rattle.asm_text.specs.Settings.{no_settings, profile_set, slim_set, chain_set, retry_set, trap_set}
 
 pub record DraftValue : Type 0 where
   pub settings : Settings
@@ -42,8 +44,9 @@ with_cells d n c =
 -- What a line's item adds, if it may. An instruction adds the word of its fields.
 unfoldable pub add : DraftValue → Item → Result DraftValue Fault
 add d item.Nothing = Ok d
-add d item.Profile = with_settings d (profile_set d.settings)
+add d (item.Profile p) = with_settings d (profile_set d.settings)
 add d (item.Slim n) = with_settings d (slim_set d.settings n)
+add d (item.Chain n) = with_settings d (chain_set d.settings n)
 add d (item.Retry n) = with_settings d (retry_set d.settings n)
 add d (item.Trap n) = with_settings d (trap_set d.settings n)
 add d (item.Entry n) = with_entry d n
@@ -55,10 +58,12 @@ add d (item.Cells count value tags) = with_cells d count (cell_of value tags)
 abbrev pub has_all : DraftValue → Bool
 has_all d = nat_lt 0 (length d.entries) && (nat_lt 0 (length d.words) && nat_lt 0 (length d.cells))
 
--- the image, where a directive that does not stand leaves its default
-unfoldable pub image_of_draft : DraftValue → ImageValue
-image_of_draft d = record {
+-- the image of this profile, where a directive that does not stand leaves its default
+unfoldable pub image_of_draft : Profile → DraftValue → ImageValue
+image_of_draft p d = record {
+  profile = p;
   slim = unwrap_or d.settings.slim 8;
+  chain_limit = unwrap_or d.settings.chain default_chain_limit;
   retry_limit = unwrap_or d.settings.retry 0;
   trap_entry = unwrap_or d.settings.trap 4294967295;
   entries = d.entries;

@@ -4,6 +4,7 @@ use Rattle.std.specs.Str.{IsAscii, IsNotAscii}
 use Rattle.image_file.specs.ImageValue.{ImageValue}
 use Rattle.text_parts.specs.Parts.{parts}
 use Rattle.asm_line.specs.Lines.{Line, lines, place, count_words}
+use Rattle.asm_line.specs.Profiles.{profile_of}
 use Rattle.asm_line.specs.declared.fault.Fault.{Fault}
 use Rattle.asm_line.specs.declared.fault.Fault.TheVariants as fault
 use Rattle.asm_text.specs.declared.fault.AsmFault.{AsmFault}
@@ -16,7 +17,7 @@ pub record AddUpTo (ls : List Line) (k : ℕ) (draft : DraftValue) : Type 0 wher
   pub drafts : ℕ → DraftValue
   pub first : drafts 0 ≡ empty
   pub each : (j : ℕ) (l : Line) → j < k → slice_get ls j ≡ Some l
-      → with_line (place ls) (count_words ls) j (drafts j) l ≡ Ok (drafts (suc j))
+      → with_line (profile_of ls) (place ls) (count_words ls) j (drafts j) l ≡ Ok (drafts (suc j))
   pub last : drafts k ≡ draft
 
 -- Line k (from 0) has a fault of this kind, and no line before it has a fault.
@@ -25,7 +26,7 @@ pub record IsFirstFault (ls : List Line) (k : ℕ) (kind : Fault) : Type 0 where
   pub before : AddUpTo ls k draft
   pub line : Line
   pub stands : slice_get ls k ≡ Some line
-  pub refuses : with_line (place ls) (count_words ls) k draft line ≡ Err kind
+  pub refuses : with_line (profile_of ls) (place ls) (count_words ls) k draft line ≡ Err kind
 
 -- Line k (from 0) has a byte that is not ASCII, and no line before it has one.
 pub record IsFirstNotAscii (text : List ℕ) (k : ℕ) : Type 0 where
@@ -63,7 +64,7 @@ pub record IsMeant (text : List ℕ) (i : ImageValue) : Type 0 where
   pub draft : DraftValue
   pub all : AddUpTo (lines text) (length (lines text)) draft
   pub whole : has_all draft ≡ true
-  pub image : image_of_draft draft ≡ i
+  pub image : image_of_draft (profile_of (lines text)) draft ≡ i
 
 -- A text has the fault of the least line that has one.
 abbrev pub FaultsAreFirst : Type 0

@@ -10,3 +10,4 @@ pub mod Laws
 pub mod LabelLaws
 pub mod FaultLaws
 pub mod DataLaws
+pub mod ProfileLaws

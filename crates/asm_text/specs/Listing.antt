@@ -2,9 +2,12 @@
 use Rattle.std.specs.Prelude.{ℕ, ◌+◌, ◌==◌, if◌then◌else◌, List, [], ◌∷◌, ◌++◌, map, codes}
 use Rattle.std.specs.List.{flat_map}
 use Rattle.tag_memory.specs.Cell.{Cell, tag_number}
+use Rattle.insn_word.specs.declared.profiles.Profile.{Profile}
+use Rattle.insn_word.specs.declared.profiles.Profile.TheVariants as profile
 use Rattle.image_file.specs.ImageValue.{ImageValue}
 use Rattle.listing_line.specs.WordText.{word_line}
-use Rattle.listing_line.specs.DirectiveLines.{profile_line, slim_line, retry_line, trap_line, entry_line, fill_line}
+use Rattle.listing_line.specs.DirectiveLines.{profile_line, slim_line, chain_line, retry_line, trap_line, entry_line}
+use Rattle.listing_line.specs.DirectiveLines.{fill_line}
 use Rattle.text_parts.specs.Runs.{Run}
 use Rattle.asm_text.specs.Runs.{cell_runs}
 
@@ -12,13 +15,20 @@ use Rattle.asm_text.specs.Runs.{cell_runs}
 abbrev pub trap_lines : ℕ → List (List ℕ)
 trap_lines trap = if trap == 4294967295 then [] else trap_line trap ∷ []
 
+-- Profile 1 has no line for it
+abbrev pub chain_lines : Profile → ℕ → List (List ℕ)
+chain_lines profile.One limit = []
+chain_lines profile.Two limit = chain_line limit ∷ []
+
 abbrev pub setting_lines : ImageValue → List (List ℕ)
-setting_lines i = profile_line ∷ slim_line i.slim ∷ retry_line i.retry_limit ∷ trap_lines i.trap_entry
+setting_lines i =
+    profile_line i.profile ∷ slim_line i.slim
+    ∷ (chain_lines i.profile i.chain_limit ++ retry_line i.retry_limit ∷ trap_lines i.trap_entry)
 
 -- the words of which the first is at this place of the program
-abbrev pub word_lines : ℕ → List ℕ → List (List ℕ)
-word_lines place [] = []
-word_lines place (w ∷ ws) = word_line place w ∷ word_lines (place + 1) ws
+abbrev pub word_lines : Profile → ℕ → List ℕ → List (List ℕ)
+word_lines p place [] = []
+word_lines p place (w ∷ ws) = word_line p place w ∷ word_lines p (place + 1) ws
 
 abbrev pub cell_run_line : Run Cell → List ℕ
 cell_run_line r = fill_line r.times r.thing.value (tag_number r.thing)
@@ -26,7 +36,8 @@ cell_run_line r = fill_line r.times r.thing.value (tag_number r.thing)
 -- the lines, without their ends
 unfoldable pub listing_lines : ImageValue → List (List ℕ)
 listing_lines i =
-    setting_lines i ++ (map entry_line i.entries ++ (word_lines 0 i.program ++ map cell_run_line (cell_runs i.cells)))
+    setting_lines i ++
+    (map entry_line i.entries ++ (word_lines i.profile 0 i.program ++ map cell_run_line (cell_runs i.cells)))
 
 abbrev pub with_line_end : List ℕ → List ℕ
 with_line_end line = line ++ codes "\n"

@@ -6,7 +6,7 @@ use Rattle.asm_line.specs.declared.fault.Fault.TheVariants as fault
 use Rattle.asm_text.specs.declared.settings.Settings.{Settings}
 
 abbrev pub no_settings : Settings
-no_settings = record { profile = false; slim = None; retry = None; trap = None }
+no_settings = record { profile = false; slim = None; chain = None; retry = None; trap = None }
 
 abbrev pub set_once : {A : Type 0} → Option A → A → Result (Option A) Fault
 set_once None n = Ok (Some n)
@@ -17,6 +17,9 @@ profile_set s = if s.profile then Err fault.Directive else Ok (record s { profil
 
 abbrev pub slim_set : Settings → ℕ → Result Settings Fault
 slim_set s n = map_ok (λ o. record s { slim = o }) (set_once s.slim n)
+
+abbrev pub chain_set : Settings → ℕ → Result Settings Fault
+chain_set s n = map_ok (λ o. record s { chain = o }) (set_once s.chain n)
 
 abbrev pub retry_set : Settings → ℕ → Result Settings Fault
 retry_set s n = map_ok (λ o. record s { retry = o }) (set_once s.retry n)

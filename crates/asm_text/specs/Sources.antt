@@ -3,17 +3,19 @@ use Rattle.std.specs.Prelude.{◌≡◌, ℕ, ◌+◌, ◌==◌, nat_le, if◌th
 use Rattle.std.specs.Prelude.{Option, Some, None, Result, Ok, Err}
 use Rattle.std.specs.List.{position, count_by}
 use Rattle.image_file.specs.ImageValue.{ImageValue}
+use Rattle.insn_word.specs.declared.profiles.Profile.{Profile}
 use Rattle.asm_line.specs.Faults.{◌>>=◌}
 use Rattle.asm_line.specs.Operands.{Places}
 use Rattle.asm_line.specs.Lines.{Line, line_item, lines, place, count_words}
+use Rattle.asm_line.specs.Profiles.{profile_of}
 use Rattle.asm_line.specs.declared.fault.Fault.{Fault}
 use Rattle.asm_line.specs.declared.fault.Fault.TheVariants as fault
 use Rattle.asm_text.specs.declared.fault.AsmFault.{AsmFault}
 use Rattle.asm_text.specs.Drafts.{DraftValue, empty, add, has_all, image_of_draft}
 
--- the draft with line k (from 0)
-unfoldable pub with_line : Places → ℕ → ℕ → DraftValue → Line → Result DraftValue Fault
-with_line places words k d l = line_item places words k (length d.words) l >>= add d
+-- the draft with line k (from 0) of a text of this profile
+unfoldable pub with_line : Profile → Places → ℕ → ℕ → DraftValue → Line → Result DraftValue Fault
+with_line p places words k d l = line_item p places words k (length d.words) l >>= add d
 
 abbrev pub after_line : Result DraftValue Fault → ℕ → (DraftValue → Result DraftValue AsmFault)
     → Result DraftValue AsmFault
@@ -21,10 +23,10 @@ after_line (Ok d) k f = f d
 after_line (Err e) k f = Err (record { line = k + 1; kind = e })
 
 -- the draft with these lines, of which the first is line k, or the least line with a fault and its least fault
-abbrev pub with_lines : Places → ℕ → ℕ → DraftValue → List Line → Result DraftValue AsmFault
-with_lines places words k d [] = Ok d
-with_lines places words k d (l ∷ ls) =
-    after_line (with_line places words k d l) k (λ e. with_lines places words (k + 1) e ls)
+abbrev pub with_lines : Profile → Places → ℕ → ℕ → DraftValue → List Line → Result DraftValue AsmFault
+with_lines p places words k d [] = Ok d
+with_lines p places words k d (l ∷ ls) =
+    after_line (with_line p places words k d l) k (λ e. with_lines p places words (k + 1) e ls)
 
 -- the line of the byte at a place
 abbrev pub line_of : List ℕ → Option ℕ → Option ℕ
@@ -36,16 +38,17 @@ unfoldable pub not_ascii : List ℕ → Option ℕ
 not_ascii text = line_of text (position (λ b. nat_le 128 b) text)
 
 -- a text without an entry, a program word or a cell has a fault of no line
-abbrev pub image_or_incomplete : DraftValue → Result ImageValue AsmFault
-image_or_incomplete d = if has_all d then Ok (image_of_draft d) else Err (record { line = 0; kind = fault.Directive })
+abbrev pub image_or_incomplete : Profile → DraftValue → Result ImageValue AsmFault
+image_or_incomplete p d =
+    if has_all d then Ok (image_of_draft p d) else Err (record { line = 0; kind = fault.Directive })
 
-abbrev pub complete : Result DraftValue AsmFault → Result ImageValue AsmFault
-complete (Ok d) = image_or_incomplete d
-complete (Err e) = Err e
+abbrev pub complete : Profile → Result DraftValue AsmFault → Result ImageValue AsmFault
+complete p (Ok d) = image_or_incomplete p d
+complete p (Err e) = Err e
 
--- A label's value is known on every line, whether it stands before or behind that line.
+-- A label's value and the profile are known on every line, whether they stand before or behind that line.
 unfoldable pub meaning_of_lines : List Line → Result ImageValue AsmFault
-meaning_of_lines ls = complete (with_lines (place ls) (count_words ls) 0 empty ls)
+meaning_of_lines ls = let p = profile_of ls in complete p (with_lines p (place ls) (count_words ls) 0 empty ls)
 
 abbrev pub meaning_unless : Option ℕ → List Line → Result ImageValue AsmFault
 meaning_unless (Some k) ls = Err (record { line = k; kind = fault.NotAscii })

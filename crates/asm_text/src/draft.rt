@@ -7,16 +7,18 @@ ghost use Rattle.asm_text.specs.Drafts.{empty, add, with_entry, with_word, with_
 ghost use Rattle.asm_text.specs.Sources.{image_or_incomplete};
 ghost use Rattle.asm_text.specs.Limits.{IsReady};
 ghost use Rattle.image_file.specs.ImageValue.{IsWithin};
+ghost use Rattle.insn_word.specs.declared.profiles.Profile.TheVariants.{One, Two};
 ghost use Rattle.asm_text.specs.Faults.{Told};
 
 use crate::fault::AsmFault;
 use crate::settings::Settings;
 use crate::spelled::spelled;
 use asm_line::{Fault, Item};
-use image_file::Image;
+use image_file::{Image, ImageFault};
+use insn_word::Profile;
 use std::alloc::Global;
 use std::marker::Model;
-use tag_memory::Word;
+use tag_memory::{DEFAULT_CHAIN_LIMIT, Word};
 
 /// How many streams a processor has at most where no `.slim` says it.
 const DEFAULT_SLIM: u8 = 8;
@@ -72,8 +74,9 @@ impl Draft {
     {
         match item {
             Item::Nothing => {}
-            Item::Profile => self.settings = self.settings.with_profile()?,
+            Item::Profile(_) => self.settings = self.settings.with_profile()?,
             Item::Slim(slim) => self.settings = self.settings.with_slim(slim)?,
+            Item::Chain(limit) => self.settings = self.settings.with_chain(limit)?,
             Item::Retry(retry) => self.settings = self.settings.with_retry(retry)?,
             Item::Trap(trap) => self.settings = self.settings.with_trap(trap)?,
             Item::Entry(entry) => self.add_entry(entry)?,
@@ -121,27 +124,58 @@ impl Draft {
             .map_err(|_| Fault::NoMemory)
     }
 
-    /// The image, if there is an entry, a program word and a cell.
+    /// The image of this profile, if there is an entry, a program word and a cell.
     #[tactic(auto, unfolding(crate::specs::Drafts::image_of_draft))]
-    pub(crate) fn finish(mut self) -> Result<Image, AsmFault>
-        requires { IsTrue (has_all self) → IsWithin (image_of_draft self) }
-        ensures { MatchResult result (λ i. image_or_incomplete self ≡ Ok i) (λ e. image_or_incomplete self ≡ Err e) }
+    pub(crate) fn finish(mut self, profile: Profile) -> Result<Image, AsmFault>
+        requires { IsTrue (has_all self) → IsWithin (image_of_draft profile self) }
+        ensures { MatchResult result (λ i. image_or_incomplete profile self ≡ Ok i)
+            (λ e. image_or_incomplete profile self ≡ Err e) }
     {
         if self.entries.is_empty() || self.words.is_empty() || self.cells.is_empty() {
             return Err(AsmFault::INCOMPLETE);
         }
+        let image = match profile {
+            Profile::One => self.image_of_one(),
+            Profile::Two => self.image_of_two(),
+        };
+        let Ok(image) = image else {
+            unreachable!();
+        };
+        Ok(image)
+    }
+
+    /// The image of Profile 1; what the draft has is left to it.
+    #[tactic(auto, unfolding(crate::specs::Drafts::image_of_draft))]
+    fn image_of_one(&mut self) -> Result<Image, ImageFault>
+        requires { IsWithin (image_of_draft One self.old) }
+        ensures { result ≡ Ok (image_of_draft One self.old) }
+    {
         let settings = self.settings;
-        let image = Image::from_parts(
+        Image::from_parts(
             &mut self.entries,
             u16::from(settings.slim.unwrap_or(DEFAULT_SLIM)),
             settings.retry.unwrap_or(0),
             settings.trap.unwrap_or(u32::MAX),
             &mut self.words,
             &mut self.cells,
-        );
-        let Ok(image) = image else {
-            unreachable!();
-        };
-        Ok(image)
+        )
+    }
+
+    /// The image of Profile 2; what the draft has is left to it.
+    #[tactic(auto, unfolding(crate::specs::Drafts::image_of_draft))]
+    fn image_of_two(&mut self) -> Result<Image, ImageFault>
+        requires { IsWithin (image_of_draft Two self.old) }
+        ensures { result ≡ Ok (image_of_draft Two self.old) }
+    {
+        let settings = self.settings;
+        Image::from_parts_2(
+            settings.chain.unwrap_or(DEFAULT_CHAIN_LIMIT),
+            &mut self.entries,
+            u16::from(settings.slim.unwrap_or(DEFAULT_SLIM)),
+            settings.retry.unwrap_or(0),
+            settings.trap.unwrap_or(u32::MAX),
+            &mut self.words,
+            &mut self.cells,
+        )
     }
 }

@@ -20,5 +20,6 @@ pub use listings::listing;
 pub use reassembly::reassemble;
 pub use source::assemble;
 pub use source_laws::{
-    data_is_one_full_cell, faults_are_on_their_least_line, labels_stand_on_their_least_line,
+    data_is_one_full_cell, faults_are_on_their_least_line, first_profile_line_decides,
+    labels_stand_on_their_least_line,
 };

@@ -8,21 +8,19 @@ ghost use Rattle.listing_line.specs.DirectiveLines.{profile_line, slim_line, ret
 ghost use Rattle.listing_line.specs.DirectiveLines.{entry_line, fill_line};
 ghost use Rattle.asm_text.specs.Sources.{Means};
 ghost use Rattle.asm_text.specs.Runs.{cell_runs};
-ghost use Rattle.asm_text.specs.Listing.{setting_lines, trap_lines, word_lines, cell_run_line};
+ghost use Rattle.asm_text.specs.Listing.{setting_lines, chain_lines, trap_lines, word_lines, cell_run_line};
 ghost use Rattle.asm_text.specs.Listing.{text_of_lines, with_line_end, listing};
 
 use crate::laws::listings_are_read_back;
 use crate::runs::first_run;
 use asm_line::{Directive, names};
 use image_file::Image;
+use insn_word::Profile;
 use listing_line::push_word_line;
 use number_text::push_hexadecimal_16;
 use std::alloc::{AllocError, Global};
 use std::fmt::Write;
 use tag_memory::Word;
-
-/// The profile of every image.
-const PROFILE: u32 = 1;
 
 /// The listing of an image ("Listing", docs/FORMATS.md): its directives, its entries, its program words and its data
 /// cells, each run of equal cells in one line.
@@ -47,17 +45,18 @@ fn push_settings(text: &mut String, image: &Image) -> Result<(), AllocError>
         ≡ string_bytes text.old ++ text_of_lines (setting_lines image.now)) }
     ensures fit { OnOk result ((image.now.retry_limit < 2 ^ 32) × (image.now.trap_entry < 2 ^ 32)) }
 {
-    push_profile(text)?;
+    push_profile(text, image.profile())?;
     push_slim(text, image.slim())?;
+    push_chain(text, image)?;
     push_retry(text, image.retry_limit())?;
     push_trap(text, image.trap_entry())
 }
 
 #[tactic(auto, unfolding(listing_line::specs::DirectiveLines::profile_line))]
-fn push_profile(text: &mut String) -> Result<(), AllocError>
-    ensures { OnOk result (string_bytes text.new ≡ string_bytes text.old ++ with_line_end profile_line) }
+fn push_profile(text: &mut String, profile: Profile) -> Result<(), AllocError>
+    ensures { OnOk result (string_bytes text.new ≡ string_bytes text.old ++ with_line_end (profile_line profile)) }
 {
-    push_number(text, Directive::Profile, PROFILE)
+    push_number(text, Directive::Profile, names::profile_number(profile))
 }
 
 #[tactic(auto, unfolding(listing_line::specs::DirectiveLines::slim_line))]
@@ -65,6 +64,17 @@ fn push_slim(text: &mut String, slim: u16) -> Result<(), AllocError>
     ensures { OnOk result (string_bytes text.new ≡ string_bytes text.old ++ with_line_end (slim_line slim)) }
 {
     push_number(text, Directive::Slim, u32::from(slim))
+}
+
+#[tactic(auto, unfolding(listing_line::specs::DirectiveLines::chain_line))]
+fn push_chain(text: &mut String, image: &Image) -> Result<(), AllocError>
+    ensures { OnOk result (string_bytes text.new ≡ string_bytes text.old
+        ++ text_of_lines (chain_lines image.now.profile image.now.chain_limit)) }
+{
+    match image.profile() {
+        Profile::One => Ok(()),
+        Profile::Two => push_number(text, Directive::Chain, u32::from(image.chain_limit())),
+    }
 }
 
 #[tactic(auto, unfolding(listing_line::specs::DirectiveLines::retry_line))]
@@ -118,12 +128,13 @@ fn push_entry(text: &mut String, entry: u32) -> Result<(), AllocError>
 /// Appends the program words.
 fn push_program(text: &mut String, image: &Image) -> Result<(), AllocError>
     ensures is { OnOk result (string_bytes text.new ≡ string_bytes text.old
-        ++ text_of_lines (word_lines 0 image.now.program)) }
+        ++ text_of_lines (word_lines image.now.profile 0 image.now.program)) }
     ensures fit { All (λ w. w < 2 ^ 64) image.now.program }
 {
     words_fit(image.program());
+    let profile = image.profile();
     for (place, word) in image.program().iter().enumerate() {
-        push_word_line(text, place as u16, *word)?;
+        push_word_line(text, profile, place as u16, *word)?;
     }
     Ok(())
 }

@@ -1,7 +1,7 @@
 //! The directives that may stand once.
 
 ghost use Rattle.std.specs.Prelude.{◌≡◌, None, Some};
-ghost use Rattle.asm_text.specs.Settings.{set_once, profile_set, slim_set, retry_set, trap_set};
+ghost use Rattle.asm_text.specs.Settings.{set_once, profile_set, slim_set, chain_set, retry_set, trap_set};
 
 use asm_line::Fault;
 
@@ -11,6 +11,7 @@ use asm_line::Fault;
 pub(crate) struct Settings {
     pub(crate) profile: bool,
     pub(crate) slim: Option<u8>,
+    pub(crate) chain: Option<u8>,
     pub(crate) retry: Option<u32>,
     pub(crate) trap: Option<u32>,
 }
@@ -19,6 +20,7 @@ impl Settings {
     pub(crate) const NONE: Settings = Settings {
         profile: false,
         slim: None,
+        chain: None,
         retry: None,
         trap: None,
     };
@@ -40,6 +42,13 @@ impl Settings {
     {
         let slim = set_once(self.slim, slim)?;
         Ok(Settings { slim, ..self })
+    }
+
+    pub(crate) fn with_chain(self, chain: u8) -> Result<Settings, Fault>
+        ensures { result ≡ chain_set self chain }
+    {
+        let chain = set_once(self.chain, chain)?;
+        Ok(Settings { chain, ..self })
     }
 
     pub(crate) fn with_retry(self, retry: u32) -> Result<Settings, Fault>

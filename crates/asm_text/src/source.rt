@@ -4,6 +4,9 @@ ghost use Rattle.std.specs.Prelude.{◌≡◌, ◌≢◌, ◌+◌, ◌≤◌, na
 ghost use Rattle.std.specs.List.{position, count_by};
 ghost use Rattle.asm_line.specs.Lines.{line, lines, place, count_words};
 ghost use Rattle.asm_line.specs.Labels.{places_of};
+ghost use Rattle.asm_line.specs.Profiles.{profile_of, profile_told};
+ghost use Rattle.asm_line.specs.Seen.{line_seen};
+ghost use Rattle.std.specs.Option.{option_or};
 ghost use Rattle.asm_line.specs.declared.fault.Fault.TheVariants.{NoMemory};
 ghost use Rattle.asm_text.specs.Drafts.{empty};
 ghost use Rattle.asm_text.specs.Limits.{KeepsLimits};
@@ -12,8 +15,11 @@ ghost use Rattle.asm_text.specs.Sources.{with_line, with_lines, not_ascii, Means
 
 use crate::draft::Draft;
 use crate::fault::AsmFault;
-use asm_line::{Fault, Labels, Place, cut_line, is_word, next_line, read_line};
+use asm_line::{
+    Fault, Labels, Place, SourceLine, cut_line, is_word, next_line, profile_told, read_line,
+};
 use image_file::Image;
+use insn_word::Profile;
 use std::alloc::{AllocError, Global};
 
 /// The line, from 1, of the first byte that is not ASCII.
@@ -42,11 +48,22 @@ fn line_ends(text: &[u8]) -> usize
     text.iter().filter(|b| **b == b'\n').count()
 }
 
-/// Where the labels of a text stand, and how many of its lines are program words.
-fn places(alloc: Global, text: &[u8]) -> Result<(Labels<'_>, usize), AllocError>
-    ensures labels { IfOk result (λ r. places_of r.0 ≡ place (lines text.now)) }
-    ensures words { IfOk result (λ r. r.1 ≡ count_words (lines text.now)) }
+/// What a first pass finds of a text, for the reading of each of its lines.
+#[derive(Drop)]
+struct Outline<'t> {
+    profile: Profile,
+    /// Where the labels stand.
+    labels: Labels<'t>,
+    /// How many lines are program words.
+    words: usize,
+}
+
+fn outline_of(alloc: Global, text: &[u8]) -> Result<Outline<'_>, AllocError>
+    ensures profile { IfOk result (λ o. o.profile ≡ profile_of (lines text.now)) }
+    ensures labels { IfOk result (λ o. places_of o.labels ≡ place (lines text.now)) }
+    ensures words { IfOk result (λ o. o.words ≡ count_words (lines text.now)) }
 {
+    let mut profile = None;
     let mut labels = Labels::new(alloc);
     let mut number = 0;
     let mut words = 0;
@@ -54,6 +71,7 @@ fn places(alloc: Global, text: &[u8]) -> Result<(Labels<'_>, usize), AllocError>
     while let Some(bytes) = rest {
         let (first, following) = next_line(bytes);
         let line = cut_line(first);
+        profile = profile_after(profile, &line);
         labels.note(
             line.label,
             Place {
@@ -67,33 +85,50 @@ fn places(alloc: Global, text: &[u8]) -> Result<(Labels<'_>, usize), AllocError>
         number += 1;
         rest = following;
     }
-    Ok((labels, words))
+    Ok(Outline {
+        profile: profile.unwrap_or(Profile::One),
+        labels,
+        words,
+    })
+}
+
+/// What is said of a text's profile up to this line, where it is `earlier` before the line.
+fn profile_after(earlier: Option<Profile>, line: &SourceLine) -> Option<Profile>
+    ensures { result ≡ option_or earlier (profile_told (line_seen line.now)) }
+{
+    match earlier {
+        Some(profile) => Some(profile),
+        None => profile_told(line),
+    }
 }
 
 /// Takes what line `number` adds.
 #[tactic(auto, unfolding(crate::specs::Sources::with_line))]
-fn take_line(
-    labels: &Labels,
-    words: usize,
-    number: usize,
-    draft: &mut Draft,
-    bytes: &[u8],
-) -> Result<(), Fault>
-    ensures takes { MatchResult result
-        (λ _. with_line (places_of labels.now) words number draft.old (line bytes.now) ≡ Ok draft.new)
-        (λ e. Told e (with_line (places_of labels.now) words number draft.old (line bytes.now))) }
-    ensures kept { KeepsLimits words draft.old → OnOk result (KeepsLimits words draft.new) }
+fn take_line(outline: &Outline, number: usize, draft: &mut Draft, bytes: &[u8]) -> Result<(), Fault>
+    ensures takes { let o = outline.now in MatchResult result
+        (λ _. with_line o.profile (places_of o.labels) o.words number draft.old (line bytes.now) ≡ Ok draft.new)
+        (λ e. Told e (with_line o.profile (places_of o.labels) o.words number draft.old (line bytes.now))) }
+    ensures kept { let o = outline.now in
+        KeepsLimits o.profile o.words draft.old → OnOk result (KeepsLimits o.profile o.words draft.new) }
 {
-    let item = read_line(labels, words, number, draft.words(), &cut_line(bytes))?;
+    let line = cut_line(bytes);
+    let item = read_line(
+        outline.profile,
+        &outline.labels,
+        outline.words,
+        number,
+        draft.words(),
+        &line,
+    )?;
     draft.add(item)
 }
 
-/// What all lines of a text give, where its labels stand at these places and so many lines are words.
-fn all_lines(alloc: Global, labels: &Labels, words: usize, text: &[u8]) -> Result<Draft, AsmFault>
-    ensures takes { MatchResult result
-        (λ d. with_lines (places_of labels.now) words 0 empty (lines text.now) ≡ Ok d)
-        (λ e. ToldAt e (with_lines (places_of labels.now) words 0 empty (lines text.now))) }
-    ensures kept { IfOk result (KeepsLimits words) }
+/// What all lines of a text with this outline give.
+fn all_lines(alloc: Global, outline: &Outline, text: &[u8]) -> Result<Draft, AsmFault>
+    ensures takes { let o = outline.now in MatchResult result
+        (λ d. with_lines o.profile (places_of o.labels) o.words 0 empty (lines text.now) ≡ Ok d)
+        (λ e. ToldAt e (with_lines o.profile (places_of o.labels) o.words 0 empty (lines text.now))) }
+    ensures kept { IfOk result (KeepsLimits outline.now.profile outline.now.words) }
     ensures no_memory { IfErr result (λ e. e.kind ≡ NoMemory → e ≡ asm_no_memory) }
 {
     let mut draft = Draft::new(alloc);
@@ -101,7 +136,7 @@ fn all_lines(alloc: Global, labels: &Labels, words: usize, text: &[u8]) -> Resul
     let mut rest = Some(text);
     while let Some(bytes) = rest {
         let (first, following) = next_line(bytes);
-        match take_line(labels, words, number, &mut draft, first) {
+        match take_line(outline, number, &mut draft, first) {
             Ok(()) => {}
             Err(kind) => return Err(AsmFault::on_line(number + 1, kind)),
         }
@@ -124,7 +159,7 @@ pub fn assemble(alloc: Global, text: &[u8]) -> Result<Image, AsmFault>
     if let Some(line) = not_ascii(text) {
         return Err(AsmFault::on_line(line, Fault::NotAscii));
     }
-    let (labels, words) = places(alloc, text)?;
-    let draft = all_lines(alloc, &labels, words, text)?;
-    draft.finish()
+    let outline = outline_of(alloc, text)?;
+    let draft = all_lines(alloc, &outline, text)?;
+    draft.finish(outline.profile)
 }

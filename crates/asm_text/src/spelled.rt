@@ -2,13 +2,14 @@
 
 ghost use Rattle.std.specs.Prelude.{◌≡◌};
 ghost use Rattle.insn_word.specs.Fields.{number_of_fields};
-ghost use Rattle.insn_word.specs.Words.{fields, IsValid};
+ghost use Rattle.insn_word.specs.Words.{fields, IsValidIn};
+ghost use Rattle.insn_word.specs.declared.profiles.Profile.{Profile};
 
 use insn_word::{Insn, encode, spelling_is_one_to_one};
 
 /// The word that the instruction's fields make, which spells it.
 pub(crate) fn spelled(insn: &Insn) -> u64
-    requires { IsValid insn.now }
+    requires { (p : Profile) × IsValidIn p insn.now }
     ensures { result ≡ number_of_fields (fields insn.now) }
 {
     spelling_is_one_to_one();

@@ -2,6 +2,7 @@
 use crate::escapes::bytes_of;
 use anyhow::{Context, Result};
 use asm_line::{Labels, Place, cut_line, is_word, read_line};
+use insn_word::Profile;
 use std::alloc::{AllocError, Global};
 
 /// The labels of the text, the line of each (from 0), and its value.
@@ -22,12 +23,13 @@ const LINE: usize = 15;
 
 const HERE: usize = 10;
 
-/// Whether the line of source text adds the item, or has the fault, that follows it.
-pub(crate) fn adds(alloc: Global, line: &str) -> Result<bool> {
+/// Whether the line of source text adds the item, or has the fault, that follows it, in a text of this profile.
+pub(crate) fn adds(alloc: Global, profile: Profile, line: &str) -> Result<bool> {
     let (text, answer) = line.split_once('\t').context("two fields")?;
     let text = bytes_of(alloc, text)?;
     let labels = labels(alloc)?;
-    let item = read_line(&labels, WORDS, LINE, HERE, &cut_line(&text));
+    let line = cut_line(&text);
+    let item = read_line(profile, &labels, WORDS, LINE, HERE, &line);
     Ok(format!(in alloc; "{item:?}")?.as_str() == answer)
 }
 

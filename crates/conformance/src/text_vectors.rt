@@ -3,6 +3,7 @@ use crate::{
     commands, debugger, histories, instruction_words, numbers, schedules, source_lines, sources,
 };
 use anyhow::Result;
+use insn_word::Profile;
 use std::alloc::Global;
 
 /// A file of test vectors of texts. Its fields may have the escapes of `bytes_of`.
@@ -14,8 +15,10 @@ pub(crate) enum TextVectors {
     ReadNumbers,
     /// A line of source text, its label, its statement, and whether it counts as a word.
     CutLines,
-    /// A line of source text, and what it adds.
+    /// A line of source text of Profile 1, and what it adds.
     SourceLines,
+    /// The same of Profile 2.
+    SourceLinesTwo,
     /// A word, and the instruction that it is listed as.
     ListedWords,
     /// A fault, and a source text that has it.
@@ -46,6 +49,7 @@ impl TextVectors {
             TextVectors::ReadNumbers => "read_numbers.tsv",
             TextVectors::CutLines => "cut_lines.tsv",
             TextVectors::SourceLines => "source_lines.tsv",
+            TextVectors::SourceLinesTwo => "source_lines_two.tsv",
             TextVectors::ListedWords => "listed_words.tsv",
             TextVectors::BadSources => "bad_sources.tsv",
             TextVectors::Sources => "sources.tsv",
@@ -66,6 +70,7 @@ impl TextVectors {
             TextVectors::ReadNumbers => "read numbers",
             TextVectors::CutLines => "cut lines",
             TextVectors::SourceLines => "source lines",
+            TextVectors::SourceLinesTwo => "source lines of profile two",
             TextVectors::ListedWords => "listed words",
             TextVectors::BadSources => "bad sources",
             TextVectors::Sources => "sources",
@@ -85,7 +90,8 @@ impl TextVectors {
             TextVectors::PrintedNumbers => numbers::is_printed(alloc, line),
             TextVectors::ReadNumbers => numbers::is_read(alloc, line),
             TextVectors::CutLines => source_lines::is_cut(alloc, line),
-            TextVectors::SourceLines => source_lines::adds(alloc, line),
+            TextVectors::SourceLines => source_lines::adds(alloc, Profile::One, line),
+            TextVectors::SourceLinesTwo => source_lines::adds(alloc, Profile::Two, line),
             TextVectors::ListedWords => instruction_words::is_spelt(alloc, line),
             TextVectors::BadSources | TextVectors::Sources => sources::comes_to(alloc, line),
             TextVectors::LargeSources => sources::has_size(alloc, line),

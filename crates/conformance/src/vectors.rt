@@ -31,7 +31,7 @@ pub(crate) enum Vectors {
 
 impl Vectors {
     /// All files, in the order in which they are compared.
-    pub(crate) const ALL: [Vectors; 23] = [
+    pub(crate) const ALL: [Vectors; 24] = [
         Vectors::InstructionWords,
         Vectors::NotInstructions,
         Vectors::ProfileTwo,
@@ -46,6 +46,7 @@ impl Vectors {
         Vectors::Text(TextVectors::ReadNumbers),
         Vectors::Text(TextVectors::CutLines),
         Vectors::Text(TextVectors::SourceLines),
+        Vectors::Text(TextVectors::SourceLinesTwo),
         Vectors::Text(TextVectors::ListedWords),
         Vectors::Text(TextVectors::BadSources),
         Vectors::Text(TextVectors::Sources),

@@ -6,6 +6,7 @@ use Rattle.insn_word.specs.Fields.{AreInRange}
 use Rattle.insn_word.specs.Words.{argument_fields, control_fields, used_control}
 use Rattle.insn_word.specs.declared.operations.ControlOp.{ControlOp}
 use Rattle.insn_word.specs.declared.operations.ControlOp.TheVariants as control
+use Rattle.insn_word.specs.declared.profiles.Profile.{Profile}
 use Rattle.insn_word.specs.declared.insn.CPart.{CPart}
 use Rattle.asm_line.specs.Numbers.{number_within}
 use Rattle.asm_line.specs.Operands.{Places}
@@ -87,17 +88,17 @@ control-reads places here control.QuitKeep c h r u = refl
 control-reads places here control.Mask c h r u =
     let n : pos (unsigned_abs c.n) ≡ c.n = ap (λ (p : CPart). p.n) u in rw (mask-reads c.n n r.0)
 
-pub record IsControlText (places : Places) (here : ℕ) (c : CPart) : Type 0 where
-  pub operation : IsOperation (control_text c) (operation.Control c.op) (control_operands c.op c)
+pub record IsControlText (profile : Profile) (places : Places) (here : ℕ) (c : CPart) : Type 0 where
+  pub operation : IsOperation profile (control_text c) (operation.Control c.op) (control_operands c.op c)
   pub reads : control_part places here c.op (control_operands c.op c) ≡ Ok c
 
-pub control-text : (places : Places) (here : ℕ) (c : CPart) → is_no_control c.op ≡ false
+pub control-text : (profile : Profile) (places : Places) (here : ℕ) (c : CPart) → is_no_control c.op ≡ false
     → AreInRange (control_fields c)
-    → used_control c.op c ≡ c → IsControlText places here c
+    → used_control c.op c ≡ c → IsControlText profile places here c
 unfolding control_text
-control-text places here c h r u = record {
+control-text profile places here c h r u = record {
   operation =
-      operation_text (operation.Control c.op) (control_operands c.op c) (control-head c.op h)
+      operation_text profile (operation.Control c.op) (control_operands c.op c) (control-head profile c.op h)
       (control-terms c.op c r.1);
   reads = control-reads places here c.op c h r.1 u ∙ ap Ok u;
 }

@@ -7,15 +7,15 @@ use Rattle.std.specs.Str.{bytes_eq}
 use Rattle.std.specs.Fmt.{digit_glyph}
 use Rattle.std.proofs.lemmas.Bool.{and_from, le-ltb}
 use Rattle.std.proofs.lemmas.Bool.Decides.{nat_tests}
-use Rattle.insn_word.specs.Words.{Spells}
+use Rattle.insn_word.specs.Words.{SpellsIn}
 use Rattle.insn_word.specs.Reading.{InstructionIsSpelt}
 use Rattle.insn_word.specs.Reading as reading
-use Rattle.insn_word.specs.declared.profiles.Profile.TheVariants as profile
+use Rattle.insn_word.specs.declared.profiles.Profile.{Profile}
 use Rattle.insn_word.specs.declared.insn.Insn.{Insn}
 use Rattle.number_text.specs.Digits.{fixed_digits, hexadecimal_16, five_digits}
 use Rattle.number_text.specs.Laws.{HexadecimalReadsBack}
 use Rattle.text_parts.specs.Parts.{text_after}
-use Rattle.asm_line.specs.Names.{directive_name}
+use Rattle.asm_line.specs.Names.{directive_name, has_directive}
 use Rattle.asm_line.specs.Heads.{directive_of, directive_named}
 use Rattle.asm_line.specs.Operands.{Places}
 use Rattle.asm_line.specs.Directives.{item_of_directive}
@@ -83,12 +83,13 @@ line-commented text comment s =
       no_label text s,
     )
 
-read_as : (bytes text : List ℕ) (counts : Bool) (words : ℕ) (added : Item) → list_all is_line_byte bytes ≡ true
+read_as : (profile : Profile) (bytes text : List ℕ) (counts : Bool) (words : ℕ) (added : Item)
+    → list_all is_line_byte bytes ≡ true
     → line bytes ≡ record { label = None; statement = text } → is_word text ≡ counts
-    → ((places : Places) (here : ℕ) → statement_item places words here text ≡ Ok added)
-    → IsReadAs bytes counts words added
+    → ((places : Places) (here : ℕ) → statement_item profile places words here text ≡ Ok added)
+    → IsReadAs profile bytes counts words added
 unfolding line_item label_fault
-read_as bytes text counts words added one cut counted adds = record {
+read_as profile bytes text counts words added one cut counted adds = record {
   one_line = one;
   no_label = ap (λ (l : Line). l.label) cut;
   counted = rw cut counted;
@@ -101,28 +102,30 @@ abbrev pub is_program_word : Directive → Bool
 is_program_word directive.Word = true
 is_program_word _ = false
 
-record IsDirectiveHead (d : Directive) : Type 0 where
+record IsDirectiveHead (profile : Profile) (d : Directive) : Type 0 where
   term : is_term (directive_name d) ≡ true
-  names : directive_of (directive_name d) ≡ Ok d
+  names : directive_of profile (directive_name d) ≡ Ok d
   dot : get_or (directive_name d) 0 0 ≡ 46
   counts : bytes_eq (directive_name d) (codes ".word") ≡ is_program_word d
 
-directive-head : (d : Directive) → IsDirectiveHead d
+directive-head : (profile : Profile) (d : Directive) → has_directive profile d ≡ true → IsDirectiveHead profile d
 unfolding directive_of directive_named
-directive-head directive.Word = record { term = refl; names = refl; dot = refl; counts = refl }
-directive-head _ = record { term = refl; names = refl; dot = refl; counts = refl }
+directive-head profile directive.Word h = record { term = refl; names = refl; dot = refl; counts = refl }
+directive-head profile directive.Chain h = record { term = refl; names = rw h refl; dot = refl; counts = refl }
+directive-head profile _ h = record { term = refl; names = refl; dot = refl; counts = refl }
 
-pub record IsDirective (text : List ℕ) (d : Directive) (words : ℕ) (added : Item) : Type 0 where
+pub record IsDirective (profile : Profile) (text : List ℕ) (d : Directive) (words : ℕ) (added : Item) : Type 0 where
   pub shown : IsShown text
   pub counted : is_word text ≡ is_program_word d
-  pub adds : (places : Places) (here : ℕ) → statement_item places words here text ≡ Ok added
+  pub adds : (places : Places) (here : ℕ) → statement_item profile places words here text ≡ Ok added
 
-directive-statement : (d : Directive) (ops : List (List ℕ)) (words : ℕ) (added : Item) → all_terms ops ≡ true
+directive-statement : (profile : Profile) (d : Directive) (ops : List (List ℕ)) (words : ℕ) (added : Item)
+    → has_directive profile d ≡ true → all_terms ops ≡ true
     → ((places : Places) → item_of_directive places words d ops ≡ Ok added)
-    → IsDirective (statement_text (directive_name d) ops) d words added
+    → IsDirective profile (statement_text (directive_name d) ops) d words added
 unfolding is_word statement_item
-directive-statement d ops words added e reads =
-    let h = directive-head d in
+directive-statement profile d ops words added has e reads =
+    let h = directive-head profile d has in
     let s = statement (directive_name d) ops h.term e in
     let text = statement_text (directive_name d) ops in
     let first : get_or text 0 0 ≡ 46 = s.first ∙ h.dot in record {
@@ -132,13 +135,23 @@ directive-statement d ops words added e reads =
           rw (not_empty text s.trimmed.front, first, s.head_is, h.names, s.operands_are, reads places);
     }
 
-pub directive-line : (d : Directive) (ops : List (List ℕ)) (words : ℕ) (added : Item) → all_terms ops ≡ true
-    → ((places : Places) → item_of_directive places words d ops ≡ Ok added)
-    → IsReadAs (statement_text (directive_name d) ops) (is_program_word d) words added
-directive-line d ops words added e reads =
-    let s = directive-statement d ops words added e reads in
+pub directive-cut : (d : Directive) (ops : List (List ℕ)) → is_term (directive_name d) ≡ true → all_terms ops ≡ true
+    → line (statement_text (directive_name d) ops)
+    ≡ record { label = None; statement = statement_text (directive_name d) ops }
+directive-cut d ops t e =
+    let s = statement (directive_name d) ops t e in
     let text = statement_text (directive_name d) ops in
-    read_as text text (is_program_word d) words added (prints-one_line text s.shown.print) (line-bare text s.shown)
+    line-bare text (record { trimmed = s.trimmed; print = ink-prints text s.ink })
+
+pub directive-line : (profile : Profile) (d : Directive) (ops : List (List ℕ)) (words : ℕ) (added : Item)
+    → has_directive profile d ≡ true → all_terms ops ≡ true
+    → ((places : Places) → item_of_directive places words d ops ≡ Ok added)
+    → IsReadAs profile (statement_text (directive_name d) ops) (is_program_word d) words added
+directive-line profile d ops words added has e reads =
+    let s = directive-statement profile d ops words added has e reads in
+    let text = statement_text (directive_name d) ops in
+    read_as profile text text (is_program_word d) words added (prints-one_line text s.shown.print)
+    (line-bare text s.shown)
     s.counted s.adds
 
 -- Program words.
@@ -168,49 +181,52 @@ comment-cut : (text : List ℕ) (place word : ℕ) → IsShown text
 unfolding place_comment
 comment-cut text place word s = line-commented text (32 ∷ (five_digits place ++ (32 ∷ hexadecimal_16 word))) s
 
-commented-line : HexadecimalReadsBack → (text : List ℕ) (place word words : ℕ) (added : Item) → place < 2 ^ 16
+commented-line : HexadecimalReadsBack → (profile : Profile) (text : List ℕ) (place word words : ℕ) (added : Item)
+    → place < 2 ^ 16
     → word < 2 ^ 64
     → IsShown text → is_word text ≡ true
-    → ((places : Places) (here : ℕ) → statement_item places words here text ≡ Ok added)
-    → IsReadAs (text ++ place_comment place word) true words added
-commented-line law text place word words added h k s counted adds =
+    → ((places : Places) (here : ℕ) → statement_item profile places words here text ≡ Ok added)
+    → IsReadAs profile (text ++ place_comment place word) true words added
+commented-line law profile text place word words added h k s counted adds =
     let one = list_all-both is_line_byte text (place_comment place word) (prints-one_line text s.print)
     (comment-one_line law place word h k) in
-    read_as (text ++ place_comment place word) text true words added one (comment-cut text place word s) counted adds
+    read_as profile (text ++ place_comment place word) text true words added one
+    (comment-cut text place word s) counted adds
 
-raw-statement : HexadecimalReadsBack → (word words : ℕ) → word < 2 ^ 64
-    → IsDirective (raw_text word) directive.Word words (item.Word word)
+raw-statement : HexadecimalReadsBack → (profile : Profile) (word words : ℕ) → word < 2 ^ 64
+    → IsDirective profile (raw_text word) directive.Word words (item.Word word)
 unfolding raw_text item_of_directive
-raw-statement law word words h =
-    directive-statement directive.Word (digits_text word ∷ []) words (item.Word word)
+raw-statement law profile word words h =
+    directive-statement profile directive.Word (digits_text word ∷ []) words (item.Word word) refl
     (and_from (is_term (digits_text word)) true (digits_text-term law word h) refl)
     (λ places. rw (word_number-digits law word h))
 
-record IsInstructionStatement (text : List ℕ) (words : ℕ) (i : Insn) : Type 0 where
+record IsInstructionStatement (profile : Profile) (text : List ℕ) (words : ℕ) (i : Insn) : Type 0 where
   shown : IsShown text
   counted : is_word text ≡ true
-  adds : (places : Places) (here : ℕ) → statement_item places words here text ≡ Ok (item.Instruction i)
+  adds : (places : Places) (here : ℕ) → statement_item profile places words here text ≡ Ok (item.Instruction i)
 
-instruction-statement : (word words : ℕ) (i : Insn) → Spells word i → IsInstructionStatement (insn_text i) words i
+instruction-statement : (profile : Profile) (word words : ℕ) (i : Insn) → SpellsIn profile word i
+    → IsInstructionStatement profile (insn_text i) words i
 unfolding is_word statement_item
-instruction-statement word words i s =
+instruction-statement profile word words i s =
     let text = insn_text i in
-    let p = (spelt-instruction (λ name. None) 0 word i s).printed in record {
+    let p = (spelt-instruction profile (λ name. None) 0 word i s).printed in record {
       shown = record { trimmed = p.trimmed; print = p.print };
       counted = rw (some_bytes text p.trimmed.front, p.no_dot);
       adds = λ places here. rw
-          (not_empty text p.trimmed.front, p.no_dot, (spelt-instruction places here word i s).reads);
+          (not_empty text p.trimmed.front, p.no_dot, (spelt-instruction profile places here word i s).reads);
     }
 
 pub word-lines : InstructionIsSpelt → HexadecimalReadsBack → WordLinesReadBack
 unfolding word_line word_text word_item
-word-lines spelt law place word words h k = go (reading.instruction word) refl
+word-lines spelt law profile place word words h k = go (reading.instruction_in profile word) refl
   where
-    go : (o : Option Insn) → reading.instruction word ≡ o
-        → IsReadAs (instruction_or_raw_text word o ++ place_comment place word) true words (item_of word o)
+    go : (o : Option Insn) → reading.instruction_in profile word ≡ o
+        → IsReadAs profile (instruction_or_raw_text word o ++ place_comment place word) true words (item_of word o)
     go None e =
-        let s = raw-statement law word words k in
-        commented-line law (raw_text word) place word words (item.Word word) h k s.shown s.counted s.adds
+        let s = raw-statement law profile word words k in
+        commented-line law profile (raw_text word) place word words (item.Word word) h k s.shown s.counted s.adds
     go (Some i) e =
-        let s = instruction-statement word words i ((spelt profile.One word i).0 e) in
-        commented-line law (insn_text i) place word words (item.Instruction i) h k s.shown s.counted s.adds
+        let s = instruction-statement profile word words i ((spelt profile word i).0 e) in
+        commented-line law profile (insn_text i) place word words (item.Instruction i) h k s.shown s.counted s.adds

@@ -10,7 +10,7 @@ use Rattle.insn_word.specs.Fields.{AreInRange}
 use Rattle.insn_word.specs.Words.{memory_fields, arithmetic_fields}
 use Rattle.insn_word.specs.Operations.{has_operation}
 use Rattle.insn_word.specs.Words.{used_memory, used_arithmetic}
-use Rattle.insn_word.specs.declared.profiles.Profile.TheVariants as profile
+use Rattle.insn_word.specs.declared.profiles.Profile.{Profile}
 use Rattle.insn_word.specs.declared.operations.WideOp.{WideOp}
 use Rattle.insn_word.specs.declared.operations.WideOp.TheVariants as wide
 use Rattle.insn_word.specs.declared.operations.ArithmeticOp.{ArithmeticOp}
@@ -74,14 +74,14 @@ pub record IsText (text : List ℕ) : Type 0 where
   pub no_at : (get_or text 0 0 == 64) ≡ false
   pub no_dot : (get_or text 0 0 == 46) ≡ false
 
-pub record IsOperation (text : List ℕ) (o : Operation) (ops : List (List ℕ)) : Type 0 where
+pub record IsOperation (profile : Profile) (text : List ℕ) (o : Operation) (ops : List (List ℕ)) : Type 0 where
   pub is_text : IsText text
-  pub names : operation_of (head text) ≡ Ok o
+  pub names : operation_of profile (head text) ≡ Ok o
   pub operands_are : operands text ≡ ops
 
-pub operation_text : (o : Operation) (ops : List (List ℕ)) → IsHead o → all_terms ops ≡ true
-    → IsOperation (statement_text (operation_name o) ops) o ops
-operation_text o ops h e =
+pub operation_text : (profile : Profile) (o : Operation) (ops : List (List ℕ)) → IsHead profile o → all_terms ops ≡ true
+    → IsOperation profile (statement_text (operation_name o) ops) o ops
+operation_text profile o ops h e =
     let s = statement (operation_name o) ops h.term e in record {
       is_text = record { trimmed = s.trimmed; ink = s.ink; no_at = rw s.first h.no_at; no_dot = rw s.first h.no_dot };
       names = rw s.head_is h.names;
@@ -108,21 +108,22 @@ wide-reads places _ reg imm h k = rw (register-text reg h, immediate-decimal pla
 
 -- The memory part.
 
-pub record IsMemoryText (m : MPart) : Type 0 where
-  pub operation : IsOperation (memory_text m) (operation.Memory m.op m.acc) (memory_operands m)
+pub record IsMemoryText (profile : Profile) (m : MPart) : Type 0 where
+  pub operation : IsOperation profile (memory_text m) (operation.Memory m.op m.acc) (memory_operands m)
   pub reads : memory_part m.op m.acc (memory_operands m) ≡ Ok m
 
-pub memory-text : (m : MPart) → is_no_memory m.op ≡ false → has_operation profile.One m.op ≡ true
-    → AreInRange (memory_fields m) → used_memory m.op m ≡ m → IsMemoryText m
+pub memory-text : (profile : Profile) (m : MPart) → is_no_memory m.op ≡ false → has_operation profile m.op ≡ true
+    → AreInRange (memory_fields m) → used_memory m.op m ≡ m → IsMemoryText profile m
 unfolding memory_text
-memory-text m h p r u =
+memory-text profile m h p r u =
     let rd = r.1.1.0 in
     let base = r.1.1.1.0 in
     let disp = r.1.1.1.1.0 in
     let terms = three-terms (register_text m.rd) (register_text m.base) (signed_decimal m.disp)
     (register-term m.rd (omega arith)) (register-term m.base (omega arith))
     (signed-term m.disp (omega (arith, ints)) (omega (arith, ints))) in record {
-      operation = operation_text (operation.Memory m.op m.acc) (memory_operands m) (memory-head m.op m h p u) terms;
+      operation = operation_text profile (operation.Memory m.op m.acc) (memory_operands m)
+          (memory-head profile m.op m h p u) terms;
       reads = rw (register-text m.rd rd, register-text m.base base, displacement-text m.disp disp.0 disp.1);
     }
 
@@ -147,20 +148,21 @@ arithmetic-reads arithmetic.Tally test imm rd ra rb h d e f = rw (register-text 
 arithmetic-reads _ test true rd ra rb h d e f = rw (register-text rd d, register-text ra e, source-text true rb f)
 arithmetic-reads _ test false rd ra rb h d e f = rw (register-text rd d, register-text ra e, source-text false rb f)
 
-pub record IsArithmeticText (a : APart) : Type 0 where
-  pub operation : IsOperation (arithmetic_text a) (operation.Arithmetic a.op a.test) (arithmetic_operands a.op a)
+pub record IsArithmeticText (profile : Profile) (a : APart) : Type 0 where
+  pub operation : IsOperation profile (arithmetic_text a) (operation.Arithmetic a.op a.test)
+      (arithmetic_operands a.op a)
   pub reads : arithmetic_part a.op a.test (arithmetic_operands a.op a) ≡ Ok a
 
-pub arithmetic-text : (a : APart) → is_no_arithmetic a.op ≡ false → AreInRange (arithmetic_fields a)
+pub arithmetic-text : (profile : Profile) (a : APart) → is_no_arithmetic a.op ≡ false → AreInRange (arithmetic_fields a)
     → used_arithmetic a.op a ≡ a
-    → IsArithmeticText a
+    → IsArithmeticText profile a
 unfolding arithmetic_text
-arithmetic-text a h r u =
+arithmetic-text profile a h r u =
     let d = r.1.1.1.0 in
     let e = r.1.1.1.1.0 in
     let f = r.1.1.1.1.1.0 in record {
       operation =
-          operation_text (operation.Arithmetic a.op a.test) (arithmetic_operands a.op a)
-          (arithmetic-head a.op a.test h) (arithmetic-terms a.op a d e f);
+          operation_text profile (operation.Arithmetic a.op a.test) (arithmetic_operands a.op a)
+          (arithmetic-head profile a.op a.test h) (arithmetic-terms a.op a d e f);
       reads = arithmetic-reads a.op a.test a.imm a.rd a.ra a.rb h d e f ∙ ap Ok u;
     }

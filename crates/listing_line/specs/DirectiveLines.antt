@@ -1,7 +1,8 @@
 -- Directives as lines, without their line ends.
 use Rattle.std.specs.Prelude.{ℕ, List, [], ◌∷◌}
 use Rattle.std.specs.Fmt.{decimal}
-use Rattle.asm_line.specs.Names.{directive_name}
+use Rattle.insn_word.specs.declared.profiles.Profile.{Profile}
+use Rattle.asm_line.specs.Names.{directive_name, profile_number}
 use Rattle.asm_line.specs.declared.operation.Directive.{Directive}
 use Rattle.asm_line.specs.declared.operation.Directive.TheVariants as directive
 use Rattle.listing_line.specs.WordText.{statement_text, digits_text}
@@ -10,11 +11,14 @@ use Rattle.listing_line.specs.WordText.{statement_text, digits_text}
 abbrev pub number_line : Directive → ℕ → List ℕ
 number_line d number = statement_text (directive_name d) (decimal number ∷ [])
 
-unfoldable pub profile_line : List ℕ
-profile_line = number_line directive.Profile 1
+unfoldable pub profile_line : Profile → List ℕ
+profile_line p = number_line directive.Profile (profile_number p)
 
 unfoldable pub slim_line : ℕ → List ℕ
 slim_line slim = number_line directive.Slim slim
+
+unfoldable pub chain_line : ℕ → List ℕ
+chain_line limit = number_line directive.Chain limit
 
 unfoldable pub retry_line : ℕ → List ℕ
 retry_line retry = number_line directive.Retry retry

@@ -1,8 +1,10 @@
--- A program word as a line: the instruction that it spells, or the word itself, and behind it the place and the word.
+-- A program word as a line: the instruction that it spells in a profile, or the word itself, and behind it the place
+-- and the word.
 use Rattle.std.specs.Prelude.{ℕ, ◌==◌, Bool, true, false, if◌then◌else◌, List, [], ◌∷◌, ◌++◌, codes, Option, Some}
 use Rattle.std.specs.Prelude.{None}
 use Rattle.std.specs.Fmt.{decimal, signed_decimal}
-use Rattle.insn_word.specs.Reading.{instruction}
+use Rattle.insn_word.specs.Reading.{instruction_in}
+use Rattle.insn_word.specs.declared.profiles.Profile.{Profile}
 use Rattle.insn_word.specs.declared.operations.WideOp.{WideOp}
 use Rattle.insn_word.specs.declared.operations.WideOp.TheVariants as wide
 use Rattle.insn_word.specs.declared.operations.MemoryOp.{MemoryOp}
@@ -195,13 +197,13 @@ abbrev pub instruction_or_raw_text : ℕ → Option Insn → List ℕ
 instruction_or_raw_text word None = raw_text word
 instruction_or_raw_text word (Some i) = insn_text i
 
-unfoldable pub word_text : ℕ → List ℕ
-word_text word = instruction_or_raw_text word (instruction word)
+unfoldable pub word_text : Profile → ℕ → List ℕ
+word_text p word = instruction_or_raw_text word (instruction_in p word)
 
 -- the comment behind a word: its place in five digits, and the word
 unfoldable pub place_comment : ℕ → ℕ → List ℕ
 place_comment place word = codes " ; " ++ (five_digits place ++ (codes " " ++ hexadecimal_16 word))
 
 -- a program word on its line, without the line end
-unfoldable pub word_line : ℕ → ℕ → List ℕ
-word_line place word = word_text word ++ place_comment place word
+unfoldable pub word_line : Profile → ℕ → ℕ → List ℕ
+word_line p place word = word_text p word ++ place_comment place word

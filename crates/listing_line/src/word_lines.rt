@@ -9,23 +9,28 @@ ghost use Rattle.listing_line.specs.WordText.{arithmetic_texts, control_texts, w
 use crate::operations::{LINE, add_arithmetic, add_control, add_memory, add_wide};
 use arrayvec::ArrayString;
 use asm_line::{Directive, names};
-use insn_word::{APart, ArithmeticOp, CPart, ControlOp, Insn, MPart, MemoryOp, decode};
+use insn_word::{APart, ArithmeticOp, CPart, ControlOp, Insn, MPart, MemoryOp, Profile, decode_as};
 use number_text::{add_decimal, add_five_digits, add_hexadecimal};
 use std::alloc::AllocError;
 
-/// Appends a program word as a line of a listing, with its line end: the instruction that the word spells, or `.word`
-/// where it spells none, and behind a semicolon the word's place in the program and the word itself ("Listing",
+/// Appends a program word as a line of a listing, with its line end: the instruction that the word spells in the
+/// profile, or `.word` where it spells none, and behind a semicolon the word's place in the program and the word itself ("Listing",
 /// docs/FORMATS.md). It fails only where the text has no room for it and memory is refused; the text then stays as it
 /// was.
 #[tactic(auto, unfolding(crate::specs::WordText::word_line, crate::specs::WordText::place_comment))]
-pub fn push_word_line(text: &mut String, place: u16, word: u64) -> Result<(), AllocError>
+pub fn push_word_line(
+    text: &mut String,
+    profile: Profile,
+    place: u16,
+    word: u64,
+) -> Result<(), AllocError>
     ensures { MatchResult result
-        (λ _. string_bytes text.new ≡ string_bytes text.old ++ (word_line place word ++ codes "\n"))
-        (λ _. (string_capacity text.old < string_len text.old + length (word_line place word ++ codes "\n"))
+        (λ _. string_bytes text.new ≡ string_bytes text.old ++ (word_line profile place word ++ codes "\n"))
+        (λ _. (string_capacity text.old < string_len text.old + length (word_line profile place word ++ codes "\n"))
         × (string_bytes text.new ≡ string_bytes text.old)) }
 {
     let mut line = ArrayString::<LINE>::new();
-    add_word(&mut line, word);
+    add_word(&mut line, profile, word);
     line.push_str(" ; ");
     add_five_digits(&mut line, place);
     line.push_str(" ");
@@ -35,12 +40,12 @@ pub fn push_word_line(text: &mut String, place: u16, word: u64) -> Result<(), Al
 }
 
 #[tactic(auto, unfolding(crate::specs::WordText::word_text, crate::specs::WordText::raw_text))]
-fn add_word(line: &mut ArrayString<LINE>, word: u64)
+fn add_word(line: &mut ArrayString<LINE>, profile: Profile, word: u64)
     requires { array_string_len line.old ≡ 0 }
-    ensures bytes { line.new.bytes ≡ line.old.bytes ++ word_text word }
+    ensures bytes { line.new.bytes ≡ line.old.bytes ++ word_text profile word }
     ensures len { array_string_len line.new ≤ 151 }
 {
-    match decode(word) {
+    match decode_as(profile, word) {
         Some(insn) => add_insn(line, &insn),
         None => {
             line.push_str(names::directive(Directive::Word));

@@ -5,10 +5,10 @@ endif
 syntax case match
 syntax match mtaComment ";.*$"
 syntax match mtaLabel "^\s*[A-Za-z_][A-Za-z0-9_]*:"
-syntax match mtaDirective "\.\(profile\|slim\|retry\|trap\|entry\|word\|data\|fill\)\>"
+syntax match mtaDirective "\.\(profile\|slim\|chain\|retry\|trap\|entry\|word\|data\|fill\)\>"
 syntax match mtaWide "\<\(LIT\|LITH\|TLIT\)\>"
 syntax match mtaMemory "\<\(LOAD\|STORE\|FADD\)\(\.[NFS]\)\?\>"
-syntax match mtaMemory "\<\(TAGGET\|TAGSET\)\>"
+syntax match mtaMemory "\<\(TAGGET\|TAGSET\|PURGE\)\>"
 syntax match mtaArithmetic "\<\(ADD\|SUB\|MUL\|AND\|OR\|XOR\|ANDN\|SHL\|SHR\|SAR\|TALLY\|LTS\|LTU\|PTR\)\(\.T\)\?\>"
 syntax match mtaControl "\<\(NOP\|JUMP\|SKIP\|CALL\|XCHG\|TSET\|TGET\|XGET\|RESERVE\|CREATE\|QUIT\|QUITP\|MASK\)\>"
 syntax match mtaCondition "\<\(ALWAYS\|EQ\|NE\|LT\|GE\|LE\|GT\|GEU\|LEU\|GTU\|NEG\|POS\|OV\|NOV\)\>"

@@ -7,7 +7,8 @@ use Rattle.asm_line.proofs.instruction.three_parts.Goals as goal
 pub returns : goal.returns
 returns c =
     c.triple.ensures _ _ _ c.read_arguments.ensures c.read_arguments-2.ensures c.read_arguments-3.ensures
-    ∙ three_known (places_of c.args.labels.now) c.args.here c.args.first.now c.args.second.now c.args.third.now
+    ∙ three_known c.args.profile
+    (places_of c.args.labels.now) c.args.here c.args.first.now c.args.second.now c.args.third.now
     c.split_head.result.0.now c.split_head-2.result.0.now c.split_head-3.result.0.now
     c.split_head.result.1.now c.split_head-2.result.1.now c.split_head-3.result.1.now
     c.in_ok-o.o c.in_ok-o.p c.in_ok-o.q

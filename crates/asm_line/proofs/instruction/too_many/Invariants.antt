@@ -10,8 +10,8 @@ use Rattle.asm_line.proofs.instruction.too_many.Given as goal
 
 abbrev pub invariant-loop-rest : goal.invariant-loop-rest
 invariant-loop-rest l =
-    list_all (λ part. is_ok (operation_of (head part))) (map trim (rest_parts 124 (option_copied l.rest)))
-    ≡ list_all (λ part. is_ok (operation_of (head part))) (map trim (parts 124 l.text))
+    list_all (λ part. is_ok (operation_of l.profile (head part))) (map trim (rest_parts 124 (option_copied l.rest)))
+    ≡ list_all (λ part. is_ok (operation_of l.profile (head part))) (map trim (parts 124 l.text))
 
 abbrev pub decreases-loop-rest : goal.decreases-loop-rest
 decreases-loop-rest l = rest_length (option_copied l.rest)

@@ -10,8 +10,8 @@ use Rattle.asm_line.proofs.lines.read_line.Goals as goal
 
 pub returns-clause-range : goal.returns-clause-range
 returns-clause-range c =
-    let P : Result Item Fault → Type 0 = λ r. IfOk r (IsItemInRange c.args.words) in
+    let P : Result Item Fault → Type 0 = λ r. IfOk r (IsItemInRange c.args.profile c.args.words) in
     subst P (sym c.line_item.ensures)
-    (item_range c.spelling_is_one_to_one.ensures.valid (places_of c.args.labels.now) c.args.words
+    (item_range c.spelling_is_one_to_one.ensures.valid c.args.profile (places_of c.args.labels.now) c.args.words
     c.args.number c.args.here
     (line_seen c.args.line.now))

@@ -5,5 +5,5 @@ use Rattle.asm_text.proofs.listings.push_program.Given as goal
 
 abbrev pub invariant-loop-place : goal.invariant-loop-place
 invariant-loop-place l =
-    string_bytes l.text ++ text_of_lines (word_lines l.place (drop l.place l.image.program))
-    ≡ string_bytes l.initial.text ++ text_of_lines (word_lines 0 l.image.program)
+    string_bytes l.text ++ text_of_lines (word_lines l.image.profile l.place (drop l.place l.image.program))
+    ≡ string_bytes l.initial.text ++ text_of_lines (word_lines l.image.profile 0 l.image.program)

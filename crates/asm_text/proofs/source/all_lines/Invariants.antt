@@ -10,9 +10,10 @@ use Rattle.asm_text.proofs.source.all_lines.Given as goal
 
 abbrev pub invariant-loop-rest : goal.invariant-loop-rest
 invariant-loop-rest l = record {
-  lines : with_lines (places_of l.labels) l.words l.number l.draft (rest_lines (option_copied l.rest))
-      ≡ with_lines (places_of l.labels) l.words 0 empty (lines l.text);
-  kept : KeepsLimits l.words l.draft;
+  lines : with_lines l.outline.profile (places_of l.outline.labels) l.outline.words l.number l.draft
+      (rest_lines (option_copied l.rest))
+      ≡ with_lines l.outline.profile (places_of l.outline.labels) l.outline.words 0 empty (lines l.text);
+  kept : KeepsLimits l.outline.profile l.outline.words l.draft;
   number : l.number + rest_length (option_copied l.rest) ≤ length l.text + 1;
 }
 

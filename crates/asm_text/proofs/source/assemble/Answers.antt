@@ -18,41 +18,52 @@ returns-in-Some-clause-fault c =
 pub returns-in_err-draft-clause-fault : goal.returns-in_err-draft-clause-fault
 returns-in_err-draft-clause-fault c =
     let p = err_from_is_err_and c.from_residual-in_err-draft.result c.from_residual-in_err-draft.ensures.1 in
-    let f : IsFound c.args.text.now (places_of c.in_ok-labels.labels) c.in_ok-labels.words = record {
+    let f : IsFound c.args.text.now c.in_ok-outline.outline.profile
+    (places_of c.in_ok-outline.outline.labels) c.in_ok-outline.outline.words = record {
       ascii = sym c.not_ascii.ensures ∙ c.in_default.is;
-      places_are = c.in_ok-labels.ensures.labels;
-      words_are = c.in_ok-labels.ensures.words;
+      profile_is = c.in_ok-outline.ensures.profile;
+      places_are = c.in_ok-outline.ensures.labels;
+      words_are = c.in_ok-outline.ensures.words;
     } in
-    rw (p.1, p.2) (λ other. draft_refused c.args.text.now (places_of c.in_ok-labels.labels) c.in_ok-labels.words _ f
+    rw (p.1, p.2)
+    (λ other. draft_refused c.args.text.now c.in_ok-outline.outline.profile
+    (places_of c.in_ok-outline.outline.labels) c.in_ok-outline.outline.words _ f
     (c.in_err-draft.ensures.takes other))
 
 pub finish-requires : goal.finish-requires
 finish-requires c =
-    let n = counted (places_of c.in_ok-labels.labels) c.in_ok-labels.words 0 empty c.in_ok-draft.draft _
+    let n = counted c.in_ok-outline.outline.profile
+    (places_of c.in_ok-outline.outline.labels) c.in_ok-outline.outline.words 0 empty c.in_ok-draft.draft _
     c.in_ok-draft.ensures.takes in
-    within c.in_ok-labels.words c.in_ok-draft.draft c.in_ok-draft.ensures.kept
-    (omega (arith, n, c.in_ok-labels.ensures.words))
+    within c.in_ok-outline.outline.profile c.in_ok-outline.outline.words c.in_ok-draft.draft c.in_ok-draft.ensures.kept
+    (omega (arith, n, c.in_ok-outline.ensures.words))
 
 pub returns-clause-means : goal.returns-clause-means
 returns-clause-means c =
-    let f : IsFound c.args.text.now (places_of c.in_ok-labels.labels) c.in_ok-labels.words = record {
+    let f : IsFound c.args.text.now c.in_ok-outline.outline.profile
+    (places_of c.in_ok-outline.outline.labels) c.in_ok-outline.outline.words = record {
       ascii = sym c.not_ascii.ensures ∙ c.in_default.is;
-      places_are = c.in_ok-labels.ensures.labels;
-      words_are = c.in_ok-labels.ensures.words;
+      profile_is = c.in_ok-outline.ensures.profile;
+      places_are = c.in_ok-outline.ensures.labels;
+      words_are = c.in_ok-outline.ensures.words;
     } in
-    finished_means c.args.text.now c.in_ok-draft.draft c.finish.result
-    (λ s. draft_whole c.args.text.now (places_of c.in_ok-labels.labels) c.in_ok-labels.words c.in_ok-draft.draft s f
+    finished_means c.args.text.now c.in_ok-outline.outline.profile c.in_ok-draft.draft c.finish.result
+    (λ s. draft_whole c.args.text.now c.in_ok-outline.outline.profile
+    (places_of c.in_ok-outline.outline.labels) c.in_ok-outline.outline.words c.in_ok-draft.draft s f
     c.in_ok-draft.ensures.takes)
     c.finish.ensures
 
 pub returns-clause-fault : goal.returns-clause-fault
 returns-clause-fault c =
-    let f : IsFound c.args.text.now (places_of c.in_ok-labels.labels) c.in_ok-labels.words = record {
+    let f : IsFound c.args.text.now c.in_ok-outline.outline.profile
+    (places_of c.in_ok-outline.outline.labels) c.in_ok-outline.outline.words = record {
       ascii = sym c.not_ascii.ensures ∙ c.in_default.is;
-      places_are = c.in_ok-labels.ensures.labels;
-      words_are = c.in_ok-labels.ensures.words;
+      profile_is = c.in_ok-outline.ensures.profile;
+      places_are = c.in_ok-outline.ensures.labels;
+      words_are = c.in_ok-outline.ensures.words;
     } in
-    finished_fault c.args.text.now c.in_ok-draft.draft c.finish.result
-    (λ s. draft_whole c.args.text.now (places_of c.in_ok-labels.labels) c.in_ok-labels.words c.in_ok-draft.draft s f
+    finished_fault c.args.text.now c.in_ok-outline.outline.profile c.in_ok-draft.draft c.finish.result
+    (λ s. draft_whole c.args.text.now c.in_ok-outline.outline.profile
+    (places_of c.in_ok-outline.outline.labels) c.in_ok-outline.outline.words c.in_ok-draft.draft s f
     c.in_ok-draft.ensures.takes)
     c.finish.ensures

@@ -1,16 +1,23 @@
 use Rattle.std.proofs.Common.{sym}
-use Rattle.insn_word.specs.declared.profiles.Profile.TheVariants.{One}
+use Rattle.insn_word.specs.Laws.{ProfileTwoHasProfileOne}
+use Rattle.insn_word.specs.Words.{IsValidIn}
+use Rattle.insn_word.specs.declared.profiles.Profile.{Profile}
+use Rattle.insn_word.specs.declared.profiles.Profile.TheVariants.{One, Two}
+use Rattle.insn_word.specs.declared.insn.Insn.{Insn}
 use Rattle.asm_text.proofs.WordOfFields.{number_of_spelt}
 use Rattle.asm_text.proofs.spelled.spelled.Goals as goal
 
--- what is valid in Profile 1 is valid in Profile 2
+-- what is valid in any profile is valid in Profile 2
+wider : ProfileTwoHasProfileOne → (p : Profile) (i : Insn) → IsValidIn p i → IsValidIn Two i
+wider law One i h = (h.0, law h.0 i h.1)
+wider law Two i h = h
+
 pub encode-requires : goal.encode-requires
 encode-requires c = record {
-  valid = (c.requires.0, c.spelling_is_one_to_one.ensures.wider c.requires.0 c.args.insn.now c.requires.1);
+  valid = wider c.spelling_is_one_to_one.ensures.wider c.requires.0 c.args.insn.now c.requires.1;
 }
 
 pub returns : goal.returns
 returns c =
-    let spelt = c.encode.ensures.first c.requires in
-    sym (number_of_spelt c.encode.result c.args.insn.now
-    ((c.spelling_is_one_to_one.ensures.computed One c.encode.result c.args.insn.now).1 spelt))
+    sym (number_of_spelt Two c.encode.result c.args.insn.now
+    ((c.spelling_is_one_to_one.ensures.computed Two c.encode.result c.args.insn.now).1 c.encode.ensures.spelt))

@@ -3,9 +3,10 @@ use Rattle.std.specs.Option.{option_copied}
 use Rattle.asm_line.specs.Lines.{rest_lines}
 use Rattle.text_parts.specs.Parts.{rest_length}
 use Rattle.asm_line.specs.Seen.{line_seen}
-use Rattle.asm_text.proofs.Standing.{labels_taken, labels_end, words_taken, one_word, few_more, then_one, else_none}
-use Rattle.asm_text.proofs.source.places.Goals as goal
-use Rattle.asm_text.proofs.source.places.Goals.{then-is_word, else-is_word}
+use Rattle.asm_text.proofs.Standing.{labels_taken, labels_end, profile_taken, profile_end, words_taken, one_word}
+use Rattle.asm_text.proofs.Standing.{few_more, then_one, else_none}
+use Rattle.asm_text.proofs.source.outline_of.Goals as goal
+use Rattle.asm_text.proofs.source.outline_of.Goals.{then-is_word, else-is_word}
 
 pub loop-rest-preserved : goal.loop-rest-preserved
 loop-rest-preserved c =
@@ -22,6 +23,7 @@ loop-rest-preserved c =
     ] in
     let count = one_word l c.loop-rest.words c.if-is_word.words c.is_word.result c.is_word.ensures more in
     record {
+      profile = profile_taken l ls these _ _ _ first c.profile_after-profile.ensures c.loop-rest.invariant.profile;
       labels = λ name. labels_taken name l ls these _ _ _ _ _ _ first count (c.in_ok-note.ensures.takes name)
           (c.loop-rest.invariant.labels name);
       words = words_taken l ls these _ _ _ first count c.loop-rest.invariant.words;
@@ -37,3 +39,8 @@ loop-rest-preserved c =
 pub returns-clause-labels : goal.returns-clause-labels
 returns-clause-labels c = λ i name. labels_end name (rest_lines (option_copied c.loop-rest.rest)) _ _ _ _
     (ap (λ r. rest_lines (option_copied r)) c.in_default.is) (c.loop-rest.invariant.labels name) i
+
+pub returns-clause-profile : goal.returns-clause-profile
+returns-clause-profile c =
+    c.unwrap_or.ensures ∙ profile_end (rest_lines (option_copied c.loop-rest.rest)) _ c.loop-rest.profile
+    (ap (λ r. rest_lines (option_copied r)) c.in_default.is) c.loop-rest.invariant.profile

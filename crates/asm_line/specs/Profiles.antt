@@ -1,0 +1,25 @@
+-- The profile of a text.
+use Rattle.std.specs.Prelude.{if◌then◌else◌, List, [], ◌∷◌, codes, Option, Some, None, Result, Ok, Err, unwrap_or}
+use Rattle.std.specs.Str.{bytes_eq}
+use Rattle.insn_word.specs.declared.profiles.Profile.{Profile}
+use Rattle.insn_word.specs.declared.profiles.Profile.TheVariants as profile
+use Rattle.asm_line.specs.Text.{head, operands}
+use Rattle.asm_line.specs.Directives.{profile_read}
+use Rattle.asm_line.specs.Lines.{Line}
+use Rattle.asm_line.specs.declared.fault.Fault.{Fault}
+
+abbrev pub or_first : Result Profile Fault → Profile
+or_first (Ok p) = p
+or_first (Err e) = profile.One
+
+-- what a line says of the profile, if its head is .profile: the profile of its operand, or Profile 1 where that names
+-- none
+unfoldable pub profile_told : Line → Option Profile
+profile_told l =
+    if bytes_eq (head l.statement) (codes ".profile") then Some (or_first (profile_read (operands l.statement)))
+    else None
+
+-- The first line that says one decides, wherever it stands in the text; where none does it is Profile 1.
+abbrev pub profile_of : List Line → Profile
+profile_of [] = profile.One
+profile_of (l ∷ ls) = unwrap_or (profile_told l) (profile_of ls)

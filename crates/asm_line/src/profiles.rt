@@ -1,0 +1,41 @@
+//! The profile that a line says.
+
+ghost use Rattle.std.specs.Prelude.{◌≡◌};
+ghost use Rattle.asm_line.specs.Profiles.{or_first, profile_told};
+ghost use Rattle.asm_line.specs.Seen.{line_seen};
+
+use crate::arguments::read_arguments;
+use crate::directive::read_profile;
+use crate::fault::Fault;
+use crate::lines::SourceLine;
+use crate::names;
+use crate::operation::Directive;
+use crate::text::{begins, split_head, tail};
+use insn_word::Profile;
+
+/// The profile that a line says, if its statement is a `.profile`: that of its number, or Profile 1 where it has a
+/// fault. The first line of a text that says one decides its profile ("Profile 2", docs/WRITING_PROGRAMS.md).
+#[tactic(auto, unfolding(crate::specs::Profiles::profile_told))]
+pub fn profile_told(line: &SourceLine) -> Option<Profile>
+    ensures { result ≡ profile_told (line_seen line.now) }
+{
+    // Most lines are told apart by their first byte or two.
+    if !begins(line.statement, b'.') {
+        return None;
+    }
+    if !begins(tail(line.statement), b'p') {
+        return None;
+    }
+    let (head, behind) = split_head(line.statement);
+    if head == names::directive(Directive::Profile).as_bytes() {
+        Some(or_first(read_profile(&read_arguments(behind))))
+    } else {
+        None
+    }
+}
+
+fn or_first(profile: Result<Profile, Fault>) -> Profile
+    ensures { result ≡ or_first profile }
+{
+    profile.unwrap_or(Profile::One)
+}
