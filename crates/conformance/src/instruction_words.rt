@@ -15,17 +15,24 @@ pub(crate) fn is_spelt(alloc: Global, line: &str) -> Result<bool> {
     let Some(insn) = decode(word) else {
         return Ok(false);
     };
-    let source = format!(in alloc; ".entry 0\n{text}\n.data 0\n")?;
+    Ok(
+        is_listed(alloc, "", word, text)?
+            && insn.is_valid()
+            && insn.is_valid_as(Profile::Two)
+            && encode(&insn) == word,
+    )
+}
+
+/// Whether the instruction's text, behind these directives, is assembled to the word, which is listed as the text.
+fn is_listed(alloc: Global, directives: &str, word: u64, text: &str) -> Result<bool> {
+    let source = format!(in alloc; "{directives}.entry 0\n{text}\n.data 0\n")?;
     let Ok(image) = assemble(alloc, source.as_bytes()) else {
         return Ok(false);
     };
     let listed = format!(in alloc; "\n{text} ; 00000 {word:016X}\n")?;
     Ok(
         image.program() == [word].as_slice()
-            && listing(alloc, &image)?.as_str().contains(listed.as_str())
-            && insn.is_valid()
-            && insn.is_valid_as(Profile::Two)
-            && encode(&insn) == word,
+            && listing(alloc, &image)?.as_str().contains(listed.as_str()),
     )
 }
 
@@ -44,7 +51,8 @@ pub(crate) fn is_of_profile_two(alloc: Global, line: &str) -> Result<bool> {
     if !insn.is_valid_as(Profile::Two) {
         return Ok(false);
     }
-    Ok(found == Some(insn) && !insn.is_valid() && encode(&insn) == word)
+    let is_its_own = found == Some(insn) && !insn.is_valid() && encode(&insn) == word;
+    Ok(is_its_own && is_listed(alloc, ".profile 2\n", word, text)?)
 }
 
 /// Whether the line's word spells no instruction.

@@ -9,7 +9,7 @@ use std::rt::Files;
 
 /// Runs of small programs for reading. A run is named PROGRAM.SCHEDULE, or PROGRAM where there is one schedule alone:
 /// PROGRAM.asm is the source; the schedule, and the trace that the run comes to, have the run's name.
-const EXAMPLES: [&str; 25] = [
+const EXAMPLES: [&str; 27] = [
     "count.ends",
     "count.one_too_many",
     "producer_consumer.ends",
@@ -27,6 +27,8 @@ const EXAMPLES: [&str; 25] = [
     "future.never_filled",
     "silent_wait",
     "limited_wait",
+    "mailbox.ends",
+    "mailbox.too_late",
     "bounded_buffer.ends",
     "bounded_buffer.loses_one",
     "barrier.ends",
@@ -37,8 +39,9 @@ const EXAMPLES: [&str; 25] = [
     "philosophers.deadlock",
 ];
 
-/// Runs that show single rows of the operation table: retries, counts of streams, starts and ends, and traps.
-const ROWS: [&str; 22] = [
+/// Runs that show single rows of the operation table: retries, counts of streams, starts and ends, traps, and what Profile 2
+/// adds.
+const ROWS: [&str; 26] = [
     "undecodable_word",
     "trap_after_retries",
     "no_retry_limit",
@@ -61,6 +64,10 @@ const ROWS: [&str; 22] = [
     "mask",
     "illegal_alone",
     "past_the_end",
+    "purge",
+    "purge_in_profile_one",
+    "short_chain",
+    "one_hop",
 ];
 
 /// Compares the runs of both folders.

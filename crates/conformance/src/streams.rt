@@ -2,35 +2,17 @@
 use crate::fields::{number, reply_of, split, trap_of};
 use anyhow::{Context, Result, anyhow};
 use asm_text::assemble;
-use insn_word::{Insn, MPart, MemoryOp, decode};
+use insn_word::{Insn, Profile, decode_as};
 use std::alloc::Global;
 use stream_core::{Child, Outcome, StatusWord, Stream, TrapMask};
 
-/// The instruction of a source text. Texts have Profile 1, so one that begins with PURGE is read as TAGSET, which has
-/// the same fields.
+/// The instruction of a source text, in Profile 2, which has all of Profile 1.
 pub(crate) fn instruction(alloc: Global, text: &str) -> Result<Insn> {
-    let Some(operands) = text.strip_prefix("PURGE ") else {
-        return assembled(alloc, text);
-    };
-    let source = format!(in alloc; "TAGSET {operands}")?;
-    match assembled(alloc, source.as_str())? {
-        Insn::Normal { look, m, a, c } => {
-            let m = MPart {
-                op: MemoryOp::Purge,
-                ..m
-            };
-            Ok(Insn::Normal { look, m, a, c })
-        }
-        Insn::Wide { .. } => Err(anyhow!("a memory operation")),
-    }
-}
-
-fn assembled(alloc: Global, text: &str) -> Result<Insn> {
-    let source = format!(in alloc; ".entry 0\n{text}\n.data 0\n")?;
+    let source = format!(in alloc; ".profile 2\n.entry 0\n{text}\n.data 0\n")?;
     let image = assemble(alloc, source.as_bytes()).ok();
     let word = image.and_then(|image| image.program().first().copied());
     let word = word.context("the source of an instruction")?;
-    decode(word).context("a word that spells an instruction")
+    decode_as(Profile::Two, word).context("a word that spells an instruction")
 }
 
 /// The running stream with the registers, target registers and status word that the text names, as `r1=5 ssw=A`, all

@@ -17,7 +17,7 @@ const LINES: &str = "threads.tsv";
 const ONE_END: [&str; 3] = ["barrier", "lock", "two_consumers"];
 
 /// The programs of data/examples, some of which may end in several ways.
-const EXAMPLES: [&str; 13] = [
+const EXAMPLES: [&str; 14] = [
     "barrier",
     "bounded_buffer",
     "count",
@@ -26,6 +26,7 @@ const EXAMPLES: [&str; 13] = [
     "future",
     "limited_wait",
     "lock",
+    "mailbox",
     "philosophers",
     "producer_consumer",
     "readers_writer",
@@ -34,10 +35,11 @@ const EXAMPLES: [&str; 13] = [
 ];
 
 /// Those of them that have two processors, which go through the turn memory.
-const OF_TWO: [&str; 6] = [
+const OF_TWO: [&str; 7] = [
     "count",
     "forwarding",
     "limited_wait",
+    "mailbox",
     "producer_consumer",
     "silent_wait",
     "trap_handler",
