@@ -6,8 +6,10 @@ from functools import partial
 
 from program import Tally, read, write
 
+# the places of the fields and their sizes, the entries among them; in version 2 the chain limit stands behind slim
 FIELDS = [(0, 4), (4, 2), (6, 2), (8, 2), (10, 4), (14, 4), (18, 4), (22, 4), (26, 4), (30, 4), (34, 4)]
-VALUES = [0, 1, 3, 16, 17, 128, 129, 65_536, 65_537, 262_144, 262_145, 4_294_967_295]
+FIELDS_OF_TWO = [(0, 4), (4, 2), (6, 2), (8, 2), (10, 2), (12, 4), (16, 4), (20, 4), (24, 4), (28, 4)]
+VALUES = [0, 1, 2, 3, 16, 17, 64, 65, 128, 129, 65_536, 65_537, 262_144, 262_145, 4_294_967_295]
 # LIT r1, 1; FADD.N r1, r0, 0; STORE.S r1, r0, 1 with ADD r1, r1, 1; SKIP NE, 0, -3; QUIT
 PROGRAM = [0x8010000000000001, 0x0684000000000000, 0x0584008A10840000, 0x00000000000088FD, 0x0000000000028000]
 CELLS = [(0, 1), (0, 0), (0, 0)]
@@ -21,27 +23,62 @@ def three_processors():
     return head + entries + words + b"".join(struct.pack(">QB", *cell) for cell in CELLS)
 
 
+def of_profile_two():
+    """The bytes of a valid image of version 2: LIT r1, 9; PURGE r1, r0, 0; QUIT, with the chain limit 3."""
+    head = struct.pack(">4sHHHHIIII", b"MTAP", 2, 1, 1, 3, 0, 0xFFFFFFFF, 3, 1)
+    words = struct.pack(">3Q", 0x8010000000000009, 0x0C04000000000000, 0x0000000000028000)
+    return head + struct.pack(">I", 0) + words + struct.pack(">QB", 5, 1)
+
+
+class Header:
+    """The numbers of an image's header, and the places behind it."""
+
+    def __init__(self, data):
+        self.version, self.processors, self.slim = struct.unpack(">HHH", data[4:10])
+        place = 12 if self.version == 2 else 10
+        self.chain = struct.unpack(">H", data[10:12])[0] if self.version == 2 else None
+        self.retry, self.trap, self.program, self.cells = struct.unpack(">IIII", data[place:place + 16])
+        self.entries_place = place + 16
+        self.program_place = self.entries_place + 4 * self.processors
+        self.cells_place = self.program_place + 8 * self.program
+        self.size = self.cells_place + 9 * self.cells
+
+    def is_within(self):
+        """Whether its numbers keep their limits."""
+        return (1 <= self.processors <= 16 and 1 <= self.slim <= 128 and (self.chain is None or self.chain <= 64)
+                and 1 <= self.program <= 65536 and 1 <= self.cells <= 262144)
+
+    def entries(self, data):
+        return struct.unpack(f">{self.processors}I", data[self.entries_place:self.program_place])
+
+    def settings(self):
+        """The lines of the listing for them."""
+        chain = [] if self.chain is None else [f".chain {self.chain}"]
+        trap = [] if self.trap == 0xFFFFFFFF else [f".trap {self.trap}"]
+        return [f".profile {self.version}", f".slim {self.slim}", *chain, f".retry {self.retry}", *trap]
+
+
 def image_fault(data):
     """The fault of an image's bytes by the table of "Image files", docs/FORMATS.md; None where they are an image."""
     if len(data) < 26:
         return 1
-    magic, version, processors, slim, _, _, program, cells = struct.unpack(">4sHHHIIII", data[:26])
-    if magic != b"MTAP":
+    if data[:4] != b"MTAP":
         return 2
-    if version != 1:
+    version = int.from_bytes(data[4:6], "big")
+    if version not in (1, 2):
         return 3
-    if not (1 <= processors <= 16 and 1 <= slim <= 128 and 1 <= program <= 65536 and 1 <= cells <= 262144):
-        return 4
-    size = 26 + 4 * processors + 8 * program + 9 * cells
-    if len(data) < size:
+    if version == 2 and len(data) < 28:
         return 1
-    entries = struct.unpack(f">{processors}I", data[26:26 + 4 * processors])
-    if any(entry >= program for entry in entries):
+    header = Header(data)
+    if not header.is_within():
+        return 4
+    if len(data) < header.size:
+        return 1
+    if any(entry >= header.program for entry in header.entries(data)):
         return 5
-    first = 26 + 4 * processors + 8 * program
-    if any(data[first + 9 * k + 8] > 15 for k in range(cells)):
+    if any(data[header.cells_place + 9 * k + 8] > 15 for k in range(header.cells)):
         return 6
-    return 7 if len(data) > size else None
+    return 7 if len(data) > header.size else None
 
 
 def fills(cells):
@@ -57,20 +94,17 @@ def fills(cells):
 
 def is_listing(data, out):
     """Whether a text is the listing of an image, but for the names of its instructions."""
-    _, _, processors, slim, retry, trap, program, cells = struct.unpack(">4sHHHIIII", data[:26])
-    entries = struct.unpack(f">{processors}I", data[26:26 + 4 * processors])
-    place = 26 + 4 * processors
-    words = struct.unpack(f">{program}Q", data[place:place + 8 * program])
-    place += 8 * program
-    head = [".profile 1", f".slim {slim}", f".retry {retry}"] + ([] if trap == 0xFFFFFFFF else [f".trap {trap}"])
-    head += [f".entry {entry}" for entry in entries]
+    header = Header(data)
+    words = struct.unpack(f">{header.program}Q", data[header.program_place:header.cells_place])
+    head = header.settings() + [f".entry {entry}" for entry in header.entries(data)]
     tails = [f" ; {k:05d} {word:016X}" for k, word in enumerate(words)]
-    data_lines = fills([struct.unpack(">QB", data[place + 9 * k:place + 9 * k + 9]) for k in range(cells)])
+    places = [header.cells_place + 9 * k for k in range(header.cells)]
+    data_lines = fills([struct.unpack(">QB", data[place:place + 9]) for place in places])
     lines = out.decode("ascii").split("\n")
-    if len(lines) != len(head) + program + len(data_lines) + 1 or lines.pop() != "":
+    if len(lines) != len(head) + len(words) + len(data_lines) + 1 or lines.pop() != "":
         return False
-    middle = lines[len(head):len(head) + program]
-    return (lines[:len(head)] == head and lines[len(head) + program:] == data_lines
+    middle = lines[len(head):len(head) + len(words)]
+    return (lines[:len(head)] == head and lines[len(head) + len(words):] == data_lines
             and all(line.endswith(tail) for line, tail in zip(middle, tails)))
 
 
@@ -90,10 +124,10 @@ def damaged(folder, data):
     return tally
 
 
-def two_fields(base):
+def two_fields(base, fields):
     """The image with each value in each two of its fields."""
-    for first in FIELDS:
-        for second in FIELDS:
+    for first in fields:
+        for second in fields:
             for one in VALUES:
                 for other in VALUES if first < second else [one]:
                     data = bytearray(base)
@@ -102,16 +136,17 @@ def two_fields(base):
                     yield bytes(data)
 
 
-def cases(base):
+def cases(base, fields):
     """The damaged images, each once."""
     made = {base, base + b"\0", base + base, *(base[:k] for k in range(len(base)))}
     made |= {base[:k] + bytes([value]) + base[k + 1:] for k in range(len(base)) for value in range(256)}
-    return sorted(made | set(two_fields(base)))
+    return made | set(two_fields(base, fields))
 
 
 def part(pool, folder):
     """All of them."""
     tally = Tally()
-    for one in pool.map(partial(damaged, folder), cases(three_processors()), chunksize=100):
+    made = cases(three_processors(), FIELDS) | cases(of_profile_two(), FIELDS_OF_TWO)
+    for one in pool.map(partial(damaged, folder), sorted(made), chunksize=100):
         tally.add(one)
     return tally
