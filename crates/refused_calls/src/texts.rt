@@ -4,6 +4,7 @@ use crate::programs::{END, STEPS, image};
 use anyhow::{Context, Result};
 use asm_line::{Labels, Place};
 use debug_commands::WordList;
+use insn_word::Profile;
 use listing_line::push_word_line;
 use machine::Machine;
 use number_text::{
@@ -73,7 +74,7 @@ pub(crate) fn of_lines(alloc: Global) -> Ended {
     let mut history = String::new(alloc);
     let request = push_history_line(&mut history, 1, &entry);
     let mut listing = String::new(alloc);
-    let word = push_word_line(&mut listing, 0, 0x8010_0000_0000_0003);
+    let word = push_word_line(&mut listing, Profile::One, 0, 0x8010_0000_0000_0003);
     made(trace_line(alloc, 1, FIRST, 0, Outcome::Done), TRACE_LINE)
         .and(made(history_line(alloc, 1, &entry), HISTORY_LINE))
         .and(appended(step, &trace, TRACE_LINE))

@@ -5,14 +5,23 @@ use Rattle.mta_engines.specs.Input.{input_limit}
 use Rattle.mta_engines.specs.Faults.{IsFaultBy}
 use Rattle.mta_engines.specs.Images.{HasImageFault}
 use Rattle.mta_engines.proofs.ReadBytes.{told, of_reader}
-use Rattle.mta_engines.proofs.ImageFaults.{image_without_fault}
+use Rattle.mta_engines.proofs.ImageFaults.{image_without_fault, image_fault_told}
+use Rattle.image_file.specs.Answers.{SaysFault}
+use Rattle.image_file.specs.Reading.{image_fault}
 use Rattle.mta_engines.proofs.inputs.read_image_input.Goals as goal
 
 pub returns-in_err-read_image-clause-fault : goal.returns-in_err-read_image-clause-fault
 returns-in_err-read_image-clause-fault g c =
     told c.from_residual-in_err-read_image.result (g.R.Read.remaining c.args.reader.now) c.in_ok-bytes.bytes.items
     (λ input. IsFaultBy (HasImageFault input))
-    c.in_ok-bytes.ensures.whole (λ input e. let same = c.deref.ensures.value ∙ e in search rules)
+    c.in_ok-bytes.ensures.whole
+    (λ input e.
+    let same = c.deref.ensures.value ∙ e in
+    let within : length c.in_ok-bytes.bytes.items ≤ input_limit = search rules in
+    image_fault_told c.from_residual-in_err-read_image.result input c.in_err-read_image.field-0.0
+    (subst (λ b. length b ≤ input_limit) e within)
+    (subst (λ b. SaysFault c.in_err-read_image.field-0.0 (image_fault b)) same c.in_err-read_image.ensures.fault)
+    c.from_residual-in_err-read_image.ensures.1)
 
 pub returns-in_err-read_image-clause-no_image : goal.returns-in_err-read_image-clause-no_image
 returns-in_err-read_image-clause-no_image g c = λ found.

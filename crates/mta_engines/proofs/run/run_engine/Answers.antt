@@ -10,3 +10,6 @@ returns-in_err-steps-clause-no_image g c = λ found. never _ _ _ (c.in_ok-image.
 
 pub returns-clause-no_image : goal.returns-clause-no_image
 returns-clause-no_image g c = λ found. never _ _ _ (c.in_ok-image.ensures.no_image found)
+
+pub returns-clause-schedule_as_before : goal.returns-clause-schedule_as_before
+returns-clause-schedule_as_before g c = λ found. never _ _ _ (c.in_ok-image.ensures.no_image found)
