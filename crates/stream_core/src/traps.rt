@@ -22,7 +22,7 @@ pub enum TrapKind {
     Trap0 = 7,
     /// TRAP1: the word's trap1 bit; mask bit 1 disables it.
     Trap1 = 8,
-    /// FORWARD: a ninth forwarding.
+    /// FORWARD: a forwarding past the chain limit.
     Forward = 9,
     /// BLOCKED: a reference that was blocked too often; mask bit 2 disables it.
     Blocked = 10,
