@@ -20,16 +20,16 @@ word_bytes w = number_bytes 8 w
 abbrev pub cell_bytes : Cell → List ℕ
 cell_bytes c = number_bytes 8 c.value ++ number_bytes 1 (tag_number c)
 
--- the header of these numbers, with so many bytes of the chain limit
-unfoldable pub header_bytes : (magic version processors slim chain_size chain_limit : ℕ)
-    → (retry_limit trap_entry words cells : ℕ) → List ℕ
-header_bytes magic version processors slim chain_size chain_limit retry_limit trap_entry words cells =
+-- the header of these numbers, whose chain limit has size bytes
+unfoldable pub header_bytes : (magic version processors slim size chain_limit retry_limit trap_entry words cells : ℕ)
+    → List ℕ
+header_bytes magic version processors slim size chain_limit retry_limit trap_entry words cells =
     concat (
     number_bytes 4 magic
     ∷ number_bytes 2 version
     ∷ number_bytes 2 processors
     ∷ number_bytes 2 slim
-    ∷ number_bytes chain_size chain_limit
+    ∷ number_bytes size chain_limit
     ∷ number_bytes 4 retry_limit
     ∷ number_bytes 4 trap_entry
     ∷ number_bytes 4 words
