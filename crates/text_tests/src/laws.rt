@@ -2,7 +2,7 @@
 
 use asm_text::{
     cells_are_their_runs, data_is_one_full_cell, faults_are_on_their_least_line,
-    labels_stand_on_their_least_line, listings_are_read_back,
+    first_profile_line_decides, labels_stand_on_their_least_line, listings_are_read_back,
 };
 use listing_line::{listed_directives_are_read_back, listed_words_are_read_back};
 use number_text::{
@@ -34,5 +34,6 @@ fn laws_end(_rt: HostRuntime) {
     labels_stand_on_their_least_line();
     faults_are_on_their_least_line();
     data_is_one_full_cell();
+    first_profile_line_decides();
     written_schedules_are_read_back();
 }
