@@ -35,9 +35,7 @@ impl Memory {
         }
     }
 
-    /// Where the request's chain ends, whose first word, at `first`, forwards it to `next`. It is kept out of `serve`,
-    /// so that a request that nothing forwards pays nothing for the loop.
-    #[inline(never)]
+    /// Where the request's chain ends, whose first word, at `first`, forwards it to `next`.
     fn forwarded_end(&self, request: &Request, first: Pointer, next: Pointer) -> End
         requires { probe self.now request.now first ≡ Probe.Forward next }
         ensures { result ≡ end_from self.now request.now self.now.chain_limit first }
