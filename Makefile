@@ -13,7 +13,7 @@ JOBS ?= $(shell nproc)
 help:
 	@echo "make try        shows a first run, unproved (under a minute)"
 	@echo "make run        proves and builds the program, and shows the first run (about 15 minutes the first time, on 4 cores)"
-	@echo "make test       proves everything from nothing, tries the must-fail edits, runs all tests (35 minutes on 4 cores)"
+	@echo "make test       proves everything from nothing, tries the must-fail edits, runs all tests (40 minutes on 4 idle cores)"
 	@echo "make examples   copies the examples to where make test finds them (a second)"
 	@echo "make documents  runs the commands of the documents and compares what they print (seconds)"
 	@echo "make statuses   shows the exit statuses of the built program (a second)"

@@ -10,7 +10,7 @@ from program import DATA, EXAMPLES, Tally, assembled, read, sources, write
 from refusing import interposer, refused_threads
 
 ENTRY = re.compile(
-    rb"[ \d]{7} [ \d]{3} [ \d]{3} (?:LOAD  |STORE |FADD  |TAGGET|TAGSET) [0-9A-F]{16} [0-3] [0-9A-F]{16} [0-3] "
+    rb"[ \d]{7} [ \d]{3} [ \d]{3} (?:LOAD  |STORE |FADD  |TAGGET|TAGSET|PURGE ) [0-9A-F]{16} [0-3] [0-9A-F]{16} [0-3] "
     rb"(?:DONE [0-9A-F]{16}|BLOCKED [0-9A-F]{12}|TRAP \d\d [0-9A-F]{12})\n"
 )
 # one processor that asks the memory again and again, and one that never does

@@ -96,13 +96,17 @@ pub(crate) fn of_record(alloc: Global) -> Result<Ended> {
     })
 }
 
-/// The parts of the whole run.
+/// The parts of the whole run. An error where memory for the turns is refused, since no step is taken then.
 fn parts<'i, R: AllocGlobal + Threads + Wait + Sync>(
     rt: &R,
     image: &'i Image,
 ) -> Result<Parts<'i, 2>> {
     let parts = Parts::new(rt.alloc(), image, FUEL).ok().context("parts")?;
-    Ok(run_threads(rt, parts, &FreeGate))
+    let parts = run_threads(rt, parts, &FreeGate);
+    if parts.records().iter().any(|record| record.any_running()) {
+        return Err(anyhow!("a whole run"));
+    }
+    Ok(parts)
 }
 
 /// The record of processor 1 in them.

@@ -1,7 +1,7 @@
 //! Calls that read and write images, sources and schedules.
 use crate::endings::Ended;
 use crate::programs::{SCHEDULE, SOURCE, STEPS, image};
-use anyhow::Result;
+use anyhow::{Context, Result};
 use asm_text::{Fault, assemble, listing, reassemble};
 use image_file::{Image, ImageFault, read_image, write_image};
 use std::alloc::{AllocError, Global};
@@ -31,8 +31,8 @@ pub(crate) fn of_listing(alloc: Global) -> Result<Ended> {
     let image = image(alloc)?;
     match listing(alloc, &image) {
         Ok(text) => {
-            let again = assemble(alloc, text.as_bytes()).ok();
-            Ok(Ended::answered(again == Some(image)))
+            let again = assemble(alloc, text.as_bytes()).ok().context("its image")?;
+            Ok(Ended::answered(again == image))
         }
         Err(AllocError) => Ok(Ended::Refused),
     }
