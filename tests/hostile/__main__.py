@@ -1,10 +1,10 @@
 #!/usr/bin/env python3
 """Runs the built program on hostile inputs, in parts: damaged images, random texts, inputs at and beyond their limits,
 the command threads with and without its threads, the debugger's lines, files that fail, and refused memory, in the
-commands and in single calls of the libraries. Each run
-has to end with the answer that the documents give, or, where only that much is known beforehand, done, or refused with
-one line on standard error and nothing printed; each refusal within a second of processor time, and within ten times its
-input and 40 MB. Arguments name the parts to be run; without any all of them are. Needs Python 3 and a C compiler."""
+commands and in single calls of the libraries. Each run has to end with the answer that the documents give, or, where only
+that much is known beforehand, done, or refused with one line on standard error and nothing printed; each refusal within a
+second of processor time, and within ten times its input and 40 MB. Arguments name the parts to be run; without any all of
+them are. Needs Python 3 and a C compiler."""
 
 import sys
 
