@@ -10,3 +10,4 @@ pub mod PartRanges
 pub mod ControlRanges
 pub mod WordRanges
 pub mod ItemRanges
+pub mod EmptyLines

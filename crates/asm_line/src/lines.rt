@@ -46,10 +46,16 @@ pub fn next_line(text: &[u8]) -> (&[u8], Option<&[u8]>)
 }
 
 /// What stands on a line.
-#[tactic(auto, unfolding(crate::specs::Lines::line))]
+#[tactic(auto, unfolding(crate::specs::Lines::line), using(crate::proofs::EmptyLines::empty_line))]
 pub fn cut_line(bytes: &[u8]) -> SourceLine<'_>
     ensures { line_seen result ≡ line bytes.now }
 {
+    if bytes.is_empty() {
+        return SourceLine {
+            label: None,
+            statement: bytes,
+        };
+    }
     let (code, _) = cut(bytes, b';');
     let code = trim(code);
     match cut(code, b':') {
