@@ -12,8 +12,8 @@ JOBS ?= $(shell nproc)
 # the targets, each with what it does and how long it takes
 help:
 	@echo "make try        shows a first run, unproved (under a minute)"
-	@echo "make run        proves and builds the program, and shows the first run (about 15 minutes the first time, on 4 cores)"
-	@echo "make test       proves everything from nothing, tries the must-fail edits, runs all tests (40 minutes on 4 idle cores)"
+	@echo "make run        proves and builds the program, and shows the first run (not timed by itself; 50 minutes beside other checks)"
+	@echo "make test       proves everything from nothing, tries the must-fail edits, runs all tests (30 to 100 minutes have been seen)"
 	@echo "make examples   copies the examples to where make test finds them (a second)"
 	@echo "make documents  runs the commands of the documents and compares what they print (seconds)"
 	@echo "make statuses   shows the exit statuses of the built program (a second)"
@@ -59,8 +59,8 @@ bench: build
 	@test -x $(BENCH) || (cd crates/bench && rt run -- arithmetic 1 > /dev/null)
 	@bench/run.sh
 
-# refuses each allocation of the commands in turn, on the examples and the programs of conformance/data, and of each call
-# of the libraries that takes memory
+# refuses each allocation of the commands in turn, on the examples and the programs of conformance/data, and of most calls
+# of the libraries that take memory
 refuse: build
 	@test -x $(CALLS) || (cd crates/refused_calls && rt run < /dev/null > /dev/null)
 	@python3 tests/hostile allocations calls

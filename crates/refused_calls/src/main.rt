@@ -1,4 +1,4 @@
-//! Makes each public call of the libraries that takes memory, and prints a line for it: how it ended. `make hostile`
+//! Makes most public calls of the libraries that take memory, and prints a line for it: how it ended. `make hostile`
 //! refuses each allocation in turn.
 #![tactic(auto)]
 
