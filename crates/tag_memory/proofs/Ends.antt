@@ -63,7 +63,7 @@ reached q p false false None c e = cc
 reached q p false false (Some d) c e = ap (λ x. Some x) (reached_cell _ _ _ _ c d e)
 
 -- a word that a probe reaches stands at its address
-cell_at-reached : (m : TaggedMemory) (q : Request) (p : ℕ) (c : Cell)
+pub cell_at-reached : (m : TaggedMemory) (q : Request) (p : ℕ) (c : Cell)
     → probe m q p ≡ Reach c → cell_at m (address_of p) ≡ Some c
 cell_at-reached m q p c e = reached q p _ _ _ c e
 

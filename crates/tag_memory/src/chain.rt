@@ -1,6 +1,6 @@
 //! How a reference is led through forwarding words to the word that it acts on.
 ghost use Rattle.std.specs.Prelude.{◌≡◌, Some};
-ghost use Rattle.tag_memory.specs.Chain.{probe_cell, probe, end_from, end_of};
+ghost use Rattle.tag_memory.specs.Chain.{probe_cell, probe, end_from};
 
 use crate::{MemTrap, Memory, Pointer, Request, Word};
 
@@ -23,20 +23,8 @@ pub(crate) enum End {
 }
 
 impl Memory {
-    /// Where the request's chain ends.
-    pub(crate) fn end(&self, request: &Request) -> End
-        ensures { result ≡ end_of self.now request.now }
-    {
-        let pointer = request.pointer;
-        match self.probe(request, pointer) {
-            Probe::Trap(kind) => End::Trap(kind, pointer.address()),
-            Probe::Reach(word) => End::Last(pointer, word),
-            Probe::Forward(next) => self.forwarded_end(request, pointer, next),
-        }
-    }
-
     /// Where the request's chain ends, whose first word, at `first`, forwards it to `next`.
-    fn forwarded_end(&self, request: &Request, first: Pointer, next: Pointer) -> End
+    pub(crate) fn forwarded_end(&self, request: &Request, first: Pointer, next: Pointer) -> End
         requires { probe self.now request.now first ≡ Probe.Forward next }
         ensures { result ≡ end_from self.now request.now self.now.chain_limit first }
     {
@@ -56,7 +44,7 @@ impl Memory {
     }
 
     /// What the probe at a pointer decides: the first of the request rules that holds.
-    fn probe(&self, request: &Request, pointer: Pointer) -> Probe
+    pub(crate) fn probe(&self, request: &Request, pointer: Pointer) -> Probe
         ensures { result ≡ probe self.now request.now pointer }
     {
         if pointer.is_reserved() {
@@ -77,7 +65,7 @@ impl Memory {
 fn probe_word(request: &Request, pointer: Pointer, word: Word) -> Probe
     ensures { result ≡ probe_cell request.now pointer (Some word) }
 {
-    if request.op.is_tag_operation() {
+    if word.is_unguarded() || request.op.is_tag_operation() {
         Probe::Reach(word)
     } else if word.has_trap0() && !pointer.disables_trap0() && !request.masked.trap0 {
         Probe::Trap(MemTrap::Trap0)

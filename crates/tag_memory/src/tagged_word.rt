@@ -1,5 +1,5 @@
 //! A word of the memory: 64 bits of value and four tags.
-ghost use Rattle.std.specs.Prelude.{◌≡◌, ℕ, ◌<◌, Some, None, if◌then◌else◌, nat_lt};
+ghost use Rattle.std.specs.Prelude.{◌≡◌, ℕ, ◌<◌, Some, None, if◌then◌else◌, nat_lt, not, ◌||◌};
 ghost use Rattle.tag_memory.specs.Cell.{cell_of, tag_bits, tag_number};
 ghost use Rattle.tag_memory.specs.Access.{with_value, with_value_full, with_full_clear, with_tags};
 
@@ -106,6 +106,13 @@ impl Word {
         ensures { result ≡ self.now.trap1 }
     {
         self.tags.contains(Tags::TRAP1)
+    }
+
+    /// Whether no forward bit and no trap bit is set.
+    pub(crate) fn is_unguarded(&self) -> bool
+        ensures { result ≡ not (self.now.forward || self.now.trap0 || self.now.trap1) }
+    {
+        self.tags.bits() < Tags::FORWARD.bits()
     }
 
     /// The word with another value, as full or empty as it was.
