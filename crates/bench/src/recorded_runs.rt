@@ -126,6 +126,10 @@ fn take_step(shared: &mut SharedMemory, record: &mut Recorded<8>, s: u8) {
     if record.spare() == 0 {
         return;
     }
+    if let Some(short) = record.next_short(s) {
+        record.finish_short(s, &short);
+        return;
+    }
     let step = record.next_step(s);
     match &step.next {
         Next::Skip => {}

@@ -38,6 +38,11 @@ pub fn drive<R: Wait, P: Port, G: Gate, const S: usize>(
         let Some(s) = worker.turn() else {
             return Ok(());
         };
+        if let Some(short) = worker.next_short(s) {
+            gate.local(rt, p, s);
+            worker.finish_short(s, &short);
+            continue;
+        }
         let step = worker.next_step(s);
         match &step.next {
             Next::Skip => unreachable!(),

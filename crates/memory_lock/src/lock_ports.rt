@@ -4,8 +4,10 @@ ghost use Rattle.std.specs.Prelude.{◌≡◌, None, false};
 
 use crate::ports::Port;
 use shared_history::{NoRoom, SharedMemory};
+use std::hint::spin_loop;
 use std::marker::Model;
-use std::sync::{Mutex, Wait};
+use std::sync::{Mutex, MutexGuard, Wait};
+use std::thread::yield_now;
 use tag_memory::{Reply, Request};
 
 /// A port that takes the memory's lock for each request and holds it for no longer. It keeps no list of entries.
@@ -54,6 +56,38 @@ impl<'m, 'i> Port for LockPort<'m, 'i> {
     }
 }
 
+/// How many times a thread pauses, at the first look at a lock that is held, and at most, before it looks again.
+const FIRST_PAUSES: u32 = 64;
+
+const MOST_PAUSES: u32 = 2_048;
+
+/// How often a thread looks before it sleeps.
+const LOOKS: u32 = 200;
+
+/// Takes the lock. A thread that finds it held looks again after a while that doubles, then lets other threads run in
+/// between, and sleeps at last: whoever has the lock can ask several times before the memory's words and the end of the
+/// history go to another core, which costs more than the answers do.
+fn locked<'m, 'i, R: Wait>(
+    rt: &R,
+    memory: &'m Mutex<SharedMemory<'i>>,
+) -> MutexGuard<'m, SharedMemory<'i>> {
+    let mut pauses = FIRST_PAUSES;
+    for _ in 0..LOOKS {
+        if let Some(guard) = memory.try_lock() {
+            return guard;
+        }
+        if pauses > MOST_PAUSES {
+            yield_now();
+            continue;
+        }
+        for _ in 0..pauses {
+            spin_loop();
+        }
+        pauses = pauses.saturating_mul(2);
+    }
+    memory.lock(rt)
+}
+
 /// Takes the lock, asks, and gives it back.
 fn ask_behind_lock<R: Wait>(
     rt: &R,
@@ -62,7 +96,7 @@ fn ask_behind_lock<R: Wait>(
     s: u8,
     request: &Request,
 ) -> Result<Reply, NoRoom> {
-    let mut guard = memory.lock(rt);
+    let mut guard = locked(rt, memory);
     if usize::from(p) >= guard.image().processors() {
         return Err(NoRoom);
     }

@@ -1,9 +1,11 @@
 //! A processor.
 
-ghost use Rattle.std.specs.Prelude.{◌≡◌, ◌<◌, ◌≤◌, None, Some, length, slice_index, IfOk};
+ghost use Rattle.std.specs.Prelude.{◌≡◌, ◌<◌, ◌≤◌, None, Some, length, slice_index, IfOk, IfSome};
 ghost use Rattle.std.specs.Option.{option_copied};
 ghost use Rattle.processor.specs.Processors.{IsCounted, stream_seen, opening};
-ghost use Rattle.processor.specs.Row.{next_of, next_step_of, row, row_over_memory};
+ghost use Rattle.insn_word.specs.ShortInsns.{short_instruction};
+ghost use Rattle.stream_core.specs.declared.steps.Fetched.{Fetched};
+ghost use Rattle.processor.specs.Row.{step_fetch_of, next_of, next_step_of, row, row_over_memory};
 ghost use Rattle.processor.specs.OtherStreams.{KeepsOthers};
 ghost use Rattle.processor.specs.Records.{any_runs};
 ghost use Rattle.processor.specs.Turns.{turn_after};
@@ -12,6 +14,7 @@ use crate::counted_streams::CountedStreams;
 use crate::steps::{Next, NextStep};
 use crate::stream_table::StreamTable;
 use image_file::Image;
+use insn_word::ShortInsn;
 use std::alloc::{AllocError, Global};
 use std::marker::Model;
 use stream_core::{Child, Outcome, StatusWord, Stream, TrapMask};
@@ -77,6 +80,15 @@ impl<const S: usize> Processor<S> {
         ensures { result ≡ next_step_of image.now self.now s }
     {
         self.streams.next_step(image, s as usize)
+    }
+
+    /// The instruction that the next step of stream `s` executes, where `fetch_short` finds it.
+    #[inline(always)]
+    pub(crate) fn next_short(&self, image: &Image, s: u8) -> Option<ShortInsn>
+        ensures { IfSome result (λ short. step_fetch_of image.now self.now s
+            ≡ Fetched.Runs (short_instruction short)) }
+    {
+        self.streams.short_fetch(image, s as usize)
     }
 
     /// Finishes a step of stream `s` that needs no memory; `step` is what `next_step` said of it.

@@ -4,15 +4,18 @@ ghost use Rattle.std.specs.Prelude.{◌≡◌, ◌<◌, ◌≤◌, ◌+◌, ◌-
 ghost use Rattle.std.specs.Prelude.{IfOk, OnOk, OnErr, IfSome, IsSome, None, Some, vec_len, vec_capacity};
 ghost use Rattle.std.specs.Option.{option_copied};
 ghost use Rattle.processor.specs.Processors.{opening, stream_seen};
-ghost use Rattle.processor.specs.Row.{next_of, next_step_of, row};
+ghost use Rattle.insn_word.specs.ShortInsns.{short_instruction};
+ghost use Rattle.stream_core.specs.declared.steps.Fetched.{Fetched};
+ghost use Rattle.processor.specs.Row.{step_fetch_of, next_of, next_step_of, row};
 ghost use Rattle.processor.specs.OwnSteps.{IsPlace};
 ghost use Rattle.processor.specs.Records.{RecordValue, IsKept, any_runs};
 ghost use Rattle.processor.specs.Turns.{turn_after, last_of};
 
 use crate::processors::Processor;
 use crate::recorded_steps::Steps;
-use crate::steps::{Asked, Next, NextStep};
+use crate::steps::{Asked, FetchForm, Next, NextStep, StepFetch};
 use image_file::Image;
+use insn_word::ShortInsn;
 use std::alloc::{AllocError, Global};
 use std::marker::Model;
 use stream_core::{Outcome, Stream};
@@ -116,6 +119,16 @@ impl<'i, const S: usize> Recorded<'i, S> {
         self.processor.next_step(self.image, s)
     }
 
+    /// The instruction that the next step of stream `s` executes, where `fetch_short` finds it: then the step needs no
+    /// memory. None where `next_step` has to say what it needs.
+    #[inline(always)]
+    pub fn next_short(&self, s: u8) -> Option<ShortInsn>
+        ensures { IfSome result (λ short. step_fetch_of self.now.image self.now.state s
+            ≡ Fetched.Runs (short_instruction short)) }
+    {
+        self.processor.next_short(self.image, s)
+    }
+
     /// A step of stream `s` that needs no memory, at the end of the steps. It takes 1 of the room.
     pub fn step_local(&mut self, s: u8) -> Outcome
         requires local { next_of self.old.image self.old.state s ≡ Next.Local }
@@ -146,6 +159,27 @@ impl<'i, const S: usize> Recorded<'i, S> {
     {
         let step = self.next_step(s);
         self.finish_reply(s, &step, request, reply)
+    }
+
+    /// `step_local` of which `next_short` said this, in fewer steps.
+    #[inline(always)]
+    pub fn finish_short(&mut self, s: u8, short: &ShortInsn) -> Outcome
+        requires fetch { step_fetch_of self.old.image self.old.state s ≡ Fetched.Runs (short_instruction short.now) }
+        requires room { 0 < self.old.spare }
+        ensures after { self.new ≡ record self.old {
+          steps = self.old.steps ++ s ∷ [];
+          state = (row self.old.image self.old.state s None).0;
+          spare = self.old.spare - 1;
+        } }
+        ensures outcome { result ≡ (row self.old.image self.old.state s None).1 }
+    {
+        let step = NextStep {
+            next: Next::Local,
+            fetched: StepFetch {
+                form: FetchForm::Short(*short),
+            },
+        };
+        self.finish_local(s, &step)
     }
 
     /// `step_local` of which `next_step` said this.

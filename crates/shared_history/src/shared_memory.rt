@@ -22,10 +22,11 @@ pub struct NoRoom;
 /// gave, and each entry is of a processor of the image.
 #[derive(Drop)]
 pub struct SharedMemory<'i> {
-    image: &'i Image,
-    memory: Memory,
+    // what each request writes stands together, and in front, next to the lock of the memory where it has one
     history: Vec<Entry>,
     spare: usize,
+    image: &'i Image,
+    memory: Memory,
 }
 
 impl<'i> Model for SharedMemory<'i> {

@@ -16,7 +16,7 @@ use tag_memory::{Memory, Reply, Request};
 impl<const S: usize> CountedStreams<S> {
     /// The instruction at the pc of the stream at this place, where `fetch_short` finds it.
     #[inline(always)]
-    fn short_fetch(&self, image: &Image, place: usize) -> Option<ShortInsn>
+    pub(crate) fn short_fetch(&self, image: &Image, place: usize) -> Option<ShortInsn>
         ensures { IfSome result (λ short. step_fetch_of image.now self.now place
             ≡ Fetched.Runs (short_instruction short)) }
     {

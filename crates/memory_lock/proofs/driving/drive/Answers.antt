@@ -14,6 +14,20 @@ unreachable-requires g c =
     turn-skip c.loop.worker.image c.loop.worker.state (last_of c.loop.worker.steps) c.in-Some.s (sym c.in-Some.ensures)
     (sym (ap (λ (t : NextStep). t.next) c.next_step-step.ensures) ∙ c.in-Skip.is)
 
+pub loop-preserved-in-Some-next_short : goal.loop-preserved-in-Some-next_short
+loop-preserved-in-Some-next_short g c =
+    let v = c.loop.invariant in
+    let turn = sym c.in-Some.ensures in
+    let is = c.finish_short.ensures.after in (
+      grown-local _ _ _ _ _ _ v.0 (omega (arith, v.3, c.loop-test.true)) is,
+      made-local c.args.worker.now c.loop.worker c.finish_short.new.self _ _ v.1
+          (ap (λ (r : RecordValue). r.pairs) is),
+      v.2,
+      ap (λ (r : RecordValue). length r.steps) is ∙ length_push c.loop.worker.steps c.in-Some.s
+          ∙ ap (λ k. k + 1) v.3,
+      in-turn-local _ c.in-Some.s c.loop.worker c.finish_short.new.self _ c.number-p.ensures.kept turn is v.4,
+    )
+
 pub loop-preserved : goal.loop-preserved
 loop-preserved g c =
     let v = c.loop.invariant in
