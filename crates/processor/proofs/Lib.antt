@@ -10,5 +10,6 @@ pub mod OwnRuns
 pub mod Weaving
 pub mod Keeping
 pub mod Turning
+mod Current
 mod ShortRow
 mod StepRuns

@@ -8,7 +8,7 @@ ghost use Rattle.stream_core.specs.declared.steps.Fetched.{Fetched};
 ghost use Rattle.processor.specs.Row.{step_fetch_of, next_of, next_step_of, row, row_over_memory};
 ghost use Rattle.processor.specs.OtherStreams.{KeepsOthers};
 ghost use Rattle.processor.specs.Records.{any_runs};
-ghost use Rattle.processor.specs.Turns.{turn_after};
+ghost use Rattle.processor.specs.Turns.{running_from, turn_after};
 
 use crate::counted_streams::CountedStreams;
 use crate::steps::{Next, NextStep};
@@ -198,14 +198,28 @@ impl<const S: usize> Processor<S> {
     pub fn turn_after(&self, last: Option<u8>) -> Option<usize>
         ensures { result ≡ turn_after self.now last }
     {
-        let table = &self.streams.table;
         let Some(last) = last else {
-            return table.running_from(0);
+            return self.running_from(0);
         };
-        match table.running_from(usize::from(last) + 1) {
+        match self.running_from(usize::from(last) + 1) {
             Some(s) => Some(s),
-            None => table.running_from(0),
+            None => self.running_from(0),
         }
+    }
+
+    /// The least running stream from this number on. Where all streams that are not idle stand below it, the others are
+    /// not looked at.
+    fn running_from(&self, from: usize) -> Option<usize>
+        ensures { result ≡ running_from self.now from }
+    {
+        let table = &self.streams.table;
+        if from >= usize::from(table.slim()) {
+            return None;
+        }
+        if table.current_among(from) >= usize::from(self.streams.scur) {
+            return None;
+        }
+        table.running_from(from)
     }
 
     /// A processor equal to this one.

@@ -1,13 +1,13 @@
 //! The streams of a processor by number: those below slim are used, the others stay idle.
 
-ghost use Rattle.std.specs.Prelude.{◌≡◌, ◌<◌, ◌≤◌, length, drop, replicate, slice_get, slice_set, IfOk, is_some};
+ghost use Rattle.std.specs.Prelude.{◌≡◌, ◌<◌, ◌≤◌, length, take, drop, replicate, slice_get, slice_set, IfOk, is_some};
 ghost use Rattle.std.specs.List.{list_any, position_or_len};
 ghost use Rattle.std.specs.Option.{option_copied};
 ghost use Rattle.stream_core.specs.Streams.{idle, after_trap};
 ghost use Rattle.insn_word.specs.ShortInsns.{short_instruction, reference_instruction};
 ghost use Rattle.stream_core.specs.Effects.{request_of, after_instruction};
 ghost use Rattle.stream_core.specs.StreamRow.{after_reply, row_asking};
-ghost use Rattle.processor.specs.Processors.{is_idle, stream_at, stream_seen};
+ghost use Rattle.processor.specs.Processors.{is_idle, count_current, stream_at, stream_seen};
 ghost use Rattle.processor.specs.Records.{is_running};
 ghost use Rattle.processor.specs.Turns.{first_running};
 ghost use Rattle.processor.specs.StreamTables.{put_in_streams};
@@ -119,6 +119,20 @@ impl<const S: usize> StreamTable<S> {
             }
         }
         None
+    }
+
+    /// How many of the first so many used streams are not idle.
+    pub(crate) fn current_among(&self, first: usize) -> usize
+        requires { first ≤ length self.now }
+        ensures { result ≡ count_current (take first self.now) }
+    {
+        let mut current = 0;
+        for place in 0..first {
+            if !is_idle(&self.streams[place]) {
+                current += 1;
+            }
+        }
+        current
     }
 
     /// Puts a stream in the place of a used one; nothing changes where the place is not used.
