@@ -56,17 +56,18 @@ impl<'m, 'i> Port for LockPort<'m, 'i> {
     }
 }
 
-/// How many times a thread pauses, at the first look at a lock that is held, and at most, before it looks again.
-const FIRST_PAUSES: u32 = 64;
+/// How many pauses a thread makes after its first look at a lock that is held,
+const FIRST_PAUSES: u32 = 8;
 
+/// and how many it makes at most between two looks.
 const MOST_PAUSES: u32 = 2_048;
 
 /// How often a thread looks before it sleeps.
 const LOOKS: u32 = 200;
 
-/// Takes the lock. A thread that finds it held looks again after a while that doubles, then lets other threads run in
-/// between, and sleeps at last: whoever has the lock can ask several times before the memory's words and the end of the
-/// history go to another core, which costs more than the answers do.
+/// Takes the lock. A thread that finds it held looks again after some pauses, four times as many each time, then lets
+/// other threads run between two looks, and sleeps at last. So whoever has the lock can ask several times before the
+/// memory's words and the end of its history go to another core, which takes longer than the answers do.
 fn locked<'m, 'i, R: Wait>(
     rt: &R,
     memory: &'m Mutex<SharedMemory<'i>>,
@@ -83,7 +84,7 @@ fn locked<'m, 'i, R: Wait>(
         for _ in 0..pauses {
             spin_loop();
         }
-        pauses = pauses.saturating_mul(2);
+        pauses = pauses.saturating_mul(4);
     }
     memory.lock(rt)
 }
