@@ -12,7 +12,7 @@ JOBS ?= $(shell nproc)
 # the targets, each with what it does and how long it takes
 help:
 	@echo "make try        shows a first run, unproved (under a minute)"
-	@echo "make run        proves and builds the program, and shows the first run (not timed by itself; 50 minutes beside other checks)"
+	@echo "make run        proves and builds the program, and shows the first run (25 minutes on four cores)"
 	@echo "make test       proves everything from nothing, tries the must-fail edits, runs all tests (30 to 100 minutes have been seen)"
 	@echo "make examples   copies the examples to where make test finds them (a second)"
 	@echo "make documents  runs the commands of the documents and compares what they print (seconds)"
