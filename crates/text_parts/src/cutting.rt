@@ -1,11 +1,11 @@
 //! A text cut at a byte.
 
-ghost use Rattle.std.specs.Prelude.{◌≡◌, ◌≤◌, ◌∷◌, ◌==◌, length};
+ghost use Rattle.std.specs.Prelude.{◌≡◌, ◌≤◌, ◌∷◌, ◌==◌, ◌||◌, length};
 ghost use Rattle.std.specs.List.{position};
 ghost use Rattle.std.specs.Option.{option_copied};
 ghost use Rattle.text_parts.specs.Parts.{parts, text_before, text_after, rest_parts, rest_length};
 
-use memchr::memchr;
+use memchr::{memchr, memchr2};
 
 /// From how many bytes on `memchr` compares so many at once; a shorter text is searched sooner byte by byte.
 const VECTOR: usize = 32;
@@ -33,4 +33,11 @@ fn find(text: &[u8], byte: u8) -> Option<usize>
         return text.iter().position(|b| *b == byte);
     }
     memchr(byte, text)
+}
+
+/// Where one of two bytes stands first.
+pub fn find_either(text: &[u8], one: u8, other: u8) -> Option<usize>
+    ensures { result ≡ position (λ b. b == one || b == other) text.now }
+{
+    memchr2(one, other, text)
 }
