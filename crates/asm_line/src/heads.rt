@@ -39,7 +39,15 @@ fn is_named(text: &[u8], name: &str) -> bool
     ensures { result ≡ bytes_eq text.now name.now }
 {
     let name = name.as_bytes();
-    text.len() == name.len() && first_byte(text) == first_byte(name) && text == name
+    text.len() == name.len() && first_byte(text) == first_byte(name) && are_equal(text, name)
+}
+
+/// Kept out of line, so that a name that differs at once costs two comparisons alone.
+#[inline(never)]
+fn are_equal(text: &[u8], name: &[u8]) -> bool
+    ensures { result ≡ bytes_eq text.now name.now }
+{
+    text == name
 }
 
 /// The first byte, 0 where there is none.

@@ -79,6 +79,7 @@ fn cut_code(code: &[u8]) -> SourceLine<'_>
 }
 
 /// What stands on the first line of a text, and what follows that line, if there is a line end.
+#[inline(always)]
 pub fn next_source_line(text: &[u8]) -> (SourceLine<'_>, Option<&[u8]>)
     ensures lines { lines text.now ≡ line_seen result.0 ∷ rest_lines (option_copied result.1) }
     ensures shorter { rest_length (option_copied result.1) ≤ length text.now }
@@ -95,6 +96,7 @@ pub fn next_source_line(text: &[u8]) -> (SourceLine<'_>, Option<&[u8]>)
 }
 
 /// The bytes of the first line up to its comment or end, and what follows the line, if there is a line end.
+#[inline(always)]
 fn next_code(text: &[u8]) -> (&[u8], Option<&[u8]>)
     ensures code { result.0.now ≡ text_before 59 (text_before 10 text.now) }
     ensures after { option_copied result.1 ≡ text_after 10 text.now }

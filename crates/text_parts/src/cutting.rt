@@ -12,6 +12,7 @@ const VECTOR: usize = 32;
 
 /// What stands before the first of a byte, and what stands after it. Where the byte stands nowhere, the first is the
 /// whole text, and the second is None.
+#[inline(always)]
 #[tactic(auto, unfolding(crate::specs::Parts::text_after), using(crate::proofs::Pieces::parts_cut))]
 pub fn cut(text: &[u8], byte: u8) -> (&[u8], Option<&[u8]>)
     ensures before { result.0.now ≡ text_before byte text.now }
@@ -26,12 +27,22 @@ pub fn cut(text: &[u8], byte: u8) -> (&[u8], Option<&[u8]>)
 }
 
 /// Where a byte stands first.
+#[inline(always)]
 fn find(text: &[u8], byte: u8) -> Option<usize>
     ensures { result ≡ position (λ b. b == byte) text.now }
 {
     if text.len() < VECTOR {
         return text.iter().position(|b| *b == byte);
     }
+    find_far(text, byte)
+}
+
+/// Where a byte stands first in a long text. Kept out of line, so that cutting short ones is written out where it is
+/// asked for.
+#[inline(never)]
+fn find_far(text: &[u8], byte: u8) -> Option<usize>
+    ensures { result ≡ position (λ b. b == byte) text.now }
+{
     memchr(byte, text)
 }
 
