@@ -11,3 +11,4 @@ pub mod ControlRanges
 pub mod WordRanges
 pub mod ItemRanges
 pub mod EmptyLines
+pub mod CodeCut

@@ -3,7 +3,8 @@
 //! NOP, the first operation of each part of a normal word, is named by no part: it is an instruction of its own. The
 //! first access, which is the pointer's, has no suffix.
 
-ghost use Rattle.std.specs.Prelude.{◌≡◌};
+ghost use Rattle.std.specs.Prelude.{◌≡◌, slice_index};
+ghost use Rattle.std.specs.Str.{bytes_eq};
 ghost use Rattle.std.specs.Option.{option_copied};
 ghost use Rattle.asm_line.specs.Heads.{wide_named, memory_named, arithmetic_named, control_named, condition_named};
 ghost use Rattle.asm_line.specs.Heads.{directive_named, access_named, test_named, operation_named, has_access};
@@ -32,6 +33,34 @@ const DIRECTIVES: [Directive; 9] = [
     Directive::Fill,
 ];
 
+/// Whether a text is this name. Most texts differ from it in their length or first byte, which are looked at first.
+#[inline(always)]
+fn is_named(text: &[u8], name: &str) -> bool
+    ensures { result ≡ bytes_eq text.now name.now }
+{
+    let name = name.as_bytes();
+    text.len() == name.len() && first_byte(text) == first_byte(name) && are_equal(text, name)
+}
+
+/// Kept out of line, so that a name that differs at once costs two comparisons alone.
+#[inline(never)]
+fn are_equal(text: &[u8], name: &[u8]) -> bool
+    ensures { result ≡ bytes_eq text.now name.now }
+{
+    text == name
+}
+
+/// The first byte, 0 where there is none.
+#[inline(always)]
+fn first_byte(text: &[u8]) -> u8
+    ensures { result ≡ slice_index text.now 0 }
+{
+    match text {
+        [first, ..] => *first,
+        [] => 0,
+    }
+}
+
 #[tactic(auto, unfolding(crate::specs::Heads::wide_named))]
 fn wide_named(name: &[u8]) -> Option<WideOp>
     ensures { result ≡ wide_named name.now }
@@ -39,14 +68,14 @@ fn wide_named(name: &[u8]) -> Option<WideOp>
     WideOp::ALL
         .iter()
         .copied()
-        .find(|op| name == names::wide(*op).as_bytes())
+        .find(|op| is_named(name, names::wide(*op)))
 }
 
 #[tactic(auto, unfolding(crate::specs::Heads::memory_named))]
 fn memory_named(profile: Profile, name: &[u8]) -> Option<MemoryOp>
     ensures { result ≡ memory_named profile name.now }
 {
-    MemoryOp::ALL[1..].iter().copied().find(|op| name == names::memory(*op).as_bytes()
+    MemoryOp::ALL[1..].iter().copied().find(|op| is_named(name, names::memory(*op))
         && has_operation(profile, *op))
 }
 
@@ -64,7 +93,7 @@ fn arithmetic_named(name: &[u8]) -> Option<ArithmeticOp>
     ArithmeticOp::ALL[1..]
         .iter()
         .copied()
-        .find(|op| name == names::arithmetic(*op).as_bytes())
+        .find(|op| is_named(name, names::arithmetic(*op)))
 }
 
 #[tactic(auto, unfolding(crate::specs::Heads::control_named))]
@@ -74,21 +103,24 @@ fn control_named(name: &[u8]) -> Option<ControlOp>
     ControlOp::ALL[1..]
         .iter()
         .copied()
-        .find(|op| name == names::control(*op).as_bytes())
+        .find(|op| is_named(name, names::control(*op)))
 }
 
 #[tactic(auto, unfolding(crate::specs::Heads::condition_named))]
 pub(crate) fn condition_named(name: &[u8]) -> Option<Condition>
     ensures { result ≡ condition_named name.now }
 {
-    Condition::ALL.iter().copied().find(|condition| name == names::condition(*condition).as_bytes())
+    Condition::ALL
+        .iter()
+        .copied()
+        .find(|condition| is_named(name, names::condition(*condition)))
 }
 
 #[tactic(auto, unfolding(crate::specs::Heads::directive_named))]
 fn directive_named(profile: Profile, name: &[u8]) -> Option<Directive>
     ensures { result ≡ directive_named profile name.now }
 {
-    DIRECTIVES.iter().copied().find(|directive| name == names::directive(*directive).as_bytes()
+    DIRECTIVES.iter().copied().find(|directive| is_named(name, names::directive(*directive))
         && has_directive(profile, *directive))
 }
 

@@ -24,7 +24,7 @@ mod text;
 pub use fault::Fault;
 pub use item::Item;
 pub use labels::Labels;
-pub use lines::{SourceLine, cut_line, is_word, next_line, read_line};
+pub use lines::{SourceLine, cut_line, is_word, next_line, next_source_line, read_line};
 pub use operation::Directive;
 pub use place::Place;
 pub use profiles::profile_told;

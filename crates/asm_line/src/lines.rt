@@ -1,6 +1,6 @@
 //! Lines: what stands on one, and what it adds.
 
-ghost use Rattle.std.specs.Prelude.{◌≡◌, ◌≤◌, ◌==◌, ◌∷◌, length, IfOk};
+ghost use Rattle.std.specs.Prelude.{◌≡◌, ℕ, List, ◌≤◌, ◌==◌, ◌∷◌, length, IfOk};
 ghost use Rattle.std.specs.Option.{option_copied};
 ghost use Rattle.std.specs.List.{list_any};
 ghost use Rattle.asm_line.specs.Text.{is_name};
@@ -22,9 +22,9 @@ use crate::item::Item;
 use crate::labels::Labels;
 use crate::names;
 use crate::operation::Directive;
-use crate::text::{begins, is_name, split_head, trim};
+use crate::text::{begins, is_name, split_head, tail, trim};
 use insn_word::{Profile, spelling_is_one_to_one};
-use text_parts::cut;
+use text_parts::{cut, find_either};
 
 /// A line without its comment: the label that stands before its first colon, and its statement.
 #[derive(Clone, Copy)]
@@ -57,6 +57,14 @@ pub fn cut_line(bytes: &[u8]) -> SourceLine<'_>
         };
     }
     let (code, _) = cut(bytes, b';');
+    cut_code(code)
+}
+
+/// What stands on a line without its comment.
+#[tactic(auto, unfolding(crate::specs::Lines::line))]
+fn cut_code(code: &[u8]) -> SourceLine<'_>
+    ensures { (bytes : List ℕ) → code.now ≡ text_before 59 bytes → line_seen result ≡ line bytes }
+{
     let code = trim(code);
     match cut(code, b':') {
         (label, Some(statement)) => SourceLine {
@@ -68,6 +76,40 @@ pub fn cut_line(bytes: &[u8]) -> SourceLine<'_>
             statement: code,
         },
     }
+}
+
+/// What stands on the first line of a text, and what follows that line, if there is a line end.
+#[inline(always)]
+pub fn next_source_line(text: &[u8]) -> (SourceLine<'_>, Option<&[u8]>)
+    ensures lines { lines text.now ≡ line_seen result.0 ∷ rest_lines (option_copied result.1) }
+    ensures shorter { rest_length (option_copied result.1) ≤ length text.now }
+{
+    if begins(text, b'\n') {
+        let empty = SourceLine {
+            label: None,
+            statement: &[],
+        };
+        return (empty, Some(tail(text)));
+    }
+    let (code, rest) = next_code(text);
+    (cut_code(code), rest)
+}
+
+/// The bytes of the first line up to its comment or end, and what follows the line, if there is a line end.
+#[inline(always)]
+fn next_code(text: &[u8]) -> (&[u8], Option<&[u8]>)
+    ensures code { result.0.now ≡ text_before 59 (text_before 10 text.now) }
+    ensures after { option_copied result.1 ≡ text_after 10 text.now }
+{
+    let Some(place) = find_either(text, b'\n', b';') else {
+        return (text, None);
+    };
+    let code = &text[..place];
+    if text[place] == b'\n' {
+        return (code, Some(&text[place + 1..]));
+    }
+    let (_, rest) = cut(&text[place..], b'\n');
+    (code, rest)
 }
 
 /// Whether a statement is a word of the program: an instruction, or `.word`.

@@ -2,7 +2,7 @@
 
 ghost use Rattle.std.specs.Prelude.{◌≡◌, ◌≢◌, ◌+◌, ◌≤◌, nat_le, ◌==◌, length, Ok, IfOk, IfErr, OnOk, MatchResult};
 ghost use Rattle.std.specs.List.{position, count_by};
-ghost use Rattle.asm_line.specs.Lines.{line, lines, place, count_words};
+ghost use Rattle.asm_line.specs.Lines.{lines, place, count_words};
 ghost use Rattle.asm_line.specs.Labels.{places_of};
 ghost use Rattle.asm_line.specs.Profiles.{profile_of, profile_told};
 ghost use Rattle.asm_line.specs.Seen.{line_seen};
@@ -16,7 +16,7 @@ ghost use Rattle.asm_text.specs.Sources.{with_line, with_lines, not_ascii, Means
 use crate::draft::Draft;
 use crate::fault::AsmFault;
 use asm_line::{
-    Fault, Labels, Place, SourceLine, cut_line, is_word, next_line, profile_told, read_line,
+    Fault, Labels, Place, SourceLine, is_word, next_source_line, profile_told, read_line,
 };
 use image_file::Image;
 use insn_word::Profile;
@@ -69,8 +69,7 @@ fn outline_of(alloc: Global, text: &[u8]) -> Result<Outline<'_>, AllocError>
     let mut words = 0;
     let mut rest = Some(text);
     while let Some(bytes) = rest {
-        let (first, following) = next_line(bytes);
-        let line = cut_line(first);
+        let (line, following) = next_source_line(bytes);
         profile = profile_after(profile, &line);
         labels.note(
             line.label,
@@ -104,21 +103,25 @@ fn profile_after(earlier: Option<Profile>, line: &SourceLine) -> Option<Profile>
 
 /// Takes what line `number` adds.
 #[tactic(auto, unfolding(crate::specs::Sources::with_line))]
-fn take_line(outline: &Outline, number: usize, draft: &mut Draft, bytes: &[u8]) -> Result<(), Fault>
+fn take_line(
+    outline: &Outline,
+    number: usize,
+    draft: &mut Draft,
+    line: &SourceLine,
+) -> Result<(), Fault>
     ensures takes { let o = outline.now in MatchResult result
-        (λ _. with_line o.profile (places_of o.labels) o.words number draft.old (line bytes.now) ≡ Ok draft.new)
-        (λ e. Told e (with_line o.profile (places_of o.labels) o.words number draft.old (line bytes.now))) }
+        (λ _. with_line o.profile (places_of o.labels) o.words number draft.old (line_seen line.now) ≡ Ok draft.new)
+        (λ e. Told e (with_line o.profile (places_of o.labels) o.words number draft.old (line_seen line.now))) }
     ensures kept { let o = outline.now in
         KeepsLimits o.profile o.words draft.old → OnOk result (KeepsLimits o.profile o.words draft.new) }
 {
-    let line = cut_line(bytes);
     let item = read_line(
         outline.profile,
         &outline.labels,
         outline.words,
         number,
         draft.words(),
-        &line,
+        line,
     )?;
     draft.add(item)
 }
@@ -135,8 +138,8 @@ fn all_lines(alloc: Global, outline: &Outline, text: &[u8]) -> Result<Draft, Asm
     let mut number = 0;
     let mut rest = Some(text);
     while let Some(bytes) = rest {
-        let (first, following) = next_line(bytes);
-        match take_line(outline, number, &mut draft, first) {
+        let (line, following) = next_source_line(bytes);
+        match take_line(outline, number, &mut draft, &line) {
             Ok(()) => {}
             Err(kind) => return Err(AsmFault::on_line(number + 1, kind)),
         }

@@ -5,6 +5,6 @@ mod cutting;
 mod lines;
 mod runs;
 
-pub use cutting::cut;
+pub use cutting::{cut, find_either};
 pub use lines::split_line;
 pub use runs::run_length;

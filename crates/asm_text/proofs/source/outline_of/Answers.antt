@@ -1,4 +1,4 @@
-use Rattle.std.proofs.Common.{◌≡◌, ◌+◌, ◌∷◌, cond, sym, ◌∙◌, ap, arith}
+use Rattle.std.proofs.Common.{◌≡◌, ◌+◌, ◌∷◌, cond, ◌∙◌, ap, arith}
 use Rattle.std.specs.Option.{option_copied}
 use Rattle.asm_line.specs.Lines.{rest_lines}
 use Rattle.text_parts.specs.Parts.{rest_length}
@@ -10,12 +10,11 @@ use Rattle.asm_text.proofs.source.outline_of.Goals.{then-is_word, else-is_word}
 
 pub loop-rest-preserved : goal.loop-rest-preserved
 loop-rest-preserved c =
-    let l = line_seen c.cut_line-line.result in
-    let ls = rest_lines (option_copied c.next_line.result.1) in
+    let l = line_seen c.next_source_line.result.0 in
+    let ls = rest_lines (option_copied c.next_source_line.result.1) in
     let these = rest_lines (option_copied c.loop-rest.rest) in
     let first : these ≡ l ∷ ls =
-    ap (λ r. rest_lines (option_copied r)) c.in-Some.is ∙ c.next_line.ensures.lines
-    ∙ ap (λ x. x ∷ ls) (sym c.cut_line-line.ensures) in
+    ap (λ r. rest_lines (option_copied r)) c.in-Some.is ∙ c.next_source_line.ensures.lines in
     let more : c.if-is_word.words ≡ c.loop-rest.words + cond c.is_word.result 1 0 =
     elim c.if-is_word.branch [
       | then-is_word w ↦ then_one c.is_word.result c.loop-rest.words c.if-is_word.words w.if-is_word.true w.words-is
@@ -30,7 +29,7 @@ loop-rest-preserved c =
       number = omega (
         arith,
         ap (λ r. rest_length (option_copied r)) c.in-Some.is,
-        c.next_line.ensures.shorter,
+        c.next_source_line.ensures.shorter,
         c.loop-rest.invariant.number,
       );
       few_words = omega (arith, more, few_more c.is_word.result);

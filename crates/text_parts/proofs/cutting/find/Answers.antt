@@ -1,5 +1,0 @@
-use Rattle.text_parts.proofs.FirstByte.{first_byte_position}
-use Rattle.text_parts.proofs.cutting.find.Goals as goal
-
-pub returns : goal.returns
-returns c = first_byte_position c.args.byte c.args.text.now c.memchr.result c.memchr.ensures
