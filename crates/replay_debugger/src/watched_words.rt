@@ -4,7 +4,6 @@ ghost use Rattle.std.specs.Prelude.{◌≡◌, map, IfOk};
 ghost use Rattle.std.specs.List.{list_any};
 ghost use Rattle.std.specs.Option.{option_to_list};
 ghost use Rattle.replay_debugger.specs.Looks.{watches_of, watch_of, has_changed, seen_again};
-ghost use Rattle.replay_debugger.specs.Stops.{word_differs, tags_differ};
 
 use crate::points::{Point, Points};
 use machine::Machine;
@@ -60,12 +59,16 @@ impl WatchedWord {
     fn has_changed<const S: usize>(&self, machine: &Machine<S>) -> bool
         ensures { result ≡ has_changed machine.now.world.memory self.now }
     {
-        let now = machine.word(self.address);
-        if self.tags_alone {
-            tags_differ(self.seen, now)
-        } else {
-            word_differs(self.seen, now)
+        let Some(now) = machine.word(self.address) else {
+            return self.seen.is_some();
+        };
+        let Some(before) = self.seen else {
+            return true;
+        };
+        if now.tag_number() != before.tag_number() {
+            return true;
         }
+        !self.tags_alone && now.value() != before.value()
     }
 }
 
@@ -118,27 +121,5 @@ fn see_again<const S: usize>(words: &mut [WatchedWord], machine: &Machine<S>)
 {
     for place in 0..words.len() {
         words[place] = words[place].again(machine);
-    }
-}
-
-/// Whether a word has another value or other tags.
-fn word_differs(before: Option<Word>, now: Option<Word>) -> bool
-    ensures { result ≡ word_differs before now }
-{
-    match (before, now) {
-        (Some(before), Some(now)) => before != now,
-        (None, None) => false,
-        (Some(_), None) | (None, Some(_)) => true,
-    }
-}
-
-/// Whether a word has other tags.
-fn tags_differ(before: Option<Word>, now: Option<Word>) -> bool
-    ensures { result ≡ tags_differ before now }
-{
-    match (before, now) {
-        (Some(before), Some(now)) => before.tag_number() != now.tag_number(),
-        (None, None) => false,
-        (Some(_), None) | (None, Some(_)) => true,
     }
 }
