@@ -1,5 +1,6 @@
 //! Machines at their start, their readers, clones and largest numbers.
 use crate::sources::{FILLING, ILLEGAL, WAITING, filling, image_of};
+use image_file::Image;
 use machine::{LoadFault, Machine};
 use processor::Step;
 use std::alloc::Global;
@@ -151,5 +152,71 @@ fn clones_go_their_own_ways(rt: HostRuntime) -> Result<(), Fail> {
     assert_steps(&rt, &mut machine, &[Outcome::Trapped(TrapKind::Blocked)]);
     assert_steps(&rt, &mut clone, &[Outcome::Trapped(TrapKind::Blocked)]);
     assert_same(&rt, &machine, &clone);
+    Ok(())
+}
+
+/// A program of Profile 2.
+const PURGING: [u64; 7] = [
+    0x8010_0000_0000_0009, // LIT r1, 9
+    0x8220_0000_1800_0000, // LITH r2, 0x18000000: sync control
+    0x0C04_4000_0000_0000, // PURGE r1, r2, 0
+    0x8230_0000_D000_0000, // LITH r3, 0xD0000000: future control, and both trap disables
+    0x0C04_6080_0000_0000, // PURGE r1, r3, 1
+    0x0C04_0180_0000_0000, // PURGE r1, r0, 3
+    0x0C04_0100_0000_0000, // PURGE r1, r0, 2
+];
+
+/// The values and tags of its data: a full word, an empty one with both trap bits, two that forward to the word behind
+/// them, and a full one.
+const PURGED: [(u64, u8); 5] = [(5, 1), (6, 12), (24, 3), (32, 3), (7, 1)];
+
+/// The image of that program and data, with this chain limit and no handler.
+fn purging(rt: &impl Abort, alloc: Global, chain_limit: u8) -> Result<Image, Fail> {
+    let mut entries = Vec::from_slice(alloc, &[0])?;
+    let mut program = Vec::from_slice(alloc, &PURGING)?;
+    let words = PURGED.map(|(value, tags)| {
+        Word::from_number(value, tags).expect(rt, "tags are 0 to 15")
+    });
+    let mut cells = Vec::from_slice(alloc, &words)?;
+    let image = Image::from_parts_2(
+        chain_limit,
+        &mut entries,
+        1,
+        0,
+        u32::MAX,
+        &mut program,
+        &mut cells,
+    )?;
+    Ok(image)
+}
+
+/// By the chain limit: how many steps are done, and the last word after them. The reference of step 6 is forwarded once,
+/// that of step 7 twice.
+#[test]
+fn a_purge_empties_what_it_writes_at_the_end_of_its_chain(rt: HostRuntime) -> Result<(), Fail> {
+    for (chain_limit, done, last) in [(0, 5, (7, 1)), (1, 6, (9, 0)), (2, 7, (9, 0))] {
+        let image = purging(&rt, rt.alloc(), chain_limit)?;
+        let mut machine = Machine::<1>::load(rt.alloc(), &image)?;
+        for index in 0..done {
+            assert_eq!(rt; machine.step(0, 0), Outcome::Done, "{chain_limit} {index}");
+        }
+        let ended = [Outcome::Stopped(TrapKind::Forward), Outcome::Skipped];
+        if done < PURGING.len() {
+            assert_steps(&rt, &mut machine, &ended);
+            // FORWARD, at the word that would forward once more
+            let xr = machine.stream(0, 0).map(|stream| stream.xr());
+            assert_eq!(rt; xr, Some(9 + 256 * 24), "{chain_limit}");
+        }
+        // written and empty, whatever the control; the trap bits and the words that forward stay
+        let words = [(9, 0), (9, 12), (24, 3), (32, 3), last];
+        for (place, (value, tags)) in words.iter().enumerate() {
+            let word = Word::from_number(*value, *tags);
+            assert_eq!(rt;
+                machine.word(8 * place as u64),
+                word,
+                "{chain_limit} {place}"
+            );
+        }
+    }
     Ok(())
 }

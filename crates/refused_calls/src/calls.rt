@@ -1,159 +1,100 @@
-//! The calls.
+//! The calls, with their names in the code.
 use crate::endings::Ended;
-use crate::{runs, sessions, texts, written};
+use crate::{debugging, engines, runs, sessions, texts, turns, written};
 use anyhow::Result;
 use std::sync::Wait;
 use std::thread::Threads;
 
-/// A public call that takes memory.
-#[derive(Clone, Copy)]
-pub(crate) enum Call {
-    Assemble,
-    Listing,
-    Reassemble,
-    WriteImage,
-    ReadImage,
-    ReadSchedule,
-    WriteSchedule,
-    RoundSchedule,
-    Lines,
-    Hexadecimals,
-    Decimals,
-    Labels,
-    WordList,
-    StreamText,
-    WorldText,
-    MemoryNew,
-    MemoryWithChain,
-    MemoryClone,
-    ProcessorNew,
-    ProcessorClone,
-    RecordedNew,
-    RecordedReserve,
-    RecordedClone,
-    StepsReserve,
-    SharedMemoryNew,
-    PartsNew,
-    Gather,
-    Threaded,
-    MachineLoad,
-    MachineClone,
-    SessionBegin,
-    SessionCommand,
+/// Prints a line for a call: how it ended, or that its arguments could not be made.
+fn tell<R: Print>(rt: &R, name: &str, made: Result<Ended>) -> Result<()> {
+    let ended = match made {
+        Ok(ended) => ended.text(),
+        Err(_) => "not made, since its arguments found no memory",
+    };
+    println!(rt; "{name}: {ended}")?;
+    Ok(())
 }
 
-impl Call {
-    /// All of them.
-    pub(crate) const ALL: [Call; 32] = [
-        Call::Assemble,
-        Call::Listing,
-        Call::Reassemble,
-        Call::WriteImage,
-        Call::ReadImage,
-        Call::ReadSchedule,
-        Call::WriteSchedule,
-        Call::RoundSchedule,
-        Call::Lines,
-        Call::Hexadecimals,
-        Call::Decimals,
-        Call::Labels,
-        Call::WordList,
-        Call::StreamText,
-        Call::WorldText,
-        Call::MemoryNew,
-        Call::MemoryWithChain,
-        Call::MemoryClone,
-        Call::ProcessorNew,
-        Call::ProcessorClone,
-        Call::RecordedNew,
-        Call::RecordedReserve,
-        Call::RecordedClone,
-        Call::StepsReserve,
-        Call::SharedMemoryNew,
-        Call::PartsNew,
-        Call::Gather,
-        Call::Threaded,
-        Call::MachineLoad,
-        Call::MachineClone,
-        Call::SessionBegin,
-        Call::SessionCommand,
-    ];
+/// Makes the calls that read and write images, sources and schedules.
+pub(crate) fn make_files<R: AllocGlobal + Print>(rt: &R) -> Result<()> {
+    let alloc = rt.alloc();
+    tell(rt, "assemble", Ok(written::of_assemble(alloc)))?;
+    tell(rt, "listing", written::of_listing(alloc))?;
+    tell(rt, "reassemble", written::of_reassemble(alloc))?;
+    tell(rt, "write_image", written::of_write_image(alloc))?;
+    tell(rt, "read_image", written::of_read_image(alloc))?;
+    tell(rt, "read_schedule", Ok(written::of_read_schedule(alloc)))?;
+    tell(rt, "write_schedule", Ok(written::of_write_schedule(alloc)))?;
+    tell(rt, "round_schedule", Ok(written::of_round_schedule(alloc)))
+}
 
-    /// Its name in the code.
-    pub(crate) fn name(self) -> &'static str {
-        match self {
-            Call::Assemble => "assemble",
-            Call::Listing => "listing",
-            Call::Reassemble => "reassemble",
-            Call::WriteImage => "write_image",
-            Call::ReadImage => "read_image",
-            Call::ReadSchedule => "read_schedule",
-            Call::WriteSchedule => "write_schedule",
-            Call::RoundSchedule => "round_schedule",
-            Call::Lines =>
-                "trace_line, history_line, push_trace_line, push_history_line, push_word_line",
-            Call::Hexadecimals => "push_hexadecimal_16, _12, _8, _digit",
-            Call::Decimals => "push_two_digits, push_five_digits, push_right_aligned",
-            Call::Labels => "Labels::note",
-            Call::WordList => "WordList::push",
-            Call::StreamText => "stream_text",
-            Call::WorldText => "world_text",
-            Call::MemoryNew => "Memory::new",
-            Call::MemoryWithChain => "Memory::with_chain",
-            Call::MemoryClone => "Memory::try_clone",
-            Call::ProcessorNew => "Processor::new",
-            Call::ProcessorClone => "Processor::try_clone",
-            Call::RecordedNew => "Recorded::new",
-            Call::RecordedReserve => "Recorded::reserve",
-            Call::RecordedClone => "Recorded::try_clone",
-            Call::StepsReserve => "Steps::reserve",
-            Call::SharedMemoryNew => "SharedMemory::new",
-            Call::PartsNew => "Parts::new",
-            Call::Gather => "gather",
-            Call::Threaded => "threaded",
-            Call::MachineLoad => "Machine::load",
-            Call::MachineClone => "Machine::try_clone",
-            Call::SessionBegin => "Session::begin",
-            Call::SessionCommand => "Session::command, answer_text",
-        }
-    }
+/// Makes those that make texts, and those that keep labels and words.
+pub(crate) fn make_texts<R: AllocGlobal + Print>(rt: &R) -> Result<()> {
+    let alloc = rt.alloc();
+    let lines = "trace_line, history_line, push_trace_line, push_history_line, push_word_line";
+    let hexadecimals = "push_hexadecimal_16, _12, _8, _digit";
+    let decimals = "push_two_digits, push_five_digits, push_right_aligned";
+    tell(rt, lines, Ok(texts::of_lines(alloc)))?;
+    tell(rt, hexadecimals, Ok(texts::of_hexadecimals(alloc)))?;
+    tell(rt, decimals, Ok(texts::of_decimals(alloc)))?;
+    tell(rt, "Labels::note", Ok(texts::of_labels(alloc)))?;
+    tell(rt, "WordList::push", texts::of_word_list(alloc))?;
+    tell(rt, "stream_text", texts::of_stream_text(alloc))?;
+    tell(rt, "world_text", texts::of_world_text(alloc))
+}
 
-    /// How it ends. An error where its arguments can't be made.
-    pub(crate) fn made<R: AllocGlobal + Threads + Wait + Sync>(self, rt: &R) -> Result<Ended> {
-        let alloc = rt.alloc();
-        match self {
-            Call::Assemble => Ok(written::of_assemble(alloc)),
-            Call::Listing => written::of_listing(alloc),
-            Call::Reassemble => written::of_reassemble(alloc),
-            Call::WriteImage => written::of_write_image(alloc),
-            Call::ReadImage => written::of_read_image(alloc),
-            Call::ReadSchedule => Ok(written::of_read_schedule(alloc)),
-            Call::WriteSchedule => Ok(written::of_write_schedule(alloc)),
-            Call::RoundSchedule => Ok(written::of_round_schedule(alloc)),
-            Call::Lines => Ok(texts::of_lines(alloc)),
-            Call::Hexadecimals => Ok(texts::of_hexadecimals(alloc)),
-            Call::Decimals => Ok(texts::of_decimals(alloc)),
-            Call::Labels => Ok(texts::of_labels(alloc)),
-            Call::WordList => texts::of_word_list(alloc),
-            Call::StreamText => texts::of_stream_text(alloc),
-            Call::WorldText => texts::of_world_text(alloc),
-            Call::MemoryNew => runs::of_memory(alloc),
-            Call::MemoryWithChain => runs::of_memory_with_chain(alloc),
-            Call::MemoryClone => runs::of_memory_clone(alloc),
-            Call::ProcessorNew => runs::of_processor(alloc),
-            Call::ProcessorClone => runs::of_processor_clone(alloc),
-            Call::RecordedNew => runs::of_record(alloc),
-            Call::RecordedReserve => runs::of_record_reserve(rt),
-            Call::RecordedClone => runs::of_record_clone(rt),
-            Call::StepsReserve => Ok(runs::of_steps_reserve(alloc)),
-            Call::SharedMemoryNew => runs::of_shared_memory(alloc),
-            Call::PartsNew => runs::of_parts(alloc),
-            Call::Gather => runs::of_gather(rt),
-            Call::Threaded => runs::of_threaded(rt),
-            Call::MachineLoad => runs::of_machine(alloc),
-            Call::MachineClone => runs::of_machine_clone(alloc),
-            Call::SessionBegin => sessions::of_begin(alloc),
-            Call::SessionCommand => sessions::of_commands(alloc),
-        }
-    }
+/// Makes those that make memories, processors and records.
+pub(crate) fn make_parts<R: AllocGlobal + Print + Threads + Wait + Sync>(rt: &R) -> Result<()> {
+    let alloc = rt.alloc();
+    tell(rt, "Memory::new", runs::of_memory(alloc))?;
+    tell(rt, "Memory::with_chain", runs::of_memory_with_chain(alloc))?;
+    tell(rt, "Memory::try_clone", runs::of_memory_clone(alloc))?;
+    tell(rt, "Processor::new", runs::of_processor(alloc))?;
+    tell(rt, "Processor::try_clone", runs::of_processor_clone(alloc))?;
+    tell(rt, "Recorded::new", runs::of_record(alloc))?;
+    tell(rt, "Recorded::reserve", runs::of_record_reserve(rt))?;
+    tell(rt, "Recorded::try_clone", runs::of_record_clone(rt))?;
+    tell(rt, "Steps::reserve", Ok(runs::of_steps_reserve(alloc)))
+}
+
+/// Makes those that run processors at once, and what they need.
+pub(crate) fn make_runs<R: AllocGlobal + Print + Threads + Wait + Sync>(rt: &R) -> Result<()> {
+    let alloc = rt.alloc();
+    tell(rt, "SharedMemory::new", runs::of_shared_memory(alloc))?;
+    tell(rt, "Parts::new", runs::of_parts(alloc))?;
+    tell(rt, "gather", runs::of_gather(rt))?;
+    tell(rt, "threaded", runs::of_threaded(rt))?;
+    tell(rt, "open_table, close_table", turns::of_open_table(alloc))?;
+    tell(rt, "run_two", turns::of_run_two(rt))?;
+    tell(rt, "run_threads", turns::of_run_threads(rt))?;
+    tell(
+        rt,
+        "memory_lock::run_threads",
+        turns::of_run_through_lock(rt),
+    )
+}
+
+/// Makes those of the machine and of the debugger.
+pub(crate) fn make_machines<R: AllocGlobal + Print>(rt: &R) -> Result<()> {
+    let alloc = rt.alloc();
+    tell(rt, "Machine::load", runs::of_machine(alloc))?;
+    tell(rt, "Machine::try_clone", runs::of_machine_clone(alloc))?;
+    tell(rt, "Session::begin", sessions::of_begin(alloc))?;
+    tell(
+        rt,
+        "Session::command, answer_text",
+        sessions::of_commands(alloc),
+    )
+}
+
+/// Makes those of the commands' engines, and the one that takes every way.
+pub(crate) fn make_engines<R: AllocGlobal + Print + Threads + Wait + Sync>(rt: &R) -> Result<()> {
+    let alloc = rt.alloc();
+    tell(rt, "words_engine", engines::of_words_engine(alloc))?;
+    tell(rt, "asm_engine", engines::of_asm_engine(alloc))?;
+    tell(rt, "list_engine", engines::of_list_engine(alloc))?;
+    tell(rt, "run_engine", engines::of_run_engine(alloc))?;
+    tell(rt, "threads_engine", engines::of_threads_engine(rt))?;
+    tell(rt, "debug_engine", debugging::of_debug_engine(alloc))?;
+    tell(rt, "one_machine", engines::of_one_machine(alloc))
 }

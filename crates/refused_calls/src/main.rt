@@ -3,23 +3,23 @@
 #![tactic(auto)]
 
 mod calls;
+mod debugging;
 mod endings;
+mod engines;
 mod programs;
 mod runs;
 mod sessions;
 mod texts;
+mod turns;
 mod written;
 
 use anyhow::Result;
-use calls::Call;
 
 fn main(rt: HostRuntime) -> Result<()> {
-    for call in Call::ALL {
-        let ended = match call.made(&rt) {
-            Ok(ended) => ended.text(),
-            Err(_) => "not made, since its arguments found no memory",
-        };
-        println!(rt; "{}: {ended}", call.name())?;
-    }
-    Ok(())
+    calls::make_files(&rt)?;
+    calls::make_texts(&rt)?;
+    calls::make_parts(&rt)?;
+    calls::make_runs(&rt)?;
+    calls::make_machines(&rt)?;
+    calls::make_engines(&rt)
 }

@@ -1,6 +1,6 @@
 //! Calls that make memories, processors, records and machines, and those that run them.
 use crate::endings::Ended;
-use crate::programs::{STEPS, image};
+use crate::programs::{FUEL, STEPS, image, is_new_run, is_whole_run};
 use anyhow::{Context, Result, anyhow};
 use image_file::Image;
 use machine::{LoadFault, Machine};
@@ -13,12 +13,9 @@ use std::thread::Threads;
 use tag_memory::{Memory, Word};
 use turn_memory::{run_threads, threaded};
 
-/// The most steps that a processor takes.
-const FUEL: usize = 9;
-
 /// Whether the memory has just the image's words.
 fn holds(memory: &Memory, image: &Image) -> bool {
-    let words = [0, 8, 16].map(|address| memory.word(address));
+    let words = [memory.word(0), memory.word(8), memory.word(16)];
     words
         == [
             image.cells().first().copied(),
@@ -103,10 +100,10 @@ fn parts<'i, R: AllocGlobal + Threads + Wait + Sync>(
 ) -> Result<Parts<'i, 2>> {
     let parts = Parts::new(rt.alloc(), image, FUEL).ok().context("parts")?;
     let parts = run_threads(rt, parts, &FreeGate);
-    if parts.records().iter().any(|record| record.any_running()) {
-        return Err(anyhow!("a whole run"));
+    if is_whole_run(&parts) {
+        return Ok(parts);
     }
-    Ok(parts)
+    Err(anyhow!("a whole run"))
 }
 
 /// The record of processor 1 in them.
@@ -180,7 +177,7 @@ pub(crate) fn of_parts(alloc: Global) -> Result<Ended> {
 
 /// Whether it is the whole run.
 fn is_run(woven: &Woven<2>) -> bool {
-    let words = [0, 8].map(|address| woven.word(address));
+    let words = [woven.word(0), woven.word(8)];
     woven.schedule().len() == STEPS.len()
         && woven.history().len() == 2
         && words == [Word::from_number(8, 1), Word::from_number(7, 1)]
@@ -188,7 +185,10 @@ fn is_run(woven: &Woven<2>) -> bool {
 
 /// Whether the whole run is gathered of the parts.
 fn is_gathered(alloc: Global, parts: Parts<2>) -> bool {
-    gather(alloc, parts).is_ok_and(|woven| is_run(&woven))
+    match gather(alloc, parts) {
+        Ok(woven) => is_run(&woven),
+        Err(_) => false,
+    }
 }
 
 pub(crate) fn of_gather<R: AllocGlobal + Threads + Wait + Sync>(rt: &R) -> Result<Ended> {
@@ -208,13 +208,9 @@ pub(crate) fn of_threaded<R: AllocGlobal + Threads + Wait + Sync>(rt: &R) -> Res
     Ok(match run {
         Ok(woven) => Ended::answered(is_run(&woven)),
         Err(ThreadsFault::Build(fault)) => Ended::refused(fault == PartsFault::NoMemory),
-        Err(ThreadsFault::Gather(parts, GatherFault::Short(0))) => Ended::refused(
-            parts
-                .records()
-                .iter()
-                .all(|record| record.steps().len() == 0)
-                && parts.shared().entries().is_empty(),
-        ),
+        Err(ThreadsFault::Gather(parts, GatherFault::Short(0))) => Ended::refused(is_new_run(
+            &parts,
+        )),
         Err(ThreadsFault::Gather(parts, fault)) => {
             Ended::refused(fault == GatherFault::NoMemory && is_gathered(rt.alloc(), parts))
         }
@@ -230,8 +226,8 @@ pub(crate) fn of_machine(alloc: Global) -> Result<Ended> {
 }
 
 /// Whether the machine is at the run's end.
-fn is_at_end(machine: &Machine<2>) -> bool {
-    let words = [0, 8].map(|address| machine.word(address));
+pub(crate) fn is_at_end(machine: &Machine<2>) -> bool {
+    let words = [machine.word(0), machine.word(8)];
     machine.counts(0) == Some((0, 0)) && words == [Word::from_number(8, 1), Word::from_number(7, 1)]
 }
 

@@ -25,7 +25,7 @@ const HISTORY_LINE: &str =
 const WORD_LINE: &str = "LIT r1, 3 ; 00000 8010000000000003\n";
 
 /// Behind `LIT r1, 3`, with no trap entry.
-const STREAM_TEXT: &str =
+pub(crate) const STREAM_TEXT: &str =
     "Running ssw 0000000000000001 xr 0000000000000000 retries 0\nr01 0000000000000003\nt0 00000000FFFFFFFF\n";
 
 /// The first step of the program.

@@ -4,11 +4,23 @@ use crate::programs::{SCHEDULE, SOURCE, STEPS, image};
 use anyhow::{Context, Result};
 use asm_text::{Fault, assemble, listing, reassemble};
 use image_file::{Image, ImageFault, read_image, write_image};
+use processor::Step;
 use std::alloc::{AllocError, Global};
+use tag_memory::Word;
 use trace_text::{ScheduleFaultKind, read_schedule, round_schedule, write_schedule};
 
 /// How many bytes the image has: a header of 26, two entries of 4, six words of 8 and two words of 9.
-const IMAGE_BYTES: usize = 100;
+pub(crate) const IMAGE_BYTES: usize = 100;
+
+/// Three rounds of two processors.
+const ROUNDS: [Step; 6] = [
+    Step { p: 0, s: 0 },
+    Step { p: 1, s: 0 },
+    Step { p: 0, s: 0 },
+    Step { p: 1, s: 0 },
+    Step { p: 0, s: 0 },
+    Step { p: 1, s: 0 },
+];
 
 pub(crate) fn of_assemble(alloc: Global) -> Ended {
     match assemble(alloc, SOURCE.as_bytes()) {
@@ -19,12 +31,13 @@ pub(crate) fn of_assemble(alloc: Global) -> Ended {
 
 /// Whether it is the image of the program.
 fn is_program(image: &Image) -> bool {
-    let values = image.cells().iter().map(|cell| cell.value());
     image.slim() == 2
         && (image.retry_limit(), image.trap_entry()) == (0, u32::MAX)
         && (image.entry(0), image.entry(1), image.entry(2)) == (Some(0), Some(3), None)
         && image.program().len() == 6
-        && values.eq([5u64, 6])
+        && image.cells().len() == 2
+        && image.cells().first().copied() == Word::from_number(5, 1)
+        && image.cells().get(1).copied() == Word::from_number(6, 1)
 }
 
 pub(crate) fn of_listing(alloc: Global) -> Result<Ended> {
@@ -79,10 +92,7 @@ pub(crate) fn of_write_schedule(alloc: Global) -> Ended {
 
 pub(crate) fn of_round_schedule(alloc: Global) -> Ended {
     match round_schedule(alloc, 2, 1, 3) {
-        Ok(steps) => {
-            let turns = steps.iter().map(|step| (step.p, step.s));
-            Ended::answered(turns.eq([(0u8, 0u8), (1, 0), (0, 0), (1, 0), (0, 0), (1, 0)]))
-        }
+        Ok(steps) => { Ended::answered(steps.as_slice() == ROUNDS.as_slice()) }
         Err(AllocError) => Ended::Refused,
     }
 }
