@@ -24,6 +24,13 @@ const EAGER_LOOKS: u32 = 50;
 /// How many times a thread looks for a moment with no ticket drawn before it draws its own all the same.
 const PATIENT_LOOKS: u32 = 200;
 
+/// How many pauses it makes after the first of these looks,
+const FIRST_PAUSES: u32 = 8;
+
+/// and after how many of them it makes four times as many as after the one before. After the others it lets other
+/// threads run.
+const PAUSING_LOOKS: u32 = 5;
+
 /// Draws a ticket, and with its turn asks for stream `s` of processor `p`. `NoRoom` where the memory has no room for
 /// an entry, or no such processor: then nothing is asked, and the turn goes by.
 pub(crate) fn ask_in_turn<'i, R: Wait>(
@@ -59,7 +66,19 @@ fn await_no_ticket(table: &TurnTable)
         if table.peek(SERVED) == table.peek(NEXT) {
             return;
         }
-        pause(look);
+        pause_longer(look);
+    }
+}
+
+/// Lets a while go by after so many looks, a longer one each time. So the other thread can ask several times before the
+/// memory's words go to another core.
+fn pause_longer(looks: u32) {
+    if looks >= PAUSING_LOOKS {
+        thread::yield_now();
+        return;
+    }
+    for _ in 0..FIRST_PAUSES << (2 * looks) {
+        hint::spin_loop();
     }
 }
 
