@@ -64,6 +64,11 @@ pub(crate) fn make_runs<R: AllocGlobal + Print + Threads + Wait + Sync>(rt: &R) 
     tell(rt, "Parts::new", runs::of_parts(alloc))?;
     tell(rt, "gather", runs::of_gather(rt))?;
     tell(rt, "threaded", runs::of_threaded(rt))?;
+    tell(
+        rt,
+        "memory_lock::threaded",
+        runs::of_threaded_through_lock(rt),
+    )?;
     tell(rt, "open_table, close_table", turns::of_open_table(alloc))?;
     tell(rt, "run_two", turns::of_run_two(rt))?;
     tell(rt, "run_threads", turns::of_run_threads(rt))?;

@@ -202,19 +202,33 @@ pub(crate) fn of_gather<R: AllocGlobal + Threads + Wait + Sync>(rt: &R) -> Resul
 }
 
 /// Where memory for the turns is refused, no step is taken.
+/// How a run that hands out its schedule ended.
+fn threaded_ended<'i>(alloc: Global, run: Result<Woven<'i, 2>, ThreadsFault<'i, 2>>) -> Ended {
+    match run {
+        Ok(woven) => Ended::answered(is_run(&woven)),
+        Err(ThreadsFault::Build(fault)) => Ended::refused(fault == PartsFault::NoMemory),
+        Err(ThreadsFault::Gather(parts, GatherFault::Short(0))) => {
+            Ended::refused(is_new_run(&parts))
+        }
+        Err(ThreadsFault::Gather(parts, fault)) => {
+            Ended::refused(fault == GatherFault::NoMemory && is_gathered(alloc, parts))
+        }
+    }
+}
+
 pub(crate) fn of_threaded<R: AllocGlobal + Threads + Wait + Sync>(rt: &R) -> Result<Ended> {
     let image = image(rt.alloc())?;
     let run = threaded::<R, FreeGate, 2>(rt, rt.alloc(), &image, FUEL, &FreeGate);
-    Ok(match run {
-        Ok(woven) => Ended::answered(is_run(&woven)),
-        Err(ThreadsFault::Build(fault)) => Ended::refused(fault == PartsFault::NoMemory),
-        Err(ThreadsFault::Gather(parts, GatherFault::Short(0))) => Ended::refused(is_new_run(
-            &parts,
-        )),
-        Err(ThreadsFault::Gather(parts, fault)) => {
-            Ended::refused(fault == GatherFault::NoMemory && is_gathered(rt.alloc(), parts))
-        }
-    })
+    Ok(threaded_ended(rt.alloc(), run))
+}
+
+/// Through a lock, where no memory is taken for turns.
+pub(crate) fn of_threaded_through_lock<R: AllocGlobal + Threads + Wait + Sync>(
+    rt: &R,
+) -> Result<Ended> {
+    let image = image(rt.alloc())?;
+    let run = memory_lock::threaded::<R, FreeGate, 2>(rt, rt.alloc(), &image, FUEL, &FreeGate);
+    Ok(threaded_ended(rt.alloc(), run))
 }
 
 pub(crate) fn of_machine(alloc: Global) -> Result<Ended> {
