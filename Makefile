@@ -13,11 +13,11 @@ JOBS ?= $(shell nproc)
 help:
 	@echo "make try        shows a first run, unproved (under a minute)"
 	@echo "make run        proves and builds the program, and shows the first run (25 minutes on four cores)"
-	@echo "make test       proves everything from nothing, tries the must-fail edits, runs all tests (30 to 100 minutes have been seen)"
+	@echo "make test       proves everything from nothing, tries the must-fail edits, runs all tests (46 minutes on four cores; up to 100 beside other work)"
 	@echo "make examples   copies the examples to where make test finds them (a second)"
 	@echo "make documents  runs the commands of the documents and compares what they print (seconds)"
 	@echo "make statuses   shows the exit statuses of the built program (a second)"
-	@echo "make hostile    hostile use of the built program; needs Python 3 and a C compiler (10 to 20 minutes)"
+	@echo "make hostile    hostile use of the built program; needs Python 3 and a C compiler (4 minutes on four idle cores)"
 	@echo "make refuse     the part of it that refuses each allocation of the commands in turn (some minutes)"
 	@echo "make bench      time, instructions and peak memory on the longest inputs (some minutes; valgrind counts instructions)"
 	@echo "make install    puts the built program, its examples and its documents under PREFIX, $(PREFIX) (a second)"
