@@ -57,7 +57,7 @@ impl<'m, 'i> Port for LockPort<'m, 'i> {
 }
 
 /// How many pauses a thread makes after its first look at a lock that is held,
-const FIRST_PAUSES: u32 = 8;
+const FIRST_PAUSES: u32 = 64;
 
 /// and how many it makes at most between two looks.
 const MOST_PAUSES: u32 = 2_048;

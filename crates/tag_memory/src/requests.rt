@@ -91,15 +91,16 @@ pub struct Masked {
 /// A request to the memory. Each combination of parts is one.
 #[derive(Clone, Copy, PartialEq, Eq, Debug)]
 pub struct Request {
-    /// What to do.
-    pub op: MemOp,
+    // the long fields in front: a request takes 24 bytes so, and 40 in the order of the operation table
     /// Where to begin.
     pub pointer: Pointer,
-    /// Where the control comes from.
-    pub acc: Acc,
     /// What `Store` and `Purge` write, what `Fadd` adds, and for `TagSet` the tags as a number, of which the four low
     /// bits count. `Load` and `TagGet` make nothing of it.
     pub value: u64,
+    /// What to do.
+    pub op: MemOp,
+    /// Where the control comes from.
+    pub acc: Acc,
     /// The trap bits that are passed over.
     pub masked: Masked,
 }

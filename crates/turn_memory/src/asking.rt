@@ -25,14 +25,15 @@ const EAGER_LOOKS: u32 = 50;
 const PATIENT_LOOKS: u32 = 200;
 
 /// How many pauses it makes after the first of these looks,
-const FIRST_PAUSES: u32 = 8;
+const FIRST_PAUSES: u32 = 256;
 
 /// and after how many of them it makes four times as many as after the one before. After the others it lets other
 /// threads run.
-const PAUSING_LOOKS: u32 = 5;
+const PAUSING_LOOKS: u32 = 3;
 
 /// Draws a ticket, and with its turn asks for stream `s` of processor `p`. `NoRoom` where the memory has no room for
 /// an entry, or no such processor: then nothing is asked, and the turn goes by.
+#[inline(always)]
 pub(crate) fn ask_in_turn<'i, R: Wait>(
     rt: &R,
     table: &TurnTable<'i>,
