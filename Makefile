@@ -13,7 +13,7 @@ JOBS ?= $(shell nproc)
 help:
 	@echo "make try        shows a first run, unproved (under a minute)"
 	@echo "make run        proves and builds the program, and shows the first run (25 minutes on four cores)"
-	@echo "make test       proves everything from nothing, tries the must-fail edits, runs all tests (46 minutes on four cores; up to 100 beside other work)"
+	@echo "make test       proves everything from nothing, tries the must-fail edits, runs all tests (46 minutes on four idle cores; up to 100 beside other work)"
 	@echo "make examples   copies the examples to where make test finds them (a second)"
 	@echo "make documents  runs the commands of the documents and compares what they print (seconds)"
 	@echo "make statuses   shows the exit statuses of the built program (a second)"
