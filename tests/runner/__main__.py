@@ -1,0 +1,96 @@
+#!/usr/bin/env python3
+"""Runs the cases below tests/cases on the built program. A case that does not hold is named by its file and line, with what
+was wanted and what was got. Arguments are the beginnings of the names of tables to be run; without any all of them are. The
+last line counts the cases. Needs Python 3."""
+
+import sys
+
+sys.dont_write_bytecode = True
+
+import concurrent.futures
+import importlib
+import os
+import time
+
+import checks
+import table
+import tool
+
+# how much is printed of what was wanted and got, and of how many cases of a table
+SHOWN, MOST = 300, 10
+
+
+def shown(value):
+    text = value.decode("utf-8", "backslashreplace") if isinstance(value, bytes) else str(value)
+    return repr(text[:SHOWN]) + (f" and {len(text) - SHOWN} characters more" if len(text) > SHOWN else "")
+
+
+def difference(wanted, got):
+    """Both sides, from the first line on in which they differ where both are long texts."""
+    if isinstance(wanted, bytes) and isinstance(got, bytes) and max(len(wanted), len(got)) > SHOWN:
+        same = os.path.commonprefix([wanted, got])
+        begin = same.rfind(b"\n") + 1
+        line = same.count(b"\n") + 1
+        return f"from line {line} on wanted {shown(wanted[begin:])}, got {shown(got[begin:])}"
+    return f"wanted {shown(wanted)}, got {shown(got)}"
+
+
+def guarded(check, *given):
+    """The pairs of a check; what it raises is what was got."""
+    try:
+        return check(*given)
+    except Exception as error:  # a case that can't be run does not hold
+        return "a case that can be run", f"{type(error).__name__}: {error}"
+
+
+def pairs_of(pool, file):
+    """Each case of a table or kind, with what was wanted and got."""
+    if file in checks.OTHERS:
+        found = guarded(checks.OTHERS[file])
+        return [(file, *found)] if isinstance(found, tuple) else list(found)
+    rows = table.rows(file)
+    fields = [row.fields for row in rows]
+    if file in checks.EACH:
+        pairs = list(pool.map(lambda it: guarded(checks.EACH[file], it), fields))
+    else:
+        pairs = guarded(checks.WHOLE[file], fields)
+        pairs = [pairs] * len(rows) if isinstance(pairs, tuple) else list(pairs)
+    if len(pairs) != len(rows):
+        pairs = [(f"{len(rows)} answers", f"{len(pairs)} answers")] * len(rows)
+    return [(row, *pair) for row, pair in zip(rows, pairs)]
+
+
+def unread():
+    """The tables below tests/cases of which no module knows what to do with them."""
+    found = []
+    for at, _, files in os.walk(table.CASES):
+        found += [os.path.relpath(os.path.join(at, name), table.CASES) for name in files if name.endswith(".tsv")]
+    return sorted(set(found) - {*checks.EACH, *checks.WHOLE})
+
+
+def main(names):
+    if not os.access(tool.PROGRAM, os.X_OK):
+        sys.exit("nothing is built yet: make run proves and builds the program")
+    here = os.path.dirname(os.path.abspath(__file__))
+    for module in sorted(os.listdir(here)):
+        if module.startswith("of_") and module.endswith(".py"):
+            importlib.import_module(module.removesuffix(".py"))
+    passed = failed = 0
+    for file in unread():
+        print(f"tests/cases/{file}: no module of tests/runner reads this table")
+        failed += 1
+    files = [file for file in sorted({*checks.EACH, *checks.WHOLE, *checks.OTHERS}) if not names or file.startswith(tuple(names))]
+    with concurrent.futures.ThreadPoolExecutor(os.cpu_count()) as pool:
+        for file in files:
+            begin = time.monotonic()
+            pairs = pairs_of(pool, file)
+            wrong = [(case, wanted, got) for case, wanted, got in pairs if wanted != got]
+            for case, wanted, got in wrong[:MOST]:
+                print(f"{case}: {difference(wanted, got)}")
+            passed, failed = passed + len(pairs) - len(wrong), failed + len(wrong)
+            print(f"{file}: {len(pairs) - len(wrong)} of {len(pairs)}, {time.monotonic() - begin:.1f} s", flush=True)
+    print(f"{passed} passed, {failed} failed")
+    sys.exit(1 if failed or not passed else 0)
+
+
+main(sys.argv[1:])

@@ -1,0 +1,22 @@
+"""What is done with each table of cases. A module of this folder has the tables of one command or kind, and names for each
+a function:
+
+- by `@each(FILE)` one that takes the fields of a row and gives (wanted, got);
+- by `@whole(FILE)` one that takes the list of all rows' fields, and gives such a pair for each row, in order;
+- by `@others(NAME)` one for cases that are no table: it takes nothing and gives (name of the case, wanted, got) for each.
+
+A case holds where what it wants is what it got."""
+
+EACH, WHOLE, OTHERS = {}, {}, {}
+
+
+def each(file):
+    return lambda check: EACH.setdefault(file, check)
+
+
+def whole(file):
+    return lambda check: WHOLE.setdefault(file, check)
+
+
+def others(name):
+    return lambda check: OTHERS.setdefault(name, check)

@@ -1,0 +1,95 @@
+"""The built program, called on files and texts."""
+
+import os
+import subprocess
+import tempfile
+
+import table
+
+PROGRAM = os.path.join(table.ROOT, "crates/mta_sim/out/mta_sim")
+# after so many seconds a call has failed
+PATIENCE = 60
+
+
+class Ended:
+    """How a call ended: its status, and what it wrote to its standard streams."""
+
+    def __init__(self, status, out, err):
+        self.status, self.out, self.err = status, out, err
+
+    def text(self):
+        """What was printed; behind a `!` the fault, where the call met one and printed nothing."""
+        if self.status == 0 and self.err == b"":
+            return self.out
+        if self.status == 1 and self.out == b"":
+            return b"!" + self.err.removeprefix(b"mta_sim: ").removesuffix(b"\n")
+        return b"status %d, printed %r, complained %r" % (self.status, self.out[:200], self.err[:200])
+
+
+def call(*words, given=b"", folder=None):
+    """Calls the program with these words and this standard input."""
+    ended = subprocess.run([PROGRAM, *words], input=given, capture_output=True, cwd=folder, timeout=PATIENCE, check=False)
+    return Ended(ended.returncode, ended.stdout, ended.stderr)
+
+
+def with_files(command, **files):
+    """Calls `command(paths)` with a path for each of the files: bytes for one that is there, None for one to be made."""
+    with tempfile.TemporaryDirectory(prefix="mta-case-") as folder:
+        paths = {name: os.path.join(folder, name) for name in files}
+        for name, data in files.items():
+            if data is not None:
+                write(paths[name], data)
+        return command(paths)
+
+
+def write(path, data):
+    with open(path, "wb") as file:
+        file.write(data)
+
+
+def read(path):
+    """The bytes of a file; none where it is not there."""
+    if not os.path.exists(path):
+        return None
+    with open(path, "rb") as file:
+        return file.read()
+
+
+def words(program):
+    """What `words` prints of these lines."""
+    return call("words", given=program).text()
+
+
+def asm(source):
+    """The image of a source text; behind a `!` its fault."""
+    def assemble(paths):
+        said = call("asm", paths["source"], paths["image"]).text()
+        return said or read(paths["image"])
+
+    return with_files(assemble, source=source, image=None)
+
+
+def listing(image):
+    """What `list` prints of an image file."""
+    return with_files(lambda paths: call("list", paths["image"]).text(), image=image)
+
+
+def trace(image, schedule):
+    """What `run` prints."""
+    run = lambda paths: call("run", paths["image"], paths["schedule"]).text()
+    return with_files(run, image=image, schedule=schedule)
+
+
+def threads(image, fuel):
+    """What `threads` prints, and the schedule that it hands out."""
+    def run(paths):
+        printed = call("threads", paths["image"], str(fuel), paths["schedule"]).text()
+        return printed, read(paths["schedule"])
+
+    return with_files(run, image=image, schedule=None)
+
+
+def session(image, schedule, commands):
+    """How a session of the debugger ends: its status, its answers, and the fault behind them, if any."""
+    run = lambda paths: call("debug", paths["image"], paths["schedule"], given=commands)
+    return with_files(run, image=image, schedule=schedule)
