@@ -2,8 +2,8 @@
 use Rattle.std.proofs.Common.{◌≡◌, ℕ, ◌≤◌, Option, Some, None, Result, Ok, Err, sym, ◌∙◌, ap, arith, ⊎_elim}
 use Rattle.std.proofs.lemmas.Bool.Decides.{leb_tells}
 use Rattle.std.specs.Option.{ok_or, option_map}
-use Rattle.number_text.specs.Numbers.{number_from, up_to}
-use Rattle.number_text.specs.declared.numbers.Number.{Number}
+use Rattle.text_parts.specs.Numbers.{number_from, up_to}
+use Rattle.text_parts.specs.declared.numbers.Number.{Number}
 use Rattle.asm_line.specs.Faults.{◌>>=◌}
 use Rattle.asm_line.specs.Numbers.{within}
 use Rattle.asm_line.specs.declared.fault.Fault.{Fault}

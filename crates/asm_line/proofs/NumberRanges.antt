@@ -8,7 +8,7 @@ use Rattle.std.proofs.lemmas.Bool.{cases_lt}
 use Rattle.std.proofs.lemmas.Bool.Decides.{leb_tells}
 use Rattle.std.specs.Option.{ok_or}
 use Rattle.insn_word.specs.Fields.{IsFieldInRange, signed}
-use Rattle.number_text.specs.Reading.{are_digits, number_of_text}
+use Rattle.text_parts.specs.Reading.{are_digits, number_of_text}
 use Rattle.asm_line.specs.Text.{is_name}
 use Rattle.asm_line.specs.Faults.{map_ok, ◌>>=◌}
 use Rattle.asm_line.specs.Numbers.{within, number_within, at_least_one, count_within}

@@ -2,7 +2,7 @@
 use Rattle.std.specs.Prelude.{ℕ, ◌==◌, ℤ, pos, neg_ℤ, Bool, nat_lt, nat_le, if◌then◌else◌}
 use Rattle.std.specs.Prelude.{List, slice_index, drop, Result, Ok, Err}
 use Rattle.std.specs.Option.{ok_or}
-use Rattle.number_text.specs.Reading.{number_of_text}
+use Rattle.text_parts.specs.Reading.{number_of_text}
 use Rattle.asm_line.specs.Faults.{map_ok, ◌>>=◌}
 use Rattle.asm_line.specs.declared.fault.Fault.{Fault}
 use Rattle.asm_line.specs.declared.fault.Fault.TheVariants as fault

@@ -3,7 +3,7 @@ use Rattle.std.specs.Prelude.{ℕ, ◌+◌, ◌-◌, ◌==◌, ℤ, pos, neg_ℤ
 use Rattle.std.specs.Prelude.{if◌then◌else◌, List, length, slice_index, drop, Option, Some, None, Result, Ok, Err}
 use Rattle.std.specs.Str.Parse.{digits_value}
 use Rattle.insn_word.specs.declared.operations.Condition.{Condition}
-use Rattle.number_text.specs.Reading.{are_digits}
+use Rattle.text_parts.specs.Reading.{are_digits}
 use Rattle.asm_line.specs.Text.{is_name}
 use Rattle.asm_line.specs.Faults.{map_ok, ◌>>=◌}
 use Rattle.asm_line.specs.Numbers.{within, number_within, signed_within}

@@ -6,7 +6,7 @@ ghost use Rattle.asm_line.specs.Numbers.{number_within, count_within, signed_wit
 
 use crate::fault::Fault;
 use crate::text::{begins, tail};
-use number_text::read_number;
+use text_parts::read_number;
 
 /// A number of at most so much.
 #[tactic(auto, unfolding(crate::specs::Numbers::number_within), using(crate::proofs::Limits::limits))]

@@ -12,7 +12,7 @@ use crate::labels::Labels;
 use crate::numbers::{negative, number_32, positive, signed_within, small_within};
 use crate::text::{begins, is_name, tail};
 use insn_word::Condition;
-use number_text::{Base, Number, read_digits};
+use text_parts::{Base, Number, read_digits};
 
 /// The second operand of an arithmetic operation.
 #[derive(Clone, Copy, Debug, PartialEq, Eq)]
@@ -24,7 +24,7 @@ pub enum Source {
 }
 
 /// A register, `r0` to `r31`.
-#[tactic(auto, unfolding(crate::specs::Operands::register, number_text::specs::Reading::number_of_digits))]
+#[tactic(auto, unfolding(crate::specs::Operands::register, text_parts::specs::Reading::number_of_digits))]
 pub(crate) fn register(text: &[u8]) -> Result<u8, Fault>
     ensures { result ≡ register text.now }
 {

@@ -9,7 +9,7 @@ use Rattle.std.proofs.lemmas.List.{reverse-append, reverse-reverse}
 use Rattle.std.proofs.lemmas.List.Elements.{All-weaker, All-cons}
 use Rattle.std.proofs.lemmas.List.Folds.{list_any-append}
 use Rattle.std.proofs.lemmas.List.Splits.{slice_split_at, slice_split_none}
-use Rattle.number_text.specs.Reading.{number_of_text, number_of_digits}
+use Rattle.text_parts.specs.Reading.{number_of_text, number_of_digits}
 use Rattle.text_parts.specs.Parts.{parts}
 use Rattle.asm_line.specs.Text.{skip_blanks, trim, is_name, head, behind_head, operands_of, operands}
 use Rattle.asm_line.specs.Faults.{map_ok, ◌>>=◌, both}

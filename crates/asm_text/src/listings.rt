@@ -17,10 +17,10 @@ use asm_line::{Directive, names};
 use image_file::Image;
 use insn_word::Profile;
 use listing_line::push_word_line;
-use number_text::push_hexadecimal_16;
 use std::alloc::{AllocError, Global};
 use std::fmt::Write;
 use tag_memory::Word;
+use text_parts::push_hexadecimal_16;
 
 /// The listing of an image ("Listing", docs/FORMATS.md): its directives, its entries, its program words and its data
 /// cells, each run of equal cells in one line.

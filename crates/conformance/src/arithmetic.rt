@@ -1,7 +1,7 @@
 //! Lines that say what an arithmetic operation makes of two words.
 use asm_line::names;
 use insn_word::ArithmeticOp;
-use number_text::read_hexadecimal;
+use text_parts::read_hexadecimal;
 use stream_core::{Code, alu};
 
 /// Whether the line's operation makes the result and the code's number at its end.

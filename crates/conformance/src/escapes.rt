@@ -1,6 +1,6 @@
 //! Texts in the files of vectors: the bytes that a field stands for.
 use anyhow::{Context, Result};
-use number_text::{Base, read_digits};
+use text_parts::{Base, read_digits};
 use std::alloc::Global;
 
 /// The bytes that a field stands for. A backslash begins what a line can't have, or what is too long for it: `\n`,

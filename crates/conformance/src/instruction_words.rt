@@ -3,7 +3,7 @@ use crate::streams::instruction;
 use anyhow::{Context, Result};
 use asm_text::{assemble, listing};
 use insn_word::{Profile, decode, decode_as, encode};
-use number_text::read_hexadecimal;
+use text_parts::read_hexadecimal;
 use std::alloc::Global;
 
 /// Whether the line's word spells the instruction whose source text follows it: the text is assembled to the word,

@@ -1,6 +1,6 @@
 //! Lines that say how a number is printed, or which number a text says.
 use anyhow::{Context, Result};
-use number_text::{
+use text_parts::{
     Base, push_five_digits, push_hexadecimal_8, push_hexadecimal_12, push_hexadecimal_16,
     push_hexadecimal_digit, push_right_aligned, push_two_digits, read_digits, read_hexadecimal,
     read_number,

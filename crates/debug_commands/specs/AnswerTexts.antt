@@ -1,7 +1,7 @@
 -- The text of an answer.
 use Rattle.std.specs.Prelude.{ℕ, List, [], ◌∷◌, ◌++◌, codes}
 use Rattle.std.specs.Fmt.{decimal}
-use Rattle.number_text.specs.Digits.{hexadecimal_16, hexadecimal_12, hexadecimal_digit}
+use Rattle.text_parts.specs.Digits.{hexadecimal_16, hexadecimal_12, hexadecimal_digit}
 use Rattle.tag_memory.specs.Cell.{Cell, tag_number}
 use Rattle.stream_core.specs.StreamText.{stream_text_of}
 use Rattle.debug_commands.specs.declared.answers.Why.{Why}

@@ -3,8 +3,8 @@ use Rattle.std.specs.Prelude.{ℕ, ◌-◌, ◌^◌, nat_le, if◌then◌else◌
 use Rattle.std.specs.Option.{option_map, option_and_then}
 use Rattle.std.specs.Str.{bytes_eq}
 use Rattle.text_parts.specs.Parts.{parts}
-use Rattle.number_text.specs.Reading.{number_of_text}
-use Rattle.number_text.specs.Numbers.{up_to}
+use Rattle.text_parts.specs.Reading.{number_of_text}
+use Rattle.text_parts.specs.Numbers.{up_to}
 use Rattle.debug_commands.specs.declared.commands.Command.{Command}
 use Rattle.debug_commands.specs.declared.commands.Command.TheVariants.{Forward, Continue, Back, Go, Break}
 use Rattle.debug_commands.specs.declared.commands.Command.TheVariants.{Watch, WatchTags, Delete, Registers, Show}

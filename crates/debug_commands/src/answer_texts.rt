@@ -6,11 +6,11 @@ ghost use Rattle.debug_commands.specs.AnswerTexts.{answer_text_of, place_line, k
 ghost use Rattle.debug_commands.specs.AnswerTexts.{seen_word_lines};
 
 use crate::answers::{Answer, Why};
-use number_text::{push_hexadecimal_12, push_hexadecimal_16, push_hexadecimal_digit};
 use std::alloc::{AllocError, Global};
 use std::fmt::Write;
 use stream_core::stream_text;
 use tag_memory::Word;
+use text_parts::{push_hexadecimal_12, push_hexadecimal_16, push_hexadecimal_digit};
 
 /// The text of an answer, each line with a line feed at its end ("Debugger", docs/FORMATS.md).
 #[tactic(auto, unfolding(crate::specs::AnswerTexts::answer_text_of))]

@@ -8,8 +8,7 @@ ghost use Rattle.debug_commands.specs.Commands.{number_within_bits};
 
 use crate::commands::Command;
 use crate::debug_fault::DebugFault;
-use number_text::read_number;
-use text_parts::cut;
+use text_parts::{cut, read_number};
 
 /// The most bytes of a command's line, the line feed at its end not counted.
 pub const COMMAND_LIMIT: usize = 256;

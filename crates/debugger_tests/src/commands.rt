@@ -1,7 +1,7 @@
 //! Lines that are commands, and lines that are none.
 use crate::transcripts::{COUNTDOWN, LONG, assert_answers};
 use debug_commands::{Command, DebugFault, read_command};
-use number_text::push_hexadecimal_12;
+use text_parts::push_hexadecimal_12;
 use std::alloc::Global;
 use std::test::Fail;
 

@@ -3,7 +3,7 @@ use Rattle.std.proofs.Common.{◌≡◌, ℕ, ◌-◌, ◌<◌, ◌^◌, true, [
 use Rattle.std.specs.Prelude.{Ok}
 use Rattle.std.specs.Fmt.{decimal}
 use Rattle.std.proofs.lemmas.Bool.{and_from, lt-ltb}
-use Rattle.number_text.specs.Laws.{HexadecimalReadsBack}
+use Rattle.text_parts.specs.Laws.{HexadecimalReadsBack}
 use Rattle.insn_word.specs.declared.profiles.Profile.{Profile}
 use Rattle.insn_word.specs.declared.profiles.Profile.TheVariants as profile
 use Rattle.asm_line.specs.Names.{directive_name, has_directive, profile_number}

@@ -12,8 +12,8 @@ use Rattle.insn_word.specs.Reading.{InstructionIsSpelt}
 use Rattle.insn_word.specs.Reading as reading
 use Rattle.insn_word.specs.declared.profiles.Profile.{Profile}
 use Rattle.insn_word.specs.declared.insn.Insn.{Insn}
-use Rattle.number_text.specs.Digits.{fixed_digits, hexadecimal_16, five_digits}
-use Rattle.number_text.specs.Laws.{HexadecimalReadsBack}
+use Rattle.text_parts.specs.Digits.{fixed_digits, hexadecimal_16, five_digits}
+use Rattle.text_parts.specs.Laws.{HexadecimalReadsBack}
 use Rattle.text_parts.specs.Parts.{text_after}
 use Rattle.asm_line.specs.Names.{directive_name, has_directive}
 use Rattle.asm_line.specs.Heads.{directive_of, directive_named}

@@ -9,9 +9,9 @@ use Rattle.std.specs.Str.Parse.{digits_value}
 use Rattle.std.proofs.lemmas.Bool.{and_parts, and_from, and_left, and_right, lt-ltb, le-leb, cases_Bool}
 use Rattle.std.proofs.lemmas.Bool.Decides.{nat_tests}
 use Rattle.std.proofs.lemmas.Fmt.{decimal_by_steps, decimal_nonempty, decimal_is_IsNumeral}
-use Rattle.number_text.specs.Digits.{hexadecimal_16}
-use Rattle.number_text.specs.Reading.{are_digits, number_of_digits, number_of_text, hexadecimal_word}
-use Rattle.number_text.specs.Laws.{HexadecimalReadsBack}
+use Rattle.text_parts.specs.Digits.{hexadecimal_16}
+use Rattle.text_parts.specs.Reading.{are_digits, number_of_digits, number_of_text, hexadecimal_word}
+use Rattle.text_parts.specs.Laws.{HexadecimalReadsBack}
 use Rattle.asm_line.specs.Text.{is_name, is_first, is_further}
 use Rattle.asm_line.specs.Numbers.{number_within, count_within}
 use Rattle.asm_line.specs.Operands.{Places, value_within}

@@ -11,7 +11,7 @@ use Rattle.insn_word.specs.declared.operations.Condition.TheVariants as conditio
 use Rattle.asm_line.specs.Text.{is_name}
 use Rattle.asm_line.specs.Names.{condition_name}
 use Rattle.asm_line.specs.Heads.{condition_named}
-use Rattle.number_text.specs.Reading.{number_of_digits, number_of_text}
+use Rattle.text_parts.specs.Reading.{number_of_digits, number_of_text}
 use Rattle.asm_line.specs.Numbers.{number_within, signed_within}
 use Rattle.asm_line.specs.Operands.{Places, register, target, offset, displacement, source_of, condition}
 use Rattle.asm_line.specs.declared.fault.Fault.{Fault}

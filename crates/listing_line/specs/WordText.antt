@@ -18,7 +18,7 @@ use Rattle.insn_word.specs.declared.insn.APart.{APart}
 use Rattle.insn_word.specs.declared.insn.CPart.{CPart}
 use Rattle.insn_word.specs.declared.insn.Insn.{Insn}
 use Rattle.insn_word.specs.declared.insn.Insn.TheVariants as insn
-use Rattle.number_text.specs.Digits.{hexadecimal_16, five_digits}
+use Rattle.text_parts.specs.Digits.{hexadecimal_16, five_digits}
 use Rattle.asm_line.specs.Names.{wide_name, condition_name, operation_name, directive_name}
 use Rattle.asm_line.specs.declared.operation.Operation.TheVariants as operation
 use Rattle.asm_line.specs.declared.operation.Directive.TheVariants as directive

@@ -5,7 +5,7 @@ ghost use Rattle.listing_line.specs.Laws.{ChainLinesReadBack, RetryLinesReadBack
 ghost use Rattle.listing_line.specs.Laws.{FillLinesReadBack};
 
 use insn_word::spelling_is_one_to_one;
-use number_text::printed_digits_read_back;
+use text_parts::printed_digits_read_back;
 
 /// The law of program words: the line of a word in a profile has no label, is one line of ASCII and counts as a word of
 /// the program. In a text of that profile it adds the instruction that the word spells, or the word itself where it

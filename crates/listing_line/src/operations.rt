@@ -10,7 +10,7 @@ ghost use Rattle.listing_line.specs.WordText.{wide_text, memory_text, arithmetic
 use arrayvec::ArrayString;
 use asm_line::names;
 use insn_word::{APart, ArithmeticOp, CPart, Condition, ControlOp, MPart, WideOp};
-use number_text::add_decimal;
+use text_parts::add_decimal;
 
 /// Room for a line: more than its longest parts need.
 pub(crate) const LINE: usize = 192;

@@ -10,8 +10,8 @@ use crate::operations::{LINE, add_arithmetic, add_control, add_memory, add_wide}
 use arrayvec::ArrayString;
 use asm_line::{Directive, names};
 use insn_word::{APart, ArithmeticOp, CPart, ControlOp, Insn, MPart, MemoryOp, Profile, decode_as};
-use number_text::{add_decimal, add_five_digits, add_hexadecimal};
 use std::alloc::AllocError;
+use text_parts::{add_decimal, add_five_digits, add_hexadecimal};
 
 /// Appends a program word as a line of a listing, with its line end: the instruction that the word spells in the
 /// profile, or `.word` where it spells none, and behind a semicolon the word's place in the program and the word itself ("Listing",

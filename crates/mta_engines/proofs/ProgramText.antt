@@ -5,7 +5,7 @@ use Rattle.std.proofs.Common.{Option, Some, None, is_some, Result, Ok, Err, ifâ—
 use Rattle.std.proofs.lemmas.Bool.{eq-eqb, ne_eqb, cases_Bool, lt-leb, le-leb, cond-true, cond-false, cond_both}
 use Rattle.std.proofs.lemmas.Bool.{cases_eq, eqb-true, eqb-false, trueâ‰¢false}
 use Rattle.std.specs.List.{filter_map, cons_option, before_first, after_first}
-use Rattle.number_text.specs.Reading.{hexadecimal_word}
+use Rattle.text_parts.specs.Reading.{hexadecimal_word}
 use Rattle.text_parts.specs.Lines.{is_line_end, lines_of}
 use Rattle.text_parts.proofs.FirstLine.{lines-first}
 use Rattle.mta_engines.specs.ProgramLines.{most_program_words, program_of, least_line, empty_fault, too_many_fault, malformed_from}

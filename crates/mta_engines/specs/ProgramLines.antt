@@ -2,7 +2,7 @@
 use Rattle.std.specs.Prelude.{ℕ, ◌+◌, min, List, [], ◌∷◌, length, Option, Some, None, Result, Ok, Err, is_some}
 use Rattle.std.specs.Prelude.{nat_le, ◌==◌, if◌then◌else◌}
 use Rattle.std.specs.List.{filter_map}
-use Rattle.number_text.specs.Reading.{hexadecimal_word}
+use Rattle.text_parts.specs.Reading.{hexadecimal_word}
 use Rattle.text_parts.specs.Lines.{lines_of}
 use Rattle.mta_engines.specs.declared.tool_fault.ToolFault.{ToolFault}
 use Rattle.mta_engines.specs.declared.tool_fault.ToolFault.TheVariants.{Words}

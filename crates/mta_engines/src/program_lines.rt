@@ -3,9 +3,8 @@ ghost use Rattle.std.specs.Prelude.{◌≡◌, ◌≢◌, ◌≤◌, IfOk, IfErr
 ghost use Rattle.mta_engines.specs.ProgramLines.{program_of};
 
 use crate::tool_fault::ToolFault;
-use number_text::read_hexadecimal;
 use std::alloc::Global;
-use text_parts::split_line;
+use text_parts::{read_hexadecimal, split_line};
 
 /// The most words of a program.
 pub const MAX_PROGRAM_WORDS: usize = 65_536;

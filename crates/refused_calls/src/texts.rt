@@ -7,7 +7,7 @@ use debug_commands::WordList;
 use insn_word::Profile;
 use listing_line::push_word_line;
 use machine::Machine;
-use number_text::{
+use text_parts::{
     push_five_digits, push_hexadecimal_8, push_hexadecimal_12, push_hexadecimal_16,
     push_hexadecimal_digit, push_right_aligned, push_two_digits,
 };

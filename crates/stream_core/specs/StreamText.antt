@@ -1,7 +1,7 @@
 -- How a stream is printed.
 use Rattle.std.specs.Prelude.{ℕ, zero, suc, ◌+◌, ◌==◌, List, [], ◌++◌, if◌then◌else◌, codes}
 use Rattle.std.specs.Fmt.{decimal}
-use Rattle.number_text.specs.Digits.{hexadecimal_16, two_digits}
+use Rattle.text_parts.specs.Digits.{hexadecimal_16, two_digits}
 use Rattle.stream_core.specs.StatusWords.{status_number}
 use Rattle.stream_core.specs.Registers.{register_at, target_at}
 use Rattle.stream_core.specs.Traps.{trap_number}

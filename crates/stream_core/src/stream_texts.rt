@@ -7,9 +7,9 @@ ghost use Rattle.stream_core.specs.StreamText.{status_text, status_line, registe
 use crate::status_words::StatusWord;
 use crate::steps::Status;
 use crate::streams::Stream;
-use number_text::{push_hexadecimal_16, push_two_digits};
 use std::alloc::{AllocError, Global};
 use std::fmt::Write;
+use text_parts::{push_hexadecimal_16, push_two_digits};
 
 /// The text of a stream: a line with its status, status word, trap register and retry count, then a line for each
 /// general and each target register that is not zero ("Stream text", docs/FORMATS.md).

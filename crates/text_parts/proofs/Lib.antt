@@ -1,3 +1,8 @@
+pub mod Filled
+pub mod Column
+pub mod Printed
+pub mod Read
+pub mod ReadBack
 pub mod FirstByte
 pub mod Pieces
 pub mod FirstLine

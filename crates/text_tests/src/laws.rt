@@ -5,7 +5,7 @@ use asm_text::{
     first_profile_line_decides, labels_stand_on_their_least_line, listings_are_read_back,
 };
 use listing_line::{listed_directives_are_read_back, listed_words_are_read_back};
-use number_text::{
+use text_parts::{
     Number, decimal_numbers_read_back, fixed_widths_read_back, printed_digits_read_back,
 };
 use trace_text::written_schedules_are_read_back;

@@ -1,4 +1,4 @@
-//! Tests of the crates of texts, number_text to trace_text, that call their functions with values which no line of
+//! Tests of the crates of texts, text_parts to trace_text, that call their functions with values which no line of
 //! conformance/data can have. The expected values are worked out by hand from docs/FORMATS.md.
 #![tactic(auto)]
 

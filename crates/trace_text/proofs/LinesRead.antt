@@ -8,7 +8,7 @@ use Rattle.std.specs.Char.{digit_value}
 use Rattle.std.specs.Fmt.{decimal}
 use Rattle.std.specs.List.{All, onto_first}
 use Rattle.std.specs.Str.Parse.{AllDigits}
-use Rattle.number_text.specs.Laws.{DecimalReadsBack}
+use Rattle.text_parts.specs.Laws.{DecimalReadsBack}
 use Rattle.text_parts.specs.Lines.{lines_of}
 use Rattle.trace_text.specs.ScheduleLines.{LineValues, fields_of, decimal_number, values, values_in, values_of}
 use Rattle.text_parts.specs.Runs.{Run}

@@ -5,7 +5,7 @@ use Rattle.std.proofs.Common.{Some, None, Ok, ne_eqb, append-nil, map, le-leb, â
 use Rattle.std.proofs.lemmas.Bool.{cases_lt}
 use Rattle.std.proofs.lemmas.List.{length-append, length-replicate}
 use Rattle.std.specs.List.{flat_map}
-use Rattle.number_text.specs.Laws.{DecimalReadsBack}
+use Rattle.text_parts.specs.Laws.{DecimalReadsBack}
 use Rattle.text_parts.specs.Lines.{lines_of}
 use Rattle.trace_text.specs.ScheduleLines.{is_within, values_of, steps_on}
 use Rattle.trace_text.specs.ScheduleFaults.{schedule_line_fault, on_line, fault_from}

@@ -8,9 +8,9 @@ use Rattle.std.proofs.lemmas.List.Sums.{passes_at_first}
 use Rattle.std.specs.Char.{is_digit}
 use Rattle.std.specs.List.{position_or_len}
 use Rattle.std.specs.Option.{option_map}
-use Rattle.number_text.specs.Reading.{number_of_digits, all_in_base}
-use Rattle.number_text.specs.Numbers.{number_from}
-use Rattle.number_text.specs.declared.numbers.Number.{Number}
+use Rattle.text_parts.specs.Reading.{number_of_digits, all_in_base}
+use Rattle.text_parts.specs.Numbers.{number_from}
+use Rattle.text_parts.specs.declared.numbers.Number.{Number}
 use Rattle.trace_text.specs.ScheduleLines.{fields_of, decimal_number, values, values_in, values_of}
 use Rattle.trace_text.specs.Fields.{times_in}
 use Rattle.trace_text.specs.LineNumbers.{numbers_from}

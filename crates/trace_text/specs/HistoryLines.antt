@@ -1,6 +1,6 @@
 -- The line of an entry in a history.
 use Rattle.std.specs.Prelude.{ℕ, ◌+◌, ◌-◌, List, ◌++◌, codes, length, replicate, if◌then◌else◌}
-use Rattle.number_text.specs.Digits.{hexadecimal_16, hexadecimal_12, hexadecimal_digit, two_digits}
+use Rattle.text_parts.specs.Digits.{hexadecimal_16, hexadecimal_12, hexadecimal_digit, two_digits}
 use Rattle.insn_word.specs.declared.operations.MemoryOp.{MemoryOp}
 use Rattle.insn_word.specs.declared.operations.MemoryOp.TheVariants as memory
 use Rattle.asm_line.specs.Names.{memory_name}

@@ -1,6 +1,6 @@
 -- Numbers of a line as the code has them.
 use Rattle.std.specs.Prelude.{Option, Some, None, if◌then◌else◌}
-use Rattle.number_text.specs.Numbers.{number_from}
+use Rattle.text_parts.specs.Numbers.{number_from}
 use Rattle.trace_text.specs.ScheduleLines.{LineValues, is_within, step_of}
 use Rattle.trace_text.specs.declared.line_numbers.LineNumbers.{LineNumbers}
 use Rattle.trace_text.specs.declared.runs.StepRun.{StepRun}

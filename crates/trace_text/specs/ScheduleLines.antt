@@ -1,7 +1,7 @@
 -- A line of a schedule: `p s` or `p s n`.
 use Rattle.std.specs.Prelude.{ℕ, Bool, nat_le, ◌&&◌, List, [], ◌∷◌, Option, Some, None, replicate}
 use Rattle.text_parts.specs.Parts.{parts}
-use Rattle.number_text.specs.Reading.{number_of_digits}
+use Rattle.text_parts.specs.Reading.{number_of_digits}
 use Rattle.processor.specs.declared.steps.Step.{Step}
 
 -- what a line says: the numbers of a processor and of a stream, and how often the stream is stepped

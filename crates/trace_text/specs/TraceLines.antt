@@ -1,7 +1,7 @@
 -- The line of a step in a trace.
 use Rattle.std.specs.Prelude.{ℕ, List, ◌++◌, codes}
-use Rattle.number_text.specs.Columns.{right_aligned}
-use Rattle.number_text.specs.Digits.{hexadecimal_8, two_digits}
+use Rattle.text_parts.specs.Columns.{right_aligned}
+use Rattle.text_parts.specs.Digits.{hexadecimal_8, two_digits}
 use Rattle.processor.specs.declared.steps.Step.{Step}
 use Rattle.stream_core.specs.Traps.{trap_number}
 use Rattle.stream_core.specs.declared.steps.Outcome.{Outcome}

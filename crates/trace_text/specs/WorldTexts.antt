@@ -1,7 +1,7 @@
 -- The text of a machine's world.
 use Rattle.std.specs.Prelude.{ℕ, ◌+◌, ◌*◌, if◌then◌else◌, List, [], ◌∷◌, ◌++◌, codes, Option, Some, None}
 use Rattle.std.specs.Fmt.{decimal}
-use Rattle.number_text.specs.Digits.{hexadecimal_16, hexadecimal_12, hexadecimal_digit}
+use Rattle.text_parts.specs.Digits.{hexadecimal_16, hexadecimal_12, hexadecimal_digit}
 use Rattle.tag_memory.specs.Cell.{Cell, tag_number}
 use Rattle.tag_memory.specs.Storage.{TaggedMemory, cell_at}
 use Rattle.image_file.specs.ImageValue.{ImageValue}

@@ -8,11 +8,11 @@ ghost use Rattle.trace_text.specs.HistoryLines.{operand_text, reference_text, re
 
 use crate::trace_lines::add_place;
 use arrayvec::ArrayString;
-use number_text::{add_hexadecimal, add_two_digits};
 use processor::{Entry, Step};
 use std::alloc::{AllocError, Global};
 use stream_core::trap_of;
 use tag_memory::{Acc, Masked, MemOp, Reply, Request};
+use text_parts::{add_hexadecimal, add_two_digits};
 
 /// The most bytes of a line.
 const LINE: usize = 96;

@@ -2,7 +2,7 @@
 
 ghost use Rattle.trace_text.specs.Laws.{ScheduleReadsBack};
 
-use number_text::decimal_numbers_read_back;
+use text_parts::decimal_numbers_read_back;
 
 /// The law of writing and reading: the text that is written of at most 1,000,000 steps is read as the same steps.
 /// There is nothing to run.

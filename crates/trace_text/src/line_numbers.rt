@@ -2,15 +2,14 @@
 
 ghost use Rattle.std.specs.Prelude.{◌≡◌};
 ghost use Rattle.std.specs.Option.{option_map, option_copied};
-ghost use Rattle.number_text.specs.Numbers.{number_from};
+ghost use Rattle.text_parts.specs.Numbers.{number_from};
 ghost use Rattle.trace_text.specs.ScheduleLines.{LineValues, values_of};
 ghost use Rattle.trace_text.specs.Fields.{times_in};
 ghost use Rattle.trace_text.specs.LineNumbers.{numbers_from, run_within};
 
 use crate::runs::{MAX_STEPS, StepRun};
-use number_text::{Base, Number, read_digits};
 use processor::Step;
-use text_parts::cut;
+use text_parts::{Base, Number, cut, read_digits};
 
 /// The numbers of a line, of any size.
 #[derive(Clone, Copy, Debug, PartialEq, Eq)]

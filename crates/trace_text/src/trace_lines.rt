@@ -6,10 +6,10 @@ ghost use Rattle.arrayvec.specs.ArrayString.{array_string_len};
 ghost use Rattle.trace_text.specs.TraceLines.{outcome_text, place_text, result_text, trace_line_of};
 
 use arrayvec::ArrayString;
-use number_text::{add_hexadecimal, add_right_aligned_3, add_right_aligned_7, add_two_digits};
 use processor::Step;
 use std::alloc::{AllocError, Global};
 use stream_core::Outcome;
+use text_parts::{add_hexadecimal, add_right_aligned_3, add_right_aligned_7, add_two_digits};
 
 /// The most bytes of a line.
 const LINE: usize = 49;

@@ -8,11 +8,11 @@ ghost use Rattle.trace_text.specs.WorldParts.{stream_part_at, processor_part_at,
 
 use image_file::Image;
 use machine::Machine;
-use number_text::{push_hexadecimal_12, push_hexadecimal_16, push_hexadecimal_digit};
 use std::alloc::{AllocError, Global};
 use std::fmt::Write;
 use stream_core::{Status, Stream, stream_text};
 use tag_memory::Word;
+use text_parts::{push_hexadecimal_12, push_hexadecimal_16, push_hexadecimal_digit};
 
 /// The text of a machine's world: each processor with its counts and its streams that are not idle, then each word
 /// that differs from the image ("World text", docs/FORMATS.md). The image is the one that the machine was loaded

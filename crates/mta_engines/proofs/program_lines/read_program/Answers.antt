@@ -1,6 +1,6 @@
 use Rattle.std.proofs.Common.{rules, ◌≡◌, length, ◌==◌, false, None, Some, arith}
 use Rattle.std.specs.List.{before_first}
-use Rattle.number_text.specs.Reading.{hexadecimal_word}
+use Rattle.text_parts.specs.Reading.{hexadecimal_word}
 use Rattle.text_parts.specs.Lines.{is_line_end}
 use Rattle.mta_engines.proofs.ProgramText.{program-read, at_malformed, at_too_many, at_next, at_end_without_words}
 use Rattle.mta_engines.proofs.ProgramText.{at_end_with_words}

@@ -1,9 +1,0 @@
--- Digits of a fixed width are read back.
-use Rattle.number_text.proofs.ReadBack.{fixed_width, digits_read_back}
-use Rattle.number_text.proofs.laws.fixed_widths_read_back.Goals as goal
-
-pub returns-clause-width : goal.returns-clause-width
-returns-clause-width c = fixed_width
-
-pub returns-clause-reads_back : goal.returns-clause-reads_back
-returns-clause-reads_back c = digits_read_back
