@@ -1,6 +1,6 @@
-//! A memory behind a lock: how threads reach it, how a processor is driven through it, and the run of all processors
-//! at once (docs/MACHINE.md, "Histories"; docs/ARCHITECTURE.md). What the threads leave is gathered in
-//! `shared_history`, whose names are handed on here.
+//! The run of all processors at once over one memory: how threads reach it, how a processor is driven through it, by a
+//! lock or, of two processors, in turn (docs/MACHINE.md, "Histories"; docs/ARCHITECTURE.md). What the threads leave is
+//! gathered in `shared_history`, whose names are handed on here.
 #![tactic(auto)]
 
 mod driving;
@@ -9,11 +9,16 @@ mod lock_ports;
 mod ports;
 mod threaded_runs;
 mod threads;
+mod turns;
 
 pub use driving::drive;
 pub use gates::{FreeGate, Gate};
 pub use lock_ports::LockPort;
 pub use ports::Port;
 pub use shared_history::{GatherFault, NoRoom, Parts, PartsFault, SharedMemory, Woven, gather};
-pub use threaded_runs::{ThreadsFault, threaded};
-pub use threads::{Worker, run_threads};
+pub use threaded_runs::{ThreadsFault, threaded_by_lock};
+pub use threads::{Worker, run_by_lock};
+pub use turns::{
+    Caller, Draw, Look, Pair, Raise, Room, Stage, Tickets, TurnMemory, TurnPort, TurnSeat,
+    TurnTable, View, close_table, open_table, run_threads, run_two, threaded,
+};

@@ -6,7 +6,7 @@ ghost use Rattle.shared_history.specs.Gathering.{Refuses};
 ghost use Rattle.memory_lock.specs.Runs.{AreRunParts, IsThreaded};
 
 use crate::gates::Gate;
-use crate::threads::run_threads;
+use crate::threads::run_by_lock;
 use image_file::Image;
 use shared_history::{GatherFault, Parts, PartsFault, Woven, gather};
 use std::alloc::Global;
@@ -24,10 +24,10 @@ pub enum ThreadsFault<'i, const S: usize> {
 
 /// Runs the image's processors at once, each for `fuel` steps or until no stream of it runs, and hands out a schedule
 /// that does the same: it holds each processor's steps in order, makes just the history that the memory kept, and ends
-/// in the processors' states and the memory's words.
+/// in the processors' states and the memory's words. Whatever their number, the processors go through a lock.
 ///
 /// It is refused as `Parts::new` and `gather` refuse.
-pub fn threaded<'i, R: Threads + Wait + Sync, G: Gate + Sync, const S: usize>(
+pub fn threaded_by_lock<'i, R: Threads + Wait + Sync, G: Gate + Sync, const S: usize>(
     rt: &R,
     alloc: Global,
     image: &'i Image,
@@ -45,7 +45,7 @@ pub fn threaded<'i, R: Threads + Wait + Sync, G: Gate + Sync, const S: usize>(
         Ok(parts) => parts,
         Err(fault) => return Err(ThreadsFault::Build(fault)),
     };
-    match gather(alloc, run_threads(rt, parts, gate)) {
+    match gather(alloc, run_by_lock(rt, parts, gate)) {
         Ok(woven) => Ok(woven),
         Err((parts, fault)) => Err(ThreadsFault::Gather(parts, fault)),
     }

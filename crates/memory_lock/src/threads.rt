@@ -20,7 +20,7 @@ use std::thread::Threads;
 /// lock, which no local step takes.
 ///
 /// Which processor asks first is not known, nor that the records match the history: `gather` tells.
-pub fn run_threads<'i, R: Threads + Wait + Sync, G: Gate + Sync, const S: usize>(
+pub fn run_by_lock<'i, R: Threads + Wait + Sync, G: Gate + Sync, const S: usize>(
     rt: &R,
     parts: Parts<'i, S>,
     gate: &G,

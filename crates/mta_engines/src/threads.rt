@@ -18,14 +18,13 @@ use crate::stream_room::StreamRoom;
 use crate::tool_fault::ToolFault;
 use image_file::Image;
 use machine::{LoadFault, Machine};
-use memory_lock::Gate;
+use memory_lock::{Gate, threaded};
 use processor::{Entry, Step};
 use std::alloc::{AllocError, Global};
 use std::io::{Read, Write};
 use std::sync::Wait;
 use std::thread::Threads;
 use trace_text::{push_history_line, world_text, write_schedule};
-use turn_memory::threaded;
 
 /// The most bytes of a history line.
 const HISTORY_LINE: usize = 83;

@@ -1,6 +1,0 @@
-mod Callers
-mod Seats
-mod Keeping
-mod OneCall
-mod Ending
-mod Running

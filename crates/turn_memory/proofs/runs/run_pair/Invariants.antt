@@ -1,4 +1,0 @@
-use Rattle.turn_memory.proofs.runs.run_pair.Given as goal
-
-abbrev pub ghosts-run_at : goal.ghosts-run_at
-ghosts-run_at g a = record { table = a.table.shared.table_id }

@@ -1,0 +1,89 @@
+#!/usr/bin/env bash
+# What can be seen before any proof, in seconds: the layout of code and definitions, texts that speak of what a reader has
+# not, links, the counts and the kit's identity that README.md names, the version, the names that editors know, and that
+# each must-fail edit can be applied. A line says what is not so; the last one counts the checks.
+set -u
+cd "$(dirname "$0")/.." || exit 1
+passed=0
+failed=0
+
+# verdict WHAT: counts a check, which holds where standard input is empty; else each line of it says what is not so
+verdict() {
+  local found
+  found=$(cat)
+  if [ -z "$found" ]; then
+    passed=$((passed + 1))
+  else
+    failed=$((failed + 1))
+    printf '%s:\n%s\n' "$1" "$found"
+  fi
+}
+
+sources() { find crates -path '*/out' -prune -o \( -name '*.rt' -o -name '*.antt' \) -print; }
+texts() { git ls-files -co --exclude-standard | grep -E '\.(rt|antt|edit|md|sh|py|tsv|asm|yml)$|^Makefile$' | grep -v '^tests/first_checks.sh$'; }
+documents() { ls README.md CONTRIBUTING.md CHANGELOG.md docs/*.md; }
+
+# the program rattle of the kit whose rt is called
+rattle() { echo "$(dirname "$(readlink -f "$(command -v rt)")")/rattle"; }
+
+# citations: texts that number a rule or a demand of papers which no reader has, or name a path of somebody's machine
+citations() {
+  texts | xargs grep -nE '(^|[^`A-Za-z0-9_])(R(1[0-6]|[1-9])|T[1-5]\.[0-9]|[DW][1-9][0-9]?)([^`A-Za-z0-9_]|$)|[Dd]ocument 0[0-9]|\b[Tt]he papers?\b'
+  texts | xargs grep -nE '(^|[^A-Za-z0-9_.$}"])/(work|root|home/[a-z]+|opt)/'
+}
+
+# links: what a document links to, or names as a document, is there
+links() {
+  local file name
+  for file in $(documents); do
+    while read -r name; do
+      [ -e "$name" ] || [ -e "$(dirname "$file")/$name" ] || echo "$file: no file $name"
+    done < <(grep -oE '\]\([^)#:]+\)|[A-Za-z_/]+\.md' "$file" | sed 's/^](//; s/)$//' | sort -u)
+  done
+}
+
+# named WHAT COUNT: README.md says just this count of such things
+named() {
+  grep -qE "(^|[^0-9,])$2 $1" README.md || echo "README.md does not say '$2 $1'"
+}
+
+edits() { find crates -path "*/$1/*.edit" | wc -l; }
+crates() { grep -cE '^[a-z]' crates.txt; }
+cases() { find tests/cases -name '*.tsv' -print0 | xargs -0 cat | grep -cvE '^(#|$)'; }
+counts() {
+  named "crates" "$(crates)"
+  named "in \`must-fail/\`" "$(edits must-fail)"
+  named "in \`edits/\`" "$(edits edits)"
+  named "rows of tables" "$(cases)"
+}
+
+kit() {
+  grep -qF "\`$(rt version)\`" README.md || echo "rt version says '$(rt version)', and README.md names another kit"
+}
+
+version() {
+  local named newest
+  named=$(sed -n 's/.*VERSION: &str = "\([0-9.]*\)".*/\1/p' crates/mta_sim/src/*.rt | head -n 1)
+  newest=$(sed -n 's/^## //p' CHANGELOG.md | head -n 1)
+  [ "$named" = "$newest" ] || echo "the program's version is '$named', CHANGELOG.md has '$newest'"
+}
+
+# crates that ARCHITECTURE.md has no line for
+described() {
+  local name
+  for name in $(sed -n 's/^\([a-z_]*\).*:.*/\1/p' crates.txt); do
+    grep -q "^| .*\`$name\`" docs/ARCHITECTURE.md || echo "docs/ARCHITECTURE.md: no line for $name"
+  done
+}
+
+verdict "files in another layout than rt fmt's" < <(sources | xargs "$(rattle)" fmt --check 2>&1)
+verdict "texts that cite what a reader has not" < <(citations)
+verdict "links that lead nowhere" < <(links)
+verdict "another kit" < <(kit)
+verdict "versions" < <(version)
+verdict "crates without a line" < <(described)
+verdict "counts" < <(counts)
+verdict "names that editors don't know" < <(tests/editors.sh | grep -v '^the syntax files')
+verdict "edits that can't be applied" < <(python3 tests/edits.py --apply 2>&1)
+echo "$passed passed, $failed failed"
+[ "$failed" -eq 0 ]

@@ -1,0 +1,43 @@
+#!/usr/bin/env bash
+# The gate, make test: what needs no proof first, in seconds; then every proof, the must-fail edits and the tests in
+# Rattle; then the cases and the documents' commands on the program that was built. Where the first part fails the others
+# are not begun. The last line counts all of it, and out/verdict keeps that line, the commit and the kit.
+set -u
+cd "$(dirname "$0")/.." || exit 1
+mkdir -p out
+rm -f out/verdict
+begin=$SECONDS
+passed=0
+failed=0
+
+# part WHAT COMMAND..: a part of the gate, whose last line has its counts; one that says none has failed
+part() {
+  local what=$1 from=$SECONDS counts
+  shift
+  echo "== $what"
+  "$@" 2>&1 | tee out/part.log
+  counts=$(tail -n 1 out/part.log | sed -n 's/^\([0-9]*\) passed, \([0-9]*\) failed$/\1 \2/p')
+  read -r some others <<<"${counts:-0 1}"
+  passed=$((passed + some))
+  failed=$((failed + others))
+  echo "== $what: $some passed, $others failed, $((SECONDS - from)) s"
+  [ "$others" -eq 0 ]
+}
+
+finish() {
+  local commit
+  commit=$(git rev-parse HEAD 2>/dev/null) || commit="no commit"
+  [ -z "$(git status --porcelain 2>/dev/null | head -n 1)" ] || commit="$commit and changes that are in no commit"
+  printf '%s\n%s\n%s\n' "$passed passed, $failed failed" "$commit" "$(rt version)" >out/verdict
+  rm -f out/part.log
+  echo "the gate took $((SECONDS - begin)) s"
+  echo "$passed passed, $failed failed"
+  [ "$failed" -eq 0 ]
+  exit
+}
+
+part "what needs no proof" tests/first_checks.sh || finish
+part "proofs, must-fail edits and tests in Rattle" tests/proofs.sh
+part "cases on the built program" python3 tests/runner
+part "commands of the documents" tests/documents.sh README.md CONTRIBUTING.md CHANGELOG.md docs/*.md
+finish

@@ -1,0 +1,28 @@
+#!/usr/bin/env bash
+# Proves every crate from nothing, tries the edits in must-fail/, runs the tests in Rattle and the programs, all by rt ci.
+# What passed is kept in out/passed by a checksum of all that rt ci reads: where the very same files passed it here with
+# the same kit, they are not proved again (make clean, or taking out/passed away, has them proved anew).
+set -u
+cd "$(dirname "$0")/.." || exit 1
+program=crates/mta_sim/out/mta_sim
+
+# checksum: of the crates' files, crates.txt, HANDLES, the kit, and the program that was built of them
+checksum() {
+  {
+    rt version
+    find crates crates.txt HANDLES -path '*/out' -prune -o -type f -print0 | LC_ALL=C sort -z | xargs -0 sha256sum
+    sha256sum "$program" 2>&1
+  } | sha256sum | cut -d ' ' -f 1
+}
+
+mkdir -p out
+if [ "$(sed -n 1p out/passed 2>/dev/null)" = "$(checksum)" ]; then
+  echo "these files passed before, by this kit, on this machine: they are not proved again"
+  sed -n 2p out/passed
+  exit 0
+fi
+rm -f out/passed
+tests/progress.sh out/test.log rt ci
+status=$?
+if [ "$status" -eq 0 ]; then printf '%s\n%s\n' "$(checksum)" "$(tail -n 1 out/test.log)" >out/passed; fi
+exit "$status"
