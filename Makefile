@@ -1,22 +1,28 @@
-# The simulator of Tera MTA streams. Each target needs the command rt of the Rattle kit.
+# The simulator of Tera MTA streams. All targets but install, uninstall and clean need the command rt of the Rattle kit.
 PREFIX ?= /usr/local
 SHARE = $(DESTDIR)$(PREFIX)/share
 PROGRAM = crates/mta_sim/out/mta_sim
-BENCH = crates/bench/out/bench
-CALLS = crates/refused_calls/out/refused_calls
-# how many crates are proved side by side
+CALLS = crates/library_calls/out/library_calls
+# what make try shows: a source text, and a schedule of it
+SOURCE ?= examples/lock.asm
+SCHEDULE ?= examples/lock.lost_update.schedule
+# the crates whose edits make edits tries; without any, all of them
+CRATES ?=
+# how many of them are tried side by side
 JOBS ?= $(shell nproc)
 
-.PHONY: help run try test examples refuse hostile statuses documents bench build install uninstall clean
+.PHONY: help run try test cases checks edits refuse hostile documents bench build dist install uninstall clean
 
 # the targets, each with what it does and how long it takes
 help:
-	@echo "make try        shows a first run, unproved (under a minute)"
-	@echo "make run        proves and builds the program, and shows the first run (25 minutes on four cores)"
-	@echo "make test       proves everything from nothing, tries the must-fail edits, runs all tests (46 minutes on four idle cores; up to 100 beside other work)"
-	@echo "make examples   copies the examples to where make test finds them (a second)"
+	@echo "make try        shows a run of SOURCE by SCHEDULE, unproved (a minute)"
+	@echo "make run        proves what the program needs, builds it, and shows a first run"
+	@echo "make test       proves everything from nothing, tries the edits in must-fail/, runs all tests"
+	@echo "make checks     what make test looks at before any proof (seconds)"
+	@echo "make cases      runs the cases below tests/cases on the built program (seconds)"
 	@echo "make documents  runs the commands of the documents and compares what they print (seconds)"
-	@echo "make statuses   shows the exit statuses of the built program (a second)"
+	@echo "make edits      tries all must-fail edits of all crates, or of CRATES=\"processor machine\""
+	@echo "make dist       makes a tar file and a Debian package of the built program in out/dist (seconds)"
 	@echo "make hostile    hostile use of the built program; needs Python 3 and a C compiler (4 minutes on four idle cores)"
 	@echo "make refuse     the part of it that refuses each allocation of the commands in turn (some minutes)"
 	@echo "make bench      time, instructions and peak memory on the longest inputs (some minutes; valgrind counts instructions)"
@@ -26,9 +32,7 @@ help:
 
 # proves and builds the program, and shows its first run
 run:
-	@echo "== proving the crates and building the program, some minutes the first time"
-	@tests/progress.sh out/check.log rt all check --jobs $(JOBS)
-	@cd crates/mta_sim && rt run -- words < stdin > ../../out/build.log 2>&1 || { cat ../../out/build.log; exit 1; }
+	@tests/build.sh
 	@echo "== first run: mta_sim words, on these program words (LIT r1, 5 and ADD r2, r1, 3)"
 	@cat crates/mta_sim/stdin
 	@echo "== the stream after two steps"
@@ -41,18 +45,21 @@ try:
 	@echo "== the stream after two steps"
 	@cd crates/mta_sim && rt try -- words < stdin
 
-# proves everything from nothing, tries the must-fail edits, runs the tests and the programs
+# proves everything from nothing, tries the must-fail edits, runs the tests, the programs, the cases, the documents
 test:
-	@diff -r -x grading -x '*.image' examples crates/conformance/data/examples || { echo "make examples brings both together"; exit 1; }
-	@tests/progress.sh out/test.log rt ci
+	@tests/gate.sh
 
-# copies the examples to where the program conformance finds them
-examples:
-	cp examples/*.asm examples/*.schedule examples/*.trace crates/conformance/data/examples
+# what needs no proof
+checks:
+	@tests/first_checks.sh
 
 # proves and builds the program, where it is not built yet
 build:
-	@test -x $(PROGRAM) || (cd crates/mta_sim && rt run -- words < stdin > /dev/null)
+	@test -x $(PROGRAM) || tests/build.sh
+
+# the cases below tests/cases, on the built program
+cases: build
+	@python3 tests/runner
 
 # wall time and peak memory of the commands on their longest inputs, and machine steps a second
 bench: build

@@ -1,3 +1,2 @@
--- The definitions, in the order of reading. All of them are promises: the clauses of `run_tool` and `Status` cite them.
-pub mod CommandLine
+-- The definitions, all of them promises: the clauses of `Status` cite them.
 pub mod Statuses

@@ -9,13 +9,13 @@ ghost use Rattle.mta_engines.specs.ListOutput.{IsListOutput};
 ghost use Rattle.mta_engines.specs.RunOutput.{IsRunOutput};
 ghost use Rattle.mta_engines.specs.ThreadsOutput.{IsThreadsOutput};
 ghost use Rattle.mta_engines.specs.WordsOutput.{IsWordsOutput, words_output};
-ghost use Rattle.mta_sim.specs.CommandLine.{IsCommand, command_of_line, value_of_command};
-ghost use Rattle.mta_sim.specs.CommandLine.{assemble_source, debug_image, list_image, run_image, run_threads};
-ghost use Rattle.mta_sim.specs.CommandLine.{run_words};
+ghost use Rattle.command_line.specs.CommandLine.{IsCommand, command_of_line, value_of_command};
+ghost use Rattle.command_line.specs.CommandLine.{assemble_source, debug_image, list_image, run_image, run_threads};
+ghost use Rattle.command_line.specs.CommandLine.{run_words};
 
-use crate::command_line::{ToolCommand, read_command_line};
 use crate::files::{create_output, open_input};
 use crate::status::Status;
+use command_line::{ToolCommand, read_command_line};
 use memory_lock::FreeGate;
 use mta_engines::{
     ToolFault, asm_engine, debug_engine, list_engine, run_engine, threads_engine, words_engine,

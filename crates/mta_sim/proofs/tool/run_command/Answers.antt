@@ -1,5 +1,5 @@
 use Rattle.std.proofs.Common.{ap}
-use Rattle.mta_sim.specs.CommandLine.{value_of_command}
+use Rattle.command_line.specs.CommandLine.{value_of_command}
 use Rattle.mta_sim.proofs.tool.run_command.Goals as goal
 
 pub returns-in_ok-schedule-in-Debug-clause-output_as_before : goal.returns-in_ok-schedule-in-Debug-clause-output_as_before

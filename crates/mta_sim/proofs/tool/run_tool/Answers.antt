@@ -1,5 +1,5 @@
 use Rattle.std.proofs.Common.{◌≡◌, ◌∙◌, sym, Result, Ok, Err, OnOk, MatchResult, Some}
-use Rattle.mta_sim.specs.CommandLine.{CommandValue, debug_image, run_threads, value_of_command}
+use Rattle.command_line.specs.CommandLine.{CommandValue, debug_image, run_threads, value_of_command}
 use Rattle.mta_sim.specs.declared.status.Status.{Status}
 use Rattle.mta_sim.specs.declared.status.Status.TheVariants.{Done, Fault}
 use Rattle.mta_sim.proofs.tool.run_tool.Goals as goal

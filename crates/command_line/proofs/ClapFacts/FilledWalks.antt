@@ -20,8 +20,8 @@ use Rattle.clap.specs.Faults.{bundle_fault, bundle_step_fault, flag_word_fault, 
 use Rattle.clap.specs.Faults.{other_fault, positional_fault, react_fault, settle_fault, short_fault, step_fault}
 use Rattle.clap.specs.Faults.{stray_fault, turn_fault, use_fault, walk_fault, word_fault}
 use Rattle.clap.specs.declared.error.ErrorKind.TheVariants.{TooManyValues}
-use Rattle.mta_sim.proofs.ClapFacts.Stops.{both_empty}
-use Rattle.mta_sim.proofs.ClapFacts.Filled.{AreFilled, Each, Fills, IfRule, defaults_filled, found}
+use Rattle.command_line.proofs.ClapFacts.Stops.{both_empty}
+use Rattle.command_line.proofs.ClapFacts.Filled.{AreFilled, Each, Fills, IfRule, defaults_filled, found}
 
 module _ (c : List Rule) (again : Bool) (each : Each Fills c) where
   used_filled : (o : Option Rule) (values : List Text) (rows : List Row) → IfRule o → AreFilled rows

@@ -6,8 +6,8 @@ use Rattle.clap.specs.declared.error.ErrorKind.TheVariants.{DisplayHelp, Display
 use Rattle.clap.specs.declared.error.ErrorKind.TheVariants.{MissingRequiredArgument, MissingSubcommand}
 use Rattle.clap.specs.declared.error.ErrorKind.TheVariants.{UnknownArgument, ValueValidation}
 use Rattle.clap.proofs.OnLiterals.{clap_on_literals}
-use Rattle.mta_sim.specs.CommandLine.{CommandValue, IsCommand, command_of_line, assemble_source, debug_image, list_image}
-use Rattle.mta_sim.specs.CommandLine.{run_image, run_threads, run_words, tool_app}
+use Rattle.command_line.specs.CommandLine.{CommandValue, IsCommand, command_of_line, assemble_source, debug_image, list_image}
+use Rattle.command_line.specs.CommandLine.{run_image, run_threads, run_words, tool_app}
 
 -- the program's name, and the words after it
 abbrev line : List Text → List Text

@@ -15,9 +15,9 @@ use Rattle.clap.specs.Faults.{walk_fault}
 use Rattle.clap.specs.Takes.{is_given}
 use Rattle.clap.specs.declared.parser.matches.ValueSource.TheVariants.{CommandLine}
 use Rattle.clap.specs.declared.builder.value_parser.Reading.TheVariants.{AsWritten}
-use Rattle.mta_sim.proofs.ClapFacts.Filled.{AreFilled, Each, Fills, given_value, with_values_filled, without_filled}
-use Rattle.mta_sim.proofs.ClapFacts.FilledWalks.{level_filled}
-use Rattle.mta_sim.proofs.ClapFacts.Stops.{is_no_help, walk_helps}
+use Rattle.command_line.proofs.ClapFacts.Filled.{AreFilled, Each, Fills, given_value, with_values_filled, without_filled}
+use Rattle.command_line.proofs.ClapFacts.FilledWalks.{level_filled}
+use Rattle.command_line.proofs.ClapFacts.Stops.{is_no_help, walk_helps}
 
 -- ---- a command line without a fault stops at a subcommand, which is not `help`
 

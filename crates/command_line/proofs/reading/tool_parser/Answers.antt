@@ -2,7 +2,7 @@ use Rattle.std.proofs.Common.{rules, ◌≡◌, ◌∙◌, ap, ap₂, codes, tru
 use Rattle.std.proofs.lemmas.Result.{IfOk-weaker}
 use Rattle.clap.specs.Words.{App, app_of, with_subcommand}
 use Rattle.clap.specs.Simple.{new_shape}
-use Rattle.mta_sim.proofs.command_line.tool_parser.Goals as goal
+use Rattle.command_line.proofs.reading.tool_parser.Goals as goal
 
 -- the tool, before its commands
 abbrev bare_app : App

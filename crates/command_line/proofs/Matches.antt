@@ -11,9 +11,9 @@ use Rattle.clap.proofs.WalkLemmas.{one_text-rows}
 use Rattle.clap.specs.Words.{Row, Text, first_of, first_value, found_of, rows_of, subcommand_name_of}
 use Rattle.clap.specs.Words.{subcommand_rows_of}
 use Rattle.clap.specs.declared.ArgMatches.{ArgMatches}
-use Rattle.mta_sim.proofs.ClapFacts.Getters.{entered}
-use Rattle.mta_sim.specs.CommandLine.{CommandValue, command_by_name, command_in, with_paths}
-use Rattle.mta_sim.specs.CommandLine.{number_of, number_given, run_threads}
+use Rattle.command_line.proofs.ClapFacts.Getters.{entered}
+use Rattle.command_line.specs.CommandLine.{CommandValue, command_by_name, command_in, with_paths}
+use Rattle.command_line.specs.CommandLine.{number_of, number_given, run_threads}
 
 -- the parse met the command `word`, whose values ask for `wanted` or for nothing
 pub asks : (m : ArgMatches) (name word : Text) (rows : List Row) (wanted : CommandValue) → Some name ≡ subcommand_name_of m

@@ -9,8 +9,8 @@ use Rattle.clap.specs.ValueTests.{is_unsigned_in}
 use Rattle.clap.specs.Walk.{one_of}
 use Rattle.clap.specs.declared.builder.ArgAction.TheVariants.{Set}
 use Rattle.clap.specs.declared.builder.ValueParser.TheVariants.{Unsigned}
-use Rattle.mta_sim.specs.declared.command_line.ToolCommand.{ToolCommand}
-use Rattle.mta_sim.specs.declared.command_line.ToolCommand.TheVariants as command
+use Rattle.command_line.specs.declared.reading.ToolCommand.{ToolCommand}
+use Rattle.command_line.specs.declared.reading.ToolCommand.TheVariants as command
 
 -- ---- the tool's commands, as the parser of command lines sees them
 

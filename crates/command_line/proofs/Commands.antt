@@ -16,13 +16,13 @@ use Rattle.clap.specs.Faults.{walk_fault}
 use Rattle.clap.specs.Takes.{is_given}
 use Rattle.clap.specs.declared.parser.matches.ValueSource.TheVariants.{CommandLine}
 use Rattle.clap.specs.declared.builder.value_parser.Reading.TheVariants.{AsWritten}
-use Rattle.mta_sim.specs.CommandLine.{CommandValue, IsCommand, command_of_line, command_by_name, command_in, assemble_source}
-use Rattle.mta_sim.specs.CommandLine.{debug_image, file_rule, fuel_rule, list_image, number_given, run_image, run_threads}
-use Rattle.mta_sim.specs.CommandLine.{tool_app, with_paths}
-use Rattle.mta_sim.proofs.ClapFacts.Filled.{AreFilled, Each, Fills, given_value, with_values_filled, without_filled}
-use Rattle.mta_sim.proofs.ClapFacts.FilledWalks.{level_filled}
-use Rattle.mta_sim.proofs.ClapFacts.Stops.{is_no_help}
-use Rattle.mta_sim.proofs.ClapFacts.Levels.{stop, stops, level_passes, one_given, two_given, three_given, fills_help, help_apart}
+use Rattle.command_line.specs.CommandLine.{CommandValue, IsCommand, command_of_line, command_by_name, command_in, assemble_source}
+use Rattle.command_line.specs.CommandLine.{debug_image, file_rule, fuel_rule, list_image, number_given, run_image, run_threads}
+use Rattle.command_line.specs.CommandLine.{tool_app, with_paths}
+use Rattle.command_line.proofs.ClapFacts.Filled.{AreFilled, Each, Fills, given_value, with_values_filled, without_filled}
+use Rattle.command_line.proofs.ClapFacts.FilledWalks.{level_filled}
+use Rattle.command_line.proofs.ClapFacts.Stops.{is_no_help}
+use Rattle.command_line.proofs.ClapFacts.Levels.{stop, stops, level_passes, one_given, two_given, three_given, fills_help, help_apart}
 
 abbrev tool_built : App
 tool_built = built tool_app

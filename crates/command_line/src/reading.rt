@@ -3,9 +3,9 @@ ghost use Rattle.std.specs.Prelude.{◌≡◌, List, [], ◌∷◌, Some, codes,
 ghost use Rattle.clap.specs.Words.{FailsBy, app_of, fault_of, first_value, found_of, one_text, rule_of};
 ghost use Rattle.clap.specs.Words.{subcommand_rows_of};
 ghost use Rattle.clap.specs.declared.builder.command.Command.TheViews.{out-Command as fields_of};
-ghost use Rattle.mta_sim.specs.CommandLine.{command_of_line, command_in, command_app, file_rule};
-ghost use Rattle.mta_sim.specs.CommandLine.{value_of_command, tool_app};
-ghost use Rattle.mta_sim.specs.CommandLine.{threads_app, fuel_rule, number_given};
+ghost use Rattle.command_line.specs.CommandLine.{command_of_line, command_in, command_app, file_rule};
+ghost use Rattle.command_line.specs.CommandLine.{value_of_command, tool_app};
+ghost use Rattle.command_line.specs.CommandLine.{threads_app, fuel_rule, number_given};
 
 use crate::{VERSION, help};
 use clap::builder::ValueParser;
@@ -18,7 +18,7 @@ const MAX_FUEL: u64 = 1_000_000;
 
 /// What a command line asks for. Files are named by their paths.
 #[derive(Clone, Copy)]
-pub(crate) enum ToolCommand<'a> {
+pub enum ToolCommand<'a> {
     /// Runs a program of words from standard input.
     Words,
     /// Assembles a source text to an image.
@@ -52,7 +52,7 @@ pub(crate) enum ToolCommand<'a> {
 ///
 /// The error has the text for the user, also where help or the version was asked for, or memory was refused. The
 /// clauses say which kind it has, and nothing of the text.
-pub(crate) fn read_command_line<'a, S: AsStr>(
+pub fn read_command_line<'a, S: AsStr>(
     alloc: Global,
     words: &'a [S],
 ) -> Result<ToolCommand<'a>, Error>

@@ -1,9 +1,9 @@
 use Rattle.std.proofs.Common.{codes}
 use Rattle.clap.specs.Words.{found_of, rows_of}
-use Rattle.mta_sim.specs.CommandLine.{assemble_source, debug_image, list_image, run_image}
-use Rattle.mta_sim.proofs.ClapFacts.Getters.{value_is}
-use Rattle.mta_sim.proofs.Matches.{asks, path_asks, paths_ask, number_rows, threads_ask}
-use Rattle.mta_sim.proofs.command_line.command_of_matches.Goals as goal
+use Rattle.command_line.specs.CommandLine.{assemble_source, debug_image, list_image, run_image}
+use Rattle.command_line.proofs.ClapFacts.Getters.{value_is}
+use Rattle.command_line.proofs.Matches.{asks, path_asks, paths_ask, number_rows, threads_ask}
+use Rattle.command_line.proofs.reading.command_of_matches.Goals as goal
 
 pub returns-in-Some-asm-default : goal.returns-in-Some-asm-default
 returns-in-Some-asm-default c =

@@ -1,8 +1,8 @@
 use Rattle.std.proofs.Common.{◌∙◌}
 use Rattle.std.specs.Str.Parse.{ParsesUnsigned, ExplainsUnsignedError, HasUnsignedDigitsIfOk}
 use Rattle.clap.specs.Words.{found_of, one_text}
-use Rattle.mta_sim.proofs.Matches.{number_is}
-use Rattle.mta_sim.proofs.command_line.number.Goals as goal
+use Rattle.command_line.proofs.Matches.{number_is}
+use Rattle.command_line.proofs.reading.number.Goals as goal
 
 pub returns : goal.returns
 returns c =

@@ -1,9 +1,9 @@
 use Rattle.std.proofs.Common.{◌≡◌, ◌∙◌, sym, ap, subst, IfSome, map}
 use Rattle.clap.specs.Words.{App, fault_of, is_simple, is_simple_and_free, subcommand_of}
-use Rattle.mta_sim.specs.CommandLine.{command_of_line, command_in, value_of_command}
-use Rattle.mta_sim.proofs.Matches.{only}
-use Rattle.mta_sim.proofs.Commands.{command_asks}
-use Rattle.mta_sim.proofs.command_line.read_command_line.Goals as goal
+use Rattle.command_line.specs.CommandLine.{command_of_line, command_in, value_of_command}
+use Rattle.command_line.proofs.Matches.{only}
+use Rattle.command_line.proofs.Commands.{command_asks}
+use Rattle.command_line.proofs.reading.read_command_line.Goals as goal
 
 pub returns-clause-fault : goal.returns-clause-fault
 returns-clause-fault g c =

@@ -1,0 +1,2 @@
+-- The command line as clauses cite it.
+pub mod CommandLine
