@@ -63,7 +63,7 @@ kit() {
 
 version() {
   local named newest
-  named=$(sed -n 's/.*VERSION: &str = "\([0-9.]*\)".*/\1/p' crates/mta_sim/src/*.rt | head -n 1)
+  named=$(sed -n 's/^pub const VERSION: &str = "\([0-9.]*\)";$/\1/p' crates/command_line/src/lib.rt)
   newest=$(sed -n 's/^## //p' CHANGELOG.md | head -n 1)
   [ "$named" = "$newest" ] || echo "the program's version is '$named', CHANGELOG.md has '$newest'"
 }
