@@ -3,4 +3,3 @@ pub mod ClapFacts
 -- what is about the tool's commands
 pub mod Matches
 pub mod Commands
-mod CommandLines

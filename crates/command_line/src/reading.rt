@@ -1,6 +1,7 @@
 //! The command line.
 ghost use Rattle.std.specs.Prelude.{◌≡◌, List, [], ◌∷◌, Some, codes, false, map, unwrap_or, IfOk, IfSome};
 ghost use Rattle.clap.specs.Words.{FailsBy, app_of, fault_of, first_value, found_of, one_text, rule_of};
+ghost use Rattle.clap.specs.Simple.{with_rule};
 ghost use Rattle.clap.specs.Words.{subcommand_rows_of};
 ghost use Rattle.clap.specs.declared.builder.command.Command.TheViews.{out-Command as fields_of};
 ghost use Rattle.command_line.specs.CommandLine.{command_of_line, command_in, command_app, file_rule};
@@ -130,10 +131,12 @@ fn words_parser<'a>(alloc: Global) -> Command<'a>
     ensures app { app_of result ≡ command_app (codes "words") [] }
     ensures local { (fields_of result).has_globals ≡ false }
 {
-    Command::new(alloc, "words")
-        .about("Runs program words from standard input, and prints the stream's state")
-        .long_about(help::WORDS)
-        .after_help(help::STATUSES)
+    described(
+        alloc,
+        "words",
+        "Runs program words from standard input, and prints the stream's state",
+        help::WORDS,
+    )
 }
 
 /// The parser of `asm`.
@@ -142,12 +145,15 @@ fn asm_parser<'a>(alloc: Global) -> Result<Command<'a>, AllocError>
         app_of command ≡ command_app (codes "asm") (codes "SOURCE" ∷ codes "IMAGE" ∷ [])) }
     ensures local { IfOk result (λ command. (fields_of command).has_globals ≡ false) }
 {
-    Command::new(alloc, "asm")
-        .about("Assembles a source text, and writes the image")
-        .long_about(help::ASM)
-        .after_help(help::STATUSES)
-        .arg(file(alloc, "SOURCE", help::SOURCE))?
-        .arg(file(alloc, "IMAGE", help::IMAGE_TO_WRITE))
+    let asm = described(
+        alloc,
+        "asm",
+        "Assembles a source text, and writes the image",
+        help::ASM,
+    );
+    let source = file(alloc, "SOURCE", help::SOURCE);
+    let image = file(alloc, "IMAGE", help::IMAGE_TO_WRITE);
+    with_files(asm, source, image)
 }
 
 /// The parser of `list`.
@@ -155,11 +161,13 @@ fn list_parser<'a>(alloc: Global) -> Result<Command<'a>, AllocError>
     ensures app { IfOk result (λ command. app_of command ≡ command_app (codes "list") (codes "IMAGE" ∷ [])) }
     ensures local { IfOk result (λ command. (fields_of command).has_globals ≡ false) }
 {
-    Command::new(alloc, "list")
-        .about("Prints the source text that means just this image")
-        .long_about(help::LIST)
-        .after_help(help::STATUSES)
-        .arg(file(alloc, "IMAGE", help::IMAGE))
+    let list = described(
+        alloc,
+        "list",
+        "Prints the source text that means just this image",
+        help::LIST,
+    );
+    list.arg(file(alloc, "IMAGE", help::IMAGE))
 }
 
 /// The parser of `run`.
@@ -168,12 +176,15 @@ fn run_parser<'a>(alloc: Global) -> Result<Command<'a>, AllocError>
         app_of command ≡ command_app (codes "run") (codes "IMAGE" ∷ codes "SCHEDULE" ∷ [])) }
     ensures local { IfOk result (λ command. (fields_of command).has_globals ≡ false) }
 {
-    Command::new(alloc, "run")
-        .about("Runs an image by a schedule, and prints each step and what the machine came to")
-        .long_about(help::RUN)
-        .after_help(help::STATUSES)
-        .arg(file(alloc, "IMAGE", help::IMAGE))?
-        .arg(file(alloc, "SCHEDULE", help::SCHEDULE))
+    let run = described(
+        alloc,
+        "run",
+        "Runs an image by a schedule, and prints each step and what the machine came to",
+        help::RUN,
+    );
+    let image = file(alloc, "IMAGE", help::IMAGE);
+    let schedule = file(alloc, "SCHEDULE", help::SCHEDULE);
+    with_files(run, image, schedule)
 }
 
 /// The parser of `threads`.
@@ -208,12 +219,42 @@ fn debug_parser<'a>(alloc: Global) -> Result<Command<'a>, AllocError>
         app_of command ≡ command_app (codes "debug") (codes "IMAGE" ∷ codes "SCHEDULE" ∷ [])) }
     ensures local { IfOk result (λ command. (fields_of command).has_globals ≡ false) }
 {
-    Command::new(alloc, "debug")
-        .about("Answers the debugger's commands over an image's run by a schedule")
-        .long_about(help::DEBUG)
+    let debug = described(
+        alloc,
+        "debug",
+        "Answers the debugger's commands over an image's run by a schedule",
+        help::DEBUG,
+    );
+    let image = file(alloc, "IMAGE", help::IMAGE);
+    let schedule = file(alloc, "SCHEDULE", help::SCHEDULE);
+    with_files(debug, image, schedule)
+}
+
+/// The parser of a command, and what `--help` says of it.
+fn described<'a>(alloc: Global, name: &'a str, about: &'a str, long_about: &'a str) -> Command<'a>
+    ensures app { app_of result ≡ command_app name.entry.now [] }
+    ensures local { (fields_of result).has_globals ≡ false }
+{
+    Command::new(alloc, name)
+        .about(about)
+        .long_about(long_about)
         .after_help(help::STATUSES)
-        .arg(file(alloc, "IMAGE", help::IMAGE))?
-        .arg(file(alloc, "SCHEDULE", help::SCHEDULE))
+}
+
+/// The parser of a command that takes two files more.
+fn with_files<'a>(
+    command: Command<'a>,
+    first: Arg<'a>,
+    second: Arg<'a>,
+) -> Result<Command<'a>, AllocError>
+    requires local { (fields_of command).has_globals ≡ false }
+    requires no_global { first.global ≡ false }
+    requires nor_second { second.global ≡ false }
+    ensures app { IfOk result (λ added. app_of added
+        ≡ with_rule (with_rule (app_of command.entry) (rule_of first.entry)) (rule_of second.entry)) }
+    ensures local { IfOk result (λ added. (fields_of added).has_globals ≡ false) }
+{
+    command.arg(first)?.arg(second)
 }
 
 /// An argument that names a file, and what `--help` says of it.
