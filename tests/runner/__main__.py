@@ -43,11 +43,17 @@ def guarded(check, *given):
         return "a case that can be run", f"{type(error).__name__}: {error}"
 
 
+def done(case):
+    """A case that is no row, with what was wanted and got."""
+    name, *given = case
+    return (name, *(guarded(given[0]) if callable(given[0]) else given))
+
+
 def pairs_of(pool, file):
     """Each case of a table or kind, with what was wanted and got."""
     if file in checks.OTHERS:
-        found = guarded(checks.OTHERS[file])
-        return [(file, *found)] if isinstance(found, tuple) else list(found)
+        found = guarded(lambda: list(checks.OTHERS[file]()))
+        return [(file, *found)] if isinstance(found, tuple) else list(pool.map(done, found))
     rows = table.rows(file)
     fields = [row.fields for row in rows]
     if file in checks.EACH:

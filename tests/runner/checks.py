@@ -3,7 +3,8 @@ a function:
 
 - by `@each(FILE)` one that takes the fields of a row and gives (wanted, got);
 - by `@whole(FILE)` one that takes the list of all rows' fields, and gives such a pair for each row, in order;
-- by `@others(NAME)` one for cases that are no table: it takes nothing and gives (name of the case, wanted, got) for each.
+- by `@others(NAME)` one for cases that are no table: it takes nothing and gives for each (name of the case, wanted, got),
+  or (name of the case, a function that takes nothing and gives (wanted, got)); such functions are called side by side.
 
 A case holds where what it wants is what it got."""
 
