@@ -26,7 +26,9 @@ def shown(value):
 
 
 def difference(wanted, got):
-    """Both sides, from the first line on in which they differ where both are long texts."""
+    """Both sides, from the first line on in which they differ where both are long texts; of tuples what differs."""
+    if isinstance(wanted, tuple) and isinstance(got, tuple) and len(wanted) == len(got):
+        return "; ".join(difference(*pair) for pair in zip(wanted, got) if pair[0] != pair[1])
     if isinstance(wanted, bytes) and isinstance(got, bytes) and max(len(wanted), len(got)) > SHOWN:
         same = os.path.commonprefix([wanted, got])
         begin = same.rfind(b"\n") + 1

@@ -47,18 +47,21 @@ def fault_line(text):
 @checks.each("command_line/files.tsv")
 def opens_and_changes(fields):
     line, streams, opened, changed, data, status, printed = fields
-    wanted = {changed: unescaped(data)} if changed else {}
+    wanted = {changed: unescaped(data)} if changed or data else {}
     out, err = (unescaped(printed), b"") if status == "0" else (b"", fault_line(unescaped(printed)))
+    words = [tool.PROGRAM, *line.split()]
+    if streams:
+        words = ["sh", "-c", f'exec "$@" {streams}', "sh", *words]
     with tempfile.TemporaryDirectory(prefix="mta-case-") as folder:
         put_files(folder)
-        words = ["sh", "-c", f'exec "$@" {streams}', "sh", tool.PROGRAM, *line.split()] if streams else [tool.PROGRAM, *line.split()]
         with watching.watched(folder) as watch:
             ended = subprocess.run(words, stdin=subprocess.DEVNULL, capture_output=True, cwd=folder, timeout=tool.PATIENCE,
                                    check=False)
             found = watch.opened()
-        found_err = b"" if status == "2" and ended.stderr else ended.stderr
-        return ((int(status), out, err, opened.split(), wanted),
-                (ended.returncode, ended.stdout, found_err, found, changes(folder)))
+        # what the parser of command lines says is its own
+        said = b"" if status == "2" and ended.stderr else ended.stderr
+        return ((f"status {status}", out, err, opened.split(), wanted),
+                (f"status {ended.returncode}", ended.stdout, said, found, changes(folder)))
 
 
 @checks.each("command_line/lines.tsv")
@@ -68,10 +71,10 @@ def has_status(fields):
     with tempfile.TemporaryDirectory(prefix="mta-case-") as folder:
         ended = tool.call(*line.split(), given=unescaped(given), folder=folder)
         made = os.listdir(folder)
-    is_done = status == "0"
-    wanted = (int(status), is_done, not is_done, fault_line(fault.encode()), [])
-    said = ended.err if fault or is_done else b""
-    return wanted, (ended.status, ended.out != b"", ended.err != b"", said, made)
+    where = "standard output" if status == "0" else "standard error"
+    found = [name for name, text in (("standard output", ended.out), ("standard error", ended.err)) if text]
+    said = ended.err if status == "1" else b""
+    return (f"status {status}", [where], fault_line(fault.encode()), []), (f"status {ended.status}", found, said, made)
 
 
 @checks.others("command_line/unread_output")

@@ -47,4 +47,4 @@ def runs_in(folder):
 def programs():
     for folder in FOLDERS:
         for run in runs_in(folder):
-            yield f"{folder}/{run}", functools.partial(is_run, folder, run)
+            yield f"{folder}/{run}.trace", functools.partial(is_run, folder, run)

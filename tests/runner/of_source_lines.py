@@ -71,10 +71,14 @@ def defines(line, label):
     return tool.asm(source) != b"!source line 3 fault 7"
 
 
-def is_counted(line):
-    """Whether a line counts as a word: with it a label is too far away for a SKIP on an earlier line."""
+def counted(line):
+    """Whether a line counts as a word: with it a label is too far away for a SKIP on an earlier line, else there is an image
+    or a fault of the line itself."""
     source = b".entry 0\n.data 0\nSKIP ALWAYS, 0, far\n" + 127 * b"NOP\n" + line + b"\nfar:\n"
-    return tool.asm(source) == b"!source line 3 fault 4"
+    found = tool.asm(source)
+    if found == b"!source line 3 fault 4":
+        return "word"
+    return "none" if found.startswith((b"MTAP", b"!source line 131 ")) else found
 
 
 def after_nop(*lines):
@@ -84,9 +88,11 @@ def after_nop(*lines):
 
 @checks.each("asm/cut_lines.tsv")
 def is_cut(fields):
-    line, label, statement, counted = map(unescaped, fields)
-    is_label = label.isalnum()
-    wanted = ("word" if counted == b"word" else "none", is_label, True)
-    parts = (label + b":" + statement) if label != b"-" else statement
-    found = is_label and defines(line, label)
-    return wanted, ("word" if is_counted(line) else "none", found, after_nop(line) == after_nop(parts))
+    """Whether the line counts, whether its label can be named, and whether it means what its parts mean."""
+    line, label, statement = map(unescaped, fields[:3])
+    has_name = label.isalnum()
+    parts = statement if label == b"-" else label + b":" + statement
+    found = (counted(line),
+             label if has_name and defines(line, label) else b"no label",
+             "the same" if after_nop(line) == after_nop(parts) else "something else")
+    return (fields[3], label if has_name else b"no label", "the same"), found
