@@ -1,7 +1,7 @@
 #!/usr/bin/env python3
-"""Runs the cases below tests/cases on the built program. A case that does not hold is named by its file and line, with what
-was wanted and what was got. Arguments are the beginnings of the names of tables to be run; without any all of them are. The
-last line counts the cases. Needs Python 3."""
+"""Runs the cases below tests/cases on the built program. A case that does not hold is named by its file and line, with
+what was wanted and what was got. Arguments are the beginnings of the names of tables to be run; without any all of them
+are. The last line counts the cases. Needs Python 3."""
 
 import sys
 
@@ -87,7 +87,8 @@ def main(names):
     for file in unread():
         print(f"tests/cases/{file}: no module of tests/runner reads this table")
         failed += 1
-    files = [file for file in sorted({*checks.EACH, *checks.WHOLE, *checks.OTHERS}) if not names or file.startswith(tuple(names))]
+    files = sorted({*checks.EACH, *checks.WHOLE, *checks.OTHERS})
+    files = [file for file in files if not names or file.startswith(tuple(names))]
     with concurrent.futures.ThreadPoolExecutor(os.cpu_count()) as pool:
         for file in files:
             begin = time.monotonic()

@@ -15,13 +15,15 @@ QUIT_IMAGE = (b"MTAP" + bytes.fromhex("0001 0001 0001 00000000 FFFFFFFF 00000001
               + bytes.fromhex("00000000 0000000000028000 0000000000000000 01"))
 # files that can be opened, of which old.img is one that a command does not come to read
 FILES = {
-    "quit.s": QUIT, "quit.img": QUIT_IMAGE, "word.s": b".slim 1\n.retry 0\n.entry 0\n.word 0x0000000000000001\n.data 7\n",
-    "one.steps": b"0 0", "unknown.s": b".entry 0\nFOO\n.data 0\n", "empty.img": b"", "short.steps": b"0 0\n1\n",
-    "old.img": b"old", "word": b"0000000000000000\n", "goes_on": b"c\n"}
+    "quit.s": QUIT, "word.s": b".slim 1\n.retry 0\n.entry 0\n.word 0x0000000000000001\n.data 7\n",
+    "unknown.s": b".entry 0\nFOO\n.data 0\n", "quit.img": QUIT_IMAGE, "old.img": b"old", "empty.img": b"",
+    "one.steps": b"0 0", "short.steps": b"0 0\n1\n", "word": b"0000000000000000\n", "goes_on": b"c\n"}
 # no user can open a link to itself; what is written to /dev/full is refused
 LINKS = {"locked.file": "locked.file", "full.img": "/dev/full"}
 # a folder can be opened, but not be read as a file
 FOLDERS = ["damaged.file"]
+# what is written to any file is refused
+SMALL = "trap '' XFSZ; ulimit -f 0; exec \"$@\""
 
 
 def put_files(folder):
@@ -51,12 +53,12 @@ def opens_and_changes(fields):
     out, err = (unescaped(printed), b"") if status == "0" else (b"", fault_line(unescaped(printed)))
     words = [tool.PROGRAM, *line.split()]
     if streams:
-        words = ["sh", "-c", f'exec "$@" {streams}', "sh", *words]
+        words = ["sh", "-c", SMALL if streams == "no room" else f'exec "$@" {streams}', "sh", *words]
     with tempfile.TemporaryDirectory(prefix="mta-case-") as folder:
         put_files(folder)
         with watching.watched(folder) as watch:
-            ended = subprocess.run(words, stdin=subprocess.DEVNULL, capture_output=True, cwd=folder, timeout=tool.PATIENCE,
-                                   check=False)
+            ended = subprocess.run(words, stdin=subprocess.DEVNULL, capture_output=True, cwd=folder,
+                                   timeout=tool.PATIENCE, check=False)
             found = watch.opened()
         # what the parser of command lines says is its own
         said = b"" if status == "2" and ended.stderr else ended.stderr
@@ -66,7 +68,8 @@ def opens_and_changes(fields):
 
 @checks.each("command_line/lines.tsv")
 def has_status(fields):
-    """Standard output has something exactly where the command is done, and standard error where it is not; no file is made."""
+    """Standard output has something exactly where the command is done, standard error where it is not; no file is
+    made."""
     line, given, status, fault = fields
     with tempfile.TemporaryDirectory(prefix="mta-case-") as folder:
         ended = tool.call(*line.split(), given=unescaped(given), folder=folder)
@@ -83,6 +86,6 @@ def is_told_of_a_reader_that_went():
     away, pipe = os.pipe()
     os.close(away)
     with open(pipe, "wb") as broken:
-        ended = subprocess.run([tool.PROGRAM, "words"], input=FILES["word"], stdout=broken, stderr=subprocess.PIPE, check=False,
-                               timeout=tool.PATIENCE)
+        ended = subprocess.run([tool.PROGRAM, "words"], input=FILES["word"], stdout=broken, stderr=subprocess.PIPE,
+                               timeout=tool.PATIENCE, check=False)
     yield "words to a pipe that nobody reads", (1, b"mta_sim: write failed\n"), (ended.returncode, ended.stderr)

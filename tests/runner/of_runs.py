@@ -1,5 +1,5 @@
-"""The programs of examples and of tests/cases/run: PROGRAM.asm with PROGRAM.schedule, or with some PROGRAM.NAME.schedule,
-and beside each schedule the trace that its run comes to."""
+"""The programs of examples and of tests/cases/run: PROGRAM.asm with PROGRAM.schedule, or with some
+PROGRAM.NAME.schedule, and beside each schedule the trace that its run comes to."""
 
 import functools
 import os

@@ -72,8 +72,8 @@ def defines(line, label):
 
 
 def counted(line):
-    """Whether a line counts as a word: with it a label is too far away for a SKIP on an earlier line, else there is an image
-    or a fault of the line itself."""
+    """Whether a line counts as a word: with it a label is too far away for a SKIP on an earlier line, else there is an
+    image or a fault of the line itself."""
     source = b".entry 0\n.data 0\nSKIP ALWAYS, 0, far\n" + 127 * b"NOP\n" + line + b"\nfar:\n"
     found = tool.asm(source)
     if found == b"!source line 3 fault 4":

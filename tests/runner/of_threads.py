@@ -12,8 +12,8 @@ import tool
 import worlds
 from table import unescaped
 
-# a folder, the most steps of a processor, and how often each of its programs is run; of those with two processors, which ask
-# the memory in turn, the fuel is short, since some of them wait without end
+# a folder, the most steps of a processor, and how often each of its programs is run; of those with two processors,
+# which ask the memory in turn, the fuel is short, since some of them wait without end
 ONE_END = ("tests/cases/threads", 10_000, 200)
 ANY_END = ("examples", 10_000, 10)
 IN_TURN = ("examples", 100, 500)
@@ -37,8 +37,8 @@ def end_in(path):
 
 
 def runs_of(name, image, only, fuel, count):
-    """Runs of a program on threads, each run again by its schedule: both have the same end, which is the program's only one
-    where it has one and no stream still runs. Where they differ the schedule is shown too."""
+    """Runs of a program on threads, each run again by its schedule: both have the same end, which is the program's only
+    one where it has one and no stream still runs. Where they differ the schedule is shown too."""
     with tempfile.TemporaryDirectory(prefix="mta-case-") as folder:
         at = functools.partial(os.path.join, folder)
         tool.write(at("image"), image)

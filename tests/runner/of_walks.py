@@ -1,5 +1,5 @@
-"""Long sessions of the debugger in random turns. Where each command has to lead is worked out from the run's trace and from a
-session that goes on step by step; what is shown there, from runs that start anew and end there."""
+"""Long sessions of the debugger in random turns. Where each command has to lead is worked out from the run's trace and
+from a session that goes on step by step; what is shown there, from runs that start anew and end there."""
 
 import bisect
 import functools
@@ -12,19 +12,18 @@ import talks
 import tool
 import worlds
 
-# a source, its schedule or how many random steps, and the number of commands
-THREE = ("tests/cases/debug/three.asm", 20_000, 2_000)
-EXAMPLES = [("examples/" + name, schedule, 400) for name, schedule in [
-    ("barrier.asm", "barrier.ends"), ("bounded_buffer.asm", "bounded_buffer.ends"), ("fetch_add.asm", "fetch_add.ends"),
-    ("forwarding.asm", "forwarding.ends"), ("lock.asm", "lock.found"), ("mailbox.asm", "mailbox.ends"),
-    ("philosophers.asm", "philosophers.deadlock"), ("trap_handler.asm", "trap_handler.ends")]]
+# a source, how many random steps, and how many commands
+THREE, STEPS, COMMANDS = "tests/cases/debug/three.asm", 20_000, 2_000
+# runs of examples, and how many commands over each
+RUNS, FEWER = ("barrier.ends", "bounded_buffer.ends", "fetch_add.ends", "forwarding.ends", "lock.found", "mailbox.ends",
+               "philosophers.deadlock", "trap_handler.ends"), 400
 # after so many commands all streams and words are looked at
 LOOK = 100
 
 
 class Positions:
-    """The positions of a run: how many there are behind the first, which are followed by a step of a running stream of a
-    processor at a pc, and at which a word, or its tags, were changed by the step before."""
+    """The positions of a run: how many there are behind the first, which are followed by a step of a running stream of
+    a processor at a pc, and at which a word, or its tags, were changed by the step before."""
 
     def __init__(self, image, schedule):
         trace, self.listing = tool.trace(image, schedule), tool.listing(image)
@@ -129,11 +128,9 @@ def looked_at(talk, walk, image, schedule):
     return answers, b"".join(found)
 
 
-def walks(source, schedule, count):
+def walks(name, image, schedule, count):
     """A walk of so many commands: the first answer that is wrong, and the command before it, and what was wanted."""
-    choose = random.Random(source)
-    image = tool.asm(tool.read(os.path.join(table.ROOT, source)))
-    schedule = steps_of(image, schedule, choose)
+    choose = random.Random(name)
     walk = Walk(Positions(image, schedule), choose)
     with talks.talk(image, schedule) as talk:
         for number in range(count):
@@ -148,19 +145,28 @@ def walks(source, schedule, count):
     return "all answers", "all answers"
 
 
-def steps_of(image, schedule, choose):
-    """A schedule with a line for each step: of a file, or of random steps, some of which are of a stream that never runs."""
-    if isinstance(schedule, int):
-        processors = worlds.numbers_of(tool.listing(image))[0]
-        steps = ((choose.randrange(processors), choose.randrange(20) // 19) for _ in range(schedule))
-        return b"".join(b"%d %d\n" % step for step in steps)
-    text = tool.read(os.path.join(table.ROOT, "examples", schedule + ".schedule"))
-    lines = (line.split(b" ") for line in text.split(b"\n") if line)
+def random_steps(image):
+    """A schedule with a line for each step, some of which are of a stream that never runs."""
+    choose, processors = random.Random(STEPS), worlds.numbers_of(tool.listing(image))[0]
+    steps = ((choose.randrange(processors), choose.randrange(20) // 19) for _ in range(STEPS))
+    return b"".join(b"%d %d\n" % step for step in steps)
+
+
+def single_steps(schedule):
+    """The same schedule with a line for each step."""
+    lines = (line.split(b" ") for line in schedule.split(b"\n") if line)
     return b"".join(int((line[2:] or [1])[0]) * (b" ".join(line[:2]) + b"\n") for line in lines)
+
+
+def assembled(source):
+    return tool.asm(tool.read(os.path.join(table.ROOT, source)))
 
 
 @checks.others("debug/walks")
 def all_walks():
-    for source, schedule, count in [THREE, *EXAMPLES]:
-        name = schedule if isinstance(schedule, str) else f"{schedule} random steps"
-        yield f"{source}, {name}", functools.partial(walks, source, schedule, count)
+    image = assembled(THREE)
+    yield f"{THREE}, {STEPS} random steps", functools.partial(walks, THREE, image, random_steps(image), COMMANDS)
+    for run in RUNS:
+        schedule = single_steps(tool.read(os.path.join(table.ROOT, f"examples/{run}.schedule")))
+        image = assembled(f"examples/{run.split('.')[0]}.asm")
+        yield f"examples/{run}", functools.partial(walks, run, image, schedule, FEWER)

@@ -29,7 +29,8 @@ class Ended:
 
 def call(*words, given=b"", folder=None):
     """Calls the program with these words and this standard input."""
-    ended = subprocess.run([PROGRAM, *words], input=given, capture_output=True, cwd=folder, timeout=PATIENCE, check=False)
+    ended = subprocess.run([PROGRAM, *words], input=given, capture_output=True, cwd=folder, timeout=PATIENCE,
+                           check=False)
     return Ended(ended.returncode, ended.stdout, ended.stderr)
 
 

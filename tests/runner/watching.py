@@ -17,7 +17,8 @@ class Watch:
         self.queue = queue
 
     def opened(self):
-        """The names of the files that were opened since the watch began."""
+        """The names of the files that were opened since the watch began; one that is opened twice in a row stands
+        there once."""
         try:
             data = os.read(self.queue, 1 << 16)
         except BlockingIOError:
