@@ -1,4 +1,4 @@
-"""Refused memory: each allocation of each command is refused in turn, on the programs of examples and conformance. A
+"""Refused memory: each allocation of each command is refused in turn, on the programs of examples and tests/cases. A
 command has to end as with ample memory, or say that memory was refused, and then nothing else may have changed: no file
 and no output, but for the answers of the debugger to earlier lines; there a command may also be answered by `fault 6`,
 and then all later answers are those of the session without it."""
@@ -7,7 +7,7 @@ import collections
 import os
 from functools import partial
 
-from program import DATA, EXAMPLES, Tally, assembled, read, run, schedules, sources, write
+from program import CASES, EXAMPLES, ROOT, Tally, assembled, read, run, schedules, sources, write
 from refusing import interposer, refused_allocation
 from threads import replays
 
@@ -140,9 +140,9 @@ def of_source(library, folder, source):
 def part(pool, folder):
     """All of them."""
     tally, library = Refusals(), interposer(folder)
-    word = read(os.path.join(DATA, "../../mta_sim/stdin"))
+    word = read(os.path.join(ROOT, "crates/mta_sim/stdin"))
     sweep(tally, Command(library, folder, ["words"], word), is_same)
-    found = sources(EXAMPLES, os.path.join(DATA, "rows"), os.path.join(DATA, "threads"))
+    found = sources(EXAMPLES, os.path.join(CASES, "run"), os.path.join(CASES, "threads"))
     for one in pool.map(partial(of_source, library, folder), found):
         tally.add(one)
     return tally

@@ -12,7 +12,7 @@ ROOT = os.path.dirname(os.path.dirname(os.path.dirname(os.path.abspath(__file__)
 TOOL = os.path.join(ROOT, "crates/mta_sim/out/mta_sim")
 CALLS = os.path.join(ROOT, "crates/refused_calls/out/refused_calls")
 EXAMPLES = os.path.join(ROOT, "examples")
-DATA = os.path.join(ROOT, "crates/conformance/data")
+CASES = os.path.join(ROOT, "tests/cases")
 MOST_INPUT = 33_554_432
 # what a refusal may take: processor seconds, and bytes beside ten times its input
 MOST_SECONDS, MOST_MEMORY = 1, 40_000_000

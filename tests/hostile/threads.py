@@ -6,7 +6,7 @@ import re
 from functools import partial
 
 import images
-from program import DATA, EXAMPLES, Tally, assembled, read, sources, write
+from program import CASES, EXAMPLES, Tally, assembled, read, sources, write
 from refusing import interposer, refused_threads
 
 ENTRY = re.compile(
@@ -94,9 +94,9 @@ def of_fuel(tally, folder):
 
 
 def of_programs(tally, folder):
-    """Each program, again and again; those of conformance that come to one end come to it, where their fuel lasts."""
+    """Each program, again and again; those of tests/cases that come to one end come to it, where their fuel lasts."""
     schedule = os.path.join(folder, "again.schedule")
-    for source in sources(EXAMPLES, os.path.join(DATA, "rows"), os.path.join(DATA, "threads")):
+    for source in sources(EXAMPLES, os.path.join(CASES, "run"), os.path.join(CASES, "threads")):
         image, end = assembled(tally, folder, source, "again.image"), read(source[:-len("asm")] + "end")
         for _ in range(5):
             printed = tally.does(f"threads {source}", ["threads", image, "2000", schedule])
@@ -110,7 +110,7 @@ def of_no_threads(tally, folder):
     """Runs for which no thread is started, only the first or the last, or all but one."""
     library, schedule = interposer(folder), os.path.join(folder, "few.schedule")
     started = 0
-    for source in sources(EXAMPLES, os.path.join(DATA, "threads")):
+    for source in sources(EXAMPLES, os.path.join(CASES, "threads")):
         image = assembled(tally, folder, source, "few.image")
         count = refused_threads(library, folder)
         threaded(tally, f"threads {source}", image, 300, schedule, **count)

@@ -1,7 +1,7 @@
 #!/usr/bin/env python3
-"""Runs the cases below tests/cases on the built program. A case that does not hold is named by its file and line, with what
-was wanted and what was got. Arguments are the beginnings of the names of tables to be run; without any all of them are. The
-last line counts the cases. Needs Python 3."""
+"""Runs the cases below tests/cases on the built program. A case that does not hold is named by its file and line, with
+what was wanted and what was got. Arguments are the beginnings of the names of tables to be run; without any all of them
+are. The last line counts the cases. Needs Python 3."""
 
 import sys
 
@@ -26,7 +26,9 @@ def shown(value):
 
 
 def difference(wanted, got):
-    """Both sides, from the first line on in which they differ where both are long texts."""
+    """Both sides, from the first line on in which they differ where both are long texts; of tuples what differs."""
+    if isinstance(wanted, tuple) and isinstance(got, tuple) and len(wanted) == len(got):
+        return "; ".join(difference(*pair) for pair in zip(wanted, got) if pair[0] != pair[1])
     if isinstance(wanted, bytes) and isinstance(got, bytes) and max(len(wanted), len(got)) > SHOWN:
         same = os.path.commonprefix([wanted, got])
         begin = same.rfind(b"\n") + 1
@@ -43,11 +45,17 @@ def guarded(check, *given):
         return "a case that can be run", f"{type(error).__name__}: {error}"
 
 
+def done(case):
+    """A case that is no row, with what was wanted and got."""
+    name, *given = case
+    return (name, *(guarded(given[0]) if callable(given[0]) else given))
+
+
 def pairs_of(pool, file):
     """Each case of a table or kind, with what was wanted and got."""
     if file in checks.OTHERS:
-        found = guarded(checks.OTHERS[file])
-        return [(file, *found)] if isinstance(found, tuple) else list(found)
+        found = guarded(lambda: list(checks.OTHERS[file]()))
+        return [(file, *found)] if isinstance(found, tuple) else list(pool.map(done, found))
     rows = table.rows(file)
     fields = [row.fields for row in rows]
     if file in checks.EACH:
@@ -79,7 +87,8 @@ def main(names):
     for file in unread():
         print(f"tests/cases/{file}: no module of tests/runner reads this table")
         failed += 1
-    files = [file for file in sorted({*checks.EACH, *checks.WHOLE, *checks.OTHERS}) if not names or file.startswith(tuple(names))]
+    files = sorted({*checks.EACH, *checks.WHOLE, *checks.OTHERS})
+    files = [file for file in files if not names or file.startswith(tuple(names))]
     with concurrent.futures.ThreadPoolExecutor(os.cpu_count()) as pool:
         for file in files:
             begin = time.monotonic()

@@ -1,5 +1,5 @@
-"""Tables of cases: files below tests/cases whose lines are cases, their fields separated by tabs. A line that begins with
-`#` is a remark; the first one names the columns and says where the expected values come from."""
+"""Tables of cases: files below tests/cases whose lines are cases, their fields separated by tabs. A line that begins
+with `#` is a remark; the first one names the columns and says where the expected values come from."""
 
 import os
 import re
@@ -29,8 +29,8 @@ def rows(file):
 
 
 def unescaped(field):
-    """The bytes of a field. A backslash begins what a line can't have, or what is too long for it: `\\n`, `\\t` and `\\r`,
-    a byte as `\\xC3`, and a piece so many times as `\\<16*NOP\\n\\>`."""
+    """The bytes of a field. A backslash begins what a line can't have, or what is too long for it: `\\n`, `\\t` and
+    `\\r`, a byte as `\\xC3`, and a piece so many times as `\\<16*NOP\\n\\>`."""
     def meaning(found):
         letter, byte, times, piece = found.groups()
         if letter:

@@ -1,5 +1,6 @@
 """The built program, called on files and texts."""
 
+import contextlib
 import os
 import subprocess
 import tempfile
@@ -28,17 +29,25 @@ class Ended:
 
 def call(*words, given=b"", folder=None):
     """Calls the program with these words and this standard input."""
-    ended = subprocess.run([PROGRAM, *words], input=given, capture_output=True, cwd=folder, timeout=PATIENCE, check=False)
+    ended = subprocess.run([PROGRAM, *words], input=given, capture_output=True, cwd=folder, timeout=PATIENCE,
+                           check=False)
     return Ended(ended.returncode, ended.stdout, ended.stderr)
 
 
-def with_files(command, **files):
-    """Calls `command(paths)` with a path for each of the files: bytes for one that is there, None for one to be made."""
+@contextlib.contextmanager
+def made_files(**files):
+    """A path for each of the files, while it lasts: bytes for one that is there, None for one to be made."""
     with tempfile.TemporaryDirectory(prefix="mta-case-") as folder:
         paths = {name: os.path.join(folder, name) for name in files}
         for name, data in files.items():
             if data is not None:
                 write(paths[name], data)
+        yield paths
+
+
+def with_files(command, **files):
+    """Calls `command(paths)` with a path for each of the files."""
+    with made_files(**files) as paths:
         return command(paths)
 
 
