@@ -1,0 +1,123 @@
+#!/usr/bin/env bash
+# package.sh: packs the built program as out/dist/mta_sim-VERSION-x86_64-linux.tar.gz and, where dpkg-deb is there, as a
+# Debian package. What stands beside the program is taken from the commit, and has its time: so the same commit, program
+# and verdict give the same bytes.
+# shellcheck disable=SC2046 # names of libraries have no blanks
+set -euo pipefail
+cd "$(dirname "$0")/.."
+program=crates/mta_sim/out/mta_sim
+kit=$(dirname "$(rt doc)")
+version=$(sed -n 's/^pub const VERSION: &str = "\(.*\)";$/\1/p' crates/command_line/src/lib.rt)
+name=mta_sim-$version-x86_64-linux
+SOURCE_DATE_EPOCH=$(git log -1 --format=%ct)
+export SOURCE_DATE_EPOCH
+umask 022
+room=$(mktemp -d)
+trap 'rm -rf "$room"' EXIT
+
+# the libraries of the kit that the program's crates use; in crates.txt a crate stands behind those that it uses
+used_libraries() {
+  tac crates.txt | awk -F: '
+    BEGIN { needed["mta_sim"] }
+    /^[a-z]/ { ours[$1] }
+    /^[a-z]/ && $1 in needed { count = split($2, below, " "); for (i = 1; i <= count; i++) needed[below[i]] }
+    END { for (library in needed) if (!(library in ours)) print library }' | sort
+}
+
+# these libraries of the kit and those that they use, as their built forms say
+with_those_below() {
+  local library
+  for library in "$@"; do
+    echo "$library"
+    with_those_below $(grep -a '^dep ' "$kit/rlibs/$library.rlib/format" | cut -d ' ' -f 2)
+  done
+}
+
+# what can be said of copyright, with the notices of the kit's libraries that are ports
+copyright() {
+  local library notice
+  cat packaging/copyright
+  for library in $(with_those_below $(used_libraries) | sort -u); do
+    for notice in "$kit/rattle/$library/LICENSE-MIT" "$kit/rattle/$library/LICENSE"; do
+      if [ -f "$notice" ]; then printf '\n== %s\n\n' "$library" && cat "$notice"; fi
+    done
+  done
+}
+
+# leaves the files below a folder with the modes of any umask, and the commit's time
+settle() {
+  chmod -R u=rwX,go=rX "$1"
+  find "$1" -exec touch --no-dereference --date="@$SOURCE_DATE_EPOCH" {} +
+}
+
+# strip_symbols TO: the program without its symbols; what is loaded has to be the same
+strip_symbols() {
+  strip --strip-unneeded -o "$1" "$program"
+  chmod 755 "$1"
+  objcopy -O binary "$program" "$room/loaded"
+  objcopy -O binary "$1" "$room/packed"
+  cmp "$room/loaded" "$room/packed"
+}
+
+# the tree of the archive: the program in bin/, and the rest as it lies in the repository
+lay_out_archive() {
+  mkdir -p "$1/bin"
+  git archive HEAD README.md CHANGELOG.md docs examples editors share | tar -x -C "$1"
+  strip_symbols "$1/bin/mta_sim"
+  packaging/build_facts.sh "$version" "$program" "$1/bin/mta_sim" >"$1/BUILD"
+  copyright >"$1/COPYRIGHT"
+  settle "$1"
+}
+
+# the tree of the Debian package, made of that of the archive
+lay_out_debian() {
+  local from=$1 to=$2 share=$2/usr/share
+  local doc=$share/doc/mta-sim
+  install -D -m 755 "$from/bin/mta_sim" "$to/usr/bin/mta_sim"
+  install -D -m 644 "$from/share/completions/mta_sim.bash" "$share/bash-completion/completions/mta_sim"
+  install -D -m 644 "$from/share/completions/_mta_sim" "$share/zsh/vendor-completions/_mta_sim"
+  install -D -m 644 "$from/share/completions/mta_sim.fish" "$share/fish/vendor_completions.d/mta_sim.fish"
+  mkdir -p "$share/man/man1" "$doc" "$to/DEBIAN"
+  gzip -9nc "$from/share/man/man1/mta_sim.1" >"$share/man/man1/mta_sim.1.gz"
+  cp -r "$from/README.md" "$from/docs" "$from/examples" "$from/editors" "$from/BUILD" "$doc"
+  cp "$from/COPYRIGHT" "$doc/copyright"
+  gzip -9nc "$from/CHANGELOG.md" >"$doc/changelog.gz"
+  debian_changelog | gzip -9nc >"$doc/changelog.Debian.gz"
+  control "$to" >"$to/DEBIAN/control"
+  (cd "$to" && find usr -type f | LC_ALL=C sort | xargs -d '\n' md5sum) >"$to/DEBIAN/md5sums"
+  settle "$to"
+}
+
+maintainer() {
+  git log -1 --format='%an <%ae>'
+}
+
+debian_changelog() {
+  printf 'mta-sim (%s-1) unstable; urgency=medium\n\n' "$version"
+  printf '  * Version %s: see changelog.gz and BUILD.\n\n' "$version"
+  printf ' -- %s  %s\n' "$(maintainer)" "$(date --utc --rfc-email --date="@$SOURCE_DATE_EPOCH")"
+}
+
+control() {
+  local glibc size
+  glibc=$(packaging/needs.sh glibc "$program")
+  size=$(find "$1/usr" -type f -printf '%s\n' | awk '{ bytes += $1 } END { print int((bytes + 1023) / 1024) }')
+  sed -e "s/@VERSION@/$version/" -e "s/@MAINTAINER@/$(maintainer)/" -e "s/@SIZE@/$size/" -e "s/@GLIBC@/$glibc/" \
+    packaging/control
+}
+
+test -x "$program" || { echo "nothing is built yet: make run proves and builds the program"; exit 1; }
+mkdir -p out/dist
+rm -f out/dist/mta[-_]sim[-_]*
+lay_out_archive "$room/$name"
+tar --sort=name --format=gnu --owner=0 --group=0 --numeric-owner -C "$room" -c "$name" | gzip -9n \
+  >"out/dist/$name.tar.gz"
+echo "out/dist/$name.tar.gz"
+if command -v dpkg-deb >/dev/null; then
+  lay_out_debian "$room/$name" "$room/debian"
+  dpkg-deb --root-owner-group -Zgzip --build "$room/debian" "out/dist/mta-sim_$version-1_amd64.deb" >"$room/said"
+  echo "out/dist/mta-sim_$version-1_amd64.deb"
+else
+  echo "no dpkg-deb here, so no Debian package"
+fi
+cat "$room/$name/BUILD"
