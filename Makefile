@@ -11,18 +11,19 @@ CRATES ?=
 # how many of them are tried side by side
 JOBS ?= $(shell nproc)
 
-.PHONY: help run try test cases checks edits refuse hostile documents bench build dist install uninstall clean
+.PHONY: help run try test cases checks edits refuse hostile documents bench build dist check-dist install uninstall clean
 
 # the targets, each with what it does and how long it takes
 help:
-	@echo "make try        shows a run of SOURCE by SCHEDULE, unproved (a minute)"
+	@echo "make try        runs a SOURCE by a SCHEDULE, unproved (about a minute); examples/lock.asm where none is named"
 	@echo "make run        proves what the program needs, builds it, and shows a first run"
 	@echo "make test       proves everything from nothing, tries the edits in must-fail/, runs all tests"
 	@echo "make checks     what make test looks at before any proof (seconds)"
 	@echo "make cases      runs the cases below tests/cases on the built program (seconds)"
 	@echo "make documents  runs the commands of the documents and compares what they print (seconds)"
-	@echo "make edits      tries all must-fail edits of all crates, or of CRATES=\"processor machine\""
-	@echo "make dist       makes a tar file and a Debian package of the built program in out/dist (seconds)"
+	@echo "make edits      tries the edits of the CRATES that the prover has to refuse, of all crates where none is named (some minutes a crate)"
+	@echo "make dist       packs the built program as an archive and a Debian package, in out/dist (seconds)"
+	@echo "make check-dist unpacks them where nothing but the C library is, and runs the examples there (seconds)"
 	@echo "make hostile    hostile use of the built program; needs Python 3 and a C compiler (4 minutes on four idle cores)"
 	@echo "make refuse     the part of it that refuses each allocation of the commands in turn (some minutes)"
 	@echo "make bench      time, instructions and peak memory on the longest inputs (some minutes; valgrind counts instructions)"
@@ -38,12 +39,9 @@ run:
 	@echo "== the stream after two steps"
 	@$(PROGRAM) words < crates/mta_sim/stdin
 
-# shows the same run unproved
+# runs a source text by a schedule, and two program words, unproved
 try:
-	@echo "== first run, unproved: mta_sim words, on these program words (LIT r1, 5 and ADD r2, r1, 3)"
-	@cat crates/mta_sim/stdin
-	@echo "== the stream after two steps"
-	@cd crates/mta_sim && rt try -- words < stdin
+	@tests/try.sh "$(SOURCE)" "$(SCHEDULE)"
 
 # proves everything from nothing, tries the must-fail edits, runs the tests, the programs, the cases, the documents
 test:
@@ -60,6 +58,18 @@ build:
 # the cases below tests/cases, on the built program
 cases: build
 	@python3 tests/runner
+
+# tries the edits of must-fail/ and edits/, JOBS crates at a time
+edits:
+	@python3 tests/edits.py --jobs $(JOBS) $(CRATES)
+
+# packs the built program; takes git, binutils and the kit, and dpkg-deb for the Debian package
+dist: build
+	@packaging/package.sh
+
+# tries the packages; takes root's rights, or a namespace of users
+check-dist:
+	@tests/package.sh
 
 # wall time and peak memory of the commands on their longest inputs, and machine steps a second
 bench: build
@@ -78,14 +88,9 @@ hostile: build
 	@test -x $(CALLS) || (cd crates/refused_calls && rt run < /dev/null > /dev/null)
 	@python3 tests/hostile
 
-# the statuses with which the built program ends
-statuses: build
-	@tests/exit_statuses.sh
-
 # the commands that stand in README.md and docs, run on the examples; what they print is compared with what stands there
 documents: build
 	@tests/documents.sh README.md CONTRIBUTING.md CHANGELOG.md docs/*.md
-	@tests/editors.sh
 
 # puts the built program, its examples and its documents in place
 install:
