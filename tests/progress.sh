@@ -6,13 +6,20 @@ set -u
 log=$1
 shift
 mkdir -p "$(dirname "$log")"
-"$@" 2>&1 | tee "$log" | awk -v all="$(grep -cE '^[a-z]' crates.txt)" '
-  BEGIN { begin = systime() }
-  function tell(what) { printf "%s, %d s\n", what, systime() - begin; fflush() }
-  # a crate is proved, then its tests, then the edits that must fail
-  /^rt: [a-z_]+ (proved|NOT PROVED)$/ { tell("[" ++count "/" all "] " substr($0, 5)) }
-  /^rt: [a-z_]+: (its tests are|trying its must-fail edits)/ { tell("        " substr($0, 5)) }
-'
+all=$(grep -cE '^[a-z]' crates.txt)
+count=0
+
+# told LINE: the line in short, where it says that a crate is proved, or what is done with it next
+told() {
+  if [[ $1 =~ ^rt:\ ([a-z_]+\ (NOT\ PROVED|proved))$ ]]; then
+    count=$((count + 1))
+    echo "[$count/$all] ${BASH_REMATCH[1]}, $SECONDS s"
+  elif [[ $1 =~ ^rt:\ ([a-z_]+:\ (its\ tests\ are|trying\ its\ must-fail\ edits).*) ]]; then
+    echo "        ${BASH_REMATCH[1]}, $SECONDS s"
+  fi
+}
+
+"$@" 2>&1 | tee "$log" | while IFS= read -r line; do told "$line"; done
 status=${PIPESTATUS[0]}
 if [ "$status" -ne 0 ]; then cat "$log"; else echo "whole log: $log"; tail -n 1 "$log"; fi
 exit "$status"
