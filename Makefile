@@ -73,19 +73,19 @@ check-dist:
 
 # wall time and peak memory of the commands on their longest inputs, and machine steps a second
 bench: build
-	@test -x $(BENCH) || (cd crates/bench && rt run -- arithmetic 1 > /dev/null)
+	@test -x $(CALLS) || (cd crates/library_calls && rt run -- calls < /dev/null > /dev/null)
 	@bench/run.sh
 
-# refuses each allocation of the commands in turn, on the examples and the programs of conformance/data, and of most calls
+# refuses each allocation of the commands in turn, on the examples and the programs of tests/cases, and of most calls
 # of the libraries that take memory
 refuse: build
-	@test -x $(CALLS) || (cd crates/refused_calls && rt run < /dev/null > /dev/null)
+	@test -x $(CALLS) || (cd crates/library_calls && rt run -- calls < /dev/null > /dev/null)
 	@python3 tests/hostile allocations calls
 
 # that, and damaged images, random texts, inputs at their limits and beyond, threads that are not started, the lines of
 # the debugger, inputs and outputs that fail
 hostile: build
-	@test -x $(CALLS) || (cd crates/refused_calls && rt run < /dev/null > /dev/null)
+	@test -x $(CALLS) || (cd crates/library_calls && rt run -- calls < /dev/null > /dev/null)
 	@python3 tests/hostile
 
 # the commands that stand in README.md and docs, run on the examples; what they print is compared with what stands there

@@ -4,7 +4,7 @@
 set -eu
 cd "$(dirname "$0")/.."
 tool=$PWD/crates/mta_sim/out/mta_sim
-parts=$PWD/crates/bench/out/bench
+parts=$PWD/crates/library_calls/out/library_calls
 work=$(mktemp -d)
 trap 'rm -rf "$work"' EXIT
 
@@ -48,57 +48,57 @@ report() {
 # steps WHAT: 1,000,000 steps, by the difference of 101 rounds and 1; their instructions by that of 2 rounds and 1
 steps() {
   local one many once twice
-  one=$(best 3 "$parts" "$1" 1)
-  many=$(best 3 "$parts" "$1" 101)
-  once=$(instructions "$parts" "$1" 1)
-  twice=$(instructions "$parts" "$1" 2)
+  one=$(best 3 "$parts" bench "$1" 1)
+  many=$(best 3 "$parts" bench "$1" 101)
+  once=$(instructions "$parts" bench "$1" 1)
+  twice=$(instructions "$parts" bench "$1" 2)
   report "machine, 1000000 steps, $1 loop on 16 processors" $(((many - one) / 100)) $((twice - once)) 1000000 step \
-    "$(peak "$parts" "$1" 1)"
+    "$(peak "$parts" bench "$1" 1)"
 }
 
 # recorded: 1,000,000 recorded steps of the loop in which each third step asks the memory, with its history
 recorded() {
   local one many once twice
-  one=$(best 3 "$parts" record 1)
-  many=$(best 3 "$parts" record 11)
-  once=$(instructions "$parts" record 1)
-  twice=$(instructions "$parts" record 2)
+  one=$(best 3 "$parts" bench record 1)
+  many=$(best 3 "$parts" bench record 11)
+  once=$(instructions "$parts" bench record 1)
+  twice=$(instructions "$parts" bench record 2)
   report "recorded, 1000000 steps, each_third_asks loop" $(((many - one) / 10)) $((twice - once)) 1000000 step \
-    "$(peak "$parts" record 1)"
+    "$(peak "$parts" bench record 1)"
 }
 
 # gathered WHICH HOW: a schedule of 1,000,000 recorded steps, by the difference of a run that is gathered and one that is
 # not; WHICH is empty where one stream runs alone, and _alternating where two take turns
 gathered() {
   local alone both once twice count
-  alone=$(best 3 "$parts" "record$1" 11)
-  both=$(best 3 "$parts" "gather$1" 11)
+  alone=$(best 3 "$parts" bench "record$1" 11)
+  both=$(best 3 "$parts" bench "gather$1" 11)
   count=$(sed 's/.* of //' "$work/out")
-  once=$(instructions "$parts" "record$1" 1)
-  twice=$(instructions "$parts" "gather$1" 1)
+  once=$(instructions "$parts" bench "record$1" 1)
+  twice=$(instructions "$parts" bench "gather$1" 1)
   report "gather, $count steps and entries, $2" $(((both - alone) / 11)) $((twice - once)) "$count" each \
-    $(($(peak "$parts" "gather$1" 1) - $(peak "$parts" "record$1" 1)))
+    $(($(peak "$parts" bench "gather$1" 1) - $(peak "$parts" bench "record$1" 1)))
 }
 
 # local_record: what 1,000,000 steps of one stream that asks nothing take, beside the room that is only reserved
 local_record() {
   printf '%-58s %d KB\n' "record of 1000000 local steps of one stream" \
-    $(($(peak "$parts" record_local 1) - $(peak "$parts" record_local 0)))
+    $(($(peak "$parts" bench record_local 1) - $(peak "$parts" bench record_local 0)))
 }
 
 # copies WHAT: a copy of the largest memory, or of as many bytes in one list, by the difference of 101 copies and 1
 copies() {
   local one many
-  one=$(best 5 "$parts" "$1" 1)
-  many=$(best 5 "$parts" "$1" 101)
-  printf '%-58s %6d us, %d KB\n' "$1" $(((many - one) / 100)) $((($(peak "$parts" "$1" 101) - $(peak "$parts" "$1" 1)) / 100))
+  one=$(best 5 "$parts" bench "$1" 1)
+  many=$(best 5 "$parts" bench "$1" 101)
+  printf '%-58s %6d us, %d KB\n' "$1" $(((many - one) / 100)) $((($(peak "$parts" bench "$1" 101) - $(peak "$parts" bench "$1" 1)) / 100))
 }
 
 # round WHAT: the microseconds of one round, by the difference of 11 rounds and 1
 round() {
   local one many
-  one=$(best 3 "$parts" "$1" 1)
-  many=$(best 3 "$parts" "$1" 11)
+  one=$(best 3 "$parts" bench "$1" 1)
+  many=$(best 3 "$parts" bench "$1" 11)
   echo $(((many - one) / 10))
 }
 
@@ -116,43 +116,43 @@ at_once() {
 # rounds WHAT: the time of one round, by the difference of 11 rounds and 1
 rounds() {
   local one many once twice bytes
-  one=$(best 3 "$parts" "$1" 1)
-  many=$(best 3 "$parts" "$1" 11)
+  one=$(best 3 "$parts" bench "$1" 1)
+  many=$(best 3 "$parts" bench "$1" 11)
   bytes=$(sed 's/.* of //' "$work/out")
-  once=$(instructions "$parts" "$1" 1)
-  twice=$(instructions "$parts" "$1" 2)
-  report "$1, $bytes bytes" $(((many - one) / 10)) $((twice - once)) "$bytes" byte "$(peak "$parts" "$1" 1)"
+  once=$(instructions "$parts" bench "$1" 1)
+  twice=$(instructions "$parts" bench "$1" 2)
+  report "$1, $bytes bytes" $(((many - one) / 10)) $((twice - once)) "$bytes" byte "$(peak "$parts" bench "$1" 1)"
 }
 
 # sessions WHAT: 1,000,000 steps, each time in a session of the debugger in which nothing has run, by the difference of 11
 # rounds and 1
 sessions() {
   local one many once twice
-  one=$(best 3 "$parts" "$1" 1)
-  many=$(best 3 "$parts" "$1" 11)
-  once=$(instructions "$parts" "$1" 1)
-  twice=$(instructions "$parts" "$1" 2)
+  one=$(best 3 "$parts" bench "$1" 1)
+  many=$(best 3 "$parts" bench "$1" 11)
+  once=$(instructions "$parts" bench "$1" 1)
+  twice=$(instructions "$parts" bench "$1" 2)
   report "$1, 1000000 steps of the fetch_add loop" $(((many - one) / 10)) $((twice - once)) 1000000 step \
-    "$(peak "$parts" "$1" 1)"
+    "$(peak "$parts" bench "$1" 1)"
 }
 
 # again WHAT HOW: what one session does that has been at the end of its 1,000,000 steps, by the difference of 11 rounds and 1
 again() {
   local one many once twice count
-  one=$(best 3 "$parts" "$1" 1)
-  many=$(best 3 "$parts" "$1" 11)
+  one=$(best 3 "$parts" bench "$1" 1)
+  many=$(best 3 "$parts" bench "$1" 11)
   count=$(sed 's/.* of //' "$work/out")
-  once=$(instructions "$parts" "$1" 1)
-  twice=$(instructions "$parts" "$1" 2)
-  report "$1, $2: $count steps" $(((many - one) / 10)) $((twice - once)) "$count" step "$(peak "$parts" "$1" 1)"
+  once=$(instructions "$parts" bench "$1" 1)
+  twice=$(instructions "$parts" bench "$1" 2)
+  report "$1, $2: $count steps" $(((many - one) / 10)) $((twice - once)) "$count" step "$(peak "$parts" bench "$1" 1)"
 }
 
 # pair HOW: two processors run at once, with one step in three a fetch-and-add on one word; on all cores, and on one
 # where taskset is installed. No instructions are counted: how many a waiting thread runs hangs on the machine's load.
 pair() {
   local all one=0
-  all=$(best 5 "$parts" "pair_$1" 1)
-  if command -v taskset >/dev/null; then one=$(best 5 taskset -c 0 "$parts" "pair_$1" 1); fi
+  all=$(best 5 "$parts" bench "pair_$1" 1)
+  if command -v taskset >/dev/null; then one=$(best 5 taskset -c 0 "$parts" bench "pair_$1" 1); fi
   printf '%-58s %6d.%d ms on all cores, %d.%d ms on one\n' "2 processors at once $1, 1000000 steps" \
     $((all / 1000)) $((all / 100 % 10)) $((one / 1000)) $((one / 100 % 10))
 }

@@ -1,4 +1,4 @@
-"""Refused memory in single calls of the libraries: the program refused_calls makes each public call that takes memory and
+"""Refused memory in single calls of the libraries: the program library_calls makes each public call that takes memory and
 says how it ended. One allocation is refused at a time: the call that it was for has to say that memory was refused, and to
 leave what it may change as it was, or to hand it back; every other call has to be done. Refused threads are no error: all
 calls have to be done then."""
@@ -58,7 +58,7 @@ def part(_, folder):
 
     def calls(number):
         variables = refused_allocation(library, folder, number)
-        ended = run([], tool=CALLS, **variables)
+        ended = run(["calls"], tool=CALLS, **variables)
         return ended, endings_of(ended), int(read(variables["COUNT"]))
 
     ended, endings, count = calls(0)
@@ -75,7 +75,7 @@ def check_threads(tally, library, folder):
     """Refuses each thread in turn, and all of them."""
     def calls(numbers):
         variables = refused_threads(library, folder, numbers)
-        ended = run([], tool=CALLS, **variables)
+        ended = run(["calls"], tool=CALLS, **variables)
         is_done = ended.is_done() and all(text == DONE for _, text in endings_of(ended))
         tally.check(f"threads {numbers or 'none'} refused: {ended}", is_done)
         tally.threads += numbers != ""

@@ -10,7 +10,7 @@ import tempfile
 
 ROOT = os.path.dirname(os.path.dirname(os.path.dirname(os.path.abspath(__file__))))
 TOOL = os.path.join(ROOT, "crates/mta_sim/out/mta_sim")
-CALLS = os.path.join(ROOT, "crates/refused_calls/out/refused_calls")
+CALLS = os.path.join(ROOT, "crates/library_calls/out/library_calls")
 EXAMPLES = os.path.join(ROOT, "examples")
 CASES = os.path.join(ROOT, "tests/cases")
 MOST_INPUT = 33_554_432

@@ -1,14 +1,22 @@
 //! Gates that pass only where processors step at once, and where local steps take no lock.
-use crate::runs::{Way, assert_replays, image_of, run_under};
+use crate::runs::{Came, Way, run_under};
 use crate::turns::Turns;
 use memory_lock::Gate;
-use std::alloc::Global;
-use std::process::Abort;
 use std::sync::Wait;
 use std::sync::atomic::{AtomicUsize, Ordering};
-use std::test::Fail;
 use std::thread::Threads;
 use std::time::Clock;
+
+/// Two processors that each ask twice.
+const TWO: &str =
+    ".slim 1\n.entry 0\n.entry 0\nFADD.N r1, r0, 0\nFADD.N r1, r0, 0\nQUIT\n.data 0\n";
+
+/// One that does.
+const ONE: &str = ".slim 1\n.entry 0\nFADD.N r1, r0, 0\nFADD.N r1, r0, 0\nQUIT\n.data 0\n";
+
+/// One with local steps alone, and one that asks.
+const LOCAL: &str =
+    ".slim 1\n.entry 0\n.entry c\nLIT r1, 1\nQUIT\nc: FADD.N r1, r0, 0\nQUIT\n.data 0\n";
 
 /// Before its second request each of two processors waits until the other stands before its own second request.
 #[derive(Drop)]
@@ -35,49 +43,54 @@ impl<'c, C: Clock> Gate for TwoWayGate<'c, C> {
     fn after<R: Wait>(&self, _rt: &R, _p: u8, _s: u8) {}
 }
 
-#[test]
-fn two_way_gate(rt: HostRuntime) -> Result<(), Fail> {
-    assert_two_ways(&rt, rt.alloc(), Way::Lock)?;
-    assert_two_ways(&rt, rt.alloc(), Way::Turns)?;
-    assert_gives_up(&rt, rt.alloc())
-}
-
-fn assert_two_ways<R: Abort + Clock + Threads + Wait + Sync>(
+/// What a run came to, and whether a processor waited in vain.
+fn met<R: AllocGlobal + Clock + Threads + Wait + Sync>(
     rt: &R,
-    alloc: Global,
+    source: &str,
     way: Way,
-) -> Result<(), Fail> {
-    let image = image_of(
-        alloc,
-        ".slim 1\n.entry 0\n.entry 0\nFADD.N r1, r0, 0\nFADD.N r1, r0, 0\nQUIT\n.data 0\n",
-    )?;
+) -> (Option<Came>, bool) {
     let gate = TwoWayGate {
         turns: Turns::new(rt),
         first: AtomicUsize::new(0),
         second: AtomicUsize::new(0),
     };
-    let woven = run_under(rt, alloc, &image, 3, &gate, way)?;
-    assert!(rt; !gate.turns.ran_out());
-    assert_eq!(rt; (woven.history().len(), woven.schedule().len()), (4, 6));
-    Ok(())
+    let came = run_under(rt, source, 3, &gate, way);
+    (came, gate.turns.ran_out())
 }
 
-/// One processor alone waits for another in vain, until its gate gives up, and then goes on to its end.
-fn assert_gives_up<R: Abort + Clock + Threads + Wait + Sync>(
-    rt: &R,
-    alloc: Global,
-) -> Result<(), Fail> {
-    let source = ".slim 1\n.entry 0\nFADD.N r1, r0, 0\nFADD.N r1, r0, 0\nQUIT\n.data 0\n";
-    let image = image_of(alloc, source)?;
-    let gate = TwoWayGate {
-        turns: Turns::new(rt),
-        first: AtomicUsize::new(0),
-        second: AtomicUsize::new(0),
-    };
-    let woven = run_under(rt, alloc, &image, 3, &gate, Way::Turns)?;
-    assert!(rt; gate.turns.ran_out());
-    assert_eq!(rt; (woven.history().len(), woven.schedule().len()), (2, 3));
-    assert_replays(rt, alloc, &image, &woven)
+#[test]
+fn processors_step_at_once(rt: HostRuntime) {
+    for way in [Way::Lock, Way::Turns] {
+        let met = met(&rt, TWO, way);
+        assert!(rt;
+            matches!(
+                met,
+                (
+                    Some(Came {
+                        requests: 4,
+                        steps: 6,
+                        ..
+                    }),
+                    false
+                )
+            )
+        );
+    }
+    // one alone waits until its gate gives up, and then goes on to its end
+    let met = met(&rt, ONE, Way::Lock);
+    assert!(rt;
+        matches!(
+            met,
+            (
+                Some(Came {
+                    requests: 2,
+                    steps: 3,
+                    ..
+                }),
+                true
+            )
+        )
+    );
 }
 
 /// Processor 1 waits before its request until processor 0 takes a local step, and that local step until processor 1
@@ -109,28 +122,36 @@ impl<'c, C: Clock> Gate for LocalGate<'c, C> {
     }
 }
 
-#[test]
-fn free_local_gate(rt: HostRuntime) -> Result<(), Fail> {
-    assert_free_local(&rt, rt.alloc(), Way::Lock)?;
-    assert_free_local(&rt, rt.alloc(), Way::Turns)
-}
-
-fn assert_free_local<R: Abort + Clock + Threads + Wait + Sync>(
+/// What a run came to, and whether a processor waited in vain.
+fn stepped_locally<R: AllocGlobal + Clock + Threads + Wait + Sync>(
     rt: &R,
-    alloc: Global,
     way: Way,
-) -> Result<(), Fail> {
-    let image = image_of(
-        alloc,
-        ".slim 1\n.entry 0\n.entry c\nLIT r1, 1\nQUIT\nc: FADD.N r1, r0, 0\nQUIT\n.data 0\n",
-    )?;
+) -> (Option<Came>, bool) {
     let gate = LocalGate {
         turns: Turns::new(rt),
         locals: AtomicUsize::new(0),
         replies: AtomicUsize::new(0),
     };
-    let woven = run_under(rt, alloc, &image, 2, &gate, way)?;
-    assert!(rt; !gate.turns.ran_out());
-    assert_eq!(rt; (woven.history().len(), woven.schedule().len()), (1, 4));
-    Ok(())
+    let came = run_under(rt, LOCAL, 2, &gate, way);
+    (came, gate.turns.ran_out())
+}
+
+#[test]
+fn a_local_step_holds_no_lock(rt: HostRuntime) {
+    for way in [Way::Lock, Way::Turns] {
+        let stepped = stepped_locally(&rt, way);
+        assert!(rt;
+            matches!(
+                stepped,
+                (
+                    Some(Came {
+                        requests: 1,
+                        steps: 4,
+                        ..
+                    }),
+                    false
+                )
+            )
+        );
+    }
 }

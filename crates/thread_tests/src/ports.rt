@@ -1,78 +1,24 @@
-//! Processors driven through ports that no thread shares.
+//! A processor driven through ports that no thread shares.
 ghost use Rattle.std.specs.Prelude.{None};
 
 use crate::runs::image_of;
-use memory_lock::{FreeGate, NoRoom, Port, SharedMemory, drive};
+use image_file::Image;
+use memory_lock::{FreeGate, Gate, LockPort, NoRoom, Port, SharedMemory, drive};
 use processor::Recorded;
-use std::sync::Wait;
-use std::test::Fail;
-use tag_memory::{Reply, Request, Word};
+use std::alloc::Global;
+use std::sync::atomic::{AtomicU64, Ordering};
+use std::sync::{Mutex, Wait};
+use tag_memory::{Reply, Request};
 
-/// A port to a memory of its own, which refuses where that has no room for another entry.
-#[derive(Drop)]
-struct OwnPort<'i> {
-    memory: SharedMemory<'i>,
-    refused: bool,
-}
+/// Adds, and adds what it read.
+const ADDING: &str =
+    ".slim 1\n.entry 0\nLIT r1, 2\nFADD.N r1, r0, 0\nADD r1, r1, 1\nFADD.N r1, r0, 0\n\
+    FADD.N r1, r0, 0\nQUIT\n.data 5\n";
 
-impl<'i> Port for OwnPort<'i> {
-    ghost made = { λ _. None };
-
-    ghost is_refused = { λ port. port.refused };
-
-    fn ask<R: Wait>(&mut self, _rt: &R, p: u8, s: u8, request: &Request) -> Result<Reply, NoRoom> {
-        let there = usize::from(p) < self.memory.image().processors();
-        let reply = if there {
-            self.memory.ask(p, s, request)
-        } else {
-            Err(NoRoom)
-        };
-        if reply.is_err() {
-            self.refused = true;
-        }
-        reply
-    }
-
-    fn refused(&self) -> bool {
-        self.refused
-    }
-}
-
-#[test]
-fn a_refused_request_ends_a_drive_and_is_asked_again(rt: HostRuntime) -> Result<(), Fail> {
-    let image = image_of(
-        rt.alloc(),
-        ".slim 1\n.entry 0\nLIT r1, 2\nFADD.N r1, r0, 0\nADD r1, r1, 1\nFADD.N r1, r0, 0\n\
-            FADD.N r1, r0, 0\nQUIT\n.data 5\n",
-    )?;
-    assert!(rt; image.slim() == 1 && image.processors() == 1);
-    let mut record = Recorded::<1>::new(rt.alloc(), &image, 0)?;
-    record.reserve(9)?;
-    assert!(rt; record.spare() >= 9 && record.steps().len() == 0);
-    let mut port = OwnPort {
-        memory: SharedMemory::new(rt.alloc(), &image, 2)?,
-        refused: false,
-    };
-    let driven = drive(&rt, &mut record, &mut port, 9, &FreeGate);
-    assert_eq!(rt; driven, Err(NoRoom));
-    assert!(rt; port.refused());
-    // 5 + 2 = 7, and r1 is 5 + 1 = 6; 7 + 6 = 13, and r1 is 7
-    assert_eq!(rt; (record.steps().len(), record.pairs().len()), (4, 2));
-    assert_eq!(rt; record.stream(0).and_then(|stream| stream.reg(1)), Some(7));
-    assert_eq!(rt; port.memory.word(0), Word::from_number(13, 1));
-    assert!(rt; record.spare() >= 5);
-    let mut other = OwnPort {
-        memory: SharedMemory::new(rt.alloc(), &image, 1)?,
-        refused: false,
-    };
-    // the step that was refused is taken now: 5 + 7 = 12
-    let driven = drive(&rt, &mut record, &mut other, 9, &FreeGate);
-    assert!(rt; driven.is_ok() && !other.refused());
-    assert_eq!(rt; (record.steps().len(), record.pairs().len()), (6, 3));
-    assert_eq!(rt; other.memory.word(0), Word::from_number(12, 1));
-    assert!(rt; !record.any_running());
-    Ok(())
-}
+/// Stream 0 starts stream 1, which stores; then stream 0 loads, and both end.
+const OF_TWO_STREAMS: &str =
+    ".slim 2\n.entry 0\nLIT r1, 1\nRESERVE r2, r1\nTLIT t1, c\nCREATE t1, r1\nLOAD.S r3, r0, 0\nQUIT\n\
+    c: STORE.S r1, r0, 0\nQUIT\n.data 0, 0\n";
 
 /// A port that replies as its table says, and refuses past its end.
 #[derive(Drop)]
@@ -106,30 +52,148 @@ impl<'t> Port for TablePort<'t> {
     }
 }
 
-#[test]
-fn a_drive_goes_by_the_replies_of_its_port(rt: HostRuntime) -> Result<(), Fail> {
-    let image = image_of(
-        rt.alloc(),
-        ".slim 1\n.entry 0\nLOAD.S r1, r0, 0\nLOAD.S r2, r0, 0\nSKIP ALWAYS, 0, -1\n.data 5\n",
-    )?;
-    assert!(rt; image.slim() == 1 && image.processors() == 1);
-    let mut record = Recorded::<1>::new(rt.alloc(), &image, 0)?;
-    record.reserve(4)?;
-    assert!(rt; record.spare() >= 4 && record.steps().len() == 0);
-    let replies = [Reply::Done(7), Reply::Blocked(0), Reply::Done(9)];
+/// A record of the image's one processor, with room to be driven twice.
+fn record_of(alloc: Global, image: &Image) -> Option<Recorded<2>> {
+    if image.slim() > 2 || image.processors() != 1 {
+        return None;
+    }
+    let mut record = Recorded::new(alloc, image, 0).ok()?;
+    record.reserve(18).ok()?;
+    Some(record)
+}
+
+/// Whether the record is driven to its end, or to nine steps.
+fn is_driven<R: Wait, P: Port, G: Gate>(
+    rt: &R,
+    record: &mut Recorded<2>,
+    port: &mut P,
+    gate: &G,
+) -> bool {
+    if record.spare() < 9 {
+        return false;
+    }
+    drive(rt, record, port, 9, gate).is_ok()
+}
+
+/// How many steps and pairs there are, what register 1 of stream 0 holds, and whether a stream runs.
+fn seen(record: &Recorded<2>) -> (usize, usize, Option<u64>, bool) {
+    let register = match record.stream(0) {
+        Some(stream) => stream.reg(1),
+        None => None,
+    };
+    (
+        record.steps().len(),
+        record.pairs().len(),
+        register,
+        record.any_running(),
+    )
+}
+
+/// Whether a drive takes all replies, and ends where they do.
+fn is_driven_by<R: Wait>(rt: &R, record: &mut Recorded<2>, replies: &[Reply]) -> bool {
     let mut port = TablePort {
-        replies: &replies,
+        replies,
         refused: false,
     };
-    let driven = drive(&rt, &mut record, &mut port, 4, &FreeGate);
-    assert!(rt; driven.is_ok() && !port.refused() && port.replies.is_empty());
-    assert_eq!(rt; (record.steps().len(), record.pairs().len()), (4, 3));
-    for (pair, reply) in record.pairs().iter().zip(&replies) {
-        assert_eq!(rt; pair.reply, *reply);
+    let is_driven = is_driven(rt, record, &mut port, &FreeGate);
+    port.replies.is_empty() && is_driven != port.refused
+}
+
+/// Whether a drive is refused behind the first two requests, and a later one goes on from there.
+fn goes_on<R: AllocGlobal + Wait>(rt: &R, image: &Image) -> Option<bool> {
+    let mut record = record_of(rt.alloc(), image)?;
+    // r1 is 5, and 5 + 1; then 7
+    let is_refused = is_driven_by(rt, &mut record, &[Reply::Done(5), Reply::Done(7)])
+        && seen(&record) == (4, 2, Some(7), true);
+    let is_ended = is_driven_by(rt, &mut record, &[Reply::Blocked(0), Reply::Done(14)])
+        && seen(&record) == (7, 4, Some(0), false);
+    Some(is_refused && is_ended)
+}
+
+#[test]
+fn a_refused_request_ends_a_drive_and_is_asked_again(rt: HostRuntime) {
+    let image = image_of(rt.alloc(), ADDING);
+    let goes = match &image {
+        Some(image) => goes_on(&rt, image),
+        None => None,
+    };
+    assert!(rt; goes == Some(true));
+}
+
+/// Writes down what it is told: a digit for a call, 1 and 2 for a local step of stream 0 and 1, 3 and 4 before a request,
+/// 5 and 6 after it.
+#[derive(Drop)]
+struct ToldGate {
+    digits: AtomicU64,
+}
+
+impl ToldGate {
+    fn add(&self, digit: u8) {
+        let digits = self.digits.load(Ordering::SeqCst);
+        let longer = digits.wrapping_mul(10).wrapping_add(u64::from(digit));
+        self.digits.store(longer, Ordering::SeqCst);
     }
-    let registers = record
-        .stream(0)
-        .map(|stream| (stream.reg(1), stream.reg(2)));
-    assert_eq!(rt; registers, Some((Some(7), Some(9))));
-    Ok(())
+}
+
+impl Gate for ToldGate {
+    fn local<R: Wait>(&self, _rt: &R, _p: u8, s: u8) {
+        self.add(s.wrapping_add(1));
+    }
+
+    fn before<R: Wait>(&self, _rt: &R, _p: u8, s: u8) {
+        self.add(s.wrapping_add(3));
+    }
+
+    fn after<R: Wait>(&self, _rt: &R, _p: u8, s: u8) {
+        self.add(s.wrapping_add(5));
+    }
+}
+
+/// What a gate is told of a run of two streams.
+fn told<R: AllocGlobal + Wait>(rt: &R, image: &Image) -> Option<u64> {
+    let mut record = record_of(rt.alloc(), image)?;
+    let gate = ToldGate {
+        digits: AtomicU64::new(0),
+    };
+    let mut port = TablePort {
+        replies: &[Reply::Done(0), Reply::Done(1)],
+        refused: false,
+    };
+    let is_driven = is_driven(rt, &mut record, &mut port, &gate);
+    let digits = gate.digits.load(Ordering::SeqCst);
+    if is_driven { Some(digits) } else { None }
+}
+
+#[test]
+fn a_gate_is_told_which_stream_steps(rt: HostRuntime) {
+    let image = image_of(rt.alloc(), OF_TWO_STREAMS);
+    let told = match &image {
+        Some(image) => told(&rt, image),
+        None => None,
+    };
+    assert!(rt; told == Some(1_111_463_521));
+}
+
+/// What a drive leaves where the memory behind a lock has no room for an entry.
+fn left_without_room<R: AllocGlobal + Wait>(
+    rt: &R,
+    image: &Image,
+) -> Option<(usize, usize, Option<u64>, bool)> {
+    let mut record = record_of(rt.alloc(), image)?;
+    let memory = Mutex::new(SharedMemory::new(rt.alloc(), image, 0).ok()?);
+    let mut port = LockPort::new(&memory);
+    if is_driven(rt, &mut record, &mut port, &FreeGate) || !port.refused() {
+        return None;
+    }
+    Some(seen(&record))
+}
+
+#[test]
+fn a_memory_without_room_ends_a_drive(rt: HostRuntime) {
+    let image = image_of(rt.alloc(), ADDING);
+    let left = match &image {
+        Some(image) => left_without_room(&rt, image),
+        None => None,
+    };
+    assert!(rt; left == Some((1, 0, Some(2), true)));
 }

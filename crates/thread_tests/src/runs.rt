@@ -1,46 +1,14 @@
-//! Images and runs that several tests begin with.
+//! Runs of all processors at once, and what is gathered of them.
 use asm_text::assemble;
 use image_file::Image;
-use machine::Machine;
-use memory_lock::{Gate, Parts, ThreadsFault, Woven};
-use processor::Step;
+use memory_lock::{Gate, Woven, threaded, threaded_by_lock};
 use std::alloc::Global;
-use std::process::Abort;
 use std::sync::Wait;
-use std::test::Fail;
 use std::thread::Threads;
-use turn_memory::run_threads;
-
-pub(crate) fn image_of(alloc: Global, source: &str) -> Result<Image, Fail> {
-    Ok(assemble(alloc, source.as_bytes())?)
-}
-
-/// Asserts that a machine comes by the schedule to the streams, counts and words of what was gathered.
-pub(crate) fn assert_replays<const S: usize>(
-    rt: &impl Abort,
-    alloc: Global,
-    image: &Image,
-    woven: &Woven<S>,
-) -> Result<(), Fail> {
-    let mut machine = Machine::<S>::load(alloc, image)?;
-    machine.run(woven.schedule());
-    for p in 0u8..17 {
-        assert_eq!(rt; machine.counts(p), woven.counts(p), "processor {p}");
-        let same = machine.stream(p, 0).copied() == woven.stream(p, 0).copied();
-        assert!(rt; same, "stream {p} 0");
-    }
-    for address in [0u64, 8, 16] {
-        assert_eq!(rt;
-            machine.word(address),
-            woven.word(address),
-            "word {address}"
-        );
-    }
-    Ok(())
-}
+use tag_memory::Word;
 
 /// How processors reach the memory.
-#[derive(Clone, Copy, Debug)]
+#[derive(Clone, Copy)]
 pub(crate) enum Way {
     /// Through a lock.
     Lock,
@@ -48,41 +16,64 @@ pub(crate) enum Way {
     Turns,
 }
 
-/// A run of an image whose processors have one stream, and what is gathered of it.
-pub(crate) fn run_under<'i, R: Threads + Wait + Sync, G: Gate + Sync>(
+/// What a run came to: how many requests and steps it had, how many of the first requests were of processors 0 and 1 in
+/// turn, and its second word.
+#[derive(Clone, Copy)]
+pub(crate) struct Came {
+    pub(crate) requests: usize,
+    pub(crate) steps: usize,
+    pub(crate) alternating: usize,
+    pub(crate) second: Option<Word>,
+}
+
+/// The image of a source text; none where it has a fault.
+pub(crate) fn image_of(alloc: Global, source: &str) -> Option<Image> {
+    assemble(alloc, source.as_bytes()).ok()
+}
+
+fn woven_of<'i, R: Threads + Wait + Sync, G: Gate + Sync>(
     rt: &R,
     alloc: Global,
     image: &'i Image,
     fuel: usize,
     gate: &G,
     way: Way,
-) -> Result<Woven<'i, 1>, Fail> {
-    let run = match way {
-        Way::Lock => memory_lock::threaded(rt, alloc, image, fuel, gate),
-        Way::Turns => turn_memory::threaded(rt, alloc, image, fuel, gate),
-    };
-    match run {
-        Ok(woven) => Ok(woven),
-        Err(ThreadsFault::Build(fault)) => Err(Fail::from(fault)),
-        Err(ThreadsFault::Gather(_, fault)) => Err(Fail::from(fault)),
+) -> Option<Woven<'i, 1>> {
+    match way {
+        Way::Lock => threaded_by_lock(rt, alloc, image, fuel, gate).ok(),
+        Way::Turns => threaded(rt, alloc, image, fuel, gate).ok(),
     }
 }
 
-/// The parts that two runs, one after the other, leave of an image whose processors have one stream. The second goes
-/// through the lock in any case, and the first where there are not two processors.
-pub(crate) fn run_twice<'i, R: Threads + Wait + Sync, G: Gate + Sync>(
-    rt: &R,
-    alloc: Global,
-    image: &'i Image,
-    fuel: usize,
-    gate: &G,
-) -> Result<Parts<'i, 1>, Fail> {
-    let parts = Parts::new(alloc, image, fuel)?;
-    let parts = run_threads(rt, parts, gate);
-    Ok(run_threads(rt, parts, gate))
+fn alternating(woven: &Woven<1>) -> usize {
+    let mut count = 0usize;
+    for entry in woven.history() {
+        if usize::from(entry.p) != count % 2 {
+            return count;
+        }
+        count = count.saturating_add(1);
+    }
+    count
 }
 
-/// How many steps of the schedule are the processor's.
-pub(crate) fn steps_of(schedule: &[Step], p: u8) -> usize {
-    schedule.iter().filter(|step| step.p == p).count()
+fn came_to(woven: &Woven<1>) -> Came {
+    Came {
+        requests: woven.history().len(),
+        steps: woven.schedule().len(),
+        alternating: alternating(woven),
+        second: woven.word(8),
+    }
+}
+
+/// What a run of a program came to, whose processors have one stream; none where it was refused.
+pub(crate) fn run_under<R: AllocGlobal + Threads + Wait + Sync, G: Gate + Sync>(
+    rt: &R,
+    source: &str,
+    fuel: usize,
+    gate: &G,
+    way: Way,
+) -> Option<Came> {
+    let image = image_of(rt.alloc(), source)?;
+    let woven = woven_of(rt, rt.alloc(), &image, fuel, gate, way)?;
+    Some(came_to(&woven))
 }
