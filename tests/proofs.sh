@@ -22,7 +22,11 @@ if [ "$(sed -n 1p out/passed 2>/dev/null)" = "$(checksum)" ]; then
   exit 0
 fi
 rm -f out/passed
+stamp=$(tests/built.sh stamp)
 tests/progress.sh out/test.log rt ci
 status=$?
-if [ "$status" -eq 0 ]; then printf '%s\n%s\n' "$(checksum)" "$(tail -n 1 out/test.log)" >out/passed; fi
+if [ "$status" -eq 0 ]; then
+  tests/built.sh keep "$stamp"
+  printf '%s\n%s\n' "$(checksum)" "$(tail -n 1 out/test.log)" >out/passed
+fi
 exit "$status"
