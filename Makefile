@@ -100,9 +100,10 @@ install:
 	install -D -m 644 share/completions/mta_sim.bash $(SHARE)/bash-completion/completions/mta_sim
 	install -D -m 644 share/completions/_mta_sim $(SHARE)/zsh/site-functions/_mta_sim
 	install -D -m 644 share/completions/mta_sim.fish $(SHARE)/fish/vendor_completions.d/mta_sim.fish
-	install -d $(SHARE)/mta_sim $(SHARE)/doc/mta_sim
+	install -d $(SHARE)/mta_sim $(SHARE)/doc/mta_sim/docs
 	cp -r examples editors $(SHARE)/mta_sim
-	install -m 644 README.md docs/*.md $(SHARE)/doc/mta_sim
+	install -m 644 README.md CONTRIBUTING.md CHANGELOG.md $(SHARE)/doc/mta_sim
+	install -m 644 docs/*.md $(SHARE)/doc/mta_sim/docs
 
 uninstall:
 	rm -f $(DESTDIR)$(PREFIX)/bin/mta_sim $(SHARE)/man/man1/mta_sim.1 $(SHARE)/bash-completion/completions/mta_sim
