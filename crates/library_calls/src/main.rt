@@ -1,21 +1,30 @@
-//! Calls of the libraries, which no command makes alone. Its first word says what it does:
+//! Calls of the libraries that no command makes alone. The first word says what is done:
 //!
 //! - `calls` makes most public calls that take memory, and prints a line for each: how it ended. `make refuse` refuses
 //!   its allocations in turn.
-//! - `bench WHAT ROUNDS` does one thing again and again, without any text, so that bench/run.sh can time it.
+//! - `bench KIND WHICH ROUNDS` does one thing again and again, without any text, so that bench/run.sh can time it.
 #![tactic(auto)]
 
 mod bench;
 mod calls;
 
-use anyhow::{Context, Result, anyhow};
+use anyhow::{Result, anyhow};
 use std::env;
+use std::sync::Wait;
+use std::thread::Threads;
 
 fn main(rt: HostRuntime) -> Result<()> {
     let words: Vec<String> = env::args(&rt)?.collect(rt.alloc())?;
-    match words.get(1).context("calls, or bench?")?.as_str() {
-        "calls" => calls::make(&rt),
-        "bench" => bench::time(&rt, words.get(2..).context("bench WHAT ROUNDS")?),
-        _ => Err(anyhow!("calls, or bench?"))
+    run(&rt, &words)
+}
+
+/// Does what the words behind the program's name say.
+fn run<R: AllocGlobal + Print + Threads + Wait + Sync>(rt: &R, words: &[String]) -> Result<()> {
+    match words {
+        [_, calls] if calls.as_str() == "calls" => calls::make(rt),
+        [_, bench, kind, which, rounds] if bench.as_str() == "bench" => {
+            bench::time(rt, kind.as_str(), which.as_str(), rounds.as_str())
+        }
+        _ => Err(anyhow!("calls, or bench KIND WHICH ROUNDS")),
     }
 }

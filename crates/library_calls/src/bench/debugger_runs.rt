@@ -1,4 +1,4 @@
-//! Runs of the debugger over the steps of a loop, each in a session of its own, in which nothing has run before.
+//! Runs of the debugger over the steps of a loop.
 use crate::bench::loops::{FETCH_ADD, PROCESSORS, image_of};
 use crate::bench::machine_steps::turns;
 use debug_commands::Command;
@@ -7,12 +7,15 @@ use processor::Step;
 use replay_debugger::Session;
 use std::alloc::Global;
 
+/// The last position.
+const END: u64 = 1_000_000;
+
 /// How many places are gone to.
 const PLACES: u64 = 20;
 
 /// The points of a session; no step of the loop stops at one.
 #[derive(Clone, Copy)]
-pub(crate) enum Points {
+enum Points {
     /// So many breakpoints, each at a place of its own.
     Breakpoints(u32),
     /// The tags of so many words, each of its own.
@@ -20,14 +23,6 @@ pub(crate) enum Points {
 }
 
 impl Points {
-    /// How many words the memory has to have.
-    fn words(self) -> usize {
-        match self {
-            Points::Breakpoints(_) => 1,
-            Points::Watches(count) => (count as usize).max(1),
-        }
-    }
-
     fn count(self) -> u32 {
         match self {
             Points::Breakpoints(count) | Points::Watches(count) => count,
@@ -43,76 +38,76 @@ impl Points {
     }
 
     /// Adds them to a session.
-    fn add(self, session: &mut Session<8>) -> Option<()> {
+    fn are_added(self, session: &mut Session<8>) -> bool {
         for point in 0..self.count() {
-            done(session, &self.command(point))?;
+            if done(session, &self.command(point)).is_none() {
+                return false;
+            }
         }
-        Some(())
+        true
     }
 }
 
 /// Does a command, and gives how many steps were run for it.
 fn done(session: &mut Session<8>, command: &Command) -> Option<u64> {
-    session.command(command).ok()?;
-    Some(session.replayed())
+    match session.command(command) {
+        Ok(_) => Some(session.replayed()),
+        Err(_) => None,
+    }
 }
 
-/// A session over these steps.
-fn session_of<'i>(alloc: Global, image: &'i Image, steps: &[Step]) -> Option<Session<'i, 8>> {
-    let steps = Vec::from_slice(alloc, steps).ok()?;
-    Session::begin(alloc, image, steps).ok()
+/// A session over these steps, with points.
+fn session_of<'i>(
+    alloc: Global,
+    image: &'i Image,
+    steps: &[Step],
+    points: Points,
+) -> Option<Session<'i, 8>> {
+    let Ok(steps) = Vec::from_slice(alloc, steps) else {
+        return None;
+    };
+    match Session::begin(alloc, image, steps) {
+        Ok(session) => with_points(session, points),
+        Err(_) => None,
+    }
 }
 
-/// The image of the loop, with memory for these points.
-fn image_for(alloc: Global, points: Points) -> Option<Image> {
-    image_of(alloc, PROCESSORS, 1, &FETCH_ADD, points.words())
+fn with_points<'i>(mut session: Session<'i, 8>, points: Points) -> Option<Session<'i, 8>> {
+    if points.are_added(&mut session) {
+        Some(session)
+    } else {
+        None
+    }
 }
 
-/// The last position.
-const END: u64 = 1_000_000;
-
-/// Goes to the end in so many sessions, and gives the number of steps of each.
-pub(crate) fn go_rounds(alloc: Global, rounds: u32) -> Option<usize> {
-    let image = image_for(alloc, Points::Breakpoints(0))?;
-    command_rounds(
-        alloc,
-        &image,
-        Points::Breakpoints(0),
-        &Command::Go(END),
-        rounds,
-    )
+/// Does a command in a session of its own, in which nothing has run before.
+fn done_anew(
+    alloc: Global,
+    image: &Image,
+    steps: &[Step],
+    points: Points,
+    command: &Command,
+) -> Option<u64> {
+    match session_of(alloc, image, steps, points) {
+        Some(mut session) => done(&mut session, command),
+        None => None,
+    }
 }
 
-/// The same by `c`, with points.
-pub(crate) fn continue_rounds(alloc: Global, points: Points, rounds: u32) -> Option<usize> {
-    let image = image_for(alloc, points)?;
-    command_rounds(alloc, &image, points, &Command::Continue, rounds)
-}
-
-/// Does a command in so many sessions with points, and gives how many steps were run for each.
+/// Does it in so many sessions.
 fn command_rounds(
     alloc: Global,
     image: &Image,
+    steps: &[Step],
     points: Points,
     command: &Command,
     rounds: u32,
-) -> Option<usize> {
-    let steps = turns(alloc)?;
-    let mut count = 0;
+) -> Option<u64> {
+    let mut count = Some(0);
     for _ in 0..rounds {
-        let mut session = session_of(alloc, image, &steps)?;
-        points.add(&mut session)?;
-        count = done(&mut session, command)?;
+        count = done_anew(alloc, image, steps, points, command);
     }
-    Some(count as usize)
-}
-
-/// A session that has been at the end of a round.
-fn ended_session(alloc: Global, image: &Image, points: Points) -> Option<Session<8>> {
-    let mut session = Session::begin(alloc, image, turns(alloc)?).ok()?;
-    points.add(&mut session)?;
-    done(&mut session, &Command::Go(END))?;
-    Some(session)
+    count
 }
 
 /// Goes to places all over a run, each 7 twentieths of it behind the one before, and all in the middle of theirs; gives
@@ -127,27 +122,75 @@ fn go_to_places(session: &mut Session<8>) -> Option<u64> {
     Some(count)
 }
 
-/// Goes to places all over a run, in one session that has been at its end, for so many rounds; gives how many steps were
-/// run for those of a round.
-pub(crate) fn place_rounds(alloc: Global, rounds: u32) -> Option<usize> {
-    let image = image_for(alloc, Points::Breakpoints(0))?;
-    let mut session = ended_session(alloc, &image, Points::Breakpoints(0))?;
-    let mut count = 0;
-    for _ in 0..rounds {
-        count = go_to_places(&mut session)?;
-    }
-    Some(count as usize)
+/// Goes back to the start, past points that stop nowhere, and to the end again.
+fn go_back_and_forth(session: &mut Session<8>) -> Option<u64> {
+    let back = done(session, &Command::Back)?;
+    let forth = done(session, &Command::Go(END))?;
+    Some(back.saturating_add(forth))
 }
 
-/// Goes back from the end to the start, past points that stop nowhere, and to the end again, in one session that has
-/// been there, for so many rounds; gives how many steps were run in a round.
-pub(crate) fn back_rounds(alloc: Global, rounds: u32) -> Option<usize> {
-    let image = image_for(alloc, Points::Breakpoints(1))?;
-    let mut session = ended_session(alloc, &image, Points::Breakpoints(1))?;
-    let mut count = 0;
+/// Does one of these so many times in a session that has been at its end.
+fn moved(session: &mut Session<8>, is_back: bool, rounds: u32) -> Option<u64> {
+    let mut count = done(session, &Command::Go(END))?;
     for _ in 0..rounds {
-        let back = done(&mut session, &Command::Back)?;
-        count = back.saturating_add(done(&mut session, &Command::Go(END))?);
+        count = if is_back {
+            go_back_and_forth(session)?
+        } else {
+            go_to_places(session)?
+        };
     }
-    Some(count as usize)
+    Some(count)
+}
+
+fn move_rounds(
+    alloc: Global,
+    image: &Image,
+    steps: &[Step],
+    is_back: bool,
+    rounds: u32,
+) -> Option<u64> {
+    let points = Points::Breakpoints(u32::from(is_back));
+    match session_of(alloc, image, steps, points) {
+        Some(mut session) => moved(&mut session, is_back, rounds),
+        None => None,
+    }
+}
+
+/// What this name says, and how many steps were run for it.
+fn rounds_of(
+    alloc: Global,
+    image: &Image,
+    steps: &[Step],
+    which: &str,
+    rounds: u32,
+) -> Option<u64> {
+    let points = match which {
+        "places" => return move_rounds(alloc, image, steps, false, rounds),
+        "back" => return move_rounds(alloc, image, steps, true, rounds),
+        "1_breakpoint" => Points::Breakpoints(1),
+        "64_breakpoints" => Points::Breakpoints(64),
+        "1_watch" => Points::Watches(1),
+        "64_watches" => Points::Watches(64),
+        _ => Points::Breakpoints(0),
+    };
+    let command = if which == "go" {
+        Command::Go(END)
+    } else {
+        Command::Continue
+    };
+    command_rounds(alloc, image, steps, points, &command, rounds)
+}
+
+/// Runs the debugger as this name says for so many rounds, and gives how many steps were run in each.
+pub(crate) fn debug_rounds(alloc: Global, which: &str, rounds: u32) -> Option<usize> {
+    let words = if which == "64_watches" { 64 } else { 1 };
+    let image = image_of(alloc, PROCESSORS, 1, &FETCH_ADD, words);
+    let count = match (image, turns(alloc)) {
+        (Some(image), Some(steps)) => rounds_of(alloc, &image, &steps, which, rounds),
+        _ => None,
+    };
+    match count {
+        Some(count) => Some(count as usize),
+        None => None,
+    }
 }

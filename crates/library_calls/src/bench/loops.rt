@@ -86,6 +86,16 @@ pub(crate) const TWO_STREAMS: [u64; 7] = [
     0x0684_0000_0000_80FD,
 ];
 
+/// The loop of this name.
+pub(crate) fn loop_of(name: &str) -> &'static [u64] {
+    match name {
+        "arithmetic" => &ARITHMETIC,
+        "fetch_add" => &FETCH_ADD,
+        "each_third_asks" => &EACH_THIRD,
+        _ => &EACH_FIFTIETH,
+    }
+}
+
 /// So many processors of so many streams, which all begin at word 0 of a program, over so many full words.
 pub(crate) fn image_of(
     alloc: Global,
@@ -94,8 +104,27 @@ pub(crate) fn image_of(
     program: &[u64],
     words: usize,
 ) -> Option<Image> {
-    let mut program = program.to_vec(alloc).ok()?;
-    let mut entries = vec![in alloc; 0; processors].ok()?;
-    let mut cells = vec![in alloc; Word::new(0, Tags::FULL); words].ok()?;
-    Image::from_parts(&mut entries, slim, 0, u32::MAX, &mut program, &mut cells).ok()
+    let Ok(mut program) = program.to_vec(alloc) else {
+        return None;
+    };
+    let Ok(mut entries) = vec![in alloc; 0; processors] else {
+        return None;
+    };
+    let Ok(mut cells) = vec![in alloc; Word::new(0, Tags::FULL); words] else {
+        return None;
+    };
+    match Image::from_parts(&mut entries, slim, 0, u32::MAX, &mut program, &mut cells) {
+        Ok(image) => Some(image),
+        Err(_) => None,
+    }
+}
+
+/// Sixteen processors that run a loop over one word.
+pub(crate) fn sixteen_with(alloc: Global, program: &[u64]) -> Option<Image> {
+    image_of(alloc, PROCESSORS, 1, program, 1)
+}
+
+/// Two that do.
+pub(crate) fn two_with(alloc: Global, program: &[u64]) -> Option<Image> {
+    image_of(alloc, 2, 1, program, 1)
 }

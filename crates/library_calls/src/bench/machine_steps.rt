@@ -1,31 +1,38 @@
 //! Steps of a loop on a machine.
-use crate::bench::loops::{PROCESSORS, STEPS, image_of};
+use crate::bench::loops::{PROCESSORS, STEPS, sixteen_with};
+use image_file::Image;
 use machine::Machine;
 use processor::Step;
 use std::alloc::Global;
 
 /// The steps of a round: stream 0 of each processor in turn.
 pub(crate) fn turns(alloc: Global) -> Option<Vec<Step>> {
-    let mut steps = Vec::with_capacity(alloc, STEPS).ok()?;
+    let Ok(mut steps) = Vec::with_capacity(alloc, STEPS) else {
+        return None;
+    };
     for step in 0..STEPS {
         let p = (step % PROCESSORS) as u8;
-        steps.push(Step { p, s: 0 }).ok()?;
+        if steps.push(Step { p, s: 0 }).is_err() {
+            return None;
+        }
     }
     Some(steps)
 }
 
-/// Takes the steps of so many rounds, and gives the number of those of each.
-fn run_turns(alloc: Global, machine: &mut Machine<8>, rounds: u32) -> Option<usize> {
-    let steps = turns(alloc)?;
+fn run(alloc: Global, image: &Image, steps: &[Step], rounds: u32) -> Option<usize> {
+    let Ok(mut machine) = Machine::<8>::load(alloc, image) else {
+        return None;
+    };
     for _ in 0..rounds {
-        machine.run(&steps);
+        machine.run(steps);
     }
     Some(steps.len())
 }
 
 /// Runs the loop for so many rounds, and gives the number of steps of each.
-pub(crate) fn run_rounds(alloc: Global, program: &[u64], rounds: u32) -> Option<usize> {
-    let image = image_of(alloc, PROCESSORS, 1, program, 1)?;
-    let mut machine = Machine::<8>::load(alloc, &image).ok()?;
-    run_turns(alloc, &mut machine, rounds)
+pub(crate) fn machine_rounds(alloc: Global, program: &[u64], rounds: u32) -> Option<usize> {
+    match (sixteen_with(alloc, program), turns(alloc)) {
+        (Some(image), Some(steps)) => run(alloc, &image, &steps, rounds),
+        _ => None,
+    }
 }

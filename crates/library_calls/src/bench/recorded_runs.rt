@@ -46,36 +46,48 @@ impl Turning {
     }
 }
 
-/// Records so many runs, and gives the number of steps and entries of each.
-pub(crate) fn record_rounds(alloc: Global, turning: Turning, rounds: u32) -> Option<usize> {
-    let image = turning.image(alloc)?;
-    let mut count = 0;
-    for _ in 0..rounds {
-        let parts = recorded(alloc, &image, turning)?;
-        count = count_of(&parts);
+/// Whose turn it is by this name.
+pub(crate) fn turning_of(name: &str) -> Turning {
+    match name {
+        "alternating" => Turning::Alternating,
+        "local" => Turning::Local,
+        _ => Turning::Alone,
     }
-    Some(count)
 }
 
-/// Records so many runs and gathers them, and gives the number of steps and entries of each.
-pub(crate) fn gather_rounds(alloc: Global, turning: Turning, rounds: u32) -> Option<usize> {
-    let image = turning.image(alloc)?;
-    let mut count = 0;
+/// Records so many runs, and gathers them or not; gives the number of steps and entries of each.
+pub(crate) fn record_rounds(
+    alloc: Global,
+    turning: Turning,
+    is_gathered: bool,
+    rounds: u32,
+) -> Option<usize> {
+    let Some(image) = turning.image(alloc) else {
+        return None;
+    };
+    let mut count = Some(0);
     for _ in 0..rounds {
-        let parts = recorded(alloc, &image, turning)?;
-        count = gathered_count(alloc, parts)?;
+        count = round(alloc, &image, turning, is_gathered);
     }
-    Some(count)
+    count
 }
 
-/// The number of steps and entries of parts, which are gathered.
+/// Records a run, and gathers it or not.
+fn round(alloc: Global, image: &Image, turning: Turning, is_gathered: bool) -> Option<usize> {
+    match recorded(alloc, image, turning) {
+        Some(parts) if is_gathered => gathered_count(alloc, parts),
+        Some(parts) => Some(count_of(&parts)),
+        None => None,
+    }
+}
+
+/// The number of steps and entries of parts that are gathered.
 fn gathered_count(alloc: Global, parts: Parts<8>) -> Option<usize> {
     let count = count_of(&parts);
-    let woven = gather(alloc, parts).ok()?;
-    if woven.schedule().len() > count {
-        return None;
+    match gather(alloc, parts) {
+        Ok(woven) => Some(count.max(woven.schedule().len())),
+        Err(_) => None,
     }
-    Some(count)
 }
 
 fn count_of(parts: &Parts<8>) -> usize {
@@ -88,12 +100,18 @@ fn count_of(parts: &Parts<8>) -> usize {
 
 /// Parts whose processors took their steps in turn.
 fn recorded<'i>(alloc: Global, image: &'i Image, turning: Turning) -> Option<Parts<'i, 8>> {
-    let parts = Parts::new(alloc, image, turning.fuel()).ok()?;
+    match Parts::new(alloc, image, turning.fuel()) {
+        Ok(parts) => Some(stepped(parts, turning)),
+        Err(_) => None,
+    }
+}
+
+fn stepped<'i>(parts: Parts<'i, 8>, turning: Turning) -> Parts<'i, 8> {
     let (fuel, mut shared, mut records) = parts.into_parts();
     for step in 0..fuel {
         take_steps(&mut shared, &mut records, turning.stream(step));
     }
-    Some(Parts::of(fuel, shared, records))
+    Parts::of(fuel, shared, records)
 }
 
 /// A step of stream `s` of each processor.
@@ -108,8 +126,17 @@ fn take_step(shared: &mut SharedMemory, record: &mut Recorded<8>, s: u8) {
     if record.spare() == 0 {
         return;
     }
-    if let Some(short) = record.next_short(s) {
-        record.finish_short(s, &short);
+    match record.next_short(s) {
+        Some(short) => {
+            record.finish_short(s, &short);
+        }
+        None => take_long_step(shared, record, s),
+    }
+}
+
+/// The same of a step that has no short form.
+fn take_long_step(shared: &mut SharedMemory, record: &mut Recorded<8>, s: u8) {
+    if record.spare() == 0 {
         return;
     }
     let step = record.next_step(s);
@@ -131,5 +158,8 @@ fn asked(shared: &mut SharedMemory, p: u8, s: u8, request: &Request) -> Option<R
     if usize::from(p) >= shared.image().processors() {
         return None;
     }
-    shared.ask(p, s, request).ok()
+    match shared.ask(p, s, request) {
+        Ok(reply) => Some(reply),
+        Err(_) => None,
+    }
 }

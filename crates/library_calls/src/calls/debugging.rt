@@ -1,10 +1,10 @@
 //! Calls of the debugger's engine.
 use crate::calls::endings::Ended;
-use crate::calls::engines::{bytes_of, writer};
+use crate::calls::engines::writer;
 use crate::calls::programs::SCHEDULE;
-use image_file::Image;
+use image_file::{Image, write_image};
 use mta_engines::{ToolFault, debug_engine};
-use std::alloc::Global;
+use std::alloc::{AllocError, Global};
 
 /// Lines of commands.
 const LINES: &str = "m 0 1\nr 0 1\nb 0 2\ng 6\ng 2\ng 5\n";
@@ -31,12 +31,15 @@ fn ended(done: Result<(), ToolFault>, written: &[u8]) -> Ended {
         Ok(()) => Ended::refused(
             answered.saturating_add(refused) == ANSWERS.len() && rest.is_empty(),
         ),
-        Err(fault) => Ended::refused(fault == ToolFault::NoMemory && rest.is_empty()),
+        Err(ToolFault::NoMemory) => Ended::refused(rest.is_empty()),
+        Err(_) => Ended::Wrong,
     }
 }
 
-fn session_ended(alloc: Global, mut bytes: &[u8]) -> Option<Ended> {
-    let mut written = writer(alloc)?;
+fn session_ended(alloc: Global, mut bytes: &[u8]) -> Ended {
+    let Some(mut written) = writer(alloc) else {
+        return Ended::NotMade;
+    };
     let done = debug_engine(
         alloc,
         &mut bytes,
@@ -44,12 +47,14 @@ fn session_ended(alloc: Global, mut bytes: &[u8]) -> Option<Ended> {
         &mut LINES.as_bytes(),
         &mut written,
     );
-    Some(ended(done, &written))
+    ended(done, &written)
 }
 
-pub(crate) fn of_debug_engine(alloc: Global, image: &Image) -> Option<Ended> {
-    let bytes = bytes_of(alloc, image)?;
-    session_ended(alloc, &bytes)
+pub(crate) fn of_debug_engine(alloc: Global, image: &Image) -> Ended {
+    match write_image(alloc, image) {
+        Ok(bytes) => session_ended(alloc, &bytes),
+        Err(AllocError) => Ended::NotMade,
+    }
 }
 
 /// How many lines are answered, how many are refused memory, and what is written behind them.

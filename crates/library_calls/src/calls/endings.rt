@@ -9,6 +9,8 @@ pub(crate) enum Ended {
     Refused,
     /// With another answer, or it changed something all the same.
     Wrong,
+    /// It was not made, since there was no memory for its arguments.
+    NotMade,
 }
 
 impl Ended {
@@ -17,6 +19,7 @@ impl Ended {
             Ended::Done => "done",
             Ended::Refused => "refused, all as before",
             Ended::Wrong => "wrong",
+            Ended::NotMade => "not made, since its arguments found no memory",
         }
     }
 
@@ -34,12 +37,11 @@ impl Ended {
         }
     }
 
-    /// The ending of two calls.
-    pub(crate) fn and(self, other: Ended) -> Ended {
-        match (self, other) {
-            (Ended::Wrong, _) | (_, Ended::Wrong) => Ended::Wrong,
-            (Ended::Refused, _) | (_, Ended::Refused) => Ended::Refused,
-            (Ended::Done, Ended::Done) => Ended::Done,
+    /// The ending of this call and of a later one: the first that was not done, or was wrong.
+    pub(crate) fn and(self, later: Ended) -> Ended {
+        match (self, later) {
+            (Ended::Done, _) | (_, Ended::Wrong) => later,
+            _ => self,
         }
     }
 }

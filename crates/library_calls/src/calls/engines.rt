@@ -6,7 +6,7 @@ use asm_text::listing;
 use image_file::{Image, write_image};
 use memory_lock::{FreeGate, GatherFault};
 use mta_engines::{ToolFault, asm_engine, list_engine, run_engine, threads_engine, words_engine};
-use std::alloc::Global;
+use std::alloc::{AllocError, Global};
 use std::sync::Wait;
 use std::thread::Threads;
 
@@ -31,107 +31,131 @@ const HISTORIES: [&str; 2] = [
 
 /// A writer with room.
 pub(crate) fn writer(alloc: Global) -> Option<Vec<u8>> {
-    Vec::with_capacity(alloc, MOST_WRITTEN).ok()
-}
-
-/// The image's bytes.
-pub(crate) fn bytes_of(alloc: Global, image: &Image) -> Option<Vec<u8>> {
-    write_image(alloc, image).ok()
+    match Vec::with_capacity(alloc, MOST_WRITTEN) {
+        Ok(writer) => Some(writer),
+        Err(_) => None,
+    }
 }
 
 /// How an engine ended that writes all at once.
 fn ended(done: Result<(), ToolFault>, written: &[u8], wanted: &[u8]) -> Ended {
     match done {
         Ok(()) => Ended::answered(written == wanted),
-        Err(fault) => Ended::refused(fault == ToolFault::NoMemory && written.is_empty()),
-    }
-}
-
-pub(crate) fn of_words_engine(alloc: Global) -> Option<Ended> {
-    let mut text = writer(alloc)?;
-    let done = words_engine(alloc, &mut "8010000000000003\n".as_bytes(), &mut text);
-    Some(ended(done, &text, STREAM_TEXT.as_bytes()))
-}
-
-fn asm_ended(alloc: Global, bytes: &[u8]) -> Option<Ended> {
-    let mut written = writer(alloc)?;
-    let done = asm_engine(alloc, &mut SOURCE.as_bytes(), &mut written);
-    Some(ended(done, &written, bytes))
-}
-
-pub(crate) fn of_asm_engine(alloc: Global, image: &Image) -> Option<Ended> {
-    let bytes = bytes_of(alloc, image)?;
-    asm_ended(alloc, &bytes)
-}
-
-fn list_ended(alloc: Global, mut bytes: &[u8], wanted: &[u8]) -> Option<Ended> {
-    let mut text = writer(alloc)?;
-    let done = list_engine(alloc, &mut bytes, &mut text);
-    Some(ended(done, &text, wanted))
-}
-
-pub(crate) fn of_list_engine(alloc: Global, image: &Image) -> Option<Ended> {
-    let bytes = bytes_of(alloc, image)?;
-    let wanted = listing(alloc, image).ok()?;
-    list_ended(alloc, &bytes, wanted.as_bytes())
-}
-
-/// Whether a text is one, and behind it what the program comes to.
-fn is_report(text: &[u8], lines: &str) -> bool {
-    match text.strip_prefix(lines.as_bytes()) {
-        Some(end) => end == END.as_bytes(),
-        None => false,
-    }
-}
-
-fn run_ended(alloc: Global, mut bytes: &[u8]) -> Option<Ended> {
-    let mut text = writer(alloc)?;
-    let done = run_engine(alloc, &mut bytes, &mut SCHEDULE.as_bytes(), &mut text);
-    Some(match done {
-        Ok(()) => Ended::answered(is_report(&text, TRACE)),
-        Err(_) => ended(done, &text, b""),
-    })
-}
-
-pub(crate) fn of_run_engine(alloc: Global, image: &Image) -> Option<Ended> {
-    let bytes = bytes_of(alloc, image)?;
-    run_ended(alloc, &bytes)
-}
-
-/// Whichever processor asks first. Where memory for the turns is refused no step is taken, which can't be gathered.
-fn threads_ended(done: Result<(), ToolFault>, schedule: &[u8], report: &[u8]) -> Ended {
-    match done {
-        Ok(()) => Ended::answered(is_threaded(schedule, report)),
-        Err(ToolFault::NoMemory | ToolFault::Gather(GatherFault::Short(0))) => Ended::refused(
-            schedule.is_empty() && report.is_empty(),
-        ),
+        Err(ToolFault::NoMemory) => Ended::refused(written.is_empty()),
         Err(_) => Ended::Wrong,
     }
 }
 
-pub(crate) fn of_threads_engine<R: AllocGlobal + Threads + Wait + Sync>(
-    rt: &R,
-    image: &Image,
-) -> Option<Ended> {
-    let bytes = bytes_of(rt.alloc(), image)?;
-    let mut schedule = writer(rt.alloc())?;
-    let mut report = writer(rt.alloc())?;
-    let done = threads_engine(
-        rt,
-        rt.alloc(),
-        &mut bytes.as_slice(),
-        FUEL,
-        &FreeGate,
-        &mut schedule,
-        &mut report,
-    );
-    Some(threads_ended(done, &schedule, &report))
+pub(crate) fn of_words_engine(alloc: Global) -> Ended {
+    let Some(mut text) = writer(alloc) else {
+        return Ended::NotMade;
+    };
+    let done = words_engine(alloc, &mut "8010000000000003\n".as_bytes(), &mut text);
+    ended(done, &text, STREAM_TEXT.as_bytes())
 }
 
-/// Whether they are the schedule and the report of a run.
+fn asm_ended(alloc: Global, bytes: &[u8]) -> Ended {
+    let Some(mut written) = writer(alloc) else {
+        return Ended::NotMade;
+    };
+    let done = asm_engine(alloc, &mut SOURCE.as_bytes(), &mut written);
+    ended(done, &written, bytes)
+}
+
+pub(crate) fn of_asm_engine(alloc: Global, image: &Image) -> Ended {
+    match write_image(alloc, image) {
+        Ok(bytes) => asm_ended(alloc, &bytes),
+        Err(AllocError) => Ended::NotMade,
+    }
+}
+
+fn list_ended(alloc: Global, mut bytes: &[u8], wanted: &[u8]) -> Ended {
+    let Some(mut text) = writer(alloc) else {
+        return Ended::NotMade;
+    };
+    let done = list_engine(alloc, &mut bytes, &mut text);
+    ended(done, &text, wanted)
+}
+
+pub(crate) fn of_list_engine(alloc: Global, image: &Image) -> Ended {
+    let Ok(bytes) = write_image(alloc, image) else {
+        return Ended::NotMade;
+    };
+    match listing(alloc, image) {
+        Ok(wanted) => list_ended(alloc, &bytes, wanted.as_bytes()),
+        Err(AllocError) => Ended::NotMade,
+    }
+}
+
+/// What stands behind these lines; none where they do not stand first.
+fn behind<'a>(text: &'a [u8], lines: &str) -> Option<&'a [u8]> {
+    text.strip_prefix(lines.as_bytes())
+}
+
+/// Whether a text is these lines, and behind them what the program comes to.
+fn is_report(text: &[u8], lines: &str) -> bool {
+    behind(text, lines) == Some(END.as_bytes())
+}
+
+fn run_ended(alloc: Global, mut bytes: &[u8]) -> Ended {
+    let Some(mut text) = writer(alloc) else {
+        return Ended::NotMade;
+    };
+    let done = run_engine(alloc, &mut bytes, &mut SCHEDULE.as_bytes(), &mut text);
+    match behind(&text, TRACE) {
+        Some(end) => ended(done, end, END.as_bytes()),
+        None => ended(done, &text, b"a trace"),
+    }
+}
+
+pub(crate) fn of_run_engine(alloc: Global, image: &Image) -> Ended {
+    match write_image(alloc, image) {
+        Ok(bytes) => run_ended(alloc, &bytes),
+        Err(AllocError) => Ended::NotMade,
+    }
+}
+
+/// Whether they are the schedule and the report of a run, whichever processor asked first.
 fn is_threaded(schedule: &[u8], report: &[u8]) -> bool {
     let [first, second] = SCHEDULES;
     let [one, other] = HISTORIES;
     (schedule == first.as_bytes() && is_report(report, one))
         || (schedule == second.as_bytes() && is_report(report, other))
+}
+
+/// Where memory for the turns is refused no step is taken, which can't be gathered.
+fn threads_ended(done: Result<(), ToolFault>, schedule: &[u8], report: &[u8]) -> Ended {
+    match done {
+        Ok(()) => Ended::answered(is_threaded(schedule, report)),
+        Err(ToolFault::NoMemory | ToolFault::Gather(GatherFault::Short(0))) => {
+            Ended::refused(schedule.is_empty() && report.is_empty())
+        }
+        Err(_) => Ended::Wrong,
+    }
+}
+
+fn run_threads<R: AllocGlobal + Threads + Wait + Sync>(rt: &R, mut bytes: &[u8]) -> Ended {
+    let (Some(mut schedule), Some(mut report)) = (writer(rt.alloc()), writer(rt.alloc())) else {
+        return Ended::NotMade;
+    };
+    let done = threads_engine(
+        rt,
+        rt.alloc(),
+        &mut bytes,
+        FUEL,
+        &FreeGate,
+        &mut schedule,
+        &mut report,
+    );
+    threads_ended(done, &schedule, &report)
+}
+
+pub(crate) fn of_threads_engine<R: AllocGlobal + Threads + Wait + Sync>(
+    rt: &R,
+    image: &Image,
+) -> Ended {
+    match write_image(rt.alloc(), image) {
+        Ok(bytes) => run_threads(rt, &bytes),
+        Err(AllocError) => Ended::NotMade,
+    }
 }

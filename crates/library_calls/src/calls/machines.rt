@@ -15,34 +15,42 @@ fn holds(memory: &Memory, chain_limit: u8) -> bool {
         && memory.chain_limit() == chain_limit
 }
 
-pub(crate) fn of_memory(alloc: Global, image: &Image) -> Ended {
-    match Memory::new(alloc, image.cells()) {
-        Ok(memory) => Ended::answered(holds(&memory, 8)),
+fn memory_ended(made: Result<Memory, AllocError>, chain_limit: u8) -> Ended {
+    match made {
+        Ok(memory) => Ended::answered(holds(&memory, chain_limit)),
         Err(AllocError) => Ended::Refused,
     }
+}
+
+pub(crate) fn of_memory(alloc: Global, image: &Image) -> Ended {
+    memory_ended(Memory::new(alloc, image.cells()), 8)
 }
 
 pub(crate) fn of_memory_with_chain(alloc: Global, image: &Image) -> Ended {
-    match Memory::with_chain(alloc, image.cells(), 64) {
-        Ok(memory) => Ended::answered(holds(&memory, 64)),
-        Err(AllocError) => Ended::Refused,
+    memory_ended(Memory::with_chain(alloc, image.cells(), 64), 64)
+}
+
+pub(crate) fn of_memory_clone(alloc: Global, image: &Image) -> Ended {
+    let Ok(memory) = Memory::new(alloc, image.cells()) else {
+        return Ended::NotMade;
+    };
+    let ended = memory_ended(memory.try_clone(), 8);
+    if holds(&memory, 8) {
+        ended
+    } else {
+        Ended::Wrong
     }
 }
 
-pub(crate) fn of_memory_clone(alloc: Global, image: &Image) -> Option<Ended> {
-    let memory = Memory::new(alloc, image.cells()).ok()?;
-    Some(match memory.try_clone() {
-        Ok(clone) => Ended::answered(holds(&clone, 8)),
-        Err(AllocError) => Ended::refused(holds(&memory, 8)),
-    })
-}
-
-/// The image's processor 1 before any step, or why there is none.
-fn processor(alloc: Global, image: &Image) -> Option<Result<Processor<2>, AllocError>> {
+/// The image's processor 1 before any step; none where there is no memory.
+fn processor(alloc: Global, image: &Image) -> Option<Processor<2>> {
     if image.slim() > 2 || image.processors() != 2 {
         return None;
     }
-    Some(Processor::new(alloc, image, 1))
+    match Processor::new(alloc, image, 1) {
+        Ok(processor) => Some(processor),
+        Err(AllocError) => None,
+    }
 }
 
 /// Whether it has one stream, which runs.
@@ -50,29 +58,31 @@ fn is_at_start(processor: &Processor<2>) -> bool {
     (processor.slim(), processor.scur(), processor.sres()) == (2, 1, 1) && processor.any_running()
 }
 
-pub(crate) fn of_processor(alloc: Global, image: &Image) -> Option<Ended> {
-    Some(match processor(alloc, image)? {
-        Ok(processor) => Ended::answered(is_at_start(&processor)),
-        Err(AllocError) => Ended::Refused,
-    })
+pub(crate) fn of_processor(alloc: Global, image: &Image) -> Ended {
+    match processor(alloc, image) {
+        Some(processor) => Ended::answered(is_at_start(&processor)),
+        None => Ended::Refused,
+    }
 }
 
-fn clone_ended(processor: &Processor<2>) -> Ended {
+fn processor_clone_ended(processor: &Processor<2>) -> Ended {
     match processor.try_clone() {
-        Ok(clone) => Ended::answered(is_at_start(&clone)),
+        Ok(clone) => Ended::answered(is_at_start(&clone) && is_at_start(processor)),
         Err(AllocError) => Ended::refused(is_at_start(processor)),
     }
 }
 
-pub(crate) fn of_processor_clone(alloc: Global, image: &Image) -> Option<Ended> {
-    let processor = processor(alloc, image)?.ok()?;
-    Some(clone_ended(&processor))
+pub(crate) fn of_processor_clone(alloc: Global, image: &Image) -> Ended {
+    match processor(alloc, image) {
+        Some(processor) => processor_clone_ended(&processor),
+        None => Ended::NotMade,
+    }
 }
 
 pub(crate) fn of_machine(alloc: Global, image: &Image) -> Ended {
     match Machine::<2>::load(alloc, image) {
         Ok(machine) => Ended::answered(machine.word(8) == Word::from_number(6, 1)),
-        Err(fault) => Ended::refused(fault == LoadFault::NoMemory),
+        Err(fault) => Ended::refused(matches!(fault, LoadFault::NoMemory)),
     }
 }
 
@@ -85,19 +95,23 @@ fn is_at_end(machine: &Machine<2>) -> bool {
 
 /// The machine at the program's end.
 pub(crate) fn ended_machine(alloc: Global, image: &Image) -> Option<Machine<2>> {
-    let mut machine = Machine::load(alloc, image).ok()?;
+    let Ok(mut machine) = Machine::load(alloc, image) else {
+        return None;
+    };
     machine.run(&STEPS);
     Some(machine)
 }
 
 fn machine_clone_ended(machine: &Machine<2>) -> Ended {
     match machine.try_clone() {
-        Ok(clone) => Ended::answered(is_at_end(&clone)),
+        Ok(clone) => Ended::answered(is_at_end(&clone) && is_at_end(machine)),
         Err(AllocError) => Ended::refused(is_at_end(machine)),
     }
 }
 
-pub(crate) fn of_machine_clone(alloc: Global, image: &Image) -> Option<Ended> {
-    let machine = ended_machine(alloc, image)?;
-    Some(machine_clone_ended(&machine))
+pub(crate) fn of_machine_clone(alloc: Global, image: &Image) -> Ended {
+    match ended_machine(alloc, image) {
+        Some(machine) => machine_clone_ended(&machine),
+        None => Ended::NotMade,
+    }
 }

@@ -1,8 +1,9 @@
 //! The program that the calls are about.
 use asm_text::assemble;
 use image_file::Image;
-use processor::Step;
+use processor::{Entry, Step};
 use std::alloc::Global;
+use tag_memory::{Acc, Masked, MemOp, Pointer, Reply, Request};
 
 /// Processor 0 adds 3 to word 0, processor 1 stores 7 in word 1.
 pub(crate) const SOURCE: &str =
@@ -22,6 +23,9 @@ pub(crate) const STEPS: [Step; 6] = [
     Step { p: 1, s: 0 },
 ];
 
+/// The first of them.
+pub(crate) const FIRST: Step = Step { p: 0, s: 0 };
+
 /// What it comes to.
 pub(crate) const END: &str = "processor 0 scur 0 sres 0\nprocessor 1 scur 0 sres 0\n\
      cell 000000000000 0000000000000008 1\ncell 000000000008 0000000000000007 1\n";
@@ -31,10 +35,36 @@ pub(crate) const FUEL: usize = 9;
 
 /// Its image.
 pub(crate) fn image_of_program(alloc: Global) -> Option<Image> {
-    assemble(alloc, SOURCE.as_bytes()).ok()
+    match assemble(alloc, SOURCE.as_bytes()) {
+        Ok(image) => Some(image),
+        Err(_) => None,
+    }
 }
 
 /// Its steps, in a list of their own.
 pub(crate) fn steps(alloc: Global) -> Option<Vec<Step>> {
-    Vec::from_slice(alloc, &STEPS).ok()
+    match Vec::from_slice(alloc, &STEPS) {
+        Ok(steps) => Some(steps),
+        Err(_) => None,
+    }
+}
+
+/// Its first request of the memory.
+pub(crate) fn first_entry() -> Entry {
+    let masked = Masked {
+        trap0: false,
+        trap1: false,
+    };
+    Entry {
+        p: 0,
+        s: 0,
+        request: Request {
+            op: MemOp::Fadd,
+            pointer: Pointer::new(0),
+            acc: Acc::Normal,
+            value: 3,
+            masked,
+        },
+        reply: Reply::Done(5),
+    }
 }

@@ -7,12 +7,15 @@ use shared_history::{Parts, PartsFault, SharedMemory};
 use std::alloc::{AllocError, Global};
 use tag_memory::{Reply, Word};
 
-/// A record of the image's processor 1, or why there is none.
-fn record(alloc: Global, image: &Image) -> Option<Result<Recorded<2>, AllocError>> {
+/// A record of the image's processor 1; none where there is no memory.
+fn record(alloc: Global, image: &Image) -> Option<Recorded<2>> {
     if image.slim() > 2 || image.processors() != 2 {
         return None;
     }
-    Some(Recorded::new(alloc, image, 1))
+    match Recorded::new(alloc, image, 1) {
+        Ok(record) => Some(record),
+        Err(AllocError) => None,
+    }
 }
 
 /// The record's number, and those of its steps and pairs.
@@ -20,11 +23,11 @@ fn numbers(record: &Recorded<2>) -> (u8, usize, usize) {
     (record.number(), record.steps().len(), record.pairs().len())
 }
 
-pub(crate) fn of_record(alloc: Global, image: &Image) -> Option<Ended> {
-    Some(match record(alloc, image)? {
-        Ok(record) => Ended::answered(numbers(&record) == (1, 0, 0) && record.any_running()),
-        Err(AllocError) => Ended::Refused,
-    })
+pub(crate) fn of_record(alloc: Global, image: &Image) -> Ended {
+    match record(alloc, image) {
+        Some(record) => Ended::answered(numbers(&record) == (1, 0, 0) && record.any_running()),
+        None => Ended::Refused,
+    }
 }
 
 /// A step, whose request is done.
@@ -43,14 +46,25 @@ fn step(record: &mut Recorded<2>) {
     }
 }
 
-/// The record of all three steps, with room for one more.
-fn whole_record(alloc: Global, image: &Image) -> Option<Recorded<2>> {
-    let mut record = record(alloc, image)?.ok()?;
-    record.reserve(4).ok()?;
+/// Takes all three steps, where there is memory for them and one more.
+fn takes_all(record: &mut Recorded<2>) -> bool {
+    let is_reserved = record.reserve(4).is_ok();
     for _ in 0u8..3 {
-        step(&mut record);
+        step(record);
     }
-    Some(record)
+    is_reserved
+}
+
+/// The record of all steps, with room for one more.
+fn whole_record(alloc: Global, image: &Image) -> Option<Recorded<2>> {
+    let Some(mut record) = record(alloc, image) else {
+        return None;
+    };
+    if takes_all(&mut record) {
+        Some(record)
+    } else {
+        None
+    }
 }
 
 /// Whether it is that of all steps, with at least so much room.
@@ -65,9 +79,11 @@ fn reserve_ended(record: &mut Recorded<2>) -> Ended {
     }
 }
 
-pub(crate) fn of_record_reserve(alloc: Global, image: &Image) -> Option<Ended> {
-    let mut record = whole_record(alloc, image)?;
-    Some(reserve_ended(&mut record))
+pub(crate) fn of_record_reserve(alloc: Global, image: &Image) -> Ended {
+    match whole_record(alloc, image) {
+        Some(mut record) => reserve_ended(&mut record),
+        None => Ended::NotMade,
+    }
 }
 
 fn clone_ended(record: &Recorded<2>) -> Ended {
@@ -77,28 +93,35 @@ fn clone_ended(record: &Recorded<2>) -> Ended {
     }
 }
 
-pub(crate) fn of_record_clone(alloc: Global, image: &Image) -> Option<Ended> {
-    let record = whole_record(alloc, image)?;
-    Some(clone_ended(&record))
+pub(crate) fn of_record_clone(alloc: Global, image: &Image) -> Ended {
+    match whole_record(alloc, image) {
+        Some(record) => clone_ended(&record),
+        None => Ended::NotMade,
+    }
+}
+
+/// Whether they are five steps of stream 3, with this room.
+fn are_five(steps: &Steps, room: usize) -> bool {
+    (steps.len(), steps.get(4), steps.spare()) == (5, Some(3), room)
 }
 
 pub(crate) fn of_steps_reserve(alloc: Global) -> Ended {
     let mut steps = Steps::of_run(alloc, 3, 5);
-    let is_reserved = steps.reserve(100).is_ok();
-    let is_kept = steps.len() == 5 && steps.get(4) == Some(3);
-    if is_reserved {
-        Ended::answered(is_kept && steps.spare() == 100)
-    } else {
-        Ended::refused(is_kept && steps.spare() == 0)
+    match steps.reserve(100) {
+        Ok(()) => Ended::answered(are_five(&steps, 100)),
+        Err(_) => Ended::refused(are_five(&steps, 0)),
     }
+}
+
+/// Whether it has the program's second word, no entry, and this room.
+fn is_new(shared: &SharedMemory, room: usize) -> bool {
+    (shared.spare(), shared.entries().len()) == (room, 0)
+        && shared.word(8) == Word::from_number(6, 1)
 }
 
 pub(crate) fn of_shared_memory(alloc: Global, image: &Image) -> Ended {
     match SharedMemory::new(alloc, image, 4) {
-        Ok(shared) => Ended::answered(
-            (shared.spare(), shared.entries().len()) == (4, 0)
-                && shared.word(8) == Word::from_number(6, 1),
-        ),
+        Ok(shared) => Ended::answered(is_new(&shared, 4)),
         Err(AllocError) => Ended::Refused,
     }
 }
@@ -106,8 +129,8 @@ pub(crate) fn of_shared_memory(alloc: Global, image: &Image) -> Ended {
 pub(crate) fn of_parts(alloc: Global, image: &Image) -> Ended {
     match Parts::<2>::new(alloc, image, FUEL) {
         Ok(parts) => Ended::answered(
-            (parts.fuel(), parts.records().len(), parts.shared().spare()) == (FUEL, 2, 2 * FUEL),
+            (parts.fuel(), parts.records().len()) == (FUEL, 2) && is_new(parts.shared(), 2 * FUEL),
         ),
-        Err(fault) => Ended::refused(fault == PartsFault::NoMemory),
+        Err(fault) => Ended::refused(matches!(fault, PartsFault::NoMemory)),
     }
 }

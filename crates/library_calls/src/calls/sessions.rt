@@ -4,7 +4,7 @@ use crate::calls::programs::{STEPS, steps};
 use debug_commands::{Answer, Command, DebugFault, answer_text};
 use image_file::Image;
 use machine::LoadFault;
-use replay_debugger::Session;
+use replay_debugger::{BeginFault, Session};
 use std::alloc::Global;
 
 /// Commands, and their answers' texts.
@@ -29,63 +29,84 @@ const COMMANDS: [(Command, &str); 12] = [
     (Command::Go(6), "at 6 moved\n"),
 ];
 
-pub(crate) fn of_begin(alloc: Global, image: &Image) -> Option<Ended> {
-    Some(match Session::<2>::begin(alloc, image, steps(alloc)?) {
+fn begin_ended(begun: Result<Session<2>, BeginFault>) -> Ended {
+    match begun {
         Ok(session) => Ended::answered(session.position() == 0),
         Err(fault) => Ended::refused(
-            fault.kind == LoadFault::NoMemory && fault.schedule.as_slice() == STEPS.as_slice(),
+            matches!(fault.kind, LoadFault::NoMemory)
+                && fault.schedule.as_slice() == STEPS.as_slice(),
         ),
-    })
+    }
 }
 
+pub(crate) fn of_begin(alloc: Global, image: &Image) -> Ended {
+    match steps(alloc) {
+        Some(steps) => begin_ended(Session::begin(alloc, image, steps)),
+        None => Ended::NotMade,
+    }
+}
+
+/// A session over the steps.
 fn session(alloc: Global, image: &Image) -> Option<Session<2>> {
-    Session::begin(alloc, image, steps(alloc)?).ok()
+    let Some(steps) = steps(alloc) else {
+        return None;
+    };
+    match Session::begin(alloc, image, steps) {
+        Ok(session) => Some(session),
+        Err(_) => None,
+    }
 }
 
 /// All commands in one session.
-pub(crate) fn of_commands(alloc: Global, image: &Image) -> Option<Ended> {
-    let mut session = session(alloc, image)?;
-    let mut ended = Ended::Done;
-    for (command, text) in &COMMANDS {
-        ended = ended.and(of_command(alloc, &mut session, command, text));
+pub(crate) fn of_commands(alloc: Global, image: &Image) -> Ended {
+    match session(alloc, image) {
+        Some(mut session) => commands_ended(alloc, &mut session),
+        None => Ended::NotMade,
     }
-    Some(ended)
 }
 
-/// What a command answers; none where it is refused memory.
-fn answered(session: &mut Session<2>, command: &Command) -> Option<Result<Answer, DebugFault>> {
-    match session.command(command) {
-        Err(DebugFault::NoMemory) => None,
-        answer => Some(answer),
+fn commands_ended(alloc: Global, session: &mut Session<2>) -> Ended {
+    let mut ended = Ended::Done;
+    for (command, text) in &COMMANDS {
+        ended = ended.and(of_command(alloc, session, command, text));
     }
+    ended
 }
 
 /// A command, which is given again and answered then, where it is refused memory.
 fn of_command(alloc: Global, session: &mut Session<2>, command: &Command, text: &str) -> Ended {
     let before = session.position();
-    if let Some(answer) = answered(session, command) {
-        return of_answer(alloc, answer, text);
+    match of_one_command(alloc, session, command, text) {
+        Ended::NotMade => {
+            let is_as_before = session.position() == before;
+            let again = of_one_command(alloc, session, command, text);
+            Ended::refused(is_as_before && !matches!(again, Ended::NotMade)).and(again)
+        }
+        ended => ended,
     }
-    let is_as_before = session.position() == before;
-    match answered(session, command) {
-        Some(answer) => Ended::refused(is_as_before).and(of_answer(alloc, answer, text)),
-        None => Ended::Wrong,
+}
+
+/// A command; it counts as not made where it is refused memory.
+fn of_one_command(alloc: Global, session: &mut Session<2>, command: &Command, text: &str) -> Ended {
+    match session.command(command) {
+        Ok(answer) => of_answer(alloc, &answer, text),
+        Err(DebugFault::NoMemory) => Ended::NotMade,
+        Err(_) => Ended::Wrong,
     }
 }
 
 /// How the answer's text ends, which is made again where it is refused.
-fn of_answer(alloc: Global, answer: Result<Answer, DebugFault>, text: &str) -> Ended {
-    let Ok(answer) = answer else {
-        return Ended::Wrong;
-    };
-    match is_text(alloc, &answer, text) {
+fn of_answer(alloc: Global, answer: &Answer, text: &str) -> Ended {
+    match is_text(alloc, answer, text) {
         Some(is_right) => Ended::answered(is_right),
-        None => Ended::refused(is_text(alloc, &answer, text) == Some(true)),
+        None => Ended::refused(is_text(alloc, answer, text) == Some(true)),
     }
 }
 
 /// Whether the answer has this text; none where memory is refused.
 fn is_text(alloc: Global, answer: &Answer, text: &str) -> Option<bool> {
-    let found = answer_text(alloc, answer).ok()?;
-    Some(found.as_str() == text)
+    match answer_text(alloc, answer) {
+        Ok(found) => Some(found.as_str() == text),
+        Err(_) => None,
+    }
 }

@@ -10,7 +10,7 @@ use std::sync::Wait;
 use std::thread::Threads;
 use tag_memory::Word;
 
-/// Whether each of two records has so many steps and pairs, and so much room.
+/// Whether there are two records, each with so many steps and pairs, and so much room.
 fn have_sizes(records: &[Recorded<2>], sizes: (usize, usize, usize)) -> bool {
     for record in records {
         if (record.steps().len(), record.pairs().len(), record.spare()) != sizes {
@@ -20,30 +20,32 @@ fn have_sizes(records: &[Recorded<2>], sizes: (usize, usize, usize)) -> bool {
     records.len() == 2
 }
 
-/// Whether the memory has so many entries and so much room, and this word first.
-fn has_sizes(shared: &SharedMemory, sizes: (usize, usize), first: u64) -> bool {
+/// Whether the memory has so many entries and so much room, and these words.
+fn has_sizes(shared: &SharedMemory, sizes: (usize, usize), words: (u64, u64)) -> bool {
     (shared.entries().len(), shared.spare()) == sizes
-        && shared.word(0) == Word::from_number(first, 1)
+        && shared.word(0) == Word::from_number(words.0, 1)
+        && shared.word(8) == Word::from_number(words.1, 1)
 }
 
 /// Whether no step of the run is taken.
 pub(crate) fn is_new_run(parts: &Parts<2>) -> bool {
-    have_sizes(parts.records(), (0, 0, FUEL)) && has_sizes(parts.shared(), (0, 2 * FUEL), 5)
+    have_sizes(parts.records(), (0, 0, FUEL)) && has_sizes(parts.shared(), (0, 2 * FUEL), (5, 6))
 }
 
 /// Whether all steps of the run are taken, whichever processor asked first.
 pub(crate) fn is_whole_run(parts: &Parts<2>) -> bool {
     have_sizes(parts.records(), (3, 1, FUEL - 3))
-        && has_sizes(parts.shared(), (2, 2 * FUEL - 2), 8)
-        && parts.shared().word(8) == Word::from_number(7, 1)
+        && has_sizes(parts.shared(), (2, 2 * FUEL - 2), (8, 7))
 }
 
-/// The parts of the whole run. None where memory for the turns is refused, since no step is taken then.
+/// The parts of a run. None where memory for them or for the turns is refused: no step is taken then.
 fn parts<'i, R: AllocGlobal + Threads + Wait + Sync>(
     rt: &R,
     image: &'i Image,
 ) -> Option<Parts<'i, 2>> {
-    let parts = Parts::new(rt.alloc(), image, FUEL).ok()?;
+    let Ok(parts) = Parts::new(rt.alloc(), image, FUEL) else {
+        return None;
+    };
     let parts = run_threads(rt, parts, &FreeGate);
     if is_whole_run(&parts) {
         Some(parts)
@@ -59,7 +61,17 @@ fn is_run(woven: &Woven<2>) -> bool {
         && woven.word(8) == Word::from_number(7, 1)
 }
 
-/// Whether the whole run is gathered of the parts.
+/// How the parts of a run are gathered. Where memory is refused they are gathered then; where no step was taken, since
+/// memory for the turns was refused, they are new.
+fn gather_ended(alloc: Global, gathered: Result<Woven<2>, (Parts<2>, GatherFault)>) -> Ended {
+    match gathered {
+        Ok(woven) => Ended::answered(is_run(&woven)),
+        Err((parts, GatherFault::NoMemory)) => Ended::refused(is_gathered(alloc, parts)),
+        Err((parts, GatherFault::Short(0))) => Ended::refused(is_new_run(&parts)),
+        Err(_) => Ended::Wrong,
+    }
+}
+
 fn is_gathered(alloc: Global, parts: Parts<2>) -> bool {
     match gather(alloc, parts) {
         Ok(woven) => is_run(&woven),
@@ -67,31 +79,19 @@ fn is_gathered(alloc: Global, parts: Parts<2>) -> bool {
     }
 }
 
-/// How a run ended that is not gathered. Where memory for the turns is refused, no step is taken.
-fn refused_ended(alloc: Global, parts: Parts<2>, fault: GatherFault) -> Ended {
-    match fault {
-        GatherFault::NoMemory => Ended::refused(is_gathered(alloc, parts)),
-        GatherFault::Short(0) => Ended::refused(is_new_run(&parts)),
-        _ => Ended::Wrong,
+pub(crate) fn of_gather<R: AllocGlobal + Threads + Wait + Sync>(rt: &R, image: &Image) -> Ended {
+    match parts(rt, image) {
+        Some(parts) => gather_ended(rt.alloc(), gather(rt.alloc(), parts)),
+        None => Ended::NotMade,
     }
-}
-
-pub(crate) fn of_gather<R: AllocGlobal + Threads + Wait + Sync>(
-    rt: &R,
-    image: &Image,
-) -> Option<Ended> {
-    Some(match gather(rt.alloc(), parts(rt, image)?) {
-        Ok(woven) => Ended::answered(is_run(&woven)),
-        Err((parts, fault)) => refused_ended(rt.alloc(), parts, fault),
-    })
 }
 
 /// How a run that hands out its schedule ended.
 fn threaded_ended<'i>(alloc: Global, run: Result<Woven<'i, 2>, ThreadsFault<'i, 2>>) -> Ended {
     match run {
-        Ok(woven) => Ended::answered(is_run(&woven)),
-        Err(ThreadsFault::Build(fault)) => Ended::refused(fault == PartsFault::NoMemory),
-        Err(ThreadsFault::Gather(parts, fault)) => refused_ended(alloc, parts, fault),
+        Ok(woven) => gather_ended(alloc, Ok(woven)),
+        Err(ThreadsFault::Build(fault)) => Ended::refused(matches!(fault, PartsFault::NoMemory)),
+        Err(ThreadsFault::Gather(parts, fault)) => gather_ended(alloc, Err((parts, fault))),
     }
 }
 

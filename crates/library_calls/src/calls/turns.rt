@@ -15,19 +15,28 @@ use tag_memory::Word;
 /// The history's room in the memory that a table is made for.
 const ROOM: usize = 4;
 
-/// A table that is opened is closed again.
-pub(crate) fn of_open_table(alloc: Global, image: &Image) -> Option<Ended> {
-    let memory = SharedMemory::new(alloc, image, ROOM).ok()?;
-    Some(match open_table(alloc, memory) {
-        Ok((table, seat)) => Ended::answered(is_memory(&close_table(table, seat))),
-        Err(memory) => Ended::refused(is_memory(&memory)),
-    })
-}
-
 /// Whether it is the memory, which nothing was asked.
 fn is_memory(memory: &SharedMemory) -> bool {
     (memory.entries().len(), memory.spare()) == (0, ROOM)
         && memory.word(0) == Word::from_number(5, 1)
+}
+
+/// A table that is opened is closed again.
+pub(crate) fn of_open_table(alloc: Global, image: &Image) -> Ended {
+    let Ok(memory) = SharedMemory::new(alloc, image, ROOM) else {
+        return Ended::NotMade;
+    };
+    match open_table(alloc, memory) {
+        Ok((table, seat)) => Ended::answered(is_memory(&close_table(table, seat))),
+        Err(memory) => Ended::refused(is_memory(&memory)),
+    }
+}
+
+/// Whether the parts can be run to their end.
+fn is_run<R: Threads + Wait + Sync>(rt: &R, parts: Parts<2>) -> bool
+    requires room { HaveRoom parts }
+{
+    is_whole_run(&run_threads(rt, parts, &FreeGate))
 }
 
 /// How a run of new parts ended. Where memory for the turns is refused they are as before, and can be run then.
@@ -38,8 +47,7 @@ fn run_ended<R: Threads + Wait + Sync>(rt: &R, parts: Parts<2>) -> Ended
         return Ended::Done;
     }
     let is_as_before = is_new_run(&parts);
-    let again = run_threads(rt, parts, &FreeGate);
-    Ended::refused(is_as_before && is_whole_run(&again))
+    Ended::refused(is_run(rt, parts) && is_as_before)
 }
 
 /// Runs the parts, which have to be new ones of two processors.
@@ -53,28 +61,33 @@ fn run_pair<'i, R: Threads + Wait + Sync>(rt: &R, parts: Parts<'i, 2>) -> Parts<
     parts
 }
 
-pub(crate) fn of_run_two<R: AllocGlobal + Threads + Wait + Sync>(
-    rt: &R,
-    image: &Image,
-) -> Option<Ended> {
-    let parts = Parts::new(rt.alloc(), image, FUEL).ok()?;
-    Some(run_ended(rt, run_pair(rt, parts)))
+pub(crate) fn of_run_two<R: AllocGlobal + Threads + Wait + Sync>(rt: &R, image: &Image) -> Ended {
+    match Parts::new(rt.alloc(), image, FUEL) {
+        Ok(parts) => run_ended(rt, run_pair(rt, parts)),
+        Err(_) => Ended::NotMade,
+    }
 }
 
 pub(crate) fn of_run_threads<R: AllocGlobal + Threads + Wait + Sync>(
     rt: &R,
     image: &Image,
-) -> Option<Ended> {
-    let parts = Parts::new(rt.alloc(), image, FUEL).ok()?;
-    Some(run_ended(rt, run_threads(rt, parts, &FreeGate)))
+) -> Ended {
+    match Parts::new(rt.alloc(), image, FUEL) {
+        Ok(parts) => run_ended(rt, run_threads(rt, parts, &FreeGate)),
+        Err(_) => Ended::NotMade,
+    }
 }
 
 /// Through a lock, where no memory is taken: the run is whole in any case.
 pub(crate) fn of_run_through_lock<R: AllocGlobal + Threads + Wait + Sync>(
     rt: &R,
     image: &Image,
-) -> Option<Ended> {
-    let parts = Parts::new(rt.alloc(), image, FUEL).ok()?;
-    let parts = run_by_lock(rt, parts, &FreeGate);
-    Some(Ended::answered(is_whole_run(&parts)))
+) -> Ended {
+    match Parts::new(rt.alloc(), image, FUEL) {
+        Ok(parts) => {
+            let parts = run_by_lock(rt, parts, &FreeGate);
+            Ended::answered(is_whole_run(&parts))
+        }
+        Err(_) => Ended::NotMade,
+    }
 }

@@ -23,7 +23,7 @@ const ROUNDS: [Step; 6] = [
 
 /// How a call ended that found no image.
 fn asm_refused(fault: AsmFault) -> Ended {
-    Ended::refused(fault.kind == Fault::NoMemory && fault.line == 0)
+    Ended::refused(matches!(fault.kind, Fault::NoMemory) && fault.line == 0)
 }
 
 pub(crate) fn of_assemble(alloc: Global) -> Ended {
@@ -46,16 +46,18 @@ fn has_the_words(image: &Image) -> bool {
         && image.cells().get(1).copied() == Word::from_number(6, 1)
 }
 
-/// Whether a text is assembled to the image; none where there is no memory for it.
-fn is_of(alloc: Global, text: &str, image: &Image) -> Option<bool> {
-    let again = assemble(alloc, text.as_bytes()).ok()?;
-    Some(again == *image)
+/// How a text ends that has to be assembled to the image.
+fn text_ended(alloc: Global, text: &str, image: &Image) -> Ended {
+    match assemble(alloc, text.as_bytes()) {
+        Ok(again) => Ended::answered(again == *image),
+        Err(_) => Ended::NotMade,
+    }
 }
 
-pub(crate) fn of_listing(alloc: Global, image: &Image) -> Option<Ended> {
+pub(crate) fn of_listing(alloc: Global, image: &Image) -> Ended {
     match listing(alloc, image) {
-        Ok(text) => Some(Ended::answered(is_of(alloc, text.as_str(), image)?)),
-        Err(AllocError) => Some(Ended::Refused),
+        Ok(text) => text_ended(alloc, text.as_str(), image),
+        Err(AllocError) => Ended::Refused,
     }
 }
 
@@ -73,18 +75,26 @@ pub(crate) fn of_write_image(alloc: Global, image: &Image) -> Ended {
     }
 }
 
-pub(crate) fn of_read_image(alloc: Global, image: &Image) -> Option<Ended> {
-    let bytes = write_image(alloc, image).ok()?;
-    Some(match read_image(alloc, &bytes) {
+fn read_ended(alloc: Global, bytes: &[u8], image: &Image) -> Ended {
+    match read_image(alloc, bytes) {
         Ok(again) => Ended::answered(again == *image),
-        Err(fault) => Ended::refused(fault == ImageFault::NoMemory),
-    })
+        Err(fault) => Ended::refused(matches!(fault, ImageFault::NoMemory)),
+    }
+}
+
+pub(crate) fn of_read_image(alloc: Global, image: &Image) -> Ended {
+    match write_image(alloc, image) {
+        Ok(bytes) => read_ended(alloc, &bytes, image),
+        Err(AllocError) => Ended::NotMade,
+    }
 }
 
 pub(crate) fn of_read_schedule(alloc: Global) -> Ended {
     match read_schedule(alloc, SCHEDULE.as_bytes()) {
         Ok(steps) => Ended::answered(steps.as_slice() == STEPS.as_slice()),
-        Err(fault) => Ended::refused(fault.kind == ScheduleFaultKind::NoMemory && fault.line == 0),
+        Err(fault) => Ended::refused(
+            matches!(fault.kind, ScheduleFaultKind::NoMemory) && fault.line == 0,
+        ),
     }
 }
 
