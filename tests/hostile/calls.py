@@ -11,7 +11,7 @@ from refusing import interposer, refused_allocation, refused_threads
 DONE, REFUSED = "done", "refused, all as before"
 NOT_MADE = "not made, since its arguments found no memory"
 # the one that takes no memory
-NEVER_REFUSED = {"memory_lock::run_threads"}
+NEVER_REFUSED = {"run_by_lock"}
 
 
 class Refusals(Tally):
