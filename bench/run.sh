@@ -48,66 +48,66 @@ report() {
 # steps WHAT: 1,000,000 steps, by the difference of 101 rounds and 1; their instructions by that of 2 rounds and 1
 steps() {
   local one many once twice
-  one=$(best 3 "$parts" bench "$1" 1)
-  many=$(best 3 "$parts" bench "$1" 101)
-  once=$(instructions "$parts" bench "$1" 1)
-  twice=$(instructions "$parts" bench "$1" 2)
+  one=$(best 3 "$parts" bench machine "$1" 1)
+  many=$(best 3 "$parts" bench machine "$1" 101)
+  once=$(instructions "$parts" bench machine "$1" 1)
+  twice=$(instructions "$parts" bench machine "$1" 2)
   report "machine, 1000000 steps, $1 loop on 16 processors" $(((many - one) / 100)) $((twice - once)) 1000000 step \
-    "$(peak "$parts" bench "$1" 1)"
+    "$(peak "$parts" bench machine "$1" 1)"
 }
 
 # recorded: 1,000,000 recorded steps of the loop in which each third step asks the memory, with its history
 recorded() {
   local one many once twice
-  one=$(best 3 "$parts" bench record 1)
-  many=$(best 3 "$parts" bench record 11)
-  once=$(instructions "$parts" bench record 1)
-  twice=$(instructions "$parts" bench record 2)
+  one=$(best 3 "$parts" bench record alone 1)
+  many=$(best 3 "$parts" bench record alone 11)
+  once=$(instructions "$parts" bench record alone 1)
+  twice=$(instructions "$parts" bench record alone 2)
   report "recorded, 1000000 steps, each_third_asks loop" $(((many - one) / 10)) $((twice - once)) 1000000 step \
-    "$(peak "$parts" bench record 1)"
+    "$(peak "$parts" bench record alone 1)"
 }
 
 # gathered WHICH HOW: a schedule of 1,000,000 recorded steps, by the difference of a run that is gathered and one that is
-# not; WHICH is empty where one stream runs alone, and _alternating where two take turns
+# not; WHICH is alone where one stream runs, and alternating where two take turns
 gathered() {
   local alone both once twice count
-  alone=$(best 3 "$parts" bench "record$1" 11)
-  both=$(best 3 "$parts" bench "gather$1" 11)
+  alone=$(best 3 "$parts" bench record "$1" 11)
+  both=$(best 3 "$parts" bench gather "$1" 11)
   count=$(sed 's/.* of //' "$work/out")
-  once=$(instructions "$parts" bench "record$1" 1)
-  twice=$(instructions "$parts" bench "gather$1" 1)
+  once=$(instructions "$parts" bench record "$1" 1)
+  twice=$(instructions "$parts" bench gather "$1" 1)
   report "gather, $count steps and entries, $2" $(((both - alone) / 11)) $((twice - once)) "$count" each \
-    $(($(peak "$parts" bench "gather$1" 1) - $(peak "$parts" bench "record$1" 1)))
+    $(($(peak "$parts" bench gather "$1" 1) - $(peak "$parts" bench record "$1" 1)))
 }
 
 # local_record: what 1,000,000 steps of one stream that asks nothing take, beside the room that is only reserved
 local_record() {
   printf '%-58s %d KB\n' "record of 1000000 local steps of one stream" \
-    $(($(peak "$parts" bench record_local 1) - $(peak "$parts" bench record_local 0)))
+    $(($(peak "$parts" bench record local 1) - $(peak "$parts" bench record local 0)))
 }
 
 # copies WHAT: a copy of the largest memory, or of as many bytes in one list, by the difference of 101 copies and 1
 copies() {
   local one many
-  one=$(best 5 "$parts" bench "$1" 1)
-  many=$(best 5 "$parts" bench "$1" 101)
-  printf '%-58s %6d us, %d KB\n' "$1" $(((many - one) / 100)) $((($(peak "$parts" bench "$1" 101) - $(peak "$parts" bench "$1" 1)) / 100))
+  one=$(best 5 "$parts" bench copy "$1" 1)
+  many=$(best 5 "$parts" bench copy "$1" 101)
+  printf '%-58s %6d us, %d KB\n' "copy of $1, 2.2 MB" $(((many - one) / 100)) $((($(peak "$parts" bench copy "$1" 101) - $(peak "$parts" bench copy "$1" 1)) / 100))
 }
 
-# round WHAT: the microseconds of one round, by the difference of 11 rounds and 1
+# round KIND WHICH: the microseconds of one round, by the difference of 11 rounds and 1
 round() {
   local one many
-  one=$(best 3 "$parts" bench "$1" 1)
-  many=$(best 3 "$parts" bench "$1" 11)
+  one=$(best 3 "$parts" bench "$1" "$2" 1)
+  many=$(best 3 "$parts" bench "$1" "$2" 11)
   echo $(((many - one) / 10))
 }
 
-# at_once WHICH: 16 processors at once with 62,500 steps each, beside a machine that takes as many steps
+# at_once WHICH LOOP: 16 processors at once with 62,500 steps each, beside a machine that takes as many steps
 at_once() {
   local machine drive threaded
-  machine=$(round "machine_$1")
-  drive=$(round "drive_$1")
-  threaded=$(round "threaded_$1")
+  machine=$(round machine "$2")
+  drive=$(round drive "$2")
+  threaded=$(round threaded "$2")
   printf '%-58s %6d.%d ms; a machine %d.%d ms; with the schedule %d.%d ms\n' "threads, 1000000 steps, each $1 asks, 16 processors" \
     $((drive / 1000)) $((drive / 100 % 10)) $((machine / 1000)) $((machine / 100 % 10)) $((threaded / 1000)) \
     $((threaded / 100 % 10))
@@ -116,43 +116,43 @@ at_once() {
 # rounds WHAT: the time of one round, by the difference of 11 rounds and 1
 rounds() {
   local one many once twice bytes
-  one=$(best 3 "$parts" bench "$1" 1)
-  many=$(best 3 "$parts" bench "$1" 11)
+  one=$(best 3 "$parts" bench image "$1" 1)
+  many=$(best 3 "$parts" bench image "$1" 11)
   bytes=$(sed 's/.* of //' "$work/out")
-  once=$(instructions "$parts" bench "$1" 1)
-  twice=$(instructions "$parts" bench "$1" 2)
-  report "$1, $bytes bytes" $(((many - one) / 10)) $((twice - once)) "$bytes" byte "$(peak "$parts" bench "$1" 1)"
+  once=$(instructions "$parts" bench image "$1" 1)
+  twice=$(instructions "$parts" bench image "$1" 2)
+  report "$1 the largest image, $bytes bytes" $(((many - one) / 10)) $((twice - once)) "$bytes" byte "$(peak "$parts" bench image "$1" 1)"
 }
 
 # sessions WHAT: 1,000,000 steps, each time in a session of the debugger in which nothing has run, by the difference of 11
 # rounds and 1
 sessions() {
   local one many once twice
-  one=$(best 3 "$parts" bench "$1" 1)
-  many=$(best 3 "$parts" bench "$1" 11)
-  once=$(instructions "$parts" bench "$1" 1)
-  twice=$(instructions "$parts" bench "$1" 2)
-  report "$1, 1000000 steps of the fetch_add loop" $(((many - one) / 10)) $((twice - once)) 1000000 step \
-    "$(peak "$parts" bench "$1" 1)"
+  one=$(best 3 "$parts" bench debug "$1" 1)
+  many=$(best 3 "$parts" bench debug "$1" 11)
+  once=$(instructions "$parts" bench debug "$1" 1)
+  twice=$(instructions "$parts" bench debug "$1" 2)
+  report "debug $1, 1000000 steps of the fetch_add loop" $(((many - one) / 10)) $((twice - once)) 1000000 step \
+    "$(peak "$parts" bench debug "$1" 1)"
 }
 
 # again WHAT HOW: what one session does that has been at the end of its 1,000,000 steps, by the difference of 11 rounds and 1
 again() {
   local one many once twice count
-  one=$(best 3 "$parts" bench "$1" 1)
-  many=$(best 3 "$parts" bench "$1" 11)
+  one=$(best 3 "$parts" bench debug "$1" 1)
+  many=$(best 3 "$parts" bench debug "$1" 11)
   count=$(sed 's/.* of //' "$work/out")
-  once=$(instructions "$parts" bench "$1" 1)
-  twice=$(instructions "$parts" bench "$1" 2)
-  report "$1, $2: $count steps" $(((many - one) / 10)) $((twice - once)) "$count" step "$(peak "$parts" bench "$1" 1)"
+  once=$(instructions "$parts" bench debug "$1" 1)
+  twice=$(instructions "$parts" bench debug "$1" 2)
+  report "debug $1, $2: $count steps" $(((many - one) / 10)) $((twice - once)) "$count" step "$(peak "$parts" bench debug "$1" 1)"
 }
 
 # pair HOW: two processors run at once, with one step in three a fetch-and-add on one word; on all cores, and on one
 # where taskset is installed. No instructions are counted: how many a waiting thread runs hangs on the machine's load.
 pair() {
   local all one=0
-  all=$(best 5 "$parts" bench "pair_$1" 1)
-  if command -v taskset >/dev/null; then one=$(best 5 taskset -c 0 "$parts" bench "pair_$1" 1); fi
+  all=$(best 5 "$parts" bench "$1" two 1)
+  if command -v taskset >/dev/null; then one=$(best 5 taskset -c 0 "$parts" bench "$1" two 1); fi
   printf '%-58s %6d.%d ms on all cores, %d.%d ms on one\n' "2 processors at once $1, 1000000 steps" \
     $((all / 1000)) $((all / 100 % 10)) $((one / 1000)) $((one / 100 % 10))
 }
@@ -170,22 +170,22 @@ steps arithmetic
 steps fetch_add
 steps each_third_asks
 recorded
-gathered '' '16 processors'
-gathered _alternating 'streams in turn'
+gathered alone '16 processors'
+gathered alternating 'streams in turn'
 local_record
-copies copy_memory
-copies copy_numbers
-at_once fiftieth
-at_once third
+copies memory
+copies numbers
+at_once fiftieth each_fiftieth_asks
+at_once third each_third_asks
 pair through_lock
 pair in_turn
 for what in go continue 1_breakpoint 64_breakpoints 1_watch 64_watches; do
-  sessions "debug_$what"
+  sessions "$what"
 done
-again debug_places 'g to 20 places'
-again debug_back 'back to the start, and g to the end'
-rounds write_image
-rounds read_image
+again places 'g to 20 places'
+again back 'back to the start, and g to the end'
+rounds write
+rounds read
 
 bench/source.sh >"$work/source"
 lines=$(wc -l <"$work/source")
