@@ -16,8 +16,8 @@ JOBS ?= $(shell nproc)
 # the targets, each with what it does and how long it takes
 help:
 	@echo "make try        runs a SOURCE by a SCHEDULE, unproved (about a minute); examples/lock.asm where none is named"
-	@echo "make run        proves what the program needs, builds it, and shows a first run"
-	@echo "make test       proves everything from nothing, tries the edits in must-fail/, runs all tests"
+	@echo "make run        proves what the program needs, builds it, and shows a first run (37 minutes on four slow cores beside other work)"
+	@echo "make test       proves everything from nothing, tries the edits in must-fail/, runs all tests (30 minutes on four slow cores)"
 	@echo "make checks     what make test looks at before any proof (seconds)"
 	@echo "make cases      runs the cases below tests/cases on the built program (seconds)"
 	@echo "make documents  runs the commands of the documents and compares what they print (seconds)"
