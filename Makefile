@@ -11,7 +11,7 @@ CRATES ?=
 # how many of them are tried side by side
 JOBS ?= $(shell nproc)
 
-.PHONY: help run try test cases checks edits refuse hostile documents bench build dist check-dist install uninstall clean
+.PHONY: help run try test cases checks trust edits refuse hostile documents bench build dist check-dist install uninstall clean
 
 # the targets, each with what it does and how long it takes
 help:
@@ -19,6 +19,7 @@ help:
 	@echo "make run        proves what the program needs, builds it, and shows a first run (37 minutes on four slow cores beside other work)"
 	@echo "make test       proves everything from nothing, tries the edits in must-fail/, runs all tests (30 minutes on four slow cores)"
 	@echo "make checks     what make test looks at before any proof (seconds)"
+	@echo "make trust      writes docs/TRUST.md, the definitions that a reader has to trust (seconds)"
 	@echo "make cases      runs the cases below tests/cases on the built program (seconds)"
 	@echo "make documents  runs the commands of the documents and compares what they print (seconds)"
 	@echo "make edits      tries the edits of the CRATES that the prover has to refuse, of all crates where none is named (some minutes a crate)"
@@ -29,7 +30,7 @@ help:
 	@echo "make bench      time, instructions and peak memory on the longest inputs (some minutes; valgrind counts instructions)"
 	@echo "make install    puts the built program, its examples and its documents under PREFIX, $(PREFIX) (a second)"
 	@echo "make uninstall  takes away what make install has put there (a second)"
-	@echo "make clean      removes all that was built; the proofs have to be found again then (a second)"
+	@echo "make clean      removes all that was built, and what checks keep of it in the crates (a second)"
 
 # proves and builds the program, and shows its first run
 run:
@@ -50,6 +51,10 @@ test:
 # what needs no proof
 checks:
 	@tests/first_checks.sh
+
+# writes docs/TRUST.md: which definitions a reader of the contracts has to trust
+trust:
+	@python3 tests/trust
 
 # proves and builds the program, where it is not built yet
 build:
@@ -100,15 +105,15 @@ install:
 	install -D -m 644 share/completions/mta_sim.bash $(SHARE)/bash-completion/completions/mta_sim
 	install -D -m 644 share/completions/_mta_sim $(SHARE)/zsh/site-functions/_mta_sim
 	install -D -m 644 share/completions/mta_sim.fish $(SHARE)/fish/vendor_completions.d/mta_sim.fish
-	install -d $(SHARE)/mta_sim $(SHARE)/doc/mta_sim/docs
-	cp -r examples editors $(SHARE)/mta_sim
+	install -d $(SHARE)/doc/mta_sim/docs
+	cp -r examples editors $(SHARE)/doc/mta_sim
 	install -m 644 README.md CONTRIBUTING.md CHANGELOG.md $(SHARE)/doc/mta_sim
 	install -m 644 docs/*.md $(SHARE)/doc/mta_sim/docs
 
 uninstall:
 	rm -f $(DESTDIR)$(PREFIX)/bin/mta_sim $(SHARE)/man/man1/mta_sim.1 $(SHARE)/bash-completion/completions/mta_sim
 	rm -f $(SHARE)/zsh/site-functions/_mta_sim $(SHARE)/fish/vendor_completions.d/mta_sim.fish
-	rm -rf $(SHARE)/mta_sim $(SHARE)/doc/mta_sim
+	rm -rf $(SHARE)/doc/mta_sim
 
 clean:
 	rm -rf out crates/*/out

@@ -62,7 +62,7 @@ strip_symbols() {
 # the tree of the archive: the program in bin/, and the rest as it lies in the repository
 lay_out_archive() {
   mkdir -p "$1/bin"
-  git archive HEAD README.md CHANGELOG.md docs examples editors share | tar -x -C "$1"
+  git archive HEAD README.md CONTRIBUTING.md CHANGELOG.md docs examples editors share | tar -x -C "$1"
   strip_symbols "$1/bin/mta_sim"
   packaging/build_facts.sh "$version" "$program" "$1/bin/mta_sim" >"$1/BUILD"
   copyright >"$1/COPYRIGHT"
@@ -79,7 +79,9 @@ lay_out_debian() {
   install -D -m 644 "$from/share/completions/mta_sim.fish" "$share/fish/vendor_completions.d/mta_sim.fish"
   mkdir -p "$share/man/man1" "$doc" "$to/DEBIAN"
   gzip -9nc "$from/share/man/man1/mta_sim.1" >"$share/man/man1/mta_sim.1.gz"
-  cp -r "$from/README.md" "$from/docs" "$from/examples" "$from/editors" "$from/BUILD" "$doc"
+  # Debian has the changes packed, under a name of its own
+  sed 's/CHANGELOG\.md/changelog.gz/' "$from/README.md" >"$doc/README.md"
+  cp -r "$from/CONTRIBUTING.md" "$from/docs" "$from/examples" "$from/editors" "$from/BUILD" "$doc"
   cp "$from/COPYRIGHT" "$doc/copyright"
   gzip -9nc "$from/CHANGELOG.md" >"$doc/changelog.gz"
   debian_changelog | gzip -9nc >"$doc/changelog.Debian.gz"

@@ -21,7 +21,7 @@ verdict() {
 
 sources() { find crates -path '*/out' -prune -o \( -name '*.rt' -o -name '*.antt' \) -print; }
 texts() { git ls-files -co --exclude-standard | grep -E '\.(rt|antt|edit|md|sh|py|tsv|asm|yml)$|^Makefile$' | grep -v '^tests/first_checks.sh$'; }
-documents() { ls README.md CONTRIBUTING.md CHANGELOG.md docs/*.md; }
+documents() { ls README.md CONTRIBUTING.md CHANGELOG.md docs/*.md crates/*/README.md; }
 
 # the program rattle of the kit whose rt is called
 rattle() { echo "$(dirname "$(readlink -f "$(command -v rt)")")/rattle"; }
@@ -76,12 +76,44 @@ described() {
   done
 }
 
+# about_crates: crates without a README.md, names in one that are not in the crate's src, and calls that do not stand in
+# the file that it names
+about_crates() {
+  local crate about word caller line
+  for crate in $(sed -n 's/^\([a-z_]*\).*:.*/\1/p' crates.txt); do
+    about=crates/$crate/README.md
+    [ -e "$about" ] || { echo "$about is not there" && continue; }
+    while read -r word; do
+      grep -rqw -- "$word" "crates/$crate/src" || [ -e "crates/$crate/src/$word.rt" ] || echo "$about: no $word in src"
+    done < <(sed '/^```/,/^```/d' "$about" | grep -oE '`[A-Za-z_]+(::[A-Za-z_]+)?`' | tr -d '`' | sed 's/::/\n/' | sort -u)
+    caller=$(sed -n 's/^A caller, in `\(.*\)`:$/\1/p' "$about")
+    while read -r line; do
+      grep -qF -- "$line" "${caller:-/dev/null}" || echo "$about: '$line' is not in ${caller:-a file that it names}"
+    done < <(sed -n '/^```/,/^```/{/^```/d;p}' "$about")
+  done
+}
+
+# operation_table: the lines of the operation table at the head of its definition, where they are not the document's
+operation_table() {
+  local document definition
+  document=$(sed -n '/^## One step$/,/^## [^O]/p' docs/MACHINE.md | grep '^| [0-9]')
+  definition=$(sed -n '/^use /q; s/^--   //p' crates/processor/specs/Row.antt | awk '
+    /^\| [0-9]/ { row = ""; is_row = 1 }
+    is_row { sub(/^ +/, ""); row = row (row == "" ? "" : " ") $0 }
+    is_row && /\|$/ { print row; is_row = 0 }')
+  [ -n "$document" ] || echo "docs/MACHINE.md has no lines of a table below 'One step'"
+  diff <(echo "$document") <(echo "$definition")
+}
+
 verdict "files in another layout than rt fmt's" < <(sources | xargs "$(rattle)" fmt --check 2>&1)
 verdict "texts that cite what a reader has not" < <(citations)
 verdict "links that lead nowhere" < <(links)
 verdict "another kit" < <(kit)
 verdict "versions" < <(version)
 verdict "crates without a line" < <(described)
+verdict "documents of crates" < <(about_crates)
+verdict "the operation table, in docs/MACHINE.md (<) and in Row.antt (>)" < <(operation_table)
+verdict "what to trust" < <(python3 tests/trust --check 2>&1)
 verdict "counts" < <(counts)
 verdict "names that editors don't know" < <(tests/editors.sh | grep -v '^the syntax files')
 verdict "edits that can't be applied" < <(python3 tests/edits.py --apply 2>&1)

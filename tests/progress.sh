@@ -1,7 +1,8 @@
 #!/usr/bin/env bash
 # progress.sh LOG COMMAND..: runs a gate of the kit (rt ci), keeps all that it prints in LOG, and prints a line for each
 # crate that is done, with its place in the whole and the seconds since the beginning. Where the command fails its whole
-# log is printed. The last line and the status are the command's own.
+# log is printed, else its line "rt: ok", which says how much was done anew. The last line and the status are the command's
+# own.
 set -u
 log=$1
 shift
@@ -21,5 +22,5 @@ told() {
 
 "$@" 2>&1 | tee "$log" | while IFS= read -r line; do told "$line"; done
 status=${PIPESTATUS[0]}
-if [ "$status" -ne 0 ]; then cat "$log"; else echo "whole log: $log"; tail -n 1 "$log"; fi
+if [ "$status" -ne 0 ]; then cat "$log"; else echo "whole log: $log"; grep '^rt: ok' "$log"; tail -n 1 "$log"; fi
 exit "$status"

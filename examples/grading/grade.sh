@@ -1,11 +1,24 @@
 #!/usr/bin/env bash
 # grade.sh WANTED SOURCE SCHEDULE..: assembles SOURCE, runs it by each schedule, and prints a line for each run: the names
 # of source and schedule and the outcome, with tabs between (docs/MANY_RUNS.md). WANTED has the cells that have to stand at
-# the end, as mta_sim run prints them.
+# the end, as mta_sim run prints them. Where nothing can be graded by it, the status is 2.
 set -eu
 wanted=$1
 source=$2
 shift 2
+
+# refuse REASON: nothing is graded
+refuse() {
+  echo "grade.sh: $1" >&2
+  exit 2
+}
+
+[ -f "$wanted" ] && [ -r "$wanted" ] || refuse "no file of wanted cells $wanted"
+[ -s "$wanted" ] || refuse "no cell is wanted in $wanted"
+if line=$(grep -nvxE 'cell [0-9A-F]{12} [0-9A-F]{16} [0-9A-F]' "$wanted"); then
+  refuse "line ${line%%:*} of $wanted is no cell"
+fi
+command -v mta_sim >/dev/null || refuse "no mta_sim on the PATH"
 name=$(basename "$source" .asm)
 work=$(mktemp -d)
 trap 'rm -rf "$work"' EXIT
@@ -22,15 +35,23 @@ outcome() {
     return
   fi
   awk '
-    # a step: its number, processor, stream, pc, outcome
-    $1 ~ /^[0-9]+$/ && NF >= 5 { last[$2 " " $3] = $5; next }
+    # the first wanted cell that is missing
+    FILENAME == ARGV[1] { if (address == "") address = $2; next }
+    # a step: its number, processor, stream, pc, outcome; what is done may let go those that were blocked before it
+    $1 ~ /^[0-9]+$/ && NF >= 5 && $5 == "BLOCKED" { waits[$2 " " $3] = 1; next }
+    $1 ~ /^[0-9]+$/ && NF >= 5 && $5 != "SKIPPED" { split("", waits); next }
     $1 == "stream" { at = $2 " " $3; next }
     $1 == "Stopped" && trap == "" { trap = $2 }
-    $1 == "Running" && at in last && last[at] != "BLOCKED" { work = 1 }
-    $1 == "Running" && at in last && last[at] == "BLOCKED" { blocked = 1 }
-    $1 == "Running" && !(at in last) { work = 1 }
-    END { print trap != "" ? "trap " trap : work ? "steps" : blocked ? "blocked" : "wrong" }
-  ' "$1"
+    $1 == "Running" && at in waits { blocked = 1 }
+    $1 == "Running" && !(at in waits) { work = 1 }
+    $1 == "cell" && $2 == address { value = $3 " " $4 }
+    END {
+      if (trap != "") print "trap " trap
+      else if (work) print "steps"
+      else if (blocked) print "blocked"
+      else print "wrong " address " " (value == "" ? "as it began" : value)
+    }
+  ' "$work/missing" "$1"
 }
 
 for schedule in "$@"; do

@@ -6,6 +6,8 @@ _mta_sim() {
   elif [ "${COMP_WORDS[1]}" = words ] || { [ "${COMP_WORDS[1]}" = threads ] && [ "$COMP_CWORD" -eq 3 ]; }; then
     COMPREPLY=()
   else
+    # a folder gets a slash and no blank, and a name with blanks is quoted
+    compopt -o filenames 2>/dev/null
     mapfile -t COMPREPLY < <(compgen -f -- "$current")
   fi
 }

@@ -110,8 +110,9 @@ def of_threads(tally, library, folder, image):
 
 
 def of_session(tally, library, folder, image, schedule):
-    """The command debug: the answers that each refusal may leave."""
+    """The command debug: the answers that each refusal may leave; after some of them the session has gone on."""
     words = ["debug", image, schedule]
+    gone_on = []
 
     def printed(lines):
         return tally.does("debug with ample memory", words, b"".join(lines))
@@ -125,9 +126,12 @@ def of_session(tally, library, folder, image, schedule):
     def is_right(ended, _, __, ___):
         if ended.status == 1:
             return ended.err == b"mta_sim: no memory\n" and ended.out in begun
+        if b"fault 6\n" in ended.out:
+            gone_on.append(ended.is_done())
         return ended.is_done() and ended.out in allowed
 
     sweep(tally, Command(library, folder, words, b"".join(SESSION)), is_right)
+    tally.check("debug: no session went on after fault 6", True in gone_on)
 
 
 def of_source(library, folder, source):

@@ -7,8 +7,8 @@ use Rattle.std.specs.List.{before_first, position_or_len, position}
 use Rattle.std.proofs.lemmas.Bool.{cases_lt}
 use Rattle.std.proofs.lemmas.Bool.Decides.{nat_tests}
 use Rattle.std.proofs.lemmas.List.{take_all}
-use Rattle.text_parts.specs.Parts.{text_before, text_after, rest_parts, rest_length}
-use Rattle.text_parts.proofs.Pieces.{place_is, no_place, parts_cut}
+use Rattle.text_parts.specs.Pieces.{text_before, text_after, rest_pieces, rest_length}
+use Rattle.text_parts.proofs.Pieces.{place_is, no_place, pieces_cut}
 use Rattle.asm_line.specs.Lines.{Line, line, lines, rest_lines}
 use Rattle.asm_line.proofs.EmptyLines.{empty_line}
 
@@ -138,14 +138,14 @@ at_line_end text k e here =
 
 -- lines of the text
 
-rest_lines_are : (o : Option (List ℕ)) → map line (rest_parts 10 o) ≡ rest_lines o
+rest_lines_are : (o : Option (List ℕ)) → map line (rest_pieces 10 o) ≡ rest_lines o
 rest_lines_are None = refl
 rest_lines_are (Some text) = refl
 
 pub lines_cut : (text : List ℕ) (l : Line) (rest : Option (List ℕ)) → l ≡ line (text_before 10 text)
     → rest ≡ text_after 10 text → lines text ≡ l ∷ rest_lines rest
 lines_cut text l rest e f =
-    rw (e, f) (ap (λ ps. map line ps) (parts_cut 10 text)
+    rw (e, f) (ap (λ ps. map line ps) (pieces_cut 10 text)
     ∙ ap (λ ls. line (text_before 10 text) ∷ ls) (rest_lines_are (text_after 10 text)))
 
 ten : (x : ℕ) → eqb x 10 ≡ true → x ≡ 10

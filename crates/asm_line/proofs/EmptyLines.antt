@@ -1,6 +1,6 @@
 -- A line without bytes has no label and no statement.
 use Rattle.std.proofs.Common.{◌≡◌, ℕ, List, [], ◌∷◌, length, None, arith, refl}
-use Rattle.text_parts.specs.Parts.{text_after}
+use Rattle.text_parts.specs.Pieces.{text_after}
 use Rattle.asm_line.specs.Text.{trim}
 use Rattle.asm_line.specs.Lines.{Line, line}
 

@@ -9,7 +9,7 @@ use Rattle.insn_word.specs.declared.profiles.Profile.{Profile}
 use Rattle.insn_word.specs.declared.insn.Insn.{Insn}
 use Rattle.insn_word.specs.declared.insn.Insn.TheVariants as insn
 use Rattle.asm_line.specs.Text.{head, behind_head, operands, trim}
-use Rattle.text_parts.specs.Parts.{parts}
+use Rattle.text_parts.specs.Pieces.{pieces}
 use Rattle.asm_line.specs.Faults.{both}
 use Rattle.asm_line.specs.Numbers.{number_within, count_within}
 use Rattle.asm_line.specs.Operands.{Places}
@@ -113,7 +113,7 @@ instruction_of_range profile places here (x ∷ y ∷ z ∷ w ∷ rest) = too_ma
 operations_range : (profile : Profile) (places : Places) (here : ℕ) (text : List ℕ)
     → IfOk (operations profile places here text) (IsGood profile)
 unfolding operations
-operations_range profile places here text = instruction_of_range profile places here (map trim (parts 124 text))
+operations_range profile places here text = instruction_of_range profile places here (map trim (pieces 124 text))
 
 looking_range : (profile : Profile) (n : ℕ) (i : Insn) → n ≤ 7 → IsGood profile i → IsGood profile (with_lookahead n i)
 looking_range profile n (insn.Wide look op reg imm) h g =

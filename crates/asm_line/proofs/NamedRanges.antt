@@ -10,7 +10,7 @@ use Rattle.insn_word.specs.declared.operations.Access.{Access}
 use Rattle.insn_word.specs.declared.operations.Access.TheVariants as access
 use Rattle.insn_word.specs.declared.operations.ArithmeticOp.{ArithmeticOp}
 use Rattle.insn_word.specs.declared.operations.ArithmeticOp.TheVariants as arithmetic
-use Rattle.text_parts.specs.Parts.{text_before, text_after}
+use Rattle.text_parts.specs.Pieces.{text_before, text_after}
 use Rattle.insn_word.specs.Operations.{memory_operations, arithmetic_operations, has_purge, has_operation}
 use Rattle.asm_line.specs.Names.{memory_name, arithmetic_name}
 use Rattle.asm_line.specs.Heads.{wide_named, memory_named, arithmetic_named, control_named, nop_named, plain_named}

@@ -10,7 +10,7 @@ use Rattle.insn_word.specs.declared.profiles.Profile.{Profile}
 use Rattle.asm_line.specs.Text.{is_blank, head, operands}
 use Rattle.asm_line.specs.Directives.{profile_read}
 use Rattle.asm_line.specs.Lines.{Line}
-use Rattle.asm_line.specs.Profiles.{or_first, profile_told}
+use Rattle.asm_line.specs.Profiles.{profile_or_one, profile_told}
 
 byte : (text : List ℕ) (k : ℕ) → bytes_eq (head text) (codes ".profile") ≡ true → k < 8
     → slice_index text k ≡ slice_index (codes ".profile") k
@@ -30,7 +30,7 @@ unfolding profile_told
 not_told l h = by_test (bytes_eq (head l.statement) (codes ".profile")) refl
   where
     told : Option Profile
-    told = Some (or_first (profile_read (operands l.statement)))
+    told = Some (profile_or_one (profile_read (operands l.statement)))
 
     by_test : (b : Bool) → bytes_eq (head l.statement) (codes ".profile") ≡ b → None ≡ (if b then told else None)
     by_test true e = absurd (h e)

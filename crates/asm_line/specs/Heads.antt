@@ -11,7 +11,7 @@ use Rattle.insn_word.specs.declared.operations.Access.TheVariants as access
 use Rattle.insn_word.specs.declared.operations.ArithmeticOp.{ArithmeticOp}
 use Rattle.insn_word.specs.declared.operations.ControlOp.{ControlOp}
 use Rattle.insn_word.specs.declared.operations.Condition.{Condition}
-use Rattle.text_parts.specs.Parts.{text_before, text_after}
+use Rattle.text_parts.specs.Pieces.{text_before, text_after}
 use Rattle.asm_line.specs.Faults.{unless_unknown}
 use Rattle.asm_line.specs.Names.{wide_name, memory_name, arithmetic_name, control_name, condition_name}
 use Rattle.asm_line.specs.Names.{access_suffix, test_suffix, directive_name}

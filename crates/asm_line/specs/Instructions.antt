@@ -13,7 +13,7 @@ use Rattle.insn_word.specs.declared.insn.CPart.{CPart}
 use Rattle.insn_word.specs.declared.insn.Insn.{Insn}
 use Rattle.insn_word.specs.declared.insn.Insn.TheVariants as insn
 use Rattle.asm_line.specs.Text.{trim, head, behind_head, operands}
-use Rattle.text_parts.specs.Parts.{parts}
+use Rattle.text_parts.specs.Pieces.{pieces}
 use Rattle.asm_line.specs.Faults.{map_ok, ◌>>=◌, both}
 use Rattle.asm_line.specs.Numbers.{number_within}
 use Rattle.asm_line.specs.Heads.{operation_of}
@@ -169,7 +169,7 @@ instruction_of p places here texts = too_many p texts
 
 -- the operations, separated by |
 unfoldable pub operations : Profile → Places → ℕ → List ℕ → Result Insn Fault
-operations p places here text = instruction_of p places here (map trim (parts 124 text))
+operations p places here text = instruction_of p places here (map trim (pieces 124 text))
 
 abbrev pub with_lookahead : ℕ → Insn → Insn
 with_lookahead n (insn.Wide look op reg imm) = insn.Wide n op reg imm

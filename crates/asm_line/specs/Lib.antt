@@ -11,7 +11,7 @@ pub mod Instructions
 pub mod Directives
 pub mod Lines
 pub mod Profiles
-pub mod Seen
+pub mod SourceLines
 pub mod Labels
 pub mod Ranges
 -- The aids: what the code has of operands on its way.

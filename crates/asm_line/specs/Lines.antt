@@ -6,7 +6,7 @@ use Rattle.std.specs.List.{list_any}
 use Rattle.std.specs.Str.{bytes_eq}
 use Rattle.insn_word.specs.declared.profiles.Profile.{Profile}
 use Rattle.asm_line.specs.Text.{trim, is_name, head, operands}
-use Rattle.text_parts.specs.Parts.{parts, text_before, text_after}
+use Rattle.text_parts.specs.Pieces.{pieces, text_before, text_after}
 use Rattle.asm_line.specs.Faults.{map_ok, ◌>>=◌, both}
 use Rattle.asm_line.specs.Heads.{directive_of}
 use Rattle.asm_line.specs.Operands.{Places}
@@ -33,7 +33,7 @@ line bytes = let text = trim (text_before 59 bytes) in line_with_label text (tex
 
 -- the lines of a text. A line end at the text's end leaves one more, which is empty and adds nothing.
 abbrev pub lines : List ℕ → List Line
-lines text = map line (parts 10 text)
+lines text = map line (pieces 10 text)
 
 -- the lines of what is left of a text of which a line is cut off
 abbrev pub rest_lines : Option (List ℕ) → List Line

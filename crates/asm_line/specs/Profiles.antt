@@ -8,15 +8,15 @@ use Rattle.asm_line.specs.Directives.{profile_read}
 use Rattle.asm_line.specs.Lines.{Line}
 use Rattle.asm_line.specs.declared.fault.Fault.{Fault}
 
-abbrev pub or_first : Result Profile Fault → Profile
-or_first (Ok p) = p
-or_first (Err e) = profile.One
+abbrev pub profile_or_one : Result Profile Fault → Profile
+profile_or_one (Ok p) = p
+profile_or_one (Err e) = profile.One
 
 -- what a line says of the profile, if its head is .profile: the profile of its operand, or Profile 1 where that names
 -- none
 unfoldable pub profile_told : Line → Option Profile
 profile_told l =
-    if bytes_eq (head l.statement) (codes ".profile") then Some (or_first (profile_read (operands l.statement)))
+    if bytes_eq (head l.statement) (codes ".profile") then Some (profile_or_one (profile_read (operands l.statement)))
     else None
 
 -- The first line that says one decides, wherever it stands in the text; where none does it is Profile 1.

@@ -3,7 +3,7 @@ use Rattle.std.specs.Prelude.{ℕ, ◌==◌, Bool, nat_lt, nat_le, ◌&&◌, ◌
 use Rattle.std.specs.Prelude.{List, [], ◌∷◌, length, slice_index, map, drop, reverse}
 use Rattle.std.specs.List.{before_first, after_first, list_all}
 use Rattle.std.specs.Char.{is_ascii_alphabetic, is_ascii_alphanumeric}
-use Rattle.text_parts.specs.Parts.{parts}
+use Rattle.text_parts.specs.Pieces.{pieces}
 
 -- a blank is a space, a tab or a carriage return
 abbrev pub is_blank : ℕ → Bool
@@ -27,7 +27,7 @@ behind_head text = trim (after_first is_blank text)
 
 -- the operands, of a text without blanks at its ends
 unfoldable pub operands_of : List ℕ → List (List ℕ)
-operands_of text = if length text == 0 then [] else map trim (parts 44 text)
+operands_of text = if length text == 0 then [] else map trim (pieces 44 text)
 
 abbrev pub operands : List ℕ → List (List ℕ)
 operands text = operands_of (behind_head text)

@@ -19,7 +19,7 @@ use insn_word::Profile;
 
 /// What a directive adds, where the text has so many words.
 #[tactic(auto, unfolding(crate::specs::Directives::item_of_directive))]
-pub(crate) fn directed(
+pub(crate) fn item_of_directive(
     labels: &Labels,
     words: usize,
     directive: Directive,

@@ -2,7 +2,7 @@
 
 ghost use Rattle.std.specs.Prelude.{◌≡◌, map, Err};
 ghost use Rattle.asm_line.specs.Text.{head, trim};
-ghost use Rattle.text_parts.specs.Parts.{parts};
+ghost use Rattle.text_parts.specs.Pieces.{pieces};
 ghost use Rattle.asm_line.specs.Heads.{operation_of};
 ghost use Rattle.asm_line.specs.Labels.{places_of};
 ghost use Rattle.asm_line.specs.Instructions.{one_part, two_parts, three_parts, too_many, operations};
@@ -50,7 +50,7 @@ fn with_lookahead(look: u8, insn: Insn) -> Insn
 }
 
 /// The operations, separated by `|`.
-#[tactic(auto, unfolding(crate::specs::Instructions::operations), using(text_parts::proofs::Pieces::parts_cut))]
+#[tactic(auto, unfolding(crate::specs::Instructions::operations), using(text_parts::proofs::Pieces::pieces_cut))]
 fn operations(profile: Profile, labels: &Labels, here: usize, text: &[u8]) -> Result<Insn, Fault>
     ensures { result ≡ operations profile (places_of labels.now) here text.now }
 {
@@ -129,7 +129,7 @@ fn three_parts(
 /// What is wrong with more parts than there can be.
 #[tactic(auto, unfolding(crate::specs::Instructions::too_many))]
 fn too_many(profile: Profile, text: &[u8]) -> Fault
-    ensures { Err result ≡ too_many profile (map trim (parts 124 text.now)) }
+    ensures { Err result ≡ too_many profile (map trim (pieces 124 text.now)) }
 {
     let mut rest = Some(text);
     while let Some(bytes) = rest {

@@ -4,17 +4,17 @@ ghost use Rattle.std.specs.Prelude.{◌≡◌, ℕ, List, ◌≤◌, ◌==◌, �
 ghost use Rattle.std.specs.Option.{option_copied};
 ghost use Rattle.std.specs.List.{list_any};
 ghost use Rattle.asm_line.specs.Text.{is_name};
-ghost use Rattle.text_parts.specs.Parts.{text_before, text_after};
+ghost use Rattle.text_parts.specs.Pieces.{text_before, text_after};
 ghost use Rattle.asm_line.specs.Lines.{line, lines, is_word, is_label, label_fault, statement_item, directive_item};
 ghost use Rattle.asm_line.specs.Lines.{line_item};
 ghost use Rattle.asm_line.specs.Labels.{places_of};
 ghost use Rattle.asm_line.specs.Lines.{rest_lines};
-ghost use Rattle.text_parts.specs.Parts.{rest_length};
+ghost use Rattle.text_parts.specs.Pieces.{rest_length};
 ghost use Rattle.asm_line.specs.Ranges.{IsItemInRange};
-ghost use Rattle.asm_line.specs.Seen.{line_seen};
+ghost use Rattle.asm_line.specs.SourceLines.{line_seen};
 
 use crate::arguments::read_arguments;
-use crate::directive::directed;
+use crate::directive::item_of_directive;
 use crate::fault::{Fault, both};
 use crate::heads::directive_of;
 use crate::instruction::instruction;
@@ -228,5 +228,5 @@ fn directive_item(
 {
     let (head, behind) = split_head(text);
     let directive = directive_of(profile, head)?;
-    directed(labels, words, directive, &read_arguments(behind))
+    item_of_directive(labels, words, directive, &read_arguments(behind))
 }

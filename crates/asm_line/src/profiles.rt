@@ -1,8 +1,8 @@
 //! The profile that a line says.
 
 ghost use Rattle.std.specs.Prelude.{◌≡◌};
-ghost use Rattle.asm_line.specs.Profiles.{or_first, profile_told};
-ghost use Rattle.asm_line.specs.Seen.{line_seen};
+ghost use Rattle.asm_line.specs.Profiles.{profile_or_one, profile_told};
+ghost use Rattle.asm_line.specs.SourceLines.{line_seen};
 
 use crate::arguments::read_arguments;
 use crate::directive::read_profile;
@@ -28,14 +28,14 @@ pub fn profile_told(line: &SourceLine) -> Option<Profile>
     }
     let (head, behind) = split_head(line.statement);
     if head == names::directive(Directive::Profile).as_bytes() {
-        Some(or_first(read_profile(&read_arguments(behind))))
+        Some(profile_or_one(read_profile(&read_arguments(behind))))
     } else {
         None
     }
 }
 
-fn or_first(profile: Result<Profile, Fault>) -> Profile
-    ensures { result ≡ or_first profile }
+fn profile_or_one(profile: Result<Profile, Fault>) -> Profile
+    ensures { result ≡ profile_or_one profile }
 {
     profile.unwrap_or(Profile::One)
 }

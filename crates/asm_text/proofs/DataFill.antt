@@ -10,7 +10,7 @@ use Rattle.std.proofs.lemmas.List.Elements.{All-weaker, All-cons}
 use Rattle.std.proofs.lemmas.List.Folds.{list_any-append}
 use Rattle.std.proofs.lemmas.List.Splits.{slice_split_at, slice_split_none}
 use Rattle.text_parts.specs.Reading.{number_of_text, number_of_digits}
-use Rattle.text_parts.specs.Parts.{parts}
+use Rattle.text_parts.specs.Pieces.{pieces}
 use Rattle.asm_line.specs.Text.{skip_blanks, trim, is_name, head, behind_head, operands_of, operands}
 use Rattle.asm_line.specs.Faults.{map_ok, ◌>>=◌, both}
 use Rattle.asm_line.specs.Heads.{directive_of, directive_named}
@@ -48,7 +48,7 @@ fill_behind v =
     ap reverse (skip_last (codes "1, " ++ v)) ∙ reverse-reverse (codes "1, " ++ (v ++ codes ", 1"))
 
 fill_parts : (v : List ℕ) → IsOneOperand v
-    → parts 44 (codes "1, " ++ (v ++ codes ", 1")) ≡ codes "1" ∷ (32 ∷ v) ∷ codes " 1" ∷ []
+    → pieces 44 (codes "1, " ++ (v ++ codes ", 1")) ≡ codes "1" ∷ (32 ∷ v) ∷ codes " 1" ∷ []
 fill_parts v o =
     let whole = All-cons (λ b. eqb b 44 ≡ false) 32 v refl (no_commas v o) in
     ap (λ ps. codes "1" ∷ ps) (slice_split_at (λ b. eqb b 44) (32 ∷ v) 44 (codes " 1") whole refl)
@@ -73,7 +73,7 @@ fill_operands : (v : List ℕ) → IsOneOperand v → operands (fill_statement v
 unfolding operands_of
 fill_operands v o =
     ap operands_of (fill_behind v)
-    ∙ ap (λ b. cond b [] (map trim (parts 44 (codes "1, " ++ (v ++ codes ", 1")))))
+    ∙ ap (λ b. cond b [] (map trim (pieces 44 (codes "1, " ++ (v ++ codes ", 1")))))
     (ne_eqb (length (codes "1, " ++ (v ++ codes ", 1"))) 0 (λ e. absurd (omega (arith, e))))
     ∙ ap (λ ps. map trim ps) (fill_parts v o)
     ∙ three (trim (codes "1")) (trim (32 ∷ v)) (trim (codes " 1")) v one_trimmed (blank_trimmed v ∙ o.trimmed)

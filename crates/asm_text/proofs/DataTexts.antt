@@ -1,7 +1,7 @@
 -- Texts that differ in one line, .data v or .fill 1, v, 1, mean the same.
 use Rattle.std.proofs.Common.{◌≡◌, ℕ, List, ◌∷◌, ◌++◌, map, Option, Some, None, refl, sym, ◌∙◌, ap}
 use Rattle.std.proofs.lemmas.List.{map-append}
-use Rattle.text_parts.specs.Parts.{parts}
+use Rattle.text_parts.specs.Pieces.{pieces}
 use Rattle.asm_line.specs.Lines.{Line, line, lines}
 use Rattle.asm_text.specs.Sources.{not_ascii, meaning_of, meaning_of_lines, meaning_unless}
 use Rattle.asm_text.specs.DataLaws.{DataTextsAreFills}
@@ -9,7 +9,7 @@ use Rattle.asm_text.proofs.ForeignBytes.{same_foreign}
 use Rattle.asm_text.proofs.DataFill.{data_line, fill_line, data_lines}
 
 lines_cut : (text : List ℕ) (before after : List (List ℕ)) (x : List ℕ) (l : Line)
-    → parts 10 text ≡ before ++ x ∷ after → line x ≡ l → lines text ≡ map line before ++ l ∷ map line after
+    → pieces 10 text ≡ before ++ x ∷ after → line x ≡ l → lines text ≡ map line before ++ l ∷ map line after
 lines_cut text before after x l is at =
     ap (map line) is ∙ map-append line before (x ∷ after) ∙ ap (λ m. map line before ++ m ∷ map line after) at
 

@@ -10,7 +10,7 @@ use Rattle.image_file.specs.ImageValue.{ImageValue}
 use Rattle.asm_line.specs.Text.{head, operands}
 use Rattle.asm_line.specs.Directives.{profile_read}
 use Rattle.asm_line.specs.Lines.{Line, lines}
-use Rattle.asm_line.specs.Profiles.{or_first, profile_told, profile_of}
+use Rattle.asm_line.specs.Profiles.{profile_or_one, profile_told, profile_of}
 use Rattle.asm_line.specs.declared.fault.Fault.{Fault}
 use Rattle.asm_text.specs.Drafts.{image_of_draft}
 use Rattle.asm_text.specs.Sources.{Means}
@@ -20,7 +20,7 @@ use Rattle.asm_text.proofs.LineFaults.{lines_add_up}
 -- What a line says.
 
 told_by : (l : Line) → bytes_eq (head l.statement) (codes ".profile") ≡ true
-    → profile_told l ≡ Some (or_first (profile_read (operands l.statement)))
+    → profile_told l ≡ Some (profile_or_one (profile_read (operands l.statement)))
 unfolding profile_told
 told_by l e = rw e refl
 
@@ -31,7 +31,7 @@ told_none l e = rw e refl
 not_two : One ≡ Two → ⊥
 not_two e = absurd cc
 
-two_read : (r : Result Profile Fault) → or_first r ≡ Two → r ≡ Ok Two
+two_read : (r : Result Profile Fault) → profile_or_one r ≡ Two → r ≡ Ok Two
 two_read (Ok p) e = ap (λ (q : Profile). Ok q) e
 two_read (Err f) e = absurd (not_two e)
 
@@ -98,7 +98,7 @@ has_two (l ∷ ls) zero line stands head_is says before =
     let same : line ≡ l = cc in
     let e = is_head l (sym (ap (λ (m : Line). head m.statement) same) ∙ head_is) in
     let two = sym (ap (λ (m : Line). profile_read (operands m.statement)) same) ∙ says in
-    ap (λ o. unwrap_or o (profile_of ls)) (told_by l e) ∙ ap or_first two
+    ap (λ o. unwrap_or o (profile_of ls)) (told_by l e) ∙ ap profile_or_one two
 has_two (l ∷ ls) (suc k) line stands head_is says before =
     let e = no_head l (before 0 l (omega arith) refl) in
     ap (λ o. unwrap_or o (profile_of ls)) (told_none l e)

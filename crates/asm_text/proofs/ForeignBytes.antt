@@ -9,7 +9,7 @@ use Rattle.std.specs.List.{list_any, position, position_or_len, onto_first}
 use Rattle.std.proofs.lemmas.Bool.{false≢true, eqb-true, leb-true, leb-false}
 use Rattle.std.proofs.lemmas.Bool.Decides.{nat_tests}
 use Rattle.std.proofs.lemmas.List.Sums.{sum_by-cons}
-use Rattle.text_parts.specs.Parts.{parts}
+use Rattle.text_parts.specs.Pieces.{pieces}
 use Rattle.asm_text.specs.Sources.{line_of, not_ascii}
 use Rattle.asm_text.specs.FaultLaws.{IsFirstNotAscii}
 
@@ -184,19 +184,19 @@ parts_side x (p ∷ ps) false false e f =
     ∙ none_more (option_map (λ (k : ℕ). k + 1) (first_at has_foreign (p ∷ ps)))
 
 lines_side : (text : List ℕ)
-    → line_of text (first_at foreign text) ≡ option_map (λ (k : ℕ). k + 1) (first_at has_foreign (parts 10 text))
+    → line_of text (first_at foreign text) ≡ option_map (λ (k : ℕ). k + 1) (first_at has_foreign (pieces 10 text))
 lines_side [] = refl
 lines_side (x ∷ xs) =
     text_side x xs (foreign x) (first_at foreign xs)
     ∙ ap (λ o. cond (foreign x) (Some 1) (option_map (λ (k : ℕ). cond (eqb x 10) 1 0 + k) o)) (lines_side xs)
-    ∙ sym (parts_side x (parts 10 xs) (foreign x) (eqb x 10) refl refl)
+    ∙ sym (parts_side x (pieces 10 xs) (foreign x) (eqb x 10) refl refl)
 
 by_lines : (text : List ℕ)
-    → not_ascii text ≡ option_map (λ (k : ℕ). k + 1) (first_at has_foreign (parts 10 text))
+    → not_ascii text ≡ option_map (λ (k : ℕ). k + 1) (first_at has_foreign (pieces 10 text))
 unfolding not_ascii
 by_lines text = ap (line_of text) (position_is foreign text) ∙ lines_side text
 
-first_foreign : (text : List ℕ) (k : ℕ) → IsFirst has_foreign (parts 10 text) k → IsFirstNotAscii text k
+first_foreign : (text : List ℕ) (k : ℕ) → IsFirst has_foreign (pieces 10 text) k → IsFirstNotAscii text k
 first_foreign text k f = record {
   line = f.element;
   stands = f.stands;
@@ -204,7 +204,7 @@ first_foreign text k f = record {
   before = λ j other less is. none_foreign other (f.before j other less is);
 }
 
-foreign_first : (text : List ℕ) (k : ℕ) → IsFirstNotAscii text k → IsFirst has_foreign (parts 10 text) k
+foreign_first : (text : List ℕ) (k : ℕ) → IsFirstNotAscii text k → IsFirst has_foreign (pieces 10 text) k
 foreign_first text k f = record {
   element = f.line;
   stands = f.stands;
@@ -215,20 +215,20 @@ foreign_first text k f = record {
 abbrev pub HasForeign : List ℕ → ℕ → Type 0
 HasForeign text n = (k : ℕ) × (n ≡ k + 1) × IsFirstNotAscii text k
 
-foreign_at : (text : List ℕ) (n : ℕ) (o : Option ℕ) → first_at has_foreign (parts 10 text) ≡ o
+foreign_at : (text : List ℕ) (n : ℕ) (o : Option ℕ) → first_at has_foreign (pieces 10 text) ≡ o
     → option_map (λ (k : ℕ). k + 1) o ≡ Some n → HasForeign text n
 foreign_at text n None is e = absurd cc
 foreign_at text n (Some k) is e =
-    let at : k + 1 ≡ n = cc in (k, sym at, first_foreign text k (found has_foreign (parts 10 text) k is))
+    let at : k + 1 ≡ n = cc in (k, sym at, first_foreign text k (found has_foreign (pieces 10 text) k is))
 
 pub foreign_line : (text : List ℕ) (n : ℕ) → not_ascii text ≡ Some n → HasForeign text n
 foreign_line text n is =
-    foreign_at text n (first_at has_foreign (parts 10 text)) refl (sym (by_lines text) ∙ is)
+    foreign_at text n (first_at has_foreign (pieces 10 text)) refl (sym (by_lines text) ∙ is)
 
 pub line_foreign : (text : List ℕ) (k : ℕ) → IsFirstNotAscii text k → not_ascii text ≡ Some (k + 1)
 line_foreign text k f =
     by_lines text
-    ∙ ap (option_map (λ (j : ℕ). j + 1)) (is_found has_foreign (parts 10 text) k (foreign_first text k f))
+    ∙ ap (option_map (λ (j : ℕ). j + 1)) (is_found has_foreign (pieces 10 text) k (foreign_first text k f))
 
 no_line : (text : List ℕ) (o : Option ℕ) → line_of text o ≡ None → o ≡ None
 no_line text None e = refl
@@ -262,7 +262,7 @@ same_test x y false true e f h = sym (ascii_by y true f (h.0 (none_foreign x e))
 same_test x y false false e f h = refl
 
 pub same_foreign : (text other : List ℕ) (before after : List (List ℕ)) (x y : List ℕ)
-    → parts 10 text ≡ before ++ x ∷ after → parts 10 other ≡ before ++ y ∷ after → (IsAscii x ↔ IsAscii y)
+    → pieces 10 text ≡ before ++ x ∷ after → pieces 10 other ≡ before ++ y ∷ after → (IsAscii x ↔ IsAscii y)
     → not_ascii text ≡ not_ascii other
 same_foreign text other before after x y is at h =
     by_lines text ∙ ap (λ ps. option_map (λ (k : ℕ). k + 1) (first_at has_foreign ps)) is

@@ -10,7 +10,7 @@ use Rattle.std.proofs.lemmas.List.Elements.{All-append, All-nil, All-cons, All-w
 use Rattle.std.proofs.lemmas.List.Splits.{slice_split_at}
 use Rattle.std.proofs.lemmas.List.Sums.{position_or_len_is}
 use Rattle.asm_line.specs.Text.{trim}
-use Rattle.text_parts.specs.Parts.{text_after, parts}
+use Rattle.text_parts.specs.Pieces.{text_after, pieces}
 use Rattle.asm_line.specs.Faults.{◌>>=◌}
 use Rattle.insn_word.specs.declared.profiles.Profile.{Profile}
 use Rattle.asm_line.specs.Operands.{Places}
@@ -125,7 +125,7 @@ text_cut profile words (l ∷ ls) [] h = absurd h
 text_cut profile words (l ∷ ls) (i ∷ is) h =
     let whole =
     All-weaker (λ b. is_line_byte b ≡ true) (λ b. eqb b 10 ≡ false) no_end l (all_true is_line_byte l h.0.one_line) in
-    ap (λ t. map line (parts 10 t)) (append_assoc l (codes "\n") (text_of_lines ls))
+    ap (λ t. map line (pieces 10 t)) (append_assoc l (codes "\n") (text_of_lines ls))
     ∙ ap (λ ps. map line ps) (slice_split_at (λ b. eqb b 10) l 10 (text_of_lines ls) whole refl)
     ∙ ap (λ rest. line l ∷ rest) (text_cut profile words ls is h.1)
 

@@ -1,7 +1,7 @@
 -- The law of .data: one full cell.
 use Rattle.std.specs.Prelude.{◌≡◌, ◌≢◌, ◌↔◌, ℕ, List, ◌∷◌, ◌++◌, codes, Option, All}
 use Rattle.std.specs.Str.{IsAscii}
-use Rattle.text_parts.specs.Parts.{parts}
+use Rattle.text_parts.specs.Pieces.{pieces}
 use Rattle.asm_line.specs.Text.{trim}
 use Rattle.asm_line.specs.Lines.{Line, line}
 use Rattle.asm_text.specs.Sources.{meaning_of_lines, meaning_of}
@@ -31,8 +31,8 @@ pub record DifferByFill (text other value : List ℕ) : Type 0 where
   pub after : List (List ℕ)
   pub data_line : List ℕ
   pub fill_line : List ℕ
-  pub text_lines : parts 10 text ≡ before ++ data_line ∷ after
-  pub other_lines : parts 10 other ≡ before ++ fill_line ∷ after
+  pub text_lines : pieces 10 text ≡ before ++ data_line ∷ after
+  pub other_lines : pieces 10 other ≡ before ++ fill_line ∷ after
   pub label : Option (List ℕ)
   pub data_reads : line data_line ≡ record { label = label; statement = data_statement value }
   pub fill_reads : line fill_line ≡ record { label = label; statement = fill_statement value }

@@ -2,7 +2,7 @@
 use Rattle.std.specs.Prelude.{◌≡◌, ◌↔◌, ◌⊎◌, ℕ, suc, ◌+◌, ◌<◌, true, false, List, length, slice_get, Some, Ok, Err}
 use Rattle.std.specs.Str.{IsAscii, IsNotAscii}
 use Rattle.image_file.specs.ImageValue.{ImageValue}
-use Rattle.text_parts.specs.Parts.{parts}
+use Rattle.text_parts.specs.Pieces.{pieces}
 use Rattle.asm_line.specs.Lines.{Line, lines, place, count_words}
 use Rattle.asm_line.specs.Profiles.{profile_of}
 use Rattle.asm_line.specs.declared.fault.Fault.{Fault}
@@ -31,9 +31,9 @@ pub record IsFirstFault (ls : List Line) (k : ℕ) (kind : Fault) : Type 0 where
 -- Line k (from 0) has a byte that is not ASCII, and no line before it has one.
 pub record IsFirstNotAscii (text : List ℕ) (k : ℕ) : Type 0 where
   pub line : List ℕ
-  pub stands : slice_get (parts 10 text) k ≡ Some line
+  pub stands : slice_get (pieces 10 text) k ≡ Some line
   pub byte : IsNotAscii line
-  pub before : (j : ℕ) (other : List ℕ) → j < k → slice_get (parts 10 text) j ≡ Some other → IsAscii other
+  pub before : (j : ℕ) (other : List ℕ) → j < k → slice_get (pieces 10 text) j ≡ Some other → IsAscii other
 
 -- Faults are counted by lines from 1.
 

@@ -8,8 +8,8 @@ abbrev pub asm_no_memory : AsmFault
 asm_no_memory = record { line = 0; kind = fault.NoMemory }
 
 -- e is the fault, unless memory ran out
-abbrev pub Told : {A : Type 0} → Fault → Result A Fault → Type 0
-Told e r = e ≢ fault.NoMemory → r ≡ Err e
+abbrev pub IsItemFault : {A : Type 0} → Fault → Result A Fault → Type 0
+IsItemFault e r = e ≢ fault.NoMemory → r ≡ Err e
 
-abbrev pub ToldAt : {A : Type 0} → AsmFault → Result A AsmFault → Type 0
-ToldAt e r = e.kind ≢ fault.NoMemory → r ≡ Err e
+abbrev pub IsTextFault : {A : Type 0} → AsmFault → Result A AsmFault → Type 0
+IsTextFault e r = e.kind ≢ fault.NoMemory → r ≡ Err e

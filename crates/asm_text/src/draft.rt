@@ -8,11 +8,11 @@ ghost use Rattle.asm_text.specs.Sources.{image_or_incomplete};
 ghost use Rattle.asm_text.specs.Limits.{IsReady};
 ghost use Rattle.image_file.specs.ImageValue.{IsWithin};
 ghost use Rattle.insn_word.specs.declared.profiles.Profile.TheVariants.{One, Two};
-ghost use Rattle.asm_text.specs.Faults.{Told};
+ghost use Rattle.asm_text.specs.Faults.{IsItemFault};
 
 use crate::fault::AsmFault;
 use crate::settings::Settings;
-use crate::spelled::spelled;
+use crate::spelling::spelling_of;
 use asm_line::{Fault, Item};
 use image_file::{Image, ImageFault};
 use insn_word::Profile;
@@ -70,7 +70,7 @@ impl Draft {
     #[tactic(auto, unfolding(crate::specs::Drafts::add))]
     pub(crate) fn add(&mut self, item: Item) -> Result<(), Fault>
         requires { IsReady item }
-        ensures { MatchResult result (λ _. add self.old item ≡ Ok self.new) (λ e. Told e (add self.old item)) }
+        ensures { MatchResult result (λ _. add self.old item ≡ Ok self.new) (λ e. IsItemFault e (add self.old item)) }
     {
         match item {
             Item::Nothing => {}
@@ -80,7 +80,7 @@ impl Draft {
             Item::Retry(retry) => self.settings = self.settings.with_retry(retry)?,
             Item::Trap(trap) => self.settings = self.settings.with_trap(trap)?,
             Item::Entry(entry) => self.add_entry(entry)?,
-            Item::Instruction(insn) => self.add_word(spelled(&insn))?,
+            Item::Instruction(insn) => self.add_word(spelling_of(&insn))?,
             Item::Word(word) => self.add_word(word)?,
             Item::Cells { count, value, tags } => self.add_cells(count, value, tags)?,
         }
@@ -89,7 +89,7 @@ impl Draft {
 
     fn add_entry(&mut self, entry: u32) -> Result<(), Fault>
         ensures { MatchResult result (λ _. with_entry self.old entry ≡ Ok self.new)
-            (λ e. Told e (with_entry self.old entry)) }
+            (λ e. IsItemFault e (with_entry self.old entry)) }
     {
         if self.entries.len() >= MAX_ENTRIES {
             return Err(Fault::Limit);
@@ -99,7 +99,7 @@ impl Draft {
 
     fn add_word(&mut self, word: u64) -> Result<(), Fault>
         ensures { MatchResult result (λ _. with_word self.old word ≡ Ok self.new)
-            (λ e. Told e (with_word self.old word)) }
+            (λ e. IsItemFault e (with_word self.old word)) }
     {
         if self.words.len() >= MAX_PROGRAM_WORDS {
             return Err(Fault::Limit);
@@ -110,7 +110,7 @@ impl Draft {
     fn add_cells(&mut self, count: u32, value: u64, tags: u8) -> Result<(), Fault>
         requires { tags < 16 }
         ensures { MatchResult result (λ _. with_cells self.old count (cell_of value tags) ≡ Ok self.new)
-            (λ e. Told e (with_cells self.old count (cell_of value tags))) }
+            (λ e. IsItemFault e (with_cells self.old count (cell_of value tags))) }
     {
         let count = count as usize;
         if count > MAX_CELLS || self.cells.len() > MAX_CELLS - count {

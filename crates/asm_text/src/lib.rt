@@ -11,14 +11,14 @@ mod runs;
 mod settings;
 mod source;
 mod source_laws;
-mod spelled;
+mod spelling;
 
 pub use asm_line::Fault;
 pub use fault::AsmFault;
 pub use laws::{cells_are_their_runs, listings_are_read_back};
 pub use listings::listing;
 pub use reassembly::reassemble;
-pub use source::assemble;
+pub use source::{Outline, assemble, outline_of};
 pub use source_laws::{
     data_is_one_full_cell, faults_are_on_their_least_line, first_profile_line_decides,
     labels_stand_on_their_least_line,

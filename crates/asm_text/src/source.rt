@@ -5,12 +5,12 @@ ghost use Rattle.std.specs.List.{position, count_by};
 ghost use Rattle.asm_line.specs.Lines.{lines, place, count_words};
 ghost use Rattle.asm_line.specs.Labels.{places_of};
 ghost use Rattle.asm_line.specs.Profiles.{profile_of, profile_told};
-ghost use Rattle.asm_line.specs.Seen.{line_seen};
+ghost use Rattle.asm_line.specs.SourceLines.{line_seen};
 ghost use Rattle.std.specs.Option.{option_or};
 ghost use Rattle.asm_line.specs.declared.fault.Fault.TheVariants.{NoMemory};
 ghost use Rattle.asm_text.specs.Drafts.{empty};
 ghost use Rattle.asm_text.specs.Limits.{KeepsLimits};
-ghost use Rattle.asm_text.specs.Faults.{asm_no_memory, Told, ToldAt};
+ghost use Rattle.asm_text.specs.Faults.{asm_no_memory, IsItemFault, IsTextFault};
 ghost use Rattle.asm_text.specs.Sources.{with_line, with_lines, not_ascii, Means, HasFault};
 
 use crate::draft::Draft;
@@ -48,17 +48,20 @@ fn line_ends(text: &[u8]) -> usize
     text.iter().filter(|b| **b == b'\n').count()
 }
 
-/// What a first pass finds of a text, for the reading of each of its lines.
+/// What a first pass finds of a text, for the reading of each of its lines (`asm_line::read_line`).
 #[derive(Drop)]
-struct Outline<'t> {
-    profile: Profile,
+pub struct Outline<'t> {
+    /// The profile that the first `.profile` line says; 1 where there is none.
+    pub profile: Profile,
     /// Where the labels stand.
-    labels: Labels<'t>,
+    pub labels: Labels<'t>,
     /// How many lines are program words.
-    words: usize,
+    pub words: usize,
 }
 
-fn outline_of(alloc: Global, text: &[u8]) -> Result<Outline<'_>, AllocError>
+/// The profile of a text, its labels and the number of its program words, whatever faults it has. Only memory can be
+/// missing.
+pub fn outline_of(alloc: Global, text: &[u8]) -> Result<Outline<'_>, AllocError>
     ensures profile { IfOk result (λ o. o.profile ≡ profile_of (lines text.now)) }
     ensures labels { IfOk result (λ o. places_of o.labels ≡ place (lines text.now)) }
     ensures words { IfOk result (λ o. o.words ≡ count_words (lines text.now)) }
@@ -111,7 +114,7 @@ fn take_line(
 ) -> Result<(), Fault>
     ensures takes { let o = outline.now in MatchResult result
         (λ _. with_line o.profile (places_of o.labels) o.words number draft.old (line_seen line.now) ≡ Ok draft.new)
-        (λ e. Told e (with_line o.profile (places_of o.labels) o.words number draft.old (line_seen line.now))) }
+        (λ e. IsItemFault e (with_line o.profile (places_of o.labels) o.words number draft.old (line_seen line.now))) }
     ensures kept { let o = outline.now in
         KeepsLimits o.profile o.words draft.old → OnOk result (KeepsLimits o.profile o.words draft.new) }
 {
@@ -130,7 +133,7 @@ fn take_line(
 fn all_lines(alloc: Global, outline: &Outline, text: &[u8]) -> Result<Draft, AsmFault>
     ensures takes { let o = outline.now in MatchResult result
         (λ d. with_lines o.profile (places_of o.labels) o.words 0 empty (lines text.now) ≡ Ok d)
-        (λ e. ToldAt e (with_lines o.profile (places_of o.labels) o.words 0 empty (lines text.now))) }
+        (λ e. IsTextFault e (with_lines o.profile (places_of o.labels) o.words 0 empty (lines text.now))) }
     ensures kept { IfOk result (KeepsLimits outline.now.profile outline.now.words) }
     ensures no_memory { IfErr result (λ e. e.kind ≡ NoMemory → e ≡ asm_no_memory) }
 {

@@ -39,6 +39,7 @@ threads_shape = record (new_shape (codes "threads")) {
 abbrev pub threads_app : App
 threads_app = record { top = threads_shape; subs = [] }
 
+-- the command line as a whole: it needs a command
 abbrev pub tool_shape : Shape
 tool_shape = record (new_shape (codes "mta_sim")) {
   is_leaf = false;
@@ -46,6 +47,7 @@ tool_shape = record (new_shape (codes "mta_sim")) {
   subcommand_required = true;
 }
 
+-- the commands and the names of their words
 abbrev pub tool_app : App
 tool_app = record {
   top = tool_shape;
@@ -65,6 +67,7 @@ IsCommand words = fault_of tool_app words ≡ []
 
 -- ---- what a command asks for, with the paths of its files
 
+-- a command with the paths of its files
 pub data CommandValue : Type 0 where
   run_words : CommandValue
   assemble_source : Text → Text → CommandValue
@@ -77,6 +80,7 @@ pub data CommandValue : Type 0 where
 abbrev pub number_of : Text → ℕ
 number_of text = if is_unsigned_in 0 (2 ^ 64 - 1) text then digits_value 10 (without_leading_plus text) else 0
 
+-- the number of a word, 0 where there is none
 abbrev pub number_given : Option Text → ℕ
 number_given None = 0
 number_given (Some text) = number_of text
@@ -101,6 +105,7 @@ command_by_name name rows =
     then with_paths debug_image (first_of (codes "IMAGE") rows) (first_of (codes "SCHEDULE") rows)
     else None)))))
 
+-- the command of what a command line was read as
 abbrev pub command_in : Option (Text × List Row) → Option CommandValue
 command_in = option_and_then (λ entered. command_by_name entered.0 entered.1)
 

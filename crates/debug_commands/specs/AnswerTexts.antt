@@ -9,6 +9,7 @@ use Rattle.debug_commands.specs.declared.answers.Why.TheVariants.{Moved, Stop, E
 use Rattle.debug_commands.specs.declared.answers.Answer.{Answer}
 use Rattle.debug_commands.specs.declared.answers.Answer.TheVariants.{At, Point, Gone, Stream, Words}
 
+-- the word for each reason of a move
 abbrev pub why_text : Why → List ℕ
 why_text Moved = codes "moved"
 why_text Stop = codes "stop"
@@ -29,10 +30,12 @@ seen_word_line w =
     hexadecimal_12 w.0 ++ codes " " ++ hexadecimal_16 w.1.value ++ codes " "
     ++ hexadecimal_digit (tag_number w.1) ++ codes "\n"
 
+-- the lines of words of the memory
 abbrev pub seen_word_lines : List (ℕ × Cell) → List ℕ
 seen_word_lines [] = []
 seen_word_lines (w ∷ ws) = seen_word_line w ++ seen_word_lines ws
 
+-- the text of each answer
 unfoldable pub answer_text_of : Answer → List ℕ
 answer_text_of (At k why) = place_line k why
 answer_text_of (Point key) = key_line (codes "point") key

@@ -2,7 +2,7 @@
 use Rattle.std.specs.Prelude.{ℕ, ◌-◌, ◌^◌, nat_le, if◌then◌else◌, List, [], ◌∷◌, length, codes, Option, Some, None}
 use Rattle.std.specs.Option.{option_map, option_and_then}
 use Rattle.std.specs.Str.{bytes_eq}
-use Rattle.text_parts.specs.Parts.{parts}
+use Rattle.text_parts.specs.Pieces.{pieces}
 use Rattle.text_parts.specs.Reading.{number_of_text}
 use Rattle.text_parts.specs.Numbers.{up_to}
 use Rattle.debug_commands.specs.declared.commands.Command.{Command}
@@ -30,6 +30,7 @@ command_of_one name number =
     else (if bytes_eq name (codes "d") then option_map Delete (number_within_bits 64 number)
     else None))))
 
+-- the command with two numbers, where there are both
 abbrev pub with_both : (ℕ → ℕ → Command) → Option ℕ → Option ℕ → Option Command
 with_both command (Some m) (Some n) = Some (command m n)
 with_both command (Some m) None = None
@@ -54,4 +55,4 @@ command_of_words _ = None
 
 -- the command of a line of at most 256 bytes, its line feed not counted
 unfoldable pub command_of : List ℕ → Option Command
-command_of line = if nat_le (length line) 256 then command_of_words (parts 32 line) else None
+command_of line = if nat_le (length line) 256 then command_of_words (pieces 32 line) else None

@@ -4,6 +4,7 @@ use Rattle.debug_commands.specs.declared.debug_fault.DebugFault.{DebugFault}
 use Rattle.debug_commands.specs.declared.debug_fault.DebugFault.TheVariants.{Syntax, NoSuchStream, NoSuchWord}
 use Rattle.debug_commands.specs.declared.debug_fault.DebugFault.TheVariants.{NoSuchPoint, Past, NoMemory}
 
+-- the number of each fault
 abbrev pub debug_fault_number : DebugFault → ℕ
 debug_fault_number Syntax = 1
 debug_fault_number NoSuchStream = 2

@@ -2,7 +2,7 @@
 
 ghost use Rattle.std.specs.Prelude.{◌≡◌, ◌-◌, ◌^◌, ◌∷◌};
 ghost use Rattle.std.specs.Option.{ok_or};
-ghost use Rattle.text_parts.specs.Parts.{parts};
+ghost use Rattle.text_parts.specs.Pieces.{pieces};
 ghost use Rattle.debug_commands.specs.Commands.{command_of, command_of_words, bare_command, command_of_one, command_of_two};
 ghost use Rattle.debug_commands.specs.Commands.{number_within_bits};
 
@@ -27,7 +27,7 @@ pub fn read_command(line: &[u8]) -> Result<Command, DebugFault>
 
 /// The command that the words of a line are.
 fn read_words(line: &[u8]) -> Option<Command>
-    ensures { result ≡ command_of_words (parts 32 line.now) }
+    ensures { result ≡ command_of_words (pieces 32 line.now) }
 {
     let (name, rest) = cut(line, b' ');
     match rest {
@@ -38,7 +38,7 @@ fn read_words(line: &[u8]) -> Option<Command>
 
 /// The command of this name, with the numbers in the rest of its line.
 fn read_numbers(name: &[u8], rest: &[u8]) -> Option<Command>
-    ensures { result ≡ command_of_words (name.now ∷ parts 32 rest.now) }
+    ensures { result ≡ command_of_words (name.now ∷ pieces 32 rest.now) }
 {
     let (first, rest) = cut(rest, b' ');
     match rest {
@@ -49,7 +49,7 @@ fn read_numbers(name: &[u8], rest: &[u8]) -> Option<Command>
 
 /// The command of this name and this first number, with the second in the rest of its line.
 fn read_second(name: &[u8], first: &[u8], rest: &[u8]) -> Option<Command>
-    ensures { result ≡ command_of_words (name.now ∷ first.now ∷ parts 32 rest.now) }
+    ensures { result ≡ command_of_words (name.now ∷ first.now ∷ pieces 32 rest.now) }
 {
     let (second, more) = cut(rest, b' ');
     match more {

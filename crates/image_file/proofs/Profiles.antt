@@ -7,15 +7,15 @@ use Rattle.insn_word.specs.declared.profiles.Profile.{Profile}
 use Rattle.insn_word.specs.declared.profiles.Profile.TheVariants.{One, Two}
 use Rattle.tag_memory.specs.Storage.{default_chain_limit, most_chain_limit}
 use Rattle.image_file.specs.Fields.{number_bytes, number_of_bytes}
-use Rattle.image_file.specs.Versions.{version_of, profile_of, chain_size, chain_place, header_length}
+use Rattle.image_file.specs.Versions.{version_of, profile_of_version, chain_size, chain_place, header_length}
 use Rattle.image_file.specs.Reading.{version_at, profile_at, chain_limit_in, version_fault}
 
 -- a version that has a profile is the version of it
-pub version_is : (v : ℕ) (p : Profile) → profile_of v ≡ Some p → v ≡ version_of p
+pub version_is : (v : ℕ) (p : Profile) → profile_of_version v ≡ Some p → v ≡ version_of p
 version_is v One known = grind (arith, nat_tests)
 version_is v Two known = grind (arith, nat_tests)
 
-pub profile_again : (p : Profile) → profile_of (version_of p) ≡ Some p
+pub profile_again : (p : Profile) → profile_of_version (version_of p) ≡ Some p
 profile_again One = refl
 profile_again Two = refl
 
@@ -26,18 +26,18 @@ some_version None b none = absurd cc
 some_version (Some p) b none = (refl, grind (arith, nat_tests))
 
 pub record IsVersioned (b : List ℕ) : Type 0 where
-  pub known : profile_of (version_at b) ≡ Some (profile_at b)
+  pub known : profile_of_version (version_at b) ≡ Some (profile_at b)
   pub long : header_length (profile_at b) ≤ length b
 
-pub versioned : (b : List ℕ) → version_fault (profile_of (version_at b)) b ≡ None → IsVersioned b
+pub versioned : (b : List ℕ) → version_fault (profile_of_version (version_at b)) b ≡ None → IsVersioned b
 unfolding profile_at
 versioned b none =
-    let found = some_version (profile_of (version_at b)) b none in record { known = found.0; long = found.1 }
+    let found = some_version (profile_of_version (version_at b)) b none in record { known = found.0; long = found.1 }
 
 -- the profile of bytes whose version is that of p
 pub profile_from : (b : List ℕ) (p : Profile) → version_at b ≡ version_of p → profile_at b ≡ p
 unfolding profile_at
-profile_from b p is = ap (λ v. unwrap_or (profile_of v) One) is ∙ ap (λ found. unwrap_or found One) (profile_again p)
+profile_from b p is = ap (λ v. unwrap_or (profile_of_version v) One) is ∙ ap (λ found. unwrap_or found One) (profile_again p)
 
 -- ---- the chain limit
 

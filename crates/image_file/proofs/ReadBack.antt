@@ -14,7 +14,7 @@ use Rattle.image_file.specs.SameLaws.{cell_of-tag_number}
 use Rattle.image_file.proofs.TagNumbers.{tag_number-below}
 use Rattle.image_file.specs.Fields.{number_bytes, number_of_bytes}
 use Rattle.image_file.specs.Parts.{count_fault, entry_fault}
-use Rattle.image_file.specs.Versions.{version_of, profile_of, chain_size}
+use Rattle.image_file.specs.Versions.{version_of, profile_of_version, chain_size}
 use Rattle.image_file.specs.Spelling.{magic, entry_bytes, word_bytes, cell_bytes, header_bytes, bytes_of_image}
 use Rattle.image_file.specs.Spelling.{Stands}
 use Rattle.image_file.specs.Reading.{profile_at, chain_limit_at, processors_at, words_at, cells_at}
@@ -237,7 +237,7 @@ sound_again b i stands =
     let whole = l.whole in
     record {
       versioned = record {
-        known = ap profile_of h.version ∙ profile_again i.profile ∙ ap Some (sym (profile_is b i stands));
+        known = ap profile_of_version h.version ∙ profile_again i.profile ∙ ap Some (sym (profile_is b i stands));
         long = omega arith;
       };
       magic_stands = h.magic;

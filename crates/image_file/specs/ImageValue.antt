@@ -6,6 +6,7 @@ use Rattle.insn_word.specs.declared.profiles.Profile.TheVariants.{One, Two}
 use Rattle.tag_memory.specs.Cell.{Cell}
 use Rattle.tag_memory.specs.Storage.{default_chain_limit, most_chain_limit}
 
+-- an image: its profile, its limits, the trap entry, each processor's entry, the program and the data words
 pub record ImageValue : Type 0 where
   pub profile : Profile
   pub slim : ℕ

@@ -14,7 +14,7 @@ use Rattle.image_file.specs.ImageValue.{ImageValue, image_in}
 use Rattle.image_file.specs.Fault.{first_of}
 use Rattle.image_file.specs.Fields.{number_of_bytes, parts_of}
 use Rattle.image_file.specs.Parts.{count_fault, entry_fault}
-use Rattle.image_file.specs.Versions.{profile_of, chain_place, tail_place, header_length}
+use Rattle.image_file.specs.Versions.{profile_of_version, chain_place, tail_place, header_length}
 use Rattle.image_file.specs.Spelling.{magic}
 
 -- ---- the numbers of the header
@@ -24,7 +24,7 @@ version_at bytes = number_of_bytes 2 (drop 4 bytes)
 
 -- the profile whose images the version has; One where no images have it, and the bytes have a fault
 unfoldable pub profile_at : List ℕ → Profile
-profile_at bytes = unwrap_or (profile_of (version_at bytes)) One
+profile_at bytes = unwrap_or (profile_of_version (version_at bytes)) One
 
 abbrev pub processors_at : List ℕ → ℕ
 processors_at bytes = number_of_bytes 2 (drop 6 bytes)
@@ -114,7 +114,7 @@ unfoldable pub front_fault : List ℕ → Option ImageFault
 front_fault bytes =
     if nat_lt (length bytes) (header_length One) then Some Short
     else if not (number_of_bytes 4 bytes == magic) then Some Magic
-    else version_fault (profile_of (version_at bytes)) bytes
+    else version_fault (profile_of_version (version_at bytes)) bytes
 
 abbrev pub header_fault : List ℕ → Option ImageFault
 header_fault bytes =

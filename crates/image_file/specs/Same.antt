@@ -6,6 +6,7 @@ use Rattle.tag_memory.specs.Cell.{Cell, tag_number}
 use Rattle.image_file.specs.ImageValue.{ImageValue}
 use lib.Pointwise.{pointwise}
 
+-- whether two words have the same value and tags
 abbrev pub same_cell : Cell → Cell → Bool
 same_cell c d = (c.value == d.value) && (tag_number c == tag_number d)
 

@@ -10,9 +10,11 @@ use Rattle.image_file.specs.Versions.{version_of, chain_size}
 abbrev pub magic : ℕ
 magic = 0x4d544150
 
+-- the four bytes of a processor's entry
 abbrev pub entry_bytes : ℕ → List ℕ
 entry_bytes e = number_bytes 4 e
 
+-- the eight bytes of a program word
 abbrev pub word_bytes : ℕ → List ℕ
 word_bytes w = number_bytes 8 w
 
@@ -36,11 +38,13 @@ header_bytes magic version processors slim size chain_limit retry_limit trap_ent
     ∷ number_bytes 4 cells
     ∷ [])
 
+-- the header's bytes of an image
 abbrev pub header_of : ImageValue → List ℕ
 header_of i =
     header_bytes magic (version_of i.profile) (length i.entries) i.slim (chain_size i.profile) i.chain_limit
     i.retry_limit i.trap_entry (length i.program) (length i.cells)
 
+-- the bytes of an image: header, entries, program words, data words
 unfoldable pub bytes_of_image : ImageValue → List ℕ
 bytes_of_image i =
     header_of i ++ (flat_map entry_bytes i.entries ++ (flat_map word_bytes i.program ++ flat_map cell_bytes i.cells))
@@ -52,6 +56,7 @@ pub record Fits (i : ImageValue) : Type 0 where
   pub program : AllByRecursion (λ w. w < 2 ^ 64) i.program
   pub cells : AllByRecursion (λ c. c.value < 2 ^ 64) i.cells
 
+-- the bytes stand for the image, which is within its limits
 pub record Stands (bytes : List ℕ) (i : ImageValue) : Type 0 where
   pub within : IsWithin i
   pub fits : Fits i

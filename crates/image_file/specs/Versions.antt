@@ -4,13 +4,14 @@ use Rattle.std.specs.Prelude.{ℕ, ◌+◌, ◌==◌, Option, Some, None, if◌t
 use Rattle.insn_word.specs.declared.profiles.Profile.{Profile}
 use Rattle.insn_word.specs.declared.profiles.Profile.TheVariants.{One, Two}
 
+-- the version of an image file, by the profile
 abbrev pub version_of : Profile → ℕ
 version_of One = 1
 version_of Two = 2
 
 -- the profile whose images a version has
-abbrev pub profile_of : (version : ℕ) → Option Profile
-profile_of version =
+abbrev pub profile_of_version : (version : ℕ) → Option Profile
+profile_of_version version =
     if version == version_of One then Some One
     else if version == version_of Two then Some Two
     else None

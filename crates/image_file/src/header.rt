@@ -8,7 +8,7 @@ ghost use Rattle.image_file.specs.Reading.{profile_at, chain_limit_in, front_fau
 
 use crate::fields::{from_place, u16_of, u32_of};
 use crate::parts::count_fault;
-use crate::versions::{CHAIN_PLACE, header_length, profile_of, tail_place};
+use crate::versions::{CHAIN_PLACE, header_length, profile_of_version, tail_place};
 use crate::{CountField, ImageFault};
 use insn_word::Profile;
 use tag_memory::DEFAULT_CHAIN_LIMIT;
@@ -43,7 +43,7 @@ fn profile_in_front(bytes: &[u8]) -> Result<Profile, ImageFault>
     if u32_of(bytes) != MAGIC {
         return Err(ImageFault::Magic);
     }
-    let Some(profile) = profile_of(u16_of(from_place(bytes, 4))) else {
+    let Some(profile) = profile_of_version(u16_of(from_place(bytes, 4))) else {
         return Err(ImageFault::Version);
     };
     if bytes.len() < header_length(profile) {

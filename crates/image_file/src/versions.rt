@@ -1,7 +1,7 @@
 //! What depends on the version of an image file ("Version 2", docs/FORMATS.md).
 
 ghost use Rattle.std.specs.Prelude.{◌≡◌, ◌≤◌};
-ghost use Rattle.image_file.specs.Versions.{version_of, profile_of, chain_place, tail_place, header_length};
+ghost use Rattle.image_file.specs.Versions.{version_of, profile_of_version, chain_place, tail_place, header_length};
 
 use insn_word::Profile;
 
@@ -21,8 +21,8 @@ pub(crate) fn version_of(profile: Profile) -> u16
 }
 
 /// The profile whose images a version has; `None` where no images have it.
-pub(crate) fn profile_of(version: u16) -> Option<Profile>
-    ensures { result ≡ profile_of version }
+pub(crate) fn profile_of_version(version: u16) -> Option<Profile>
+    ensures { result ≡ profile_of_version version }
 {
     match version {
         1 => Some(Profile::One),

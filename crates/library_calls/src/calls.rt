@@ -1,10 +1,13 @@
 //! Calls, with their names in the code. Each is made of one program, and its answer compared.
+mod alternating;
 mod appended;
 mod debugging;
 mod endings;
 mod engines;
-mod every_way;
+mod gate;
+mod kept;
 mod machines;
+mod one_machine;
 mod programs;
 mod records;
 mod sessions;
@@ -20,6 +23,7 @@ use image_file::Image;
 use programs::image_of_program;
 use std::sync::Wait;
 use std::thread::Threads;
+use std::time::Clock;
 
 /// Calls, and how they ended.
 type Line = (&'static str, Ended);
@@ -33,14 +37,17 @@ fn tell<R: Print>(rt: &R, lines: &[Line]) -> Result<()> {
 }
 
 /// Makes all calls, and prints a line for each.
-pub(crate) fn make<R: AllocGlobal + Print + Threads + Wait + Sync>(rt: &R) -> Result<()> {
+pub(crate) fn make<R: AllocGlobal + Clock + Print + Threads + Wait + Sync>(rt: &R) -> Result<()> {
     match image_of_program(rt.alloc()) {
         Some(image) => make_with(rt, &image),
         None => tell(rt, &[("all calls", Ended::NotMade)]),
     }
 }
 
-fn make_with<R: AllocGlobal + Print + Threads + Wait + Sync>(rt: &R, image: &Image) -> Result<()> {
+fn make_with<R: AllocGlobal + Clock + Print + Threads + Wait + Sync>(
+    rt: &R,
+    image: &Image,
+) -> Result<()> {
     make_files(rt, image)?;
     make_texts(rt, image)?;
     make_machines(rt, image)?;
@@ -134,14 +141,13 @@ fn make_records<R: AllocGlobal + Print>(rt: &R, image: &Image) -> Result<()> {
 }
 
 /// Makes those that run processors at once, and what they need.
-fn make_runs<R: AllocGlobal + Print + Threads + Wait + Sync>(rt: &R, image: &Image) -> Result<()> {
+fn make_runs<R: AllocGlobal + Clock + Print + Threads + Wait + Sync>(
+    rt: &R,
+    image: &Image,
+) -> Result<()> {
     let lines = [
         ("gather", threads::of_gather(rt, image)),
         ("threaded", threads::of_threaded(rt, image)),
-        (
-            "threaded_by_lock",
-            threads::of_threaded_through_lock(rt, image),
-        ),
         (
             "open_table, close_table",
             turns::of_open_table(rt.alloc(), image),
@@ -149,6 +155,15 @@ fn make_runs<R: AllocGlobal + Print + Threads + Wait + Sync>(rt: &R, image: &Ima
         ("run_two", turns::of_run_two(rt, image)),
         ("run_threads", turns::of_run_threads(rt, image)),
         ("run_by_lock", turns::of_run_through_lock(rt, image)),
+        ("threaded, alternating", alternating::of_threaded(rt)),
+        (
+            "run_threads twice, gather of exchanged records",
+            alternating::of_exchanged(rt),
+        ),
+        (
+            "Session::begin of Woven::into_schedule",
+            alternating::of_session(rt),
+        ),
     ];
     tell(rt, &lines)
 }
@@ -162,6 +177,7 @@ fn make_sessions<R: AllocGlobal + Print>(rt: &R, image: &Image) -> Result<()> {
             "Session::command, answer_text",
             sessions::of_commands(alloc, image),
         ),
+        ("Session::command, 9,005 steps", kept::of_commands(alloc)),
     ];
     tell(rt, &lines)
 }
@@ -179,8 +195,8 @@ fn make_engines<R: AllocGlobal + Print + Threads + Wait + Sync>(
         ("run_engine", engines::of_run_engine(alloc, image)),
         ("threads_engine", engines::of_threads_engine(rt, image)),
         ("debug_engine", debugging::of_debug_engine(alloc, image)),
-        ("one_machine", every_way::of_program(alloc)),
-        ("one_machine of Profile 2", every_way::of_purge(alloc)),
+        ("one_machine", one_machine::of_program(alloc)),
+        ("one_machine of Profile 2", one_machine::of_purge(alloc)),
     ];
     tell(rt, &lines)
 }

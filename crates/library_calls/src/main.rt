@@ -12,6 +12,7 @@ use anyhow::{Result, anyhow};
 use std::env;
 use std::sync::Wait;
 use std::thread::Threads;
+use std::time::Clock;
 
 fn main(rt: HostRuntime) -> Result<()> {
     let words: Vec<String> = env::args(&rt)?.collect(rt.alloc())?;
@@ -19,7 +20,10 @@ fn main(rt: HostRuntime) -> Result<()> {
 }
 
 /// Does what the words behind the program's name say.
-fn run<R: AllocGlobal + Print + Threads + Wait + Sync>(rt: &R, words: &[String]) -> Result<()> {
+fn run<R: AllocGlobal + Clock + Print + Threads + Wait + Sync>(
+    rt: &R,
+    words: &[String],
+) -> Result<()> {
     match words {
         [_, calls] if calls.as_str() == "calls" => calls::make(rt),
         [_, bench, kind, which, rounds] if bench.as_str() == "bench" => {

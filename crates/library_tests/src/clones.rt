@@ -4,7 +4,7 @@ use image_file::Image;
 use machine::Machine;
 use std::alloc::Global;
 use stream_core::{Outcome, Stream, TrapKind};
-use tag_memory::{Acc, MAX_WORDS, Masked, MemOp, Memory, Pointer, Reply, Request, Word};
+use tag_memory::{Acc, MAX_WORDS, MemOp, Memory, Pointer, Reply, Request, RequestMask, Word};
 
 /// A machine whose next step is its third: the trap of a load that was tried twice again.
 fn waiting_machine(alloc: Global, image: &Image) -> Option<Machine<8>> {
@@ -80,7 +80,7 @@ fn add(memory: &mut Memory) -> Reply {
         pointer: Pointer::new(0),
         acc: Acc::Sync,
         value: 2,
-        masked: Masked {
+        masked: RequestMask {
             trap0: false,
             trap1: false,
         },

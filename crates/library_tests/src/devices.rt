@@ -3,7 +3,7 @@
 use std::io;
 use std::io::{Read, Write};
 
-/// Gives one byte a read, and fails where so many reads went well.
+/// Gives one byte a read, and fails once, where so many reads went well: whoever tried again would read on.
 #[derive(Drop)]
 pub(crate) struct FailingReader<'a> {
     pub(crate) text: &'a [u8],
@@ -14,6 +14,7 @@ pub(crate) struct FailingReader<'a> {
 impl Read for FailingReader<'_> {
     fn read(&mut self, buf: &mut [u8]) -> io::Result<usize> {
         if self.reads == 0 {
+            self.reads = usize::MAX;
             return Err(io::Error::from(self.kind));
         }
         self.reads -= 1;

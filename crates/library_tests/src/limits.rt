@@ -4,9 +4,9 @@ use std::alloc::Global;
 use stream_core::{Outcome, TrapKind};
 use trace_text::{trace_line, write_schedule};
 
-/// A step less than a run can count, with room for three more.
+/// A step less than 32 bits count, with room for three more.
 fn steps_before_the_limit(alloc: Global) -> Steps {
-    let mut steps = Steps::of_run(alloc, 3, u32::MAX - 1);
+    let mut steps = Steps::of_run(alloc, 3, 4_294_967_294);
     // where there is no memory for it there is no room
     let _ = steps.reserve(3);
     steps
@@ -30,13 +30,13 @@ fn length_and_last(steps: &Steps) -> (usize, Option<u8>) {
 }
 
 #[test]
-fn a_run_of_steps_ends_at_the_limit_of_its_count(rt: HostRuntime) {
+fn a_run_of_steps_goes_on_past_32_bits(rt: HostRuntime) {
     let mut steps = steps_before_the_limit(rt.alloc());
     assert!(rt; is_pushed(&mut steps, 3) && is_pushed(&mut steps, 3) && is_pushed(&mut steps, 5));
     assert!(rt; !is_pushed(&mut steps, 5));
     for (place, run) in [
-        (0, Some((3, 4_294_967_295))),
-        (4_294_967_294, Some((3, 4_294_967_295))),
+        (0, Some((3, 4_294_967_296))),
+        (4_294_967_294, Some((3, 4_294_967_296))),
         (4_294_967_295, Some((3, 4_294_967_296))),
         (4_294_967_296, Some((5, 4_294_967_297))),
         (4_294_967_297, None),

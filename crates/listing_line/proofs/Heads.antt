@@ -15,7 +15,7 @@ use Rattle.insn_word.specs.Operations.{has_purge, has_operation}
 use Rattle.insn_word.specs.Words.{used_memory}
 use Rattle.insn_word.specs.declared.profiles.Profile.{Profile}
 use Rattle.insn_word.specs.declared.insn.MPart.{MPart}
-use Rattle.text_parts.specs.Parts.{text_after}
+use Rattle.text_parts.specs.Pieces.{text_after}
 use Rattle.asm_line.specs.Names.{operation_name}
 use Rattle.asm_line.specs.Heads.{operation_of, operation_named, plain_named, wide_named, memory_named}
 use Rattle.asm_line.specs.Heads.{arithmetic_named, control_named}

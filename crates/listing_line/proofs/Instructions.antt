@@ -28,7 +28,7 @@ use Rattle.insn_word.specs.declared.insn.CPart.{CPart}
 use Rattle.insn_word.specs.declared.insn.Insn.{Insn}
 use Rattle.insn_word.specs.declared.insn.Insn.TheVariants as insn
 use Rattle.asm_line.specs.Text.{trim, head, behind_head, operands_of, is_blank}
-use Rattle.text_parts.specs.Parts.{text_after}
+use Rattle.text_parts.specs.Pieces.{text_after}
 use Rattle.asm_line.specs.Names.{wide_name}
 use Rattle.asm_line.specs.Heads.{operation_of, operation_named, plain_named, wide_named, memory_named}
 use Rattle.asm_line.specs.Heads.{arithmetic_named, control_named}

@@ -4,7 +4,7 @@ use Rattle.std.proofs.Common.{get_or, map, refl, sym, append_assoc, true≢false
 use Rattle.std.specs.Prelude.{◌==◌}
 use Rattle.std.specs.List.{list_all}
 use Rattle.asm_line.specs.Text.{trim}
-use Rattle.text_parts.specs.Parts.{parts}
+use Rattle.text_parts.specs.Pieces.{pieces}
 use Rattle.listing_line.specs.WordText.{bar_separated}
 use Rattle.listing_line.proofs.Bytes.{list_all-imp, list_all-both, lacks, split-at, split-lacks, Starts, IsTrimmed}
 use Rattle.listing_line.proofs.Bytes.{Ends-append, IsTrimmed-append}
@@ -31,8 +31,8 @@ AreTexts (x ∷ xs) = IsText x × AreTexts xs
 
 -- cut at the bars and trimmed, also behind a blank
 pub joined-parts : (x : List ℕ) (xs : List (List ℕ)) → AreTexts (x ∷ xs)
-    → (map trim (parts 124 (bar_separated (x ∷ xs))) ≡ x ∷ xs)
-    × (map trim (parts 124 (32 ∷ bar_separated (x ∷ xs))) ≡ x ∷ xs)
+    → (map trim (pieces 124 (bar_separated (x ∷ xs))) ≡ x ∷ xs)
+    × (map trim (pieces 124 (32 ∷ bar_separated (x ∷ xs))) ≡ x ∷ xs)
 joined-parts x [] e =
     let lone = split-lacks (λ b. b == 124) x (ink-lacks_bar x e.0.ink) in
     (rw (lone, trim-trimmed x e.0.trimmed), rw (lone, trim-blank_before x e.0.trimmed))

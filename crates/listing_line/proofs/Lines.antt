@@ -14,7 +14,7 @@ use Rattle.insn_word.specs.declared.profiles.Profile.{Profile}
 use Rattle.insn_word.specs.declared.insn.Insn.{Insn}
 use Rattle.text_parts.specs.Digits.{fixed_digits, hexadecimal_16, five_digits}
 use Rattle.text_parts.specs.Laws.{HexadecimalReadsBack}
-use Rattle.text_parts.specs.Parts.{text_after}
+use Rattle.text_parts.specs.Pieces.{text_after}
 use Rattle.asm_line.specs.Names.{directive_name, has_directive}
 use Rattle.asm_line.specs.Heads.{directive_of, directive_named}
 use Rattle.asm_line.specs.Operands.{Places}

@@ -7,7 +7,7 @@ use Rattle.std.proofs.lemmas.Bool.{and_parts, not-true, lt-ltb, ne_eqb}
 use Rattle.std.proofs.lemmas.Bool.Decides.{nat_tests}
 use Rattle.std.proofs.lemmas.List.{length-reverse}
 use Rattle.asm_line.specs.Text.{is_blank, trim, head, behind_head, operands, operands_of}
-use Rattle.text_parts.specs.Parts.{parts}
+use Rattle.text_parts.specs.Pieces.{pieces}
 use Rattle.listing_line.specs.WordText.{comma_separated, statement_text}
 use Rattle.listing_line.proofs.Bytes.{list_all-imp, list_all-both, list_all-reverse, lacks, before-at, before-lacks}
 use Rattle.listing_line.proofs.Bytes.{after-at, after-lacks}
@@ -114,8 +114,8 @@ listed-ink (x ∷ y ∷ ys) e =
 
 -- cut at the commas and trimmed, also behind a blank
 cut : (x : List ℕ) (xs : List (List ℕ)) → all_terms (x ∷ xs) ≡ true
-    → (map trim (parts 44 (comma_separated (x ∷ xs))) ≡ x ∷ xs)
-    × (map trim (parts 44 (32 ∷ comma_separated (x ∷ xs))) ≡ x ∷ xs)
+    → (map trim (pieces 44 (comma_separated (x ∷ xs))) ≡ x ∷ xs)
+    × (map trim (pieces 44 (32 ∷ comma_separated (x ∷ xs))) ≡ x ∷ xs)
 cut x [] e =
     let term = (and_parts (is_term x) true e).0 in
     let lone = split-lacks (λ b. b == 44) x (atoms-lack_comma x (term-atoms x term)) in

@@ -3,17 +3,19 @@
 ghost use Rattle.std.specs.Prelude.{◌≡◌, ◌<◌, ◌≤◌, ◌↔◌, ℕ, Some, slice_get, IfOk};
 ghost use Rattle.std.specs.Option.{option_copied};
 ghost use Rattle.tag_memory.specs.Storage.{cell_at};
+ghost use Rattle.tag_memory.specs.Chain.{end_of};
+ghost use Rattle.tag_memory.specs.Answer.{answer, address_at};
 ghost use Rattle.processor.specs.Processors.{ProcessorValue, IsCounted};
 ghost use Rattle.processor.specs.World.{start, world_step, steps, stream_of, counts_of};
-ghost use Rattle.machine.specs.MachineValue.{IsMachine};
+ghost use Rattle.machine.specs.MachineValue.{IsMachine, next_in};
 
 use crate::load_fault::LoadFault;
 use image_file::Image;
-use processor::{Processor, Step};
+use processor::{Next, Processor, Step};
 use std::alloc::{AllocError, Global};
 use std::marker::Model;
 use stream_core::{Outcome, Stream};
-use tag_memory::{Memory, Word};
+use tag_memory::{Ending, Memory, Request, Word};
 
 /// A machine with room for `S` streams a processor, over the image that it was loaded from ("Machines",
 /// docs/MACHINE.md).
@@ -75,6 +77,18 @@ impl<'i, const S: usize> Machine<'i, S> {
         self.processors[place].step(image, s, &mut self.memory)
     }
 
+    /// What the next step of stream `s` of processor `p` needs: nothing to do where no such stream runs, no memory, or
+    /// the reply to a request. A step that traps before it asks needs no memory.
+    pub fn next(&self, p: u8, s: u8) -> Next
+        ensures { result ≡ next_in self.now (record { p = p; s = s }) }
+    {
+        let place = p as usize;
+        if place >= self.processors.len() {
+            return Next::Skip;
+        }
+        self.processors[place].next(self.image, s)
+    }
+
     /// Takes the steps of a schedule in order, from whatever state the machine has reached: registers, words, tags
     /// and traps are the operation table's after each step.
     pub fn run(&mut self, schedule: &[Step])
@@ -115,6 +129,14 @@ impl<'i, const S: usize> Machine<'i, S> {
         ensures { result ≡ cell_at self.now.world.memory address }
     {
         self.memory.word(address)
+    }
+
+    /// Where a request to the memory would end, and what it would be answered. Nothing is changed.
+    pub fn ending(&self, request: &Request) -> Ending
+        ensures address { result.address ≡ address_at (end_of self.now.world.memory request.now) }
+        ensures reply { result.reply ≡ (answer self.now.world.memory request.now).1 }
+    {
+        self.memory.ending(request)
     }
 
     /// The image that the machine was loaded from.

@@ -4,6 +4,7 @@ use Rattle.std.proofs.lemmas.Option.{same_Some}
 use mathlib.Core.Option.{some, some-injective}
 use lib.ListN.{get_elem?}
 use Rattle.atomic_table.specs.Table.{Final, Seen}
+use Rattle.image_file.specs.ImageValue.{ImageValue}
 use Rattle.shared_history.specs.SharedMemory.{SharedValue}
 use Rattle.memory_lock.specs.Driving.{with_entries}
 use Rattle.processor.specs.declared.steps.Asked.{Asked}
@@ -16,28 +17,39 @@ use Rattle.memory_lock.specs.Tickets.{IsByTickets}
 use Rattle.memory_lock.proofs.Keeping.{closes}
 
 -- what comes out of the slot
-pub record Ends (v : View) (g : Caller) (x : Slot) : Type 0 where
+pub record Ends (image : ImageValue) (v : View) (g : Caller) (x : Slot) : Type 0 where
   pub m : SharedValue
   pub is : x ≡ Some m
+  pub image_is : m.image ≡ image
   pub own : pairs_of v.number m.history ≡ v.own.made
   pub other : pairs_of (1 - v.number) m.history ≡ g.made
 
-pub ends : (id : ℕ) (v : View) (g : Caller) (ws : List ℕ) (xs : List Slot) (x : Slot)
-    → Final (Seen IsByTickets id v) ws xs → v.is_spent ≡ false → v.other ≡ Some g → v.own.stage ≡ Idle
-    → get_elem? xs 0 ≡ some x → Ends v g x
-ends id v g ws xs x f spent joined idle at =
-    let last = closes id v g f.0 f.1 spent joined idle in
+pub ends : (image : ImageValue) (id : ℕ) (v : View) (g : Caller) (ws : List ℕ) (xs : List Slot) (x : Slot)
+    → Final (Seen (IsByTickets image) id v) ws xs → v.is_spent ≡ false → v.other ≡ Some g → v.own.stage ≡ Idle
+    → get_elem? xs 0 ≡ some x → Ends image v g x
+ends image id v g ws xs x f spent joined idle at =
+    let last = closes image id v g f.0 f.1 spent joined idle in
     let there : get_elem? xs 0 ≡ some (Some last.m) = f.4 0 (Some last.m) (ap (λ l. get_elem? l 0) last.slot) in
-    record { m = last.m; is = some-injective _ _ (sym at ∙ there); own = last.own; other = last.other }
+    record {
+      m = last.m;
+      is = some-injective _ _ (sym at ∙ there);
+      image_is = last.image_is;
+      own = last.own;
+      other = last.other;
+    }
 
--- a memory that came out has these entries
-pub ends-own : (v : View) (g : Caller) (x : Slot) (m : SharedValue) → Ends v g x → x ≡ Some m
+-- a memory that came out is of the table's image, and has these entries
+pub ends-image : (image : ImageValue) (v : View) (g : Caller) (x : Slot) (m : SharedValue) → Ends image v g x → x ≡ Some m
+    → m.image ≡ image
+ends-image image v g x m e is = ap (λ (n : SharedValue). n.image) (same_Some _ _ (sym is ∙ e.is)) ∙ e.image_is
+
+pub ends-own : (image : ImageValue) (v : View) (g : Caller) (x : Slot) (m : SharedValue) → Ends image v g x → x ≡ Some m
     → pairs_of v.number m.history ≡ v.own.made
-ends-own v g x m e is = ap (λ (n : SharedValue). pairs_of v.number n.history) (same_Some _ _ (sym is ∙ e.is)) ∙ e.own
+ends-own image v g x m e is = ap (λ (n : SharedValue). pairs_of v.number n.history) (same_Some _ _ (sym is ∙ e.is)) ∙ e.own
 
-pub ends-other : (v : View) (g : Caller) (x : Slot) (m : SharedValue) → Ends v g x → x ≡ Some m
+pub ends-other : (image : ImageValue) (v : View) (g : Caller) (x : Slot) (m : SharedValue) → Ends image v g x → x ≡ Some m
     → pairs_of (1 - v.number) m.history ≡ g.made
-ends-other v g x m e is = ap (λ (n : SharedValue). pairs_of (1 - v.number) n.history)
+ends-other image v g x m e is = ap (λ (n : SharedValue). pairs_of (1 - v.number) n.history)
     (same_Some _ _ (sym is ∙ e.is)) ∙ e.other
 
 asked-back : (n : ℕ) (l : List Asked) → map pair_of (map (entry_by n) l) ≡ l

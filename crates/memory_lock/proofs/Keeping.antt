@@ -11,16 +11,17 @@ use Rattle.atomic_table.specs.Table.{State, Me, step, keeps, takes, gives, put_b
 use Rattle.atomic_table.specs.Table.{Splits, Joins, Seen, opening}
 use Rattle.atomic_table.proofs.Lists.{at_set, set_again}
 use Rattle.shared_history.specs.SharedMemory.{SharedValue}
-use Rattle.processor.specs.declared.steps.Entry.{Entry}
+use Rattle.image_file.specs.ImageValue.{ImageValue}
 use Rattle.processor.specs.declared.steps.Asked.{Asked}
 use Rattle.processor.specs.Histories.{pairs_of}
 use Rattle.processor.specs.Histories.{entry_by}
 use Rattle.memory_lock.specs.declared.turns.views.Stage.{Stage}
 use Rattle.memory_lock.specs.declared.turns.views.Stage.TheVariants.{Idle, Waits, Holds}
+use Rattle.memory_lock.specs.declared.turns.views.Past.{Past}
 use Rattle.memory_lock.specs.declared.turns.views.Caller.{Caller}
 use Rattle.memory_lock.specs.declared.turns.views.View.{View}
 use Rattle.memory_lock.specs.Seats.{Slot, new_caller, first_view, spent_view, stage_ticket, slot_history, IsDraw}
-use Rattle.memory_lock.specs.Seats.{IsLook, IsRaise, own_view, other_view, caller_or_new, both_views, IsAt}
+use Rattle.memory_lock.specs.Seats.{past_of, IsPoll, IsRaise, own_view, other_view, caller_or_new, both_views, IsAt}
 use Rattle.memory_lock.specs.Tickets.{has_memory, AreCallers, IsSlot, StandsFor, StandsForOther, KnowsIf, Knows}
 use Rattle.memory_lock.specs.Tickets.{AreTheTwo, IsTable, IsByTickets}
 use Rattle.memory_lock.proofs.Callers.{caller, callers-flip, callers-draws, callers-takes, callers-raises}
@@ -39,7 +40,7 @@ or_comm true false = refl
 or_comm false true = refl
 or_comm false false = refl
 
-table-flip : (n d : ℕ) (h : List Entry) (p : ℕ) (a : Caller) (at q : ℕ) (b : Caller) (bt : ℕ) (s : St)
+table-flip : (n d : ℕ) (h : Past) (p : ℕ) (a : Caller) (at q : ℕ) (b : Caller) (bt : ℕ) (s : St)
     → IsTable n d h p a at q b bt s → IsTable n d h q b bt p a at s
 table-flip n d h p a at q b bt s t =
     record {
@@ -51,38 +52,49 @@ table-flip n d h p a at q b bt s t =
     }
 
 -- the rule, seen from a seat
-pub record Here (id : ℕ) (v : View) (s : St) : Type 0 where
+pub record Here (image : ImageValue) (id : ℕ) (v : View) (s : St) : Type 0 where
   pub n : ℕ
   pub d : ℕ
-  pub h : List Entry
+  pub h : Past
   pub q : ℕ
   pub b : Caller
   pub bt : ℕ
   pub table : IsTable n d h v.number v.own id q b bt s
+  pub image_is : h.image ≡ image
 
-here-of : (n d : ℕ) (h : List Entry) (p : ℕ) (a : Caller) (at q : ℕ) (b : Caller) (bt : ℕ) (s : St)
-    → IsTable n d h p a at q b bt s → (id : ℕ) (v : View)
-    → v.number ≡ p → id ≡ at → v.own ≡ a → Here id v s
-here-of n d h p a at q b bt s t id v x y z =
+here-of : (image : ImageValue) (n d : ℕ) (h : Past) (p : ℕ) (a : Caller) (at q : ℕ) (b : Caller) (bt : ℕ) (s : St)
+    → IsTable n d h p a at q b bt s → h.image ≡ image → (id : ℕ) (v : View)
+    → v.number ≡ p → id ≡ at → v.own ≡ a → Here image id v s
+here-of image n d h p a at q b bt s t is id v x y z =
     let P : ℕ × Caller × ℕ → Type 0 = λ k. IsTable n d h k.0 k.1 k.2 q b bt s in
-    record { n = n; d = d; h = h; q = q; b = b; bt = bt; table = subst P (λ i. (sym x i, sym z i, sym y i)) t }
+    record {
+      n = n;
+      d = d;
+      h = h;
+      q = q;
+      b = b;
+      bt = bt;
+      table = subst P (λ i. (sym x i, sym z i, sym y i)) t;
+      image_is = is;
+    }
 
-pub here : (s : St) → IsByTickets s → (id : ℕ) (v : View) → get_elem? s.views id ≡ some v → v.is_spent ≡ false
-    → Here id v s
-here s r id v at spent =
+pub here : (image : ImageValue) (s : St) → IsByTickets image s → (id : ℕ) (v : View) → get_elem? s.views id ≡ some v
+    → v.is_spent ≡ false → Here image id v s
+here image s r id v at spent =
     let k = subst (KnowsIf r.p r.a r.at r.q r.b r.bt id v) spent (r.table.each id v at) in
     ⊎_elim
-    (λ x. here-of r.n r.d r.h r.p r.a r.at r.q r.b r.bt s r.table id v x.0 x.1 x.2)
-    (λ x. here-of r.n r.d r.h r.q r.b r.bt r.p r.a r.at s
-    (table-flip r.n r.d r.h r.p r.a r.at r.q r.b r.bt s r.table) id v x.0 x.1 x.2)
+    (λ x. here-of image r.n r.d r.h r.p r.a r.at r.q r.b r.bt s r.table r.image_is id v x.0 x.1 x.2)
+    (λ x. here-of image r.n r.d r.h r.q r.b r.bt r.p r.a r.at s
+    (table-flip r.n r.d r.h r.p r.a r.at r.q r.b r.bt s r.table) r.image_is id v x.0 x.1 x.2)
     k.0
 
 -- after a step of the seat, where its processor did this
-moved : (s s2 : St) (id : ℕ) (v : View) (t : Here id v s) (a2 : Caller) (n2 d2 : ℕ) (h2 : List Entry)
-    → v.is_spent ≡ false → v.other ≡ None → s2.words ≡ n2 ∷ d2 ∷ []
+moved : (image : ImageValue) (s s2 : St) (id : ℕ) (v : View) (t : Here image id v s) (a2 : Caller) (n2 d2 : ℕ)
+    (h2 : Past) → h2.image ≡ image → v.is_spent ≡ false → v.other ≡ None → s2.words ≡ n2 ∷ d2 ∷ []
     → IsSlot s2.homes h2 (has_memory a2.stage || has_memory t.b.stage)
-    → AreCallers n2 d2 h2 v.number a2 t.q t.b → s2.views ≡ set s.views id (record v { own = a2 }) → IsByTickets s2
-moved s s2 id v t a2 n2 d2 h2 spent joined words home core views =
+    → AreCallers n2 d2 h2 v.number a2 t.q t.b → s2.views ≡ set s.views id (record v { own = a2 })
+    → IsByTickets image s2
+moved image s s2 id v t a2 n2 d2 h2 is spent joined words home core views =
     let w : View = record v { own = a2 } in
     let K : ℕ → View → Type 0 = λ j u. Knows v.number v.own id t.q t.b t.bt j u in
     let L : ℕ → View → Type 0 = λ j u. Knows v.number a2 id t.q t.b t.bt j u in
@@ -109,17 +121,18 @@ moved s s2 id v t a2 n2 d2 h2 spent joined words home core views =
         numbers = t.table.numbers;
         each = subst E (sym views) all;
       };
+      image_is = is;
     }
 
-callers-at : (id : ℕ) (v : View) (s : St) (t : Here id v s) (st : Stage) → v.own.stage ≡ st
+callers-at : (image : ImageValue) (id : ℕ) (v : View) (s : St) (t : Here image id v s) (st : Stage) → v.own.stage ≡ st
     → AreCallers t.n t.d t.h v.number (caller v.own.asks st v.own.made) t.q t.b
-callers-at id v s t st is =
+callers-at image id v s t st is =
     let P : Stage → Type 0 = λ x. AreCallers t.n t.d t.h v.number (caller v.own.asks x v.own.made) t.q t.b in
     subst P is t.table.callers
 
-home-at : (id : ℕ) (v : View) (s : St) (t : Here id v s) (x : Bool) → has_memory v.own.stage ≡ x
+home-at : (image : ImageValue) (id : ℕ) (v : View) (s : St) (t : Here image id v s) (x : Bool) → has_memory v.own.stage ≡ x
     → has_memory t.b.stage ≡ false → IsSlot s.homes t.h (x || false)
-home-at id v s t x is other =
+home-at image id v s t x is other =
     let P : Bool × Bool → Type 0 = λ y. IsSlot s.homes t.h (y.0 || y.1) in
     subst P (λ i. (is i, other i)) t.table.slot
 
@@ -128,12 +141,12 @@ apart-numbers p q n e = ⊎_elim (λ x. let u = x.0 in let w = x.1 in omega (ari
     (λ x. let u = x.0 in let w = x.1 in omega (arith, u, w, e)) n
 
 -- a seat draws a ticket
-pub draws : (slots id : ℕ) (me : M) → IsAt me.0 Idle → me.0.own.asks < 4294967295
-    → Allows IsByTickets slots id me 1 (λ n. (n + 1) % 2 ^ 64) (IsDraw (step slots 1 1 0 none) me)
-draws slots id me is few s r _ at _ =
+pub draws : (image : ImageValue) (slots id : ℕ) (me : M) → IsAt me.0 Idle → me.0.own.asks < 4294967295
+    → Allows (IsByTickets image) slots id me 1 (λ n. (n + 1) % 2 ^ 64) (IsDraw (step slots 1 1 0 none) me)
+draws image slots id me is few s r _ at _ =
     let v : View = me.0 in
-    let t = here s r id v at is.0 in
-    let core = callers-at id v s t Idle is.2 in
+    let t = here image s r id v at is.0 in
+    let core = callers-at image id v s t Idle is.2 in
     let x : ℕ = get_or s.words 1 0 in
     let d_is : x ≡ t.d = ap (λ l. get_or l 1 0) t.table.words in
     let small = callers-few t.n t.d t.h v.number (caller v.own.asks Idle v.own.made) t.q t.b core in
@@ -148,18 +161,18 @@ draws slots id me is few s r _ at _ =
       w,
       keeps,
       tt,
-      moved s (stepped s 1 ((x + 1) % 2 ^ 64) id me.1 w keeps) id v t a2 t.n (t.d + 1) t.h is.0 is.1 words
+      moved image s (stepped s 1 ((x + 1) % 2 ^ 64) id me.1 w keeps) id v t a2 t.n (t.d + 1) t.h t.image_is is.0 is.1 words
           (subst H is.2 t.table.slot)
           (subst C (sym d_is) (callers-draws t.n t.d t.h v.number v.own.asks v.own.made t.q t.b core few)) refl,
       refl,
     )
 
 -- a seat looks at the ticket that is served
-pub looks : (slots id : ℕ) (me : M) (ticket : ℕ) → IsAt me.0 (Waits ticket)
-    → Allows IsByTickets slots id me 0 (λ n. n) (IsLook (step slots 0 0 0 none) me)
-looks slots id me ticket is s r _ at _ =
+pub looks : (image : ImageValue) (slots id : ℕ) (me : M) (ticket : ℕ) → IsAt me.0 (Waits ticket)
+    → Allows (IsByTickets image) slots id me 0 (λ n. n) (IsPoll (step slots 0 0 0 none) me)
+looks image slots id me ticket is s r _ at _ =
     let v : View = me.0 in
-    let t = here s r id v at is.0 in
+    let t = here image s r id v at is.0 in
     let x : ℕ = get_or s.words 0 0 in
     let n_is : x ≡ t.n = ap (λ l. get_or l 0 0) t.table.words in
     let words : set s.words 0 x ≡ t.n ∷ t.d ∷ [] = ap (λ l. set l 0 (get_or l 0 0)) t.table.words in
@@ -167,27 +180,27 @@ looks slots id me ticket is s r _ at _ =
     dite (ℕ_discrete x (stage_ticket v.own.stage))
     (λ hit.
     let stage : v.own.stage ≡ Waits t.n = is.2 ∙ ap Waits (sym mine ∙ sym hit ∙ n_is) in
-    let core = callers-at id v s t (Waits t.n) stage in
+    let core = callers-at image id v s t (Waits t.n) stage in
     let took = callers-takes t.n t.d t.h v.number v.own.asks v.own.made t.q t.b core in
-    let home = home-at id v s t false (ap has_memory stage) took.1 in
+    let home = home-at image id v s t false (ap has_memory stage) took.1 in
     let m : SharedValue = home.0 in
-    let a2 : Caller = caller v.own.asks (Holds x m.history) v.own.made in
-    let C : ℕ × List Entry → Type 0 = λ k. AreCallers t.n t.d t.h v.number
+    let a2 : Caller = caller v.own.asks (Holds x (past_of m)) v.own.made in
+    let C : ℕ × Past → Type 0 = λ k. AreCallers t.n t.d t.h v.number
     (caller v.own.asks (Holds k.0 k.1) v.own.made) t.q t.b in
     let w : View = record v { own = a2 } in (
       w,
       takes 0 (Some m),
       ap (λ l. get_elem? l 0) home.1,
-      moved s (stepped s 0 x id me.1 w (takes 0 (Some m))) id v t a2 t.n t.d t.h is.0 is.1 words
+      moved image s (stepped s 0 x id me.1 w (takes 0 (Some m))) id v t a2 t.n t.d t.h t.image_is is.0 is.1 words
           (ap (λ l. set l 0 none) home.1)
           (subst C (λ i. (sym n_is i, sym home.2 i)) took.0) refl,
-      ((λ _. (m, refl, ap (pairs_of v.number) home.2 ∙ t.table.callers.made_a)), (λ miss. absurd (miss hit))),
+      ((λ _. (m, refl, ap (λ (y : Past). pairs_of v.number y.history) home.2 ∙ t.table.callers.made_a)), (λ miss. absurd (miss hit))),
     ))
     (λ miss. (
       v,
       keeps,
       tt,
-      subst IsByTickets (λ i. record {
+      subst (IsByTickets image) (λ i. record {
         words = (t.table.words ∙ sym words) i;
         homes = s.homes;
         views = sym (set_again s.views id v at) i;
@@ -196,43 +209,47 @@ looks slots id me ticket is s r _ at _ =
     ))
 
 -- a seat gives the slot back, and the next ticket is served
-pub raises : (slots id : ℕ) (me : M) (ticket : ℕ) (g : List Entry) (m : SharedValue) (more : List Asked)
-    → IsAt me.0 (Holds ticket g) → me.1 ≡ (0, Some m) ∷ [] → m.history ≡ g ++ map (entry_by me.0.number) more
-    → Allows IsByTickets slots id me 0 (λ n. (n + 1) % 2 ^ 64) (IsRaise (step slots 0 1 0 none) me)
-raises slots id me ticket g m more is held grew s r _ at _ =
+pub raises : (image : ImageValue) (slots id : ℕ) (me : M) (ticket : ℕ) (g : Past) (m : SharedValue) (more : List Asked)
+    → IsAt me.0 (Holds ticket g) → me.1 ≡ (0, Some m) ∷ [] → m.image ≡ g.image
+    → m.history ≡ g.history ++ map (entry_by me.0.number) more
+    → Allows (IsByTickets image) slots id me 0 (λ n. (n + 1) % 2 ^ 64) (IsRaise (step slots 0 1 0 none) me)
+raises image slots id me ticket g m more is held same_image grew s r _ at _ =
     let v : View = me.0 in
-    let t = here s r id v at is.0 in
-    let core = callers-at id v s t (Holds ticket g) is.2 in
+    let t = here image s r id v at is.0 in
+    let core = callers-at image id v s t (Holds ticket g) is.2 in
     let x : ℕ = get_or s.words 0 0 in
     let n_is : x ≡ t.n = ap (λ l. get_or l 0 0) t.table.words in
     let small = callers-few t.n t.d t.h v.number (caller v.own.asks (Holds ticket g) v.own.made) t.q t.b core in
     let up : (x + 1) % 2 ^ 64 ≡ t.n + 1 = omega (arith, n_is, small.0, small.1) in
     let words : set s.words 0 ((x + 1) % 2 ^ 64) ≡ (t.n + 1) ∷ t.d ∷ [] =
     ap (λ l. set l 0 ((x + 1) % 2 ^ 64)) t.table.words ∙ ap (λ k. k ∷ t.d ∷ []) up in
-    let h2 : List Entry = slot_history me.1 in
+    let h2 : Past = record { image = m.image; history = slot_history me.1 } in
     let now = callers-raises t.n t.d t.h v.number v.own.asks ticket g v.own.made t.q t.b h2 more core
     (apart-numbers v.number t.q t.table.numbers) (ap slot_history held ∙ grew) in
-    let gone : s.homes ≡ none ∷ [] = home-at id v s t true (ap has_memory is.2) now.1 in
+    let gone : s.homes ≡ none ∷ [] = home-at image id v s t true (ap has_memory is.2) now.1 in
     let back : put_back s.homes me.1 ≡ some (Some m) ∷ [] = ap (put_back s.homes) held
     ∙ ap (λ l. set l 0 (some (Some m))) gone in
-    let a2 : Caller = caller v.own.asks Idle (pairs_of v.number h2) in
+    let a2 : Caller = caller v.own.asks Idle (pairs_of v.number h2.history) in
+    let image_is : h2.image ≡ image = same_image ∙ ap (λ (y : Past). y.image) core.fits_a.1 ∙ t.image_is in
+    let past_is : past_of m ≡ h2 = λ i. record { image = m.image; history = sym (ap slot_history held) i } in
     let H : Bool → Type 0 = λ y. IsSlot (put_back s.homes me.1) h2 (false || y) in
     let w : View = record v { own = a2 } in (
       w,
       gives,
       tt,
-      moved s (stepped s 0 ((x + 1) % 2 ^ 64) id me.1 w gives) id v t a2 (t.n + 1) t.d h2 is.0 is.1 words
-          (subst H (sym now.1) (m, back, sym (ap slot_history held))) now.0 refl,
+      moved image s (stepped s 0 ((x + 1) % 2 ^ 64) id me.1 w gives) id v t a2 (t.n + 1) t.d h2 image_is is.0 is.1 words
+          (subst H (sym now.1) (m, back, past_is)) now.0 refl,
       λ i. (w, ap rest held i),
     )
 
 -- the table at its start
-pub starts : (m : SharedValue) → m.history ≡ [] → IsByTickets (opening (0 ∷ 0 ∷ []) (Some m ∷ []) first_view)
+pub starts : (m : SharedValue) → m.history ≡ []
+    → IsByTickets m.image (opening (0 ∷ 0 ∷ []) (Some m ∷ []) first_view)
 starts m empty =
     record {
       n = 0;
       d = 0;
-      h = [];
+      h = record { image = m.image; history = [] };
       p = 0;
       a = new_caller;
       at = 0;
@@ -241,7 +258,7 @@ starts m empty =
       bt = 0;
       table = record {
         words = refl;
-        slot = (m, refl, empty);
+        slot = (m, refl, λ i. record { image = m.image; history = empty i });
         callers = record {
           count = refl;
           asks = refl;
@@ -256,6 +273,7 @@ starts m empty =
         numbers = inl (refl, refl);
         each = one;
       };
+      image_is = refl;
     }
   where
     one : (j : ℕ) (v : View) → get_elem? (first_view ∷ []) j ≡ some v → Knows 0 new_caller 0 1 new_caller 0 j v
@@ -287,10 +305,10 @@ other-caller p a at q b bt j g n m = ⊎_elim (λ x. absurd (apart-numbers p q n
     (λ x. (x.1, x.2)) m
 
 -- a seat for both is cut in two
-pub splits : (id : ℕ) (v : View) (g : Caller) → v.is_spent ≡ false → v.other ≡ Some g
-    → Splits IsByTickets id v (own_view v) (other_view v)
-splits id v g spent joined s r at =
-    let t = here s r id v at spent in
+pub splits : (image : ImageValue) (id : ℕ) (v : View) (g : Caller) → v.is_spent ≡ false → v.other ≡ Some g
+    → Splits (IsByTickets image) id v (own_view v) (other_view v)
+splits image id v g spent joined s r at =
+    let t = here image s r id v at spent in
     let k = subst (KnowsIf v.number v.own id t.q t.b t.bt id v) spent (t.table.each id v at) in
     let j = subst (StandsForOther v.number v.own id t.q t.b t.bt id v.number) joined k.1 in
     let has = other-caller v.number v.own id t.q t.b t.bt id g t.table.numbers j.0 in
@@ -322,13 +340,14 @@ splits id v g spent joined s r at =
         each = λ i u e. ⊎_elim (λ x. all i u x) (λ x. subst (λ (y : ℕ × View). L y.0 y.1)
             (λ m. (sym x.0 m, x.1 m)) new) (at_push (set s.views id (own_view v)) (other_view v) u i e);
       };
+      image_is = t.image_is;
     }
 
 -- two seats are put together
-pub joins : (id : ℕ) (v : View) (other : ℕ) (w : View) → IsAt v Idle → IsAt w Idle
-    → Joins IsByTickets id v other w (both_views v w) spent_view
-joins id v other w is is2 s r at apart there =
-    let t = here s r id v at is.0 in
+pub joins : (image : ImageValue) (id : ℕ) (v : View) (other : ℕ) (w : View) → IsAt v Idle → IsAt w Idle
+    → Joins (IsByTickets image) id v other w (both_views v w) spent_view
+joins image id v other w is is2 s r at apart there =
+    let t = here image s r id v at is.0 in
     let both : View = both_views v w in
     let at2 : get_elem? s.views other ≡ some w =
     ⊎_elim (λ (x : (other ≡ id) × (both ≡ w)). absurd (apart x.0))
@@ -361,31 +380,35 @@ joins id v other w is is2 s r at apart there =
         numbers = t.table.numbers;
         each = each-set L Q (set s.views id both) other spent_view first (λ j u ne x. x ne) tt;
       };
+      image_is = t.image_is;
     }
 
--- the memory is back, and its history is what both made
-pub record Closes (v : View) (g : Caller) (s : St) : Type 0 where
+-- the memory is back, of the table's image, and its history is what both made
+pub record Closes (image : ImageValue) (v : View) (g : Caller) (s : St) : Type 0 where
   pub m : SharedValue
+  pub image_is : m.image ≡ image
   pub slot : s.homes ≡ some (Some m) ∷ []
   pub own : pairs_of v.number m.history ≡ v.own.made
   pub other : pairs_of (1 - v.number) m.history ≡ g.made
 
 -- the table ends
-pub closes : (id : ℕ) (v : View) (g : Caller) (s : St) → Seen IsByTickets id v s → v.is_spent ≡ false
-    → v.other ≡ Some g → v.own.stage ≡ Idle → Closes v g s
-closes id v g s seen spent joined idle =
-    let t = here s seen.0 id v seen.1 spent in
+pub closes : (image : ImageValue) (id : ℕ) (v : View) (g : Caller) (s : St) → Seen (IsByTickets image) id v s
+    → v.is_spent ≡ false → v.other ≡ Some g → v.own.stage ≡ Idle → Closes image v g s
+closes image id v g s seen spent joined idle =
+    let t = here image s seen.0 id v seen.1 spent in
     let k = subst (KnowsIf v.number v.own id t.q t.b t.bt id v) spent (t.table.each id v seen.1) in
     let j = subst (StandsForOther v.number v.own id t.q t.b t.bt id v.number) joined k.1 in
     let qi : t.q ≡ 1 - v.number = other-number v.number t.q t.table.numbers in
     let ne = apart-numbers v.number t.q t.table.numbers in
     let theirs : g ≡ t.b = ⊎_elim (λ x. absurd (ne (sym x.0 ∙ sym qi))) (λ x. x.2) j.0 in
-    let home = home-at id v s t false (ap has_memory idle)
+    let home = home-at image id v s t false (ap has_memory idle)
     (ap (λ (b : Caller). has_memory b.stage) (sym theirs) ∙ ap has_memory j.1) in
     record {
       m = home.0;
       slot = home.1;
-      own = ap (pairs_of v.number) home.2 ∙ t.table.callers.made_a;
-      other = ap (λ k. pairs_of k home.0.history) (sym qi) ∙ ap (pairs_of t.q) home.2 ∙ t.table.callers.made_b
+      image_is = ap (λ (y : Past). y.image) home.2 ∙ t.image_is;
+      own = ap (λ (y : Past). pairs_of v.number y.history) home.2 ∙ t.table.callers.made_a;
+      other = ap (λ k. pairs_of k home.0.history) (sym qi) ∙ ap (λ (y : Past). pairs_of t.q y.history) home.2
+          ∙ t.table.callers.made_b
           ∙ ap (λ (b : Caller). b.made) (sym theirs);
     }

@@ -6,18 +6,26 @@ use Rattle.std.proofs.lemmas.Option.{slice_get_within, get_or_from_slice_get, sl
 use Rattle.image_file.specs.ImageValue.{ImageValue}
 use Rattle.processor.specs.Records.{RecordValue}
 use Rattle.shared_history.specs.SharedMemory.{SharedValue}
-use Rattle.shared_history.specs.Parts.{PartsValue, AreNewParts, Belongs, PartBelongs, HasFinished}
+use Rattle.shared_history.specs.Parts.{PartsValue, AreNewParts, HasFinished}
 use Rattle.shared_history.specs.Schedule.{WovenValue}
 use Rattle.shared_history.specs.Gathering.{IsGathered}
 use Rattle.memory_lock.specs.Driving.{IsGrown}
-use Rattle.memory_lock.specs.Runs.{HaveRoom, IsRun, IsThreaded}
+use Rattle.memory_lock.specs.Runs.{HaveRoom, IsContinued, IsRunOfThreads, IsThreaded}
+
+-- a memory that went on, seen from the parts
+pub continued : {old new before after : SharedValue} → before ≡ old → new ≡ after → IsContinued before after
+    → IsContinued old new
+continued {old} {new} {before} {after} b a is =
+    let P : SharedValue × SharedValue → Type 0 = λ x. IsContinued x.0 x.1 in
+    subst P (λ i. (b i, sym a i)) is
 
 pub is-run : (old new : PartsValue) (fuel : ℕ) (before after : List RecordValue) → fuel ≡ old.fuel → new.fuel ≡ fuel
     → before ≡ old.records → new.records ≡ after → length after ≡ length before
     → ((p : ℕ) (d : RecordValue) → p < length before → IsGrown fuel (get_or before p d) (get_or after p d))
-    → IsRun old new
-is-run old new fuel before after f g b a len grown = record {
+    → IsContinued old.shared new.shared → IsRunOfThreads old new
+is-run old new fuel before after f g b a len grown shared = record {
   fuel = g ∙ f;
+  shared = shared;
   one_each = ap length a ∙ len ∙ ap length b;
   each = λ p r x h k.
       let at : slice_get before p ≡ Some r = ap (λ l. slice_get l p) b ∙ h in
@@ -33,19 +41,9 @@ there-in [] p h = absurd (omega arith)
 there-in (r ∷ rs) zero h = (r, refl)
 there-in (r ∷ rs) (suc p) h = there-in rs p (omega arith)
 
--- where the parts that a run left belong together, their image is the one that it began with
-image-same : (image : ImageValue) (fuel : ℕ) (before parts : PartsValue) → AreNewParts image fuel before
-    → IsRun before parts → PartBelongs parts 0 → parts.shared.image ≡ image
-image-same image fuel before parts new run belongs =
-    let old = there-in before.records 0 new.some in
-    let now = there-in parts.records 0 (omega (arith, run.one_each, new.some)) in
-    let P : Option RecordValue → Type 0 = λ o. Belongs parts.shared.image 0 o in
-    let b : Belongs parts.shared.image 0 (Some now.0) = subst P now.1 belongs in
-    sym b.1 ∙ (run.each 0 old.0 now.0 old.1 now.1).image ∙ (new.records_are 0 old.0 old.1).image_is
-
 -- a record of the run took at most so many steps
 bounded : (image : ImageValue) (fuel : ℕ) (before parts : PartsValue) (p : ℕ) (x : RecordValue)
-    → AreNewParts image fuel before → IsRun before parts → slice_get parts.records p ≡ Some x
+    → AreNewParts image fuel before → IsRunOfThreads before parts → slice_get parts.records p ≡ Some x
     → length x.steps ≤ fuel
 bounded image fuel before parts p x new run there =
     let at = there-in before.records p (omega (arith, slice_get_within parts.records p x there, run.one_each)) in
@@ -54,14 +52,18 @@ bounded image fuel before parts p x new run there =
     omega (arith, grown.bound, none, new.fuel_is)
 
 pub is-threaded : (image : ImageValue) (fuel : ℕ) (before parts : PartsValue) (w : WovenValue)
-    → AreNewParts image fuel before → IsRun before parts → IsGathered parts w → IsThreaded image fuel w
+    → AreNewParts image fuel before → IsRunOfThreads before parts → IsGathered parts w → IsThreaded image fuel w
 is-threaded image fuel before parts w new run g =
     let fuel_is : parts.fuel ≡ fuel = run.fuel ∙ new.fuel_is in
     let F : ℕ → List RecordValue → Type 0 = λ n l. (p : ℕ) → HasFinished n (slice_get l p) in
     let G : List RecordValue → Type 0 = λ l. F fuel l in
     let H : ℕ → Type 0 = λ n. F n parts.records in
     record {
-      image_is = ap (λ (s : SharedValue). s.image) g.shared_is ∙ image-same image fuel before parts new run (g.belong 0);
+      parts = parts;
+      left = record { before = before; new = new; run = run };
+      gathered = g;
+      image_is = ap (λ (s : SharedValue). s.image) g.shared_is ∙ run.shared.image
+          ∙ ap (λ (s : SharedValue). s.image) new.shared_is;
       woven = g.woven;
       bound = λ p r h.
           bounded image fuel before parts p r new run (ap (λ l. slice_get l p) (sym g.records_are) ∙ h);
@@ -69,7 +71,7 @@ is-threaded image fuel before parts w new run g =
     }
 
 -- each record has room for what is missing to fuel again
-pub room-again : (old new : PartsValue) → IsRun old new → HaveRoom new
+pub room-again : (old new : PartsValue) → IsRunOfThreads old new → HaveRoom new
 room-again old new run = λ p d below.
     let x : RecordValue = get_or new.records p d in
     let at = there-in old.records p (omega (arith, below, run.one_each)) in

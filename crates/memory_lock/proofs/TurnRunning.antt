@@ -13,7 +13,7 @@ use Rattle.shared_history.specs.Parts.{PartsValue, AreNewParts, HasEntries}
 use Rattle.shared_history.specs.Gathering.{Refuses}
 use Rattle.shared_history.specs.declared.gathering.GatherFault.{GatherFault}
 use Rattle.shared_history.specs.declared.gathering.GatherFault.TheVariants.{Torn}
-use Rattle.memory_lock.specs.Runs.{IsRun}
+use Rattle.memory_lock.specs.Runs.{IsRunOfThreads}
 use Rattle.memory_lock.specs.TurnRuns.{HaveNewEntries}
 
 pub new-entries : (old new : PartsValue) (before after : List RecordValue) (history : List Entry)
@@ -29,7 +29,7 @@ new-entries old new before after history b a h made p r x there now =
     ∙ (λ i. F (get_or_from_slice_get before p r r at i) (get_or_from_slice_get after p x r to i))
 
 -- a record of a run from the start has just its processor's entries
-has-entries : (image : ImageValue) (fuel : ℕ) (old new : PartsValue) → AreNewParts image fuel old → IsRun old new
+has-entries : (image : ImageValue) (fuel : ℕ) (old new : PartsValue) → AreNewParts image fuel old → IsRunOfThreads old new
     → HaveNewEntries old new → (q : ℕ) (o : Option RecordValue) → slice_get new.records q ≡ o
     → HasEntries new.shared.history q o
 has-entries image fuel old new begins run made q None e = tt
@@ -42,7 +42,7 @@ has-entries image fuel old new begins run made q (Some x) e =
 
 -- what a run of two from the start leaves is not torn
 pub not-torn : (image : ImageValue) (fuel : ℕ) (old new : PartsValue) (fault : GatherFault) (p : ℕ)
-    → AreNewParts image fuel old → IsRun old new
+    → AreNewParts image fuel old → IsRunOfThreads old new
     → (length old.records ≡ 2 → old.shared.history ≡ [] → HaveNewEntries old new) → Refuses new fault
     → length image.entries ≡ 2 → fault ≡ Torn p → ⊥
 not-torn image fuel old new fault p begins run made refuses two is =

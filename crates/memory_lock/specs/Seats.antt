@@ -9,6 +9,7 @@ use Rattle.processor.specs.declared.steps.Entry.{Entry}
 use Rattle.shared_history.specs.SharedMemory.{SharedValue}
 use Rattle.memory_lock.specs.declared.turns.views.Stage.{Stage}
 use Rattle.memory_lock.specs.declared.turns.views.Stage.TheVariants.{Idle, Waits, Holds}
+use Rattle.memory_lock.specs.declared.turns.views.Past.{Past}
 use Rattle.memory_lock.specs.declared.turns.views.Caller.{Caller}
 use Rattle.memory_lock.specs.declared.turns.views.View.{View}
 
@@ -64,6 +65,10 @@ stage_ticket Idle = 0
 stage_ticket (Waits t) = t
 stage_ticket (Holds t h) = t
 
+-- what a memory has behind it
+abbrev pub past_of : SharedValue → Past
+past_of m = record { image = m.image; history = m.history }
+
 -- the history of the memory in the slot that was taken last
 abbrev pub slot_history : List (ℕ × Slot) → List Entry
 slot_history [] = []
@@ -76,10 +81,10 @@ IsDraw st m n m' = m' ≡ (with_stage m.0 (m.0.own.asks + 1) (Waits n), m.1)
 
 -- Where it is the seat's ticket, the seat took the slot with the memory, in whose history its processor made just
 -- what the seat knows. Else nothing changed.
-abbrev pub IsLook : Step Slot → Me Slot View → ℕ → Me Slot View → Type 0
-IsLook st m n m' =
+abbrev pub IsPoll : Step Slot → Me Slot View → ℕ → Me Slot View → Type 0
+IsPoll st m n m' =
     (n ≡ stage_ticket m.0.own.stage → (y : SharedValue)
-    × (m' ≡ (with_stage m.0 m.0.own.asks (Holds n y.history), (0, Some y) ∷ m.1))
+    × (m' ≡ (with_stage m.0 m.0.own.asks (Holds n (past_of y)), (0, Some y) ∷ m.1))
     × (pairs_of m.0.number y.history ≡ m.0.own.made))
     × (n ≢ stage_ticket m.0.own.stage → m' ≡ m)
 

@@ -6,14 +6,15 @@ use mathlib.Core.Option.{none, some}
 use mathlib.Core.Option as maybe
 use lib.ListN.{get_elem?}
 use Rattle.atomic_table.specs.Table.{State}
+use Rattle.image_file.specs.ImageValue.{ImageValue}
 use Rattle.processor.specs.Histories.{pairs_of}
-use Rattle.processor.specs.declared.steps.Entry.{Entry}
 use Rattle.shared_history.specs.SharedMemory.{SharedValue}
 use Rattle.memory_lock.specs.declared.turns.views.Stage.{Stage}
 use Rattle.memory_lock.specs.declared.turns.views.Stage.TheVariants.{Idle, Waits, Holds}
+use Rattle.memory_lock.specs.declared.turns.views.Past.{Past}
 use Rattle.memory_lock.specs.declared.turns.views.Caller.{Caller}
 use Rattle.memory_lock.specs.declared.turns.views.View.{View}
-use Rattle.memory_lock.specs.Seats.{Slot}
+use Rattle.memory_lock.specs.Seats.{Slot, past_of}
 
 -- Stages.
 
@@ -32,9 +33,9 @@ has_memory Idle = false
 has_memory (Waits t) = false
 has_memory (Holds t h) = true
 
--- n is served, d is drawn next, h is the history: a ticket was drawn and is not past, and who has the memory is
--- served and found this history
-abbrev pub FitsWords : ℕ → ℕ → List Entry → Stage → Type 0
+-- n is served, d is drawn next, h is the memory's past: a ticket was drawn and is not served yet, and who has the
+-- memory is served and found this past
+abbrev pub FitsWords : ℕ → ℕ → Past → Stage → Type 0
 FitsWords n d h Idle = Unit {0}
 FitsWords n d h (Waits t) = (n ≤ t) × (t < d)
 FitsWords n d h (Holds t g) = (t ≡ n) × (g ≡ h)
@@ -45,7 +46,7 @@ HaveOwnTickets a b = (t : ℕ) → ticket_of a ≡ Some t → ticket_of b ≡ So
 
 -- The two processors p and q, with what each did: the tickets that were drawn are those that were served and those
 -- that are held; they were drawn by the two; and each made just its part of the history.
-pub record AreCallers (n d : ℕ) (h : List Entry) (p : ℕ) (a : Caller) (q : ℕ) (b : Caller) : Type 0 where
+pub record AreCallers (n d : ℕ) (h : Past) (p : ℕ) (a : Caller) (q : ℕ) (b : Caller) : Type 0 where
   pub count : d ≡ n + (count_tickets a.stage + count_tickets b.stage)
   pub asks : d ≡ a.asks + b.asks
   pub few_a : a.asks ≤ 4294967295
@@ -53,13 +54,13 @@ pub record AreCallers (n d : ℕ) (h : List Entry) (p : ℕ) (a : Caller) (q : �
   pub fits_a : FitsWords n d h a.stage
   pub fits_b : FitsWords n d h b.stage
   pub apart : HaveOwnTickets a.stage b.stage
-  pub made_a : pairs_of p h ≡ a.made
-  pub made_b : pairs_of q h ≡ b.made
+  pub made_a : pairs_of p h.history ≡ a.made
+  pub made_b : pairs_of q h.history ≡ b.made
 
--- The slot: with the memory of this history, or taken.
-abbrev pub IsSlot : List (maybe.Option Slot) → List Entry → Bool → Type 0
+-- The slot: with the memory of this past, or taken.
+abbrev pub IsSlot : List (maybe.Option Slot) → Past → Bool → Type 0
 IsSlot hs h true = hs ≡ none ∷ []
-IsSlot hs h false = (m : SharedValue) × (hs ≡ some (Some m) ∷ []) × (m.history ≡ h)
+IsSlot hs h false = (m : SharedValue) × (hs ≡ some (Some m) ∷ []) × (past_of m ≡ h)
 
 -- What seats know, where the seat at stands for processor p, which did a, and the seat bt for q, which did b.
 module _ (p : ℕ) (a : Caller) (at q : ℕ) (b : Caller) (bt : ℕ) where
@@ -84,7 +85,7 @@ module _ (p : ℕ) (a : Caller) (at q : ℕ) (b : Caller) (bt : ℕ) where
 abbrev pub AreTheTwo : ℕ → ℕ → Type 0
 AreTheTwo p q = ((p ≡ 0) × (q ≡ 1)) ⊎ ((p ≡ 1) × (q ≡ 0))
 
-pub record IsTable (n d : ℕ) (h : List Entry) (p : ℕ) (a : Caller) (at q : ℕ) (b : Caller) (bt : ℕ)
+pub record IsTable (n d : ℕ) (h : Past) (p : ℕ) (a : Caller) (at q : ℕ) (b : Caller) (bt : ℕ)
     (s : State Slot View) : Type 0 where
   pub words : s.words ≡ n ∷ d ∷ []
   pub slot : IsSlot s.homes h (has_memory a.stage || has_memory b.stage)
@@ -92,11 +93,11 @@ pub record IsTable (n d : ℕ) (h : List Entry) (p : ℕ) (a : Caller) (at q : �
   pub numbers : AreTheTwo p q
   pub each : (j : ℕ) (v : View) → get_elem? s.views j ≡ some v → Knows p a at q b bt j v
 
--- the rule
-pub record IsByTickets (s : State Slot View) : Type 0 where
+-- the rule of the table for this image
+pub record IsByTickets (image : ImageValue) (s : State Slot View) : Type 0 where
   pub n : ℕ
   pub d : ℕ
-  pub h : List Entry
+  pub h : Past
   pub p : ℕ
   pub a : Caller
   pub at : ℕ
@@ -104,3 +105,4 @@ pub record IsByTickets (s : State Slot View) : Type 0 where
   pub b : Caller
   pub bt : ℕ
   pub table : IsTable n d h p a at q b bt s
+  pub image_is : h.image ≡ image

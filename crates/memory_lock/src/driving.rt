@@ -1,9 +1,8 @@
 //! One processor driven through a port.
 
-ghost use Rattle.std.specs.Prelude.{◌≡◌, ◌<◌, ◌≤◌, ◌+◌, ℕ, true, OnOk, OnErr, length};
-ghost use Rattle.processor.specs.Turns.{IsInTurn};
+ghost use Rattle.std.specs.Prelude.{◌≡◌, ◌≤◌, ◌+◌, true, OnOk, OnErr, length};
 ghost use Rattle.shared_history.specs.Parts.{has_finished};
-ghost use Rattle.memory_lock.specs.Driving.{IsGrown, HasMade};
+ghost use Rattle.memory_lock.specs.Driving.{IsGrown, HasMade, MayAsk};
 
 use crate::gates::Gate;
 use crate::ports::Port;
@@ -15,7 +14,7 @@ use std::sync::Wait;
 /// it is: the least running one above that of the last step, else the least running one. What a step asks goes through
 /// the port; the gate is called around it.
 ///
-/// `NoRoom` comes of the port alone, which was refused then; the step that asked was not taken.
+/// `NoRoom` comes of the port alone, which was refused then; the step that asked was not taken, and is the next in turn.
 pub fn drive<R: Wait, P: Port, G: Gate, const S: usize>(
     rt: &R,
     worker: &mut Recorded<S>,
@@ -26,11 +25,10 @@ pub fn drive<R: Wait, P: Port, G: Gate, const S: usize>(
     requires room { fuel ≤ length worker.old.steps + worker.old.spare }
     ensures grown { IsGrown fuel worker.old worker.new }
     ensures finished { OnOk result (has_finished fuel worker.new ≡ true) }
-    ensures in_turn { (k : ℕ) → length worker.old.steps ≤ k → k < length worker.new.steps
-        → IsInTurn worker.new.image worker.new.number worker.new.steps worker.new.pairs k }
     ensures made { HasMade worker.old worker.new (P.made port.old) (P.made port.new) }
     ensures keeps { OnOk result (P.is_refused port.new ≡ P.is_refused port.old) }
     ensures refuses { OnErr result (P.is_refused port.new ≡ true) }
+    ensures asks { OnErr result (MayAsk fuel worker.new) }
 {
     let from = worker.steps().len();
     for _ in from..fuel {

@@ -3,14 +3,16 @@
 ghost use Rattle.std.specs.Prelude.{◌≡◌, ◌<◌, ◌≤◌, ◌+◌, ℕ, All, length, slice_index_or};
 ghost use Rattle.processor.specs.Records.{RecordValue};
 ghost use Rattle.memory_lock.specs.Driving.{IsGrown, HasMade};
-ghost use Rattle.memory_lock.specs.Runs.{HaveRoom, IsRun};
+ghost use Rattle.memory_lock.specs.Runs.{HaveRoom, IsRunOfThreads, IsContinued};
 
 use crate::driving::drive;
 use crate::gates::Gate;
 use crate::lock_ports::LockPort;
 use crate::ports::Port;
+use crate::started_memory::{StartBrand, StartedMemory};
 use processor::Recorded;
 use shared_history::{Parts, SharedMemory};
+use std::marker::Brand;
 use std::sync::{Mutex, Wait};
 use std::thread;
 use std::thread::Threads;
@@ -26,28 +28,28 @@ pub fn run_by_lock<'i, R: Threads + Wait + Sync, G: Gate + Sync, const S: usize>
     gate: &G,
 ) -> Parts<'i, S>
     requires room { HaveRoom parts }
-    ensures run { IsRun parts.entry result }
+    ensures run { IsRunOfThreads parts.entry result }
     ensures room_again { HaveRoom result }
 {
     let (fuel, shared, mut records) = parts.into_parts();
-    let memory = Mutex::new(shared);
-    run_records(rt, records.as_mut_slice(), &memory, fuel, gate);
-    Parts::of(fuel, memory.into_inner(), records)
+    let shared = run_records(rt, records.as_mut_slice(), shared, fuel, gate);
+    Parts::of(fuel, shared, records)
 }
 
 /// The same of the records.
 fn run_records<'i, R: Threads + Wait + Sync, G: Gate + Sync, const S: usize>(
     rt: &R,
     records: &mut [Recorded<'i, S>],
-    memory: &Mutex<SharedMemory<'i>>,
+    memory: SharedMemory<'i>,
     fuel: usize,
     gate: &G,
-)
+) -> SharedMemory<'i>
     requires room { All (λ (r : RecordValue). fuel ≤ length r.steps + r.spare) records.old }
-    ensures { (p : ℕ) (d : RecordValue) → p < length records.old
+    ensures grown { (p : ℕ) (d : RecordValue) → p < length records.old
         → IsGrown fuel (slice_index_or records.old p d) (slice_index_or records.new p d) }
+    ensures shared { IsContinued memory.entry result }
 {
-    run_workers(rt, records, memory, fuel, gate);
+    run_workers(rt, records, memory, fuel, gate)
 }
 
 /// What a thread drives. The kit proves a run of threads over values of a type parameter, and none over values whose
@@ -71,14 +73,50 @@ impl<'i, const S: usize> Worker for Recorded<'i, S> {
     }
 }
 
-/// Drives each worker, as many at once as threads can be had.
-fn run_workers<W: Worker + Send, R: Threads + Wait + Sync, G: Gate + Sync>(
+/// Drives each worker through the memory behind a lock. The lock's type names the memory that it began with: which one
+/// that is, is picked with this call's proof (proofs/threads/run_workers/Invariants.antt).
+fn run_workers<'i, W: Worker + Send, R: Threads + Wait + Sync, G: Gate + Sync>(
     rt: &R,
     workers: &mut [W],
-    memory: &Mutex<SharedMemory>,
+    memory: SharedMemory<'i>,
     fuel: usize,
     gate: &G,
-)
+) -> SharedMemory<'i>
+    requires room { All (λ w. fuel ≤ length (W.value w).steps + (W.value w).spare) workers.old }
+    ensures grown { (p : ℕ) (d : W) → p < length workers.old
+        → IsGrown fuel (W.value (slice_index_or workers.old p d)) (W.value (slice_index_or workers.new p d)) }
+    ensures shared { IsContinued memory.entry result }
+{
+    run_from::<Brand, W, R, G>(rt, workers, memory, fuel, gate)
+}
+
+/// The same from the memory that the type names.
+fn run_from<
+    'i,
+    B: StartBrand + Send + Sync,
+    W: Worker + Send,
+    R: Threads + Wait + Sync,
+    G: Gate + Sync,
+>(rt: &R, workers: &mut [W], memory: SharedMemory<'i>, fuel: usize, gate: &G) -> SharedMemory<'i>
+    requires start { memory ≡ B.start }
+    requires room { All (λ w. fuel ≤ length (W.value w).steps + (W.value w).spare) workers.old }
+    ensures grown { (p : ℕ) (d : W) → p < length workers.old
+        → IsGrown fuel (W.value (slice_index_or workers.old p d)) (W.value (slice_index_or workers.new p d)) }
+    ensures shared { IsContinued B.start result }
+{
+    let locked = Mutex::new(StartedMemory::<B>::new(memory));
+    drive_all(rt, workers, &locked, fuel, gate);
+    locked.into_inner().into_memory()
+}
+
+/// Drives each worker, as many at once as threads can be had.
+fn drive_all<
+    'i,
+    B: StartBrand + Send + Sync,
+    W: Worker + Send,
+    R: Threads + Wait + Sync,
+    G: Gate + Sync,
+>(rt: &R, workers: &mut [W], memory: &Mutex<StartedMemory<'i, B>>, fuel: usize, gate: &G)
     requires { All (λ w. fuel ≤ length (W.value w).steps + (W.value w).spare) workers.old }
     ensures { (p : ℕ) (d : W) → p < length workers.old
         → IsGrown fuel (W.value (slice_index_or workers.old p d)) (W.value (slice_index_or workers.new p d)) }

@@ -7,12 +7,10 @@ mod ports;
 mod rule;
 mod runs;
 mod tables;
-mod threaded_runs;
 mod views;
 
-pub use ports::{Room, TurnPort};
-pub use rule::{Draw, Look, Pair, Raise, Tickets, TurnMemory, TurnSeat, TurnTable};
+pub use ports::{TableBrand, TurnPort};
+pub use rule::{Draw, Poll, Raise, Tickets, TurnMemory, TurnSeat, TurnTable, TwoSeats};
 pub use runs::{run_threads, run_two};
 pub use tables::{close_table, open_table};
-pub use threaded_runs::threaded;
-pub use views::{Caller, Stage, View};
+pub use views::{Caller, Past, Stage, View};

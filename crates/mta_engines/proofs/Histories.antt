@@ -6,7 +6,6 @@ use Rattle.std.proofs.Math.ListN.{drop_of_length-le}
 use Rattle.image_file.specs.ImageValue.{ImageValue}
 use Rattle.processor.specs.World.{run, history_of}
 use Rattle.processor.specs.declared.steps.Entry.{Entry}
-use Rattle.processor.specs.declared.steps.Step.{Step}
 use Rattle.shared_history.specs.Schedule.{WovenValue}
 use Rattle.trace_text.specs.HistoryLines.{history_line_of}
 use Rattle.trace_text.specs.WorldTexts.{world_text_of}
@@ -34,12 +33,12 @@ history_end n i es text all past whole =
     sym (append-nil text) ∙ ap (λ x. text ++ history_text n x) (sym (drop_of_length-le es past)) ∙ whole
 
 -- The history's text and the machine's are the run's.
-pub report_is : (image : ImageValue) (w : WovenValue) (steps : List Step) (history : List Entry)
-    (world report : List ℕ) → w.shared.image ≡ image → steps ≡ w.schedule
-    → history ≡ history_of w.shared.image w.schedule → world ≡ world_text_of image (run image steps)
+pub report_is : (image : ImageValue) (w : WovenValue) (history : List Entry) (world report : List ℕ)
+    → w.shared.image ≡ image → history ≡ history_of w.shared.image w.schedule
+    → world ≡ world_text_of image (run w.shared.image w.schedule)
     → report ≡ history_text 1 history ++ world → report ≡ threads_output image w.schedule
 unfolding threads_output
-report_is image w steps history world report same is made told whole =
+report_is image w history world report same made told whole =
     let lines = made ∙ ap (λ x. history_of x w.schedule) same in
-    let end = told ∙ ap (λ x. world_text_of image (run image x)) is in
+    let end = told ∙ ap (λ x. world_text_of image (run x w.schedule)) same in
     whole ∙ (λ i. history_text 1 (lines i) ++ end i)

@@ -1,8 +1,10 @@
+pub mod AssembledImage
 pub mod ProgramText
 pub mod ReadBytes
 pub mod ImageFaults
 pub mod Traces
 pub mod Histories
+pub mod Ends
 pub mod Refusals
 pub mod EndedLines
 pub mod Replies

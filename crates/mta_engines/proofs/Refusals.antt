@@ -1,5 +1,5 @@
 -- Which faults a run of an image's processors can have.
-use Rattle.std.proofs.Common.{◌≡◌, ◌≢◌, ◌∙◌, sym, subst, ℕ, List, Option, Some, None, IfSome, Result, Ok, Err, IsErrAnd}
+use Rattle.std.proofs.Common.{◌≡◌, ◌≢◌, ◌∙◌, sym, subst, ℕ, List, length, Option, Some, None, IfSome, Result, Ok, Err, IsErrAnd}
 use Rattle.std.proofs.Common.{◌⊎◌, inl, inr, refl, IfErr}
 use Rattle.image_file.specs.ImageValue.{ImageValue}
 use Rattle.image_file.specs.Spelling.{Stands}
@@ -77,19 +77,21 @@ pub told_of : {A : Type 0} {size : ℕ} (r : Result A ToolFault) (found : Thread
     → (found ≡ threads.Build parts.TooLong → IsTooLong image fuel)
     → ((left : PartsValue) (fault : GatherFault) → found ≡ threads.Gather left fault
     → AreRunParts image fuel left × Refuses left fault)
+    → (length image.entries ≡ 2 → (left : PartsValue) (p : ℕ) → found ≢ threads.Gather left (gather.Torn p))
     → IfErr r (λ fault. (fault ≡ NoMemory) ⊎ HasRefusal image fuel fault)
-told_of (Ok x) found image fuel is room long left = tt
-told_of (Err answer) (threads.Build parts.Streams) image fuel is room long left = absurd (room refl)
-told_of (Err answer) (threads.Build parts.TooLong) image fuel is room long left =
+told_of (Ok x) found image fuel is room long left two = tt
+told_of (Err answer) (threads.Build parts.Streams) image fuel is room long left two = absurd (room refl)
+told_of (Err answer) (threads.Build parts.TooLong) image fuel is room long left two =
     inr (subst (HasRefusal image fuel) (sym (is.1 (λ e. cc))) (long refl))
-told_of (Err answer) (threads.Build parts.NoMemory) image fuel is room long left = inl (is.0 refl)
-told_of (Err answer) (threads.Gather x (gather.Foreign p)) image fuel is room long left =
+told_of (Err answer) (threads.Build parts.NoMemory) image fuel is room long left two = inl (is.0 refl)
+told_of (Err answer) (threads.Gather x (gather.Foreign p)) image fuel is room long left two =
     let why = left x (gather.Foreign p) refl in
     inr (subst (HasRefusal image fuel) (sym (is.1 (λ e. cc))) (record { left = x; run = why.0; refused = why.1 }))
-told_of (Err answer) (threads.Gather x (gather.Short p)) image fuel is room long left =
+told_of (Err answer) (threads.Gather x (gather.Short p)) image fuel is room long left two =
     let why = left x (gather.Short p) refl in
     inr (subst (HasRefusal image fuel) (sym (is.1 (λ e. cc))) (record { left = x; run = why.0; refused = why.1 }))
-told_of (Err answer) (threads.Gather x (gather.Torn p)) image fuel is room long left =
+told_of (Err answer) (threads.Gather x (gather.Torn p)) image fuel is room long left two =
     let why = left x (gather.Torn p) refl in
-    inr (subst (HasRefusal image fuel) (sym (is.1 (λ e. cc))) (record { left = x; run = why.0; refused = why.1 }))
-told_of (Err answer) (threads.Gather x gather.NoMemory) image fuel is room long left = inl (is.0 refl)
+    inr (subst (HasRefusal image fuel) (sym (is.1 (λ e. cc)))
+    (λ both. two both x p refl, record { left = x; run = why.0; refused = why.1 }))
+told_of (Err answer) (threads.Gather x gather.NoMemory) image fuel is room long left two = inl (is.0 refl)

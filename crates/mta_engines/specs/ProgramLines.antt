@@ -24,6 +24,7 @@ empty_fault count = if count == 0 then Some 1 else None
 abbrev pub too_many_fault : ℕ → Option ℕ
 too_many_fault count = if nat_le count most_program_words then None else Some (most_program_words + 1)
 
+-- the lesser of two lines, where there are any
 abbrev pub least_line : Option ℕ → Option ℕ → Option ℕ
 least_line None other = other
 least_line (Some line) None = Some line
@@ -34,6 +35,7 @@ abbrev pub program_line_fault : List (List ℕ) → Option ℕ
 program_line_fault lines =
     least_line (malformed_from 1 lines) (least_line (empty_fault (length lines)) (too_many_fault (length lines)))
 
+-- the words, or the fault of a line
 abbrev pub words_unless : Option ℕ → List ℕ → Result (List ℕ) ToolFault
 words_unless None words = Ok words
 words_unless (Some line) words = Err (Words line)

@@ -1,5 +1,5 @@
 -- What the command `threads` writes for an image and a fuel.
-use Rattle.std.specs.Prelude.{◌≡◌, ◌<◌, ◌+◌, ◌*◌, ℕ, List, [], ◌∷◌, ◌++◌, length, ◌⊎◌}
+use Rattle.std.specs.Prelude.{◌≡◌, ◌≢◌, ◌<◌, ◌+◌, ◌*◌, ℕ, List, [], ◌∷◌, ◌++◌, length, ◌⊎◌}
 use Rattle.image_file.specs.ImageValue.{ImageValue}
 use Rattle.processor.specs.World.{run, history_of}
 use Rattle.processor.specs.declared.steps.Entry.{Entry}
@@ -44,6 +44,10 @@ pub record IsThreadsOutput (bytes : List ℕ) (fuel : ℕ) (schedule_output outp
   pub image_is : IsImageOf bytes image
   pub texts : AreThreadsTexts image fuel schedule_output output
 
+-- the schedule of such a run, whatever else it comes to
+abbrev pub IsThreadsSchedule : List ℕ → ℕ → List ℕ → Type 0
+IsThreadsSchedule bytes fuel schedule_output = (output : List ℕ) × IsThreadsOutput bytes fuel schedule_output output
+
 -- The faults.
 
 -- the processors would take more than 1,000,000 steps together
@@ -56,14 +60,15 @@ pub record IsNotGathered (image : ImageValue) (fuel : ℕ) (fault : GatherFault)
   pub run : AreRunParts image fuel left
   pub refused : Refuses left fault
 
--- why no schedule of the image's processors is handed out
+-- why no schedule of the image's processors is handed out; two processors are never refused as Torn
 abbrev pub HasRefusal : ImageValue → ℕ → ToolFault → Type 0
 HasRefusal image fuel (Build parts.TooLong) = IsTooLong image fuel
 HasRefusal image fuel (Build parts.Streams) = ⊥
 HasRefusal image fuel (Build parts.NoMemory) = ⊥
 HasRefusal image fuel (Gather (gather.Foreign p)) = IsNotGathered image fuel (gather.Foreign p)
 HasRefusal image fuel (Gather (gather.Short p)) = IsNotGathered image fuel (gather.Short p)
-HasRefusal image fuel (Gather (gather.Torn p)) = IsNotGathered image fuel (gather.Torn p)
+HasRefusal image fuel (Gather (gather.Torn p)) =
+    (length image.entries ≢ 2) × IsNotGathered image fuel (gather.Torn p)
 HasRefusal image fuel (Gather gather.NoMemory) = ⊥
 HasRefusal image fuel TooLarge = ⊥
 HasRefusal image fuel Read = ⊥

@@ -18,6 +18,7 @@ text_at (Some stream) = stream_text_of stream
 unfoldable pub program_text : List ℕ → List ℕ
 program_text program = text_at (stream_of 1 (words_world program) 0 0)
 
+-- the text of a program, or its fault
 abbrev pub text_or_fault : Result (List ℕ) ToolFault → Result (List ℕ) ToolFault
 text_or_fault (Ok program) = Ok (program_text program)
 text_or_fault (Err fault) = Err fault

@@ -6,7 +6,7 @@ ghost use Rattle.mta_engines.specs.InputOutput.{HasInput, HasOutput};
 ghost use Rattle.mta_engines.specs.Images.{HasImageFault};
 ghost use Rattle.mta_engines.specs.ListOutput.{IsListOutput};
 
-use crate::inputs::read_image_input;
+use crate::image_and_schedule::read_image_input;
 use crate::output::write_output;
 use crate::tool_fault::ToolFault;
 use asm_text::listing;

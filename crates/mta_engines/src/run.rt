@@ -11,7 +11,7 @@ ghost use Rattle.mta_engines.specs.RunOutput.{HasScheduleFault};
 ghost use Rattle.image_file.specs.declared.fault.ImageFault.{ImageFault};
 ghost use Rattle.trace_text.specs.declared.schedule_fault.ScheduleFault.{ScheduleFault};
 
-use crate::inputs::{read_image_input, read_schedule_input};
+use crate::image_and_schedule::{read_image_input, read_schedule_input};
 use crate::output::write_output;
 use crate::stream_room::StreamRoom;
 use crate::tool_fault::ToolFault;

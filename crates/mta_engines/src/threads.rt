@@ -3,28 +3,26 @@ ghost use Rattle.std.specs.Prelude.{◌≡◌, ◌≢◌, ◌≤◌, ◌++◌, O
 ghost use Rattle.std.specs.Prelude.{string_bytes};
 ghost use Rattle.std.specs.Io.KnownBytes.{Keeps};
 ghost use Rattle.image_file.specs.ImageValue.{ImageValue};
-ghost use Rattle.processor.specs.World.{run};
 ghost use Rattle.shared_history.specs.declared.parts.PartsFault.TheVariants.{TooLong};
-ghost use Rattle.trace_text.specs.WorldTexts.{world_text_of};
 ghost use Rattle.mta_engines.specs.Faults.{IsFaultBy};
-ghost use Rattle.mta_engines.specs.InputOutput.{HasInput, HasOutputs};
+ghost use Rattle.mta_engines.specs.InputOutput.{HasInput, HasOutput, HasOutputs};
 ghost use Rattle.mta_engines.specs.Images.{IsImageOf, HasImageFault};
 ghost use Rattle.mta_engines.specs.ThreadsOutput.{history_text, threads_output, AreThreadsTexts, IsThreadsOutput};
-ghost use Rattle.mta_engines.specs.ThreadsOutput.{IsTooLong, HasRefusal, HasThreadsFault};
+ghost use Rattle.mta_engines.specs.ThreadsOutput.{IsTooLong, HasRefusal, HasThreadsFault, IsThreadsSchedule};
 
-use crate::inputs::read_image_input;
+use crate::image_and_schedule::read_image_input;
 use crate::output::write_output;
 use crate::stream_room::StreamRoom;
 use crate::tool_fault::ToolFault;
+use crate::woven_readers::WovenReaders;
 use image_file::Image;
-use machine::{LoadFault, Machine};
 use memory_lock::{Gate, threaded};
-use processor::{Entry, Step};
+use processor::Entry;
 use std::alloc::{AllocError, Global};
 use std::io::{Read, Write};
 use std::sync::Wait;
 use std::thread::Threads;
-use trace_text::{push_history_line, world_text, write_schedule};
+use trace_text::{push_history_line, world_text_of_readers, write_schedule};
 
 /// The most bytes of a history line.
 const HISTORY_LINE: usize = 83;
@@ -55,6 +53,10 @@ pub fn threads_engine<X: Threads + Wait + Sync, I: Read, G: Gate + Sync, V: Writ
     ensures too_long { (asked : ImageValue) → IfSome (I.remaining image.old) (λ bytes. IsImageOf bytes asked
         → IsTooLong asked fuel
         → IsErrAnd result (λ fault. (fault ≢ ToolFault.Write) × IsFaultBy (λ f. f ≡ ToolFault.Build TooLong) fault)) }
+    // the report is begun once the whole schedule is written
+    ensures schedule_first { IfErr result (λ _. Keeps (W.contents writer.old) (W.contents writer.new)
+        ⊎ HasInput (I.remaining image.old) (λ bytes. HasOutput (V.contents schedule.old) (V.contents schedule.new)
+        (IsThreadsSchedule bytes fuel))) }
     ensures schedule_as_before { IfErr result (λ fault. fault ≢ ToolFault.Write
         → Keeps (V.contents schedule.old) (V.contents schedule.new)) }
     ensures writer_as_before { IfErr result (λ fault. fault ≢ ToolFault.Write
@@ -109,7 +111,7 @@ fn run_with_room<X: Threads + Wait + Sync, G: Gate + Sync, const S: usize>(
         → IsErrAnd result (λ fault. (fault ≡ ToolFault.NoMemory) ⊎ (fault ≡ ToolFault.Build TooLong)) }
 {
     let woven = threaded::<X, G, S>(rt, alloc, image, fuel, gate)?;
-    let world = world_after::<S>(alloc, image, woven.schedule())?;
+    let world = world_text_of_readers(alloc, &WovenReaders { woven: &woven }, image)?;
     let report = report_text(alloc, woven.history(), &world)?;
     let schedule = write_schedule(alloc, &woven.into_schedule())?;
     Ok(ThreadsTexts { schedule, report })
@@ -134,22 +136,4 @@ fn push_history(text: &mut String, history: &[Entry]) -> Result<(), AllocError>
         push_history_line(text, index as u64 + 1, entry)?;
     }
     Ok(())
-}
-
-/// What a machine comes to by a schedule.
-fn world_after<const S: usize>(
-    alloc: Global,
-    image: &Image,
-    schedule: &[Step],
-) -> Result<String, AllocError>
-    requires room { image.now.slim ≤ S }
-    ensures { IfOk result (λ text. string_bytes text ≡ world_text_of image.now (run image.now schedule.now)) }
-{
-    let mut machine = match Machine::<S>::load(alloc, image) {
-        Ok(machine) => machine,
-        Err(LoadFault::NoMemory) => return Err(AllocError),
-        Err(LoadFault::Streams) => unreachable!(),
-    };
-    machine.run(schedule);
-    world_text(alloc, &machine, image)
 }

@@ -1,2 +1,2 @@
--- The definitions, all of them promises: the clauses of `Status` cite them.
+-- The definitions, all of them promises: the clauses of `ExitStatus` cite them.
 pub mod Statuses

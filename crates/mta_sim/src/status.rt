@@ -4,7 +4,7 @@ ghost use Rattle.mta_sim.specs.Statuses.{exit_status_of};
 
 /// How the tool ended ("The command line", docs/FORMATS.md).
 #[derive(Clone, Copy, Debug, PartialEq, Eq)]
-pub enum Status {
+pub enum ExitStatus {
     /// The command is done.
     Done,
     /// The command met a fault.
@@ -13,15 +13,15 @@ pub enum Status {
     NoCommand,
 }
 
-impl Status {
+impl ExitStatus {
     /// The number that the program exits with: 0, 1 and 2 in the order of the variants.
     pub fn number(self) -> u8
         ensures { result ≡ exit_status_of self }
     {
         match self {
-            Status::Done => 0,
-            Status::Fault => 1,
-            Status::NoCommand => 2,
+            ExitStatus::Done => 0,
+            ExitStatus::Fault => 1,
+            ExitStatus::NoCommand => 2,
         }
     }
 }

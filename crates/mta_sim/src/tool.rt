@@ -14,7 +14,7 @@ ghost use Rattle.command_line.specs.CommandLine.{assemble_source, debug_image, l
 ghost use Rattle.command_line.specs.CommandLine.{run_words};
 
 use crate::files::{create_output, open_input};
-use crate::status::Status;
+use crate::status::ExitStatus;
 use command_line::{ToolCommand, read_command_line};
 use memory_lock::FreeGate;
 use mta_engines::{
@@ -44,28 +44,28 @@ pub fn run_tool<X: Threads + Wait + Sync, S: AsStr, F: Files, R: Read, W: Write,
     input: &mut R,
     output: &mut W,
     errors: &mut E,
-) -> Status
-    ensures errors_as_before { result ≡ Status.Done → Keeps (E.contents errors.old) (E.contents errors.new) }
-    ensures output_as_before { result ≡ Status.NoCommand
+) -> ExitStatus
+    ensures errors_as_before { result ≡ ExitStatus.Done → Keeps (E.contents errors.old) (E.contents errors.new) }
+    ensures output_as_before { result ≡ ExitStatus.NoCommand
         → Keeps (W.contents output.old) (W.contents output.new) }
-    ensures is_command { result ≢ Status.NoCommand → IsCommand (map S.text words.now) }
-    ensures words { command_of_line (map S.text words.now) ≡ Some run_words → result ≡ Status.Done
+    ensures is_command { result ≢ ExitStatus.NoCommand → IsCommand (map S.text words.now) }
+    ensures words { command_of_line (map S.text words.now) ≡ Some run_words → result ≡ ExitStatus.Done
         → HasInput (R.remaining input.old) (λ bytes.
         HasOutput (W.contents output.old) (W.contents output.new) (IsWordsOutput bytes)) }
     ensures asm { (source image : Text) → command_of_line (map S.text words.now) ≡ Some (assemble_source source image)
         → Keeps (W.contents output.old) (W.contents output.new) }
     ensures list { (image : Text) → command_of_line (map S.text words.now) ≡ Some (list_image image)
-        → result ≡ Status.Done → (bytes : List ℕ)
+        → result ≡ ExitStatus.Done → (bytes : List ℕ)
         × HasOutput (W.contents output.old) (W.contents output.new) (IsListOutput bytes) }
     ensures run { (image schedule : Text) → command_of_line (map S.text words.now) ≡ Some (run_image image schedule)
-        → result ≡ Status.Done → (image_bytes schedule_bytes : List ℕ)
+        → result ≡ ExitStatus.Done → (image_bytes schedule_bytes : List ℕ)
         × HasOutput (W.contents output.old) (W.contents output.new) (IsRunOutput image_bytes schedule_bytes) }
     ensures threads { (image schedule : Text) (fuel : ℕ)
         → command_of_line (map S.text words.now) ≡ Some (run_threads image fuel schedule)
-        → result ≡ Status.Done → (image_bytes schedule_bytes : List ℕ)
+        → result ≡ ExitStatus.Done → (image_bytes schedule_bytes : List ℕ)
         × HasOutput (W.contents output.old) (W.contents output.new) (IsThreadsOutput image_bytes fuel schedule_bytes) }
     ensures debug { (image schedule : Text) → command_of_line (map S.text words.now) ≡ Some (debug_image image schedule)
-        → result ≡ Status.Done → (image_bytes schedule_bytes : List ℕ)
+        → result ≡ ExitStatus.Done → (image_bytes schedule_bytes : List ℕ)
         × HasInput (R.remaining input.old) (λ command_bytes. HasOutput (W.contents output.old) (W.contents output.new)
         (IsDebugOutput image_bytes schedule_bytes command_bytes)) }
 {
@@ -76,7 +76,7 @@ pub fn run_tool<X: Threads + Wait + Sync, S: AsStr, F: Files, R: Read, W: Write,
         ),
         Err(error) => {
             let _ = write!(errors, "{error}");
-            Status::NoCommand
+            ExitStatus::NoCommand
         }
     }
 }
@@ -155,15 +155,15 @@ fn run_command<X: Threads + Wait + Sync, F: Files, R: Read, W: Write>(
 }
 
 /// The status of a command, whose fault is printed.
-fn report<E: Write>(done: Result<(), ToolFault>, errors: &mut E) -> Status
-    ensures status { MatchResult done (λ _. result ≡ Status.Done) (λ _. result ≡ Status.Fault) }
+fn report<E: Write>(done: Result<(), ToolFault>, errors: &mut E) -> ExitStatus
+    ensures status { MatchResult done (λ _. result ≡ ExitStatus.Done) (λ _. result ≡ ExitStatus.Fault) }
     ensures errors_as_before { OnOk done (Keeps (E.contents errors.old) (E.contents errors.new)) }
 {
     match done {
-        Ok(()) => Status::Done,
+        Ok(()) => ExitStatus::Done,
         Err(fault) => {
             let _ = writeln!(errors, "mta_sim: {fault}");
-            Status::Fault
+            ExitStatus::Fault
         }
     }
 }

@@ -14,8 +14,8 @@ use Rattle.stream_core.specs.StreamRow.{fetch_of, fetch_if, control_of}
 use Rattle.stream_core.specs.declared.traps.TrapKind.TheVariants as kind
 use Rattle.stream_core.specs.declared.steps.Status.{Status}
 use Rattle.stream_core.specs.declared.steps.Status.TheVariants.{Idle, Running, Stopped}
-use Rattle.stream_core.specs.declared.steps.Fetched.{Fetched}
-use Rattle.stream_core.specs.declared.steps.Fetched.TheVariants as fetch
+use Rattle.stream_core.specs.declared.steps.Fetch.{Fetch}
+use Rattle.stream_core.specs.declared.steps.Fetch.TheVariants as fetch
 use Rattle.processor.specs.Processors.{ProcessorValue, is_idle, is_idle_status, stream_at}
 use Rattle.processor.specs.Row.{lacks_stream, image_fetch, step_fetch_from, step_fetch, step_fetch_at, step_fetch_of}
 use Rattle.processor.specs.Row.{request_on_fetch, request_at}
@@ -66,16 +66,16 @@ next_is image proc n =
 
 -- Where it is known what the step begins with.
 
-pub row_begun : (image : ImageValue) (proc : ProcessorValue) (n : ℕ) (r : Option Reply) (f : Fetched)
+pub row_begun : (image : ImageValue) (proc : ProcessorValue) (n : ℕ) (r : Option Reply) (f : Fetch)
     → step_fetch_of image proc n ≡ f → row_on_fetch image proc n r (stream_at proc.streams n) f ≡ row image proc n r
 row_begun image proc n r f e =
     sym (row_is image proc n r ∙ ap (row_on_fetch image proc n r (stream_at proc.streams n)) e)
 
-pub request_begun : (image : ImageValue) (proc : ProcessorValue) (n : ℕ) (f : Fetched)
+pub request_begun : (image : ImageValue) (proc : ProcessorValue) (n : ℕ) (f : Fetch)
     → step_fetch_of image proc n ≡ f → request image proc n ≡ request_on_fetch (stream_at proc.streams n) f
 request_begun image proc n f e = request_is image proc n ∙ ap (request_on_fetch (stream_at proc.streams n)) e
 
-pub next_begun : (image : ImageValue) (proc : ProcessorValue) (n : ℕ) (f : Fetched)
+pub next_begun : (image : ImageValue) (proc : ProcessorValue) (n : ℕ) (f : Fetch)
     → step_fetch_of image proc n ≡ f → next_on_fetch (stream_at proc.streams n) f ≡ next_of image proc n
 next_begun image proc n f e = sym (next_is image proc n ∙ ap (next_on_fetch (stream_at proc.streams n)) e)
 
@@ -85,13 +85,13 @@ pub asked_there : (proc : ProcessorValue) (n : ℕ) (i : Insn) (s : StreamValue)
 asked_there proc n i s o is asks = asks ∙ ap (λ x. request_of x i) is
 
 pub next_needed : (image : ImageValue) (proc : ProcessorValue) (n : ℕ) (i : Insn) (s : StreamValue)
-    (o : Option Request) → step_fetch_of image proc n ≡ fetch.Runs i → s ≡ stream_at proc.streams n
+    (o : Option Request) → step_fetch_of image proc n ≡ fetch.Instruction i → s ≡ stream_at proc.streams n
     → o ≡ request_of s i → next_asking o ≡ next_of image proc n
 next_needed image proc n i s o e is asks =
-    ap next_asking (asked_there proc n i s o is asks) ∙ next_begun image proc n (fetch.Runs i) e
+    ap next_asking (asked_there proc n i s o is asks) ∙ next_begun image proc n (fetch.Instruction i) e
 
 pub row_over_memory_begun : (image : ImageValue) (proc : ProcessorValue) (n : ℕ) (m after : TaggedMemory)
-    (f : Fetched) (r : Option Reply) → step_fetch_of image proc n ≡ f
+    (f : Fetch) (r : Option Reply) → step_fetch_of image proc n ≡ f
     → (after, r) ≡ memory_reply m (request_on_fetch (stream_at proc.streams n) f)
     → (row_on_fetch image proc n r (stream_at proc.streams n) f, after) ≡ row_over_memory image proc n m
 unfolding row_over_memory
@@ -107,10 +107,10 @@ is_replied m after (Some q) r e = ap (λ (x : TaggedMemory × Option Reply). is_
 
 -- What a step that begins says of its stream.
 
-abbrev pub rests : Fetched → Bool
+abbrev pub rests : Fetch → Bool
 rests fetch.Rest = true
 rests (fetch.Trap k) = false
-rests (fetch.Runs i) = false
+rests (fetch.Instruction i) = false
 
 awake_status : (p : Profile) (st : Status) (program : List ℕ) (pc : ℕ) → rests (fetch_if p st program pc) ≡ false
     → is_idle_status st ≡ false
@@ -118,11 +118,11 @@ awake_status p Idle program pc e = cc
 awake_status p Running program pc e = refl
 awake_status p (Stopped k) program pc e = refl
 
-awake_from : (proc : ProcessorValue) (s : StreamValue) (f : Fetched) → rests (step_fetch_from proc s f) ≡ false
+awake_from : (proc : ProcessorValue) (s : StreamValue) (f : Fetch) → rests (step_fetch_from proc s f) ≡ false
     → rests f ≡ false
 awake_from proc s fetch.Rest e = e
 awake_from proc s (fetch.Trap k) e = refl
-awake_from proc s (fetch.Runs i) e = refl
+awake_from proc s (fetch.Instruction i) e = refl
 
 awake_begun : (image : ImageValue) (proc : ProcessorValue) (s : StreamValue) → rests (step_fetch image proc s) ≡ false
     → is_idle s ≡ false
@@ -145,29 +145,29 @@ awake image proc n there =
     awake_seen image proc n (slice_get proc.streams n) (stream_at proc.streams n) refl
     (unwrap_or-slice_get proc.streams n idle) there
 
-free_if : (b : Bool) (j i : Insn) → (if b then fetch.Trap kind.Create else fetch.Runs j) ≡ fetch.Runs i
+free_if : (b : Bool) (j i : Insn) → (if b then fetch.Trap kind.Create else fetch.Instruction j) ≡ fetch.Instruction i
     → (b ≡ false) × (j ≡ i)
 free_if true j i e = cc
 free_if false j i e = (refl, cc)
 
-free_from : (proc : ProcessorValue) (s : StreamValue) (f : Fetched) (i : Insn)
-    → step_fetch_from proc s f ≡ fetch.Runs i
+free_from : (proc : ProcessorValue) (s : StreamValue) (f : Fetch) (i : Insn)
+    → step_fetch_from proc s f ≡ fetch.Instruction i
     → lacks_stream proc (control_of s i) ≡ false
 free_from proc s fetch.Rest i e = cc
 free_from proc s (fetch.Trap k) i e = cc
-free_from proc s (fetch.Runs j) i e =
+free_from proc s (fetch.Instruction j) i e =
     let found = free_if (lacks_stream proc (control_of s j)) j i e in
     ap (λ x. lacks_stream proc (control_of s x)) (sym found.1) ∙ found.0
 
 free_seen : (image : ImageValue) (proc : ProcessorValue) (o : Option StreamValue) (s : StreamValue) (i : Insn)
-    → unwrap_or o idle ≡ s → step_fetch_at image proc o ≡ fetch.Runs i → lacks_stream proc (control_of s i) ≡ false
+    → unwrap_or o idle ≡ s → step_fetch_at image proc o ≡ fetch.Instruction i → lacks_stream proc (control_of s i) ≡ false
 unfolding step_fetch
 free_seen image proc None s i e runs = cc
 free_seen image proc (Some t) s i e runs =
     ap (λ x. lacks_stream proc (control_of x i)) (sym e) ∙ free_from proc t (image_fetch image t) i runs
 
 -- an instruction that runs lacks no stream
-pub free : (image : ImageValue) (proc : ProcessorValue) (n : ℕ) (i : Insn) → step_fetch_of image proc n ≡ fetch.Runs i
+pub free : (image : ImageValue) (proc : ProcessorValue) (n : ℕ) (i : Insn) → step_fetch_of image proc n ≡ fetch.Instruction i
     → lacks_stream proc (control_of (stream_at proc.streams n) i) ≡ false
 unfolding step_fetch_of
 free image proc n i runs =
@@ -180,10 +180,10 @@ local_asks : (o : Option Request) → next_asking o ≡ next.Local → o ≡ Non
 local_asks None e = refl
 local_asks (Some q) e = cc
 
-local_by : (s : StreamValue) (f : Fetched) → next_on_fetch s f ≡ next.Local → request_on_fetch s f ≡ None
+local_by : (s : StreamValue) (f : Fetch) → next_on_fetch s f ≡ next.Local → request_on_fetch s f ≡ None
 local_by s fetch.Rest e = cc
 local_by s (fetch.Trap k) e = refl
-local_by s (fetch.Runs i) e = local_asks (request_of s i) e
+local_by s (fetch.Instruction i) e = local_asks (request_of s i) e
 
 pub local_request : (image : ImageValue) (proc : ProcessorValue) (n : ℕ) → next_of image proc n ≡ next.Local
     → request image proc n ≡ None
@@ -195,11 +195,11 @@ ask_asks : (o : Option Request) (q : Request) → next_asking o ≡ next.Ask q �
 ask_asks None q e = cc
 ask_asks (Some p) q e = cc
 
-ask_by : (s : StreamValue) (f : Fetched) (q : Request) → next_on_fetch s f ≡ next.Ask q
+ask_by : (s : StreamValue) (f : Fetch) (q : Request) → next_on_fetch s f ≡ next.Ask q
     → request_on_fetch s f ≡ Some q
 ask_by s fetch.Rest q e = cc
 ask_by s (fetch.Trap k) q e = cc
-ask_by s (fetch.Runs i) q e = ask_asks (request_of s i) q e
+ask_by s (fetch.Instruction i) q e = ask_asks (request_of s i) q e
 
 pub ask_request : (image : ImageValue) (proc : ProcessorValue) (n : ℕ) (q : Request)
     → next_of image proc n ≡ next.Ask q → request image proc n ≡ Some q
@@ -222,9 +222,9 @@ asked image now old n q same e =
 -- What a caller was told of a step.
 
 pub told_fetch : (image : ImageValue) (now old : ProcessorValue) (n : ℕ) (t : NextStep) → old ≡ now
-    → t ≡ next_step_of image now n → t.fetched ≡ step_fetch_of image old n
+    → t ≡ next_step_of image now n → t.fetch ≡ step_fetch_of image old n
 told_fetch image now old n t same e =
-    ap (λ (x : NextStep). x.fetched) e ∙ ap (λ p. step_fetch_of image p n) (sym same)
+    ap (λ (x : NextStep). x.fetch) e ∙ ap (λ p. step_fetch_of image p n) (sym same)
 
 pub told_next : (image : ImageValue) (now : ProcessorValue) (n : ℕ) (t : NextStep) (x : Next)
     → t ≡ next_step_of image now n → t.next ≡ x → next_of image now n ≡ x

@@ -15,8 +15,8 @@ use Rattle.stream_core.specs.Effects.{request_of}
 use Rattle.stream_core.specs.StreamRow.{control_of, row_asking}
 use Rattle.stream_core.specs.declared.steps.Outcome.{Outcome}
 use Rattle.stream_core.specs.declared.steps.Outcome.TheVariants as outcome
-use Rattle.stream_core.specs.declared.steps.Fetched.{Fetched}
-use Rattle.stream_core.specs.declared.steps.Fetched.TheVariants as fetch
+use Rattle.stream_core.specs.declared.steps.Fetch.{Fetch}
+use Rattle.stream_core.specs.declared.steps.Fetch.TheVariants as fetch
 use Rattle.stream_core.specs.declared.steps.Control.{Control}
 use Rattle.stream_core.specs.declared.steps.Control.TheVariants as asks
 use Rattle.processor.specs.Processors.{ProcessorValue, is_idle, count_current, IsCounted, IsZeroIfIdle, stream_at}
@@ -56,7 +56,7 @@ some_counted ss n below e =
 
 -- a processor whose stream takes a step has a current one
 pub some_current : (image : ImageValue) (proc : ProcessorValue) (n : ℕ) → IsCounted proc
-    → rests (step_fetch_of image proc n) ≡ false → 1 ≤ proc.current
+    → rests (step_fetch_of image proc n) ≡ false → 1 ≤ proc.scur
 some_current image proc n counted there =
     let found = awake image proc n there in
     let some = some_counted proc.streams n found.0 found.1 in
@@ -99,24 +99,24 @@ counted_with proc n s counted there was is =
     let before = weight_awake (stream_at proc.streams n) was in
     record {
       counts = omega (arith, counted.counts, change, before, weight_awake s is);
-      within_reserved = counted.within_reserved;
+      within_sres = counted.within_sres;
       within_slim = omega (arith, counted.within_slim, length-set proc.streams n s);
       zeros = zeros-set proc.streams n s (awake-zeros s is) counted.zeros;
     }
 
 -- the counts, where stream n becomes idle
 counted_without : (proc : ProcessorValue) (n : ℕ) → IsCounted proc → n < length proc.streams
-    → is_idle (stream_at proc.streams n) ≡ false → proc.current ≡ count_current (set proc.streams n idle) + 1
+    → is_idle (stream_at proc.streams n) ≡ false → proc.scur ≡ count_current (set proc.streams n idle) + 1
 counted_without proc n counted there was =
     let change = count-set proc.streams n idle there in
     let before = weight_awake (stream_at proc.streams n) was in
     omega (arith, counted.counts, change, before, weight_idle idle refl)
 
-created : (proc : ProcessorValue) (s : StreamValue) → IsCounted proc → (proc.current == proc.reserved) ≡ false
-    → is_idle s ≡ false → IsCounted (record (with_stream proc (lowest_idle proc) s) { current = proc.current + 1 })
+created : (proc : ProcessorValue) (s : StreamValue) → IsCounted proc → (proc.scur == proc.sres) ≡ false
+    → is_idle s ≡ false → IsCounted (record (with_stream proc (lowest_idle proc) s) { scur = proc.scur + 1 })
 created proc s counted apart is =
-    let less : proc.current < proc.reserved =
-    omega (arith, counted.within_reserved, eqb-false proc.current proc.reserved apart) in
+    let less : proc.scur < proc.sres =
+    omega (arith, counted.within_sres, eqb-false proc.scur proc.sres apart) in
     let there : lowest_idle proc < length proc.streams =
     idle_there proc.streams (omega (arith, counted.counts, counted.within_slim)) in
     let free : is_idle (stream_at proc.streams (lowest_idle proc)) ≡ true =
@@ -125,18 +125,18 @@ created proc s counted apart is =
     let before = weight_idle (stream_at proc.streams (lowest_idle proc)) free in
     record {
       counts = omega (arith, counted.counts, change, before, weight_awake s is);
-      within_reserved = omega arith;
+      within_sres = omega arith;
       within_slim = omega (arith, counted.within_slim, length-set proc.streams (lowest_idle proc) s);
       zeros = zeros-set proc.streams (lowest_idle proc) s (awake-zeros s is) counted.zeros;
     }
 
 counted_control : (proc : ProcessorValue) (n grant : ℕ) (c : Control) → IsCounted proc → n < length proc.streams
     → is_idle (stream_at proc.streams n) ≡ false → lacks_stream proc c ≡ false
-    → proc.reserved + grant ≤ length proc.streams → IsCounted (after_control proc n grant c)
+    → proc.sres + grant ≤ length proc.streams → IsCounted (after_control proc n grant c)
 counted_control proc n grant asks.Plain counted there was free fits = counted
 counted_control proc n grant (asks.Reserve asked) counted there was free fits = record {
   counts = counted.counts;
-  within_reserved = omega (arith, counted.within_reserved);
+  within_sres = omega (arith, counted.within_sres);
   within_slim = fits;
   zeros = counted.zeros;
 }
@@ -146,7 +146,7 @@ counted_control proc n grant asks.Quit counted there was free fits =
     let without = counted_without proc n counted there was in
     record {
       counts = omega (arith, without);
-      within_reserved = omega (arith, counted.within_reserved);
+      within_sres = omega (arith, counted.within_sres);
       within_slim = omega (arith, counted.within_slim, length-set proc.streams n idle);
       zeros = zeros-set proc.streams n idle (λ e. refl) counted.zeros;
     }
@@ -154,14 +154,14 @@ counted_control proc n grant asks.QuitKeep counted there was free fits =
     let without = counted_without proc n counted there was in
     record {
       counts = omega (arith, without);
-      within_reserved = omega (arith, counted.within_reserved);
+      within_sres = omega (arith, counted.within_sres);
       within_slim = omega (arith, counted.within_slim, length-set proc.streams n idle);
       zeros = zeros-set proc.streams n idle (λ e. refl) counted.zeros;
     }
 
 counted_if_done : (proc : ProcessorValue) (n grant : ℕ) (c : Control) (o : Outcome) → IsCounted proc
     → n < length proc.streams → is_idle (stream_at proc.streams n) ≡ false → lacks_stream proc c ≡ false
-    → proc.reserved + grant ≤ length proc.streams → IsCounted (after_control_if_done proc n grant c o)
+    → proc.sres + grant ≤ length proc.streams → IsCounted (after_control_if_done proc n grant c o)
 counted_if_done proc n grant c outcome.Skipped counted there was free fits = counted
 counted_if_done proc n grant c outcome.Done counted there was free fits =
     counted_control proc n grant c counted there was free fits
@@ -170,7 +170,7 @@ counted_if_done proc n grant c (outcome.Trapped k) counted there was free fits =
 counted_if_done proc n grant c (outcome.Stopped k) counted there was free fits = counted
 
 granted_fits : (image : ImageValue) (proc : ProcessorValue) (c : Control) → image.slim ≡ length proc.streams
-    → proc.reserved ≤ length proc.streams → proc.reserved + grant_of image proc c ≤ length proc.streams
+    → proc.sres ≤ length proc.streams → proc.sres + grant_of image proc c ≤ length proc.streams
 granted_fits image proc asks.Plain slim within = omega arith
 granted_fits image proc (asks.Reserve n) slim within = omega arith
 granted_fits image proc (asks.Create child) slim within = omega arith
@@ -197,7 +197,7 @@ counted_done image proc n s c o slim counted there was is free =
     counted_if_done (with_stream proc n s) n (grant_of image proc c) c o (counted_with proc n s counted there was is)
     (omega (arith, there, same)) here (lacks-with_stream proc n s c ∙ free) (omega (arith, fits, same))
 
-counted_by : (image : ImageValue) (proc : ProcessorValue) (n : ℕ) (r : Option Reply) (f : Fetched)
+counted_by : (image : ImageValue) (proc : ProcessorValue) (n : ℕ) (r : Option Reply) (f : Fetch)
     → image.slim ≡ length proc.streams → IsCounted proc → step_fetch_of image proc n ≡ f
     → IsCounted (row_on_fetch image proc n r (stream_at proc.streams n) f).0
 counted_by image proc n r fetch.Rest slim counted e = counted
@@ -205,7 +205,7 @@ counted_by image proc n r (fetch.Trap k) slim counted e =
     let found = awake image proc n (ap rests e) in
     counted_with proc n (after_trap k 0 (stream_at proc.streams n)).0 counted found.0 found.1
     (awake-trapped k 0 (stream_at proc.streams n) found.1)
-counted_by image proc n r (fetch.Runs i) slim counted e =
+counted_by image proc n r (fetch.Instruction i) slim counted e =
     let s = stream_at proc.streams n in
     let c = control_of s i in
     let found = awake image proc n (ap rests e) in

@@ -12,4 +12,4 @@ pub mod Keeping
 pub mod Turning
 mod Current
 mod ShortRow
-mod StepRuns
+mod StreamRuns

@@ -36,7 +36,7 @@ counted_opening image entry some =
     let before = weight_idle (stream_at ss 0) was in
     record {
       counts = omega (arith, change, count-idle image.slim, before, weight_awake first refl);
-      within_reserved = omega arith;
+      within_sres = omega arith;
       within_slim = omega (arith, length-set ss 0 first, all);
       zeros = zeros-set ss 0 first (awake-zeros first refl) (λ k e. replicate-zeros image.slim k);
     }
@@ -45,13 +45,13 @@ counted_opening image entry some =
 pub opened : (image : ImageValue) (number entry slim : ℕ) (first : StreamValue) (ss : List StreamValue)
     → Some entry ≡ slice_get image.entries number → slim ≡ image.slim → first ≡ first_stream image entry
     → ss ≡ set (replicate slim idle) 0 first
-    → record { streams = ss; current = 1; reserved = 1 } ≡ opening image (slice_index image.entries number)
+    → record { streams = ss; scur = 1; sres = 1 } ≡ opening image (slice_index image.entries number)
 unfolding opening
 opened image number entry slim first ss stands same child_stream all =
     let there = get_or_from_slice_get image.entries number entry 0 (sym stands) in
     let filled = all ∙ ap (λ f. set (replicate slim idle) 0 f) (child_stream ∙ ap (first_stream image) (sym there))
     ∙ ap (λ k. set (replicate k idle) 0 (first_stream image (slice_index image.entries number))) same in
-    λ i. record { streams = filled i; current = 1; reserved = 1 }
+    λ i. record { streams = filled i; scur = 1; sres = 1 }
 
 pub counted_opened : (image : ImageValue) (number : ℕ) (p : ProcessorValue) (slim : ℕ) → 1 ≤ slim → slim ≡ image.slim
     → p ≡ opening image (slice_index image.entries number) → IsCounted p

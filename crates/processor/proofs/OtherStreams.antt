@@ -13,8 +13,8 @@ use Rattle.stream_core.specs.Effects.{request_of}
 use Rattle.stream_core.specs.StreamRow.{control_of, row_asking}
 use Rattle.stream_core.specs.declared.steps.Outcome.{Outcome}
 use Rattle.stream_core.specs.declared.steps.Outcome.TheVariants as outcome
-use Rattle.stream_core.specs.declared.steps.Fetched.{Fetched}
-use Rattle.stream_core.specs.declared.steps.Fetched.TheVariants as fetch
+use Rattle.stream_core.specs.declared.steps.Fetch.{Fetch}
+use Rattle.stream_core.specs.declared.steps.Fetch.TheVariants as fetch
 use Rattle.stream_core.specs.declared.steps.Control.{Control}
 use Rattle.stream_core.specs.declared.steps.Control.TheVariants as asks
 use Rattle.processor.specs.Processors.{ProcessorValue, is_idle, stream_at}
@@ -28,16 +28,16 @@ kept_same : (n : ℕ) (proc : ProcessorValue) → KeepsOthers n proc proc
 kept_same n proc = record { as_many = refl; others = λ k apart. inl refl }
 
 -- a write to stream n
-kept_with : (n : ℕ) (proc : ProcessorValue) (s : StreamValue) (current reserved : ℕ)
-    → KeepsOthers n proc (record { streams = set proc.streams n s; current = current; reserved = reserved })
-kept_with n proc s current reserved = record {
+kept_with : (n : ℕ) (proc : ProcessorValue) (s : StreamValue) (scur sres : ℕ)
+    → KeepsOthers n proc (record { streams = set proc.streams n s; scur = scur; sres = sres })
+kept_with n proc s scur sres = record {
   as_many = length-set proc.streams n s;
   others = λ k apart. inl (get_or-set_other proc.streams n k s idle apart);
 }
 
-kept_twice : (n : ℕ) (proc : ProcessorValue) (s t : StreamValue) (current reserved : ℕ)
-    → KeepsOthers n proc (record { streams = set (set proc.streams n s) n t; current = current; reserved = reserved })
-kept_twice n proc s t current reserved = record {
+kept_twice : (n : ℕ) (proc : ProcessorValue) (s t : StreamValue) (scur sres : ℕ)
+    → KeepsOthers n proc (record { streams = set (set proc.streams n s) n t; scur = scur; sres = sres })
+kept_twice n proc s t scur sres = record {
   as_many = length-set (set proc.streams n s) n t ∙ length-set proc.streams n s;
   others = λ k apart. inl (get_or-set_other (set proc.streams n s) n k t idle apart
       ∙ get_or-set_other proc.streams n k s idle apart);
@@ -49,15 +49,15 @@ same_or_other k j = elim (cases_lt k j) [
   | inr above ↦ elim (cases_lt j k) [ inl less ↦ inl (λ e. omega arith) | inr most ↦ inr (omega arith) ]
 ]
 
-started : (n j : ℕ) (proc : ProcessorValue) (s t : StreamValue) (reserved : ℕ) → j ≡ lowest_idle proc
+started : (n j : ℕ) (proc : ProcessorValue) (s t : StreamValue) (sres : ℕ) → j ≡ lowest_idle proc
     → (k : ℕ) → (k ≢ n)
     → (stream_at (set (set proc.streams n s) j t) k ≡ stream_at proc.streams k)
     ⊎ IsStarted proc (record {
       streams = set (set proc.streams n s) j t;
-      current = proc.current + 1;
-      reserved = reserved;
+      scur = proc.scur + 1;
+      sres = sres;
     }) k
-started n j proc s t reserved is k apart = elim (same_or_other k j) [
+started n j proc s t sres is k apart = elim (same_or_other k j) [
   | inl other ↦ inl (get_or-set_other (set proc.streams n s) j k t idle other
       ∙ get_or-set_other proc.streams n k s idle apart)
   | inr same ↦ inr (same ∙ is, refl)
@@ -71,13 +71,13 @@ lowest_same proc n s was is = position_or_len-set is_idle proc.streams n s idle 
 kept_control : (n grant : ℕ) (proc : ProcessorValue) (s : StreamValue) (c : Control)
     → is_idle (stream_at proc.streams n) ≡ false → is_idle s ≡ false
     → KeepsOthers n proc (after_control (with_stream proc n s) n grant c)
-kept_control n grant proc s asks.Plain was is = kept_with n proc s proc.current proc.reserved
-kept_control n grant proc s (asks.Reserve k) was is = kept_with n proc s proc.current (proc.reserved + grant)
+kept_control n grant proc s asks.Plain was is = kept_with n proc s proc.scur proc.sres
+kept_control n grant proc s (asks.Reserve k) was is = kept_with n proc s proc.scur (proc.sres + grant)
 kept_control n grant proc s (asks.Create child) was is =
     let j = lowest_idle (with_stream proc n s) in
     record {
       as_many = length-set (set proc.streams n s) j (child_stream child) ∙ length-set proc.streams n s;
-      others = started n j proc s (child_stream child) proc.reserved (lowest_same proc n s was is);
+      others = started n j proc s (child_stream child) proc.sres (lowest_same proc n s was is);
     }
 kept_control n grant proc s asks.Quit was is = kept_twice n proc s idle _ _
 kept_control n grant proc s asks.QuitKeep was is = kept_twice n proc s idle _ _
@@ -85,18 +85,18 @@ kept_control n grant proc s asks.QuitKeep was is = kept_twice n proc s idle _ _
 kept_if_done : (n grant : ℕ) (proc : ProcessorValue) (s : StreamValue) (c : Control) (o : Outcome)
     → is_idle (stream_at proc.streams n) ≡ false → is_idle s ≡ false
     → KeepsOthers n proc (after_control_if_done (with_stream proc n s) n grant c o)
-kept_if_done n grant proc s c outcome.Skipped was is = kept_with n proc s proc.current proc.reserved
+kept_if_done n grant proc s c outcome.Skipped was is = kept_with n proc s proc.scur proc.sres
 kept_if_done n grant proc s c outcome.Done was is = kept_control n grant proc s c was is
-kept_if_done n grant proc s c outcome.Blocked was is = kept_with n proc s proc.current proc.reserved
-kept_if_done n grant proc s c (outcome.Trapped k) was is = kept_with n proc s proc.current proc.reserved
-kept_if_done n grant proc s c (outcome.Stopped k) was is = kept_with n proc s proc.current proc.reserved
+kept_if_done n grant proc s c outcome.Blocked was is = kept_with n proc s proc.scur proc.sres
+kept_if_done n grant proc s c (outcome.Trapped k) was is = kept_with n proc s proc.scur proc.sres
+kept_if_done n grant proc s c (outcome.Stopped k) was is = kept_with n proc s proc.scur proc.sres
 
-kept_by : (image : ImageValue) (proc : ProcessorValue) (n : ℕ) (r : Option Reply) (f : Fetched)
+kept_by : (image : ImageValue) (proc : ProcessorValue) (n : ℕ) (r : Option Reply) (f : Fetch)
     → step_fetch_of image proc n ≡ f → KeepsOthers n proc (row_on_fetch image proc n r (stream_at proc.streams n) f).0
 kept_by image proc n r fetch.Rest e = kept_same n proc
 kept_by image proc n r (fetch.Trap k) e =
-    kept_with n proc (after_trap k 0 (stream_at proc.streams n)).0 proc.current proc.reserved
-kept_by image proc n r (fetch.Runs i) e =
+    kept_with n proc (after_trap k 0 (stream_at proc.streams n)).0 proc.scur proc.sres
+kept_by image proc n r (fetch.Instruction i) e =
     let s = stream_at proc.streams n in
     let c = control_of s i in
     let found = awake image proc n (ap rests e) in

@@ -14,8 +14,8 @@ use Rattle.stream_core.specs.Streams.{StreamValue}
 use Rattle.stream_core.specs.StreamRow.{fetch_of, fetch_if, fetch_word, fetch_instruction, control_of}
 use Rattle.stream_core.specs.declared.steps.Status.{Status}
 use Rattle.stream_core.specs.declared.steps.Status.TheVariants.{Idle, Running, Stopped}
-use Rattle.stream_core.specs.declared.steps.Fetched.{Fetched}
-use Rattle.stream_core.specs.declared.steps.Fetched.TheVariants as fetch
+use Rattle.stream_core.specs.declared.steps.Fetch.{Fetch}
+use Rattle.stream_core.specs.declared.steps.Fetch.TheVariants as fetch
 use Rattle.stream_core.specs.Effects.{request_of}
 use Rattle.stream_core.specs.declared.traps.TrapKind.TheVariants as kind
 use Rattle.processor.specs.Processors.{ProcessorValue}
@@ -177,31 +177,31 @@ rests-running p Idle program pc h = absurd (let e : ⊥ = cc in e)
 rests-running p Running program pc h = rests-word p (slice_get program pc)
 rests-running p (Stopped k) program pc h = absurd (let e : ⊥ = cc in e)
 
-rests-if : (b : Bool) (f g : Fetched) → rests f ≡ false → rests g ≡ false → rests (cond b f g) ≡ false
+rests-if : (b : Bool) (f g : Fetch) → rests f ≡ false → rests g ≡ false → rests (cond b f g) ≡ false
 rests-if true f g h k = h
 rests-if false f g h k = k
 
-rests-from : (proc : ProcessorValue) (s : StreamValue) (f : Fetched) → rests f ≡ false
+rests-from : (proc : ProcessorValue) (s : StreamValue) (f : Fetch) → rests f ≡ false
     → rests (step_fetch_from proc s f) ≡ false
 rests-from proc s fetch.Rest h = absurd (let e : ⊥ = cc in e)
 rests-from proc s (fetch.Trap k) h = refl
-rests-from proc s (fetch.Runs i) h =
-    rests-if (lacks_stream proc (control_of s i)) (fetch.Trap kind.Create) (fetch.Runs i) refl refl
+rests-from proc s (fetch.Instruction i) h =
+    rests-if (lacks_stream proc (control_of s i)) (fetch.Trap kind.Create) (fetch.Instruction i) refl refl
 
 asking-skip : (o : Option Request) → next_asking o ≡ next.Skip → ⊥
 asking-skip None h = let e : ⊥ = cc in e
 asking-skip (Some q) h = let e : ⊥ = cc in e
 
-fetched-skip : (s : StreamValue) (f : Fetched) → rests f ≡ false → next_on_fetch s f ≡ next.Skip → ⊥
-fetched-skip s fetch.Rest h k = let e : ⊥ = cc in e
-fetched-skip s (fetch.Trap t) h k = let e : ⊥ = cc in e
-fetched-skip s (fetch.Runs i) h k = asking-skip (request_of s i) k
+fetch-skip : (s : StreamValue) (f : Fetch) → rests f ≡ false → next_on_fetch s f ≡ next.Skip → ⊥
+fetch-skip s fetch.Rest h k = let e : ⊥ = cc in e
+fetch-skip s (fetch.Trap t) h k = let e : ⊥ = cc in e
+fetch-skip s (fetch.Instruction i) h k = asking-skip (request_of s i) k
 
 seen-skip : (image : ImageValue) (proc : ProcessorValue) (s : StreamValue) → is_running s ≡ true
     → next_at image proc (Some s) ≡ next.Skip → ⊥
 unfolding step_fetch fetch_of
 seen-skip image proc s h k =
-    fetched-skip s _ (rests-from proc s _ (rests-running _ s.status image.program s.ssw.pc h)) k
+    fetch-skip s _ (rests-from proc s _ (rests-running _ s.status image.program s.ssw.pc h)) k
 
 -- nor is the one whose turn it is
 pub turn-skip : (image : ImageValue) (proc : ProcessorValue) (last : Option ℕ) (s : ℕ)

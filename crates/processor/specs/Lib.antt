@@ -17,8 +17,8 @@ pub mod Weave
 pub mod Records
 -- whose turn it is
 pub mod Turns
--- the steps of a record, kept as runs; of what is defined there contracts name `IsRunFrom` alone
-pub mod StepRuns
+-- the steps of a record, kept as runs; of what is defined there contracts name `IsStreamRun` alone
+pub mod StreamRuns
 -- What only the code below the processor cites:
 pub mod FetchForms
 pub mod StreamTables

@@ -5,7 +5,7 @@ use Rattle.processor.specs.Row.{lowest_idle}
 
 -- stream k is the lowest one that was idle, and one more stream is current
 abbrev pub IsStarted : ProcessorValue → ProcessorValue → ℕ → Type 0
-IsStarted old new k = (k ≡ lowest_idle old) × (new.current ≡ old.current + 1)
+IsStarted old new k = (k ≡ lowest_idle old) × (new.scur ≡ old.scur + 1)
 
 -- there are as many streams, and each but stream n and the one that CREATE starts is as it was
 pub record KeepsOthers (n : ℕ) (old new : ProcessorValue) : Type 0 where

@@ -13,14 +13,16 @@ use Rattle.stream_core.specs.declared.steps.Status.TheVariants.{Idle, Running, S
 -- its streams by number, how many of them are not idle, and how many are reserved
 pub record ProcessorValue : Type 0 where
   pub streams : List StreamValue
-  pub current : ℕ
-  pub reserved : ℕ
+  pub scur : ℕ
+  pub sres : ℕ
 
+-- whether a stream of this status is idle
 abbrev pub is_idle_status : Status → Bool
 is_idle_status Idle = true
 is_idle_status Running = false
 is_idle_status (Stopped k) = false
 
+-- whether a stream is idle
 abbrev pub is_idle : StreamValue → Bool
 is_idle s = is_idle_status s.status
 
@@ -39,9 +41,9 @@ count_current (s ∷ ss) = (if is_idle s then 0 else 1) + count_current ss
 
 -- what holds of each processor: the counts keep to the streams, and idle streams hold zeros only
 pub record IsCounted (proc : ProcessorValue) : Type 0 where
-  pub counts : proc.current ≡ count_current proc.streams
-  pub within_reserved : proc.current ≤ proc.reserved
-  pub within_slim : proc.reserved ≤ length proc.streams
+  pub counts : proc.scur ≡ count_current proc.streams
+  pub within_sres : proc.scur ≤ proc.sres
+  pub within_slim : proc.sres ≤ length proc.streams
   pub zeros : (n : ℕ) → IsZeroIfIdle (stream_at proc.streams n)
 
 -- the stream that a processor begins with: its t0 is the image's trap entry
@@ -57,6 +59,6 @@ stream_seen size ss n = if nat_lt n size then Some (stream_at ss n) else None
 unfoldable pub opening : ImageValue → ℕ → ProcessorValue
 opening image entry = record {
   streams = slice_set (replicate image.slim idle) 0 (first_stream image entry);
-  current = 1;
-  reserved = 1;
+  scur = 1;
+  sres = 1;
 }

@@ -33,11 +33,13 @@ pub record IsPlaced (image : ImageValue) (p : ℕ) (ss : List ℕ) (rs : List As
   pub each : length places ≡ length rs
   pub place : (k n : ℕ) → slice_get places k ≡ Some n → IsPlace image p ss rs k n
 
+-- whether a stream of this status runs
 abbrev pub is_running_status : Status → Bool
 is_running_status Idle = false
 is_running_status Running = true
 is_running_status (Stopped k) = false
 
+-- whether a stream runs
 abbrev pub is_running : StreamValue → Bool
 is_running s = is_running_status s.status
 

@@ -27,6 +27,7 @@ start image = record { processors = map (opening image) image.entries; memory = 
 
 -- What is seen of it.
 
+-- the stream of this number of a processor, if there are both
 abbrev pub stream_seen_at : ℕ → ℕ → Option ProcessorValue → Option StreamValue
 stream_seen_at size s None = None
 stream_seen_at size s (Some proc) = stream_seen size proc.streams s
@@ -37,7 +38,7 @@ stream_of size w p s = stream_seen_at size s (slice_get w.processors p)
 
 abbrev pub counts_at : Option ProcessorValue → Option (ℕ × ℕ)
 counts_at None = None
-counts_at (Some proc) = Some (proc.current, proc.reserved)
+counts_at (Some proc) = Some (proc.scur, proc.sres)
 
 -- how many streams of the processor are current, and how many are reserved
 abbrev pub counts_of : World → ℕ → Option (ℕ × ℕ)
@@ -45,9 +46,11 @@ counts_of w p = counts_at (slice_get w.processors p)
 
 -- One step.
 
+-- the world with a processor and a memory after a step, and the outcome
 abbrev pub world_with : World → ℕ → (ProcessorValue × Outcome) × TaggedMemory → World × Outcome
 world_with w p e = (record { processors = slice_set w.processors p e.0.0; memory = e.1 }, e.0.1)
 
+-- the step of a processor; all stays where there is no such processor
 abbrev pub world_step_at : ImageValue → World → Step → Option ProcessorValue → World × Outcome
 world_step_at image w t None = (w, outcome.Skipped)
 world_step_at image w t (Some proc) = world_with w t.p (row_over_memory image proc t.s w.memory)
@@ -56,9 +59,11 @@ world_step_at image w t (Some proc) = world_with w t.p (row_over_memory image pr
 unfoldable pub world_step : ImageValue → World → Step → World × Outcome
 world_step image w t = world_step_at image w t (slice_get w.processors t.p)
 
+-- the world after a step
 abbrev pub after : ImageValue → World → Step → World
 after image w t = (world_step image w t).0
 
+-- the outcome of a step
 abbrev pub outcome_of : ImageValue → World → Step → Outcome
 outcome_of image w t = (world_step image w t).1
 
@@ -75,10 +80,12 @@ run image ts = steps image (start image) ts
 
 -- What it asks of the memory.
 
+-- the entry that a step's request makes in the history, if it makes one
 abbrev pub step_entries_asking : World → Step → Option Request → List Entry
 step_entries_asking w t None = []
 step_entries_asking w t (Some q) = record { p = t.p; s = t.s; request = q; reply = (answer w.memory q).1 } ∷ []
 
+-- the entries of a step of a processor; none where there is no such processor
 abbrev pub step_entries_at : ImageValue → World → Step → Option ProcessorValue → List Entry
 step_entries_at image w t None = []
 step_entries_at image w t (Some proc) = step_entries_asking w t (request image proc t.s)

@@ -17,7 +17,7 @@ use image_file::Image;
 use insn_word::{CPart, ControlOp, Insn, ReferenceInsn, ShortInsn};
 use std::alloc::{AllocError, Global};
 use std::marker::Model;
-use stream_core::{Control, Fetched, Outcome, Stream, TrapKind};
+use stream_core::{Control, Fetch, Outcome, Stream, TrapKind};
 use tag_memory::Reply;
 
 /// The streams and the counts, which clauses see as a processor.
@@ -33,7 +33,7 @@ impl<const S: usize> Model for CountedStreams<S> {
 
     ghost Value = { ProcessorValue };
 
-    ghost view = { λ c. record { streams = c.table; current = c.scur; reserved = c.sres } };
+    ghost view = { λ c. record { streams = c.table; scur = c.scur; sres = c.sres } };
 }
 
 impl<const S: usize> CountedStreams<S> {
@@ -66,7 +66,7 @@ impl<const S: usize> CountedStreams<S> {
     /// The number of streams that a RESERVE is granted.
     fn grant_of(&self, image: &Image, control: &Control) -> u64
         ensures is { result ≡ grant_of image.now self.now control.now }
-        ensures fits { self.now.reserved + result < 65536 }
+        ensures fits { self.now.sres + result < 65536 }
     {
         let room = image.slim().saturating_sub(self.sres);
         match control {
@@ -77,20 +77,20 @@ impl<const S: usize> CountedStreams<S> {
 
     /// What a step of the stream at this place begins with.
     #[tactic(auto, unfolding(crate::specs::Row::step_fetch_of, crate::specs::Row::step_fetch))]
-    fn step_fetch(&self, image: &Image, place: usize) -> Fetched
+    fn step_fetch(&self, image: &Image, place: usize) -> Fetch
         ensures { result ≡ step_fetch_of image.now self.now place }
     {
         let Some(stream) = self.table.used(place) else {
-            return Fetched::Rest;
+            return Fetch::Rest;
         };
         match stream.fetch(image.profile(), image.program()) {
-            Fetched::Rest => Fetched::Rest,
-            Fetched::Trap(kind) => Fetched::Trap(kind),
-            Fetched::Runs(insn) => {
+            Fetch::Rest => Fetch::Rest,
+            Fetch::Trap(kind) => Fetch::Trap(kind),
+            Fetch::Instruction(insn) => {
                 if self.lacks_stream(&insn) {
-                    Fetched::Trap(TrapKind::Create)
+                    Fetch::Trap(TrapKind::Create)
                 } else {
-                    Fetched::Runs(insn)
+                    Fetch::Instruction(insn)
                 }
             }
         }
@@ -98,10 +98,10 @@ impl<const S: usize> CountedStreams<S> {
 
     /// Does what the instruction of the stream at this place, which is done, asks of its processor.
     fn apply_control(&mut self, place: usize, control: Control, grant: u64)
-        requires some { 1 ≤ self.old.current }
-        requires within { self.old.current ≤ self.old.reserved }
+        requires some { 1 ≤ self.old.scur }
+        requires within { self.old.scur ≤ self.old.sres }
         requires free { lacks_stream self.old control ≡ false }
-        requires fits { self.old.reserved + grant < 65536 }
+        requires fits { self.old.sres + grant < 65536 }
         ensures { self.new ≡ after_control self.old place grant control }
     {
         match control {
@@ -179,11 +179,11 @@ impl<const S: usize> CountedStreams<S> {
     ) -> Outcome
         requires there { place < length self.old.streams }
         requires reply { is_some reply ≡ is_some (request_of (stream_at self.old.streams place) insn.now) }
-        requires some { 1 ≤ self.old.current }
-        requires within { self.old.current ≤ self.old.reserved }
+        requires some { 1 ≤ self.old.scur }
+        requires within { self.old.scur ≤ self.old.sres }
         requires free { lacks_stream self.old (control_of (stream_at self.old.streams place) insn.now) ≡ false }
         ensures { (self.new, result) ≡ row_on_fetch image.now self.old place reply (stream_at self.old.streams place)
-            (Fetched.Runs insn.now) }
+            (Fetch.Instruction insn.now) }
     {
         let limit = image.retry_limit();
         if asks_nothing(insn) {

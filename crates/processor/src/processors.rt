@@ -4,7 +4,7 @@ ghost use Rattle.std.specs.Prelude.{◌≡◌, ◌<◌, ◌≤◌, None, Some, l
 ghost use Rattle.std.specs.Option.{option_copied};
 ghost use Rattle.processor.specs.Processors.{IsCounted, stream_seen, opening};
 ghost use Rattle.insn_word.specs.ShortInsns.{short_instruction};
-ghost use Rattle.stream_core.specs.declared.steps.Fetched.{Fetched};
+ghost use Rattle.stream_core.specs.declared.steps.Fetch.{Fetch};
 ghost use Rattle.processor.specs.Row.{step_fetch_of, next_of, next_step_of, row, row_over_memory};
 ghost use Rattle.processor.specs.OtherStreams.{KeepsOthers};
 ghost use Rattle.processor.specs.Records.{any_runs};
@@ -86,7 +86,7 @@ impl<const S: usize> Processor<S> {
     #[inline(always)]
     pub(crate) fn next_short(&self, image: &Image, s: u8) -> Option<ShortInsn>
         ensures { IfSome result (λ short. step_fetch_of image.now self.now s
-            ≡ Fetched.Runs (short_instruction short)) }
+            ≡ Fetch.Instruction (short_instruction short)) }
     {
         self.streams.short_fetch(image, s as usize)
     }
@@ -100,7 +100,7 @@ impl<const S: usize> Processor<S> {
         ensures row { (self.new, result) ≡ row image.now self.old s None }
         ensures others { KeepsOthers s self.old self.new }
     {
-        self.streams.finish_local(image, s as usize, &step.fetched)
+        self.streams.finish_local(image, s as usize, &step.fetch)
     }
 
     /// Finishes a step of stream `s` whose request got this reply; `step` is what `next_step` said of it. Any reply is
@@ -121,7 +121,7 @@ impl<const S: usize> Processor<S> {
         ensures others { KeepsOthers s self.old self.new }
     {
         self.streams
-            .finish_reply(image, s as usize, &step.fetched, reply)
+            .finish_reply(image, s as usize, &step.fetch, reply)
     }
 
     /// A step of stream `s` that needs no memory.
@@ -172,7 +172,7 @@ impl<const S: usize> Processor<S> {
 
     /// How many streams are not idle; a stopped one counts.
     pub fn scur(&self) -> u16
-        ensures is { result ≡ self.now.current }
+        ensures is { result ≡ self.now.scur }
         ensures counts { IsCounted self.now }
     {
         self.streams.scur
@@ -180,7 +180,7 @@ impl<const S: usize> Processor<S> {
 
     /// How many streams are reserved.
     pub fn sres(&self) -> u16
-        ensures is { result ≡ self.now.reserved }
+        ensures is { result ≡ self.now.sres }
         ensures counts { IsCounted self.now }
     {
         self.streams.sres

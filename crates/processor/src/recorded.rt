@@ -5,7 +5,7 @@ ghost use Rattle.std.specs.Prelude.{IfOk, OnOk, OnErr, IfSome, IsSome, None, Som
 ghost use Rattle.std.specs.Option.{option_copied};
 ghost use Rattle.processor.specs.Processors.{opening, stream_seen};
 ghost use Rattle.insn_word.specs.ShortInsns.{short_instruction};
-ghost use Rattle.stream_core.specs.declared.steps.Fetched.{Fetched};
+ghost use Rattle.stream_core.specs.declared.steps.Fetch.{Fetch};
 ghost use Rattle.processor.specs.Row.{step_fetch_of, next_of, next_step_of, row};
 ghost use Rattle.processor.specs.OwnSteps.{IsPlace};
 ghost use Rattle.processor.specs.Records.{RecordValue, IsKept, any_runs};
@@ -124,7 +124,7 @@ impl<'i, const S: usize> Recorded<'i, S> {
     #[inline(always)]
     pub fn next_short(&self, s: u8) -> Option<ShortInsn>
         ensures { IfSome result (λ short. step_fetch_of self.now.image self.now.state s
-            ≡ Fetched.Runs (short_instruction short)) }
+            ≡ Fetch.Instruction (short_instruction short)) }
     {
         self.processor.next_short(self.image, s)
     }
@@ -164,7 +164,7 @@ impl<'i, const S: usize> Recorded<'i, S> {
     /// `step_local` of which `next_short` said this, in fewer steps.
     #[inline(always)]
     pub fn finish_short(&mut self, s: u8, short: &ShortInsn) -> Outcome
-        requires fetch { step_fetch_of self.old.image self.old.state s ≡ Fetched.Runs (short_instruction short.now) }
+        requires fetch { step_fetch_of self.old.image self.old.state s ≡ Fetch.Instruction (short_instruction short.now) }
         requires room { 0 < self.old.spare }
         ensures after { self.new ≡ record self.old {
           steps = self.old.steps ++ s ∷ [];
@@ -175,7 +175,7 @@ impl<'i, const S: usize> Recorded<'i, S> {
     {
         let step = NextStep {
             next: Next::Local,
-            fetched: StepFetch {
+            fetch: StepFetch {
                 form: FetchForm::Short(*short),
             },
         };
@@ -300,14 +300,14 @@ impl<'i, const S: usize> Recorded<'i, S> {
 
     /// How many streams are not idle; a stopped one counts.
     pub fn scur(&self) -> u16
-        ensures { result ≡ self.now.state.current }
+        ensures { result ≡ self.now.state.scur }
     {
         self.processor.scur()
     }
 
     /// How many streams are reserved.
     pub fn sres(&self) -> u16
-        ensures { result ≡ self.now.state.reserved }
+        ensures { result ≡ self.now.state.sres }
     {
         self.processor.sres()
     }

@@ -3,7 +3,7 @@
 ghost use Rattle.std.specs.Prelude.{◌≡◌, ◌<◌, ◌-◌, ◌++◌, ◌∷◌, ◌↔◌, [], length, max, slice_get, replicate};
 ghost use Rattle.std.specs.Prelude.{IfOk, OnOk, OnErr, IfSome, IsSome};
 ghost use Rattle.processor.specs.Records.{StepsValue};
-ghost use Rattle.processor.specs.StepRuns.{IsRunFrom};
+ghost use Rattle.processor.specs.StreamRuns.{IsStreamRun};
 ghost use Rattle.processor.specs.Turns.{last_of};
 
 use std::alloc::{AllocError, Global};
@@ -11,39 +11,38 @@ use std::marker::Model;
 
 /// Steps of one stream, one after another.
 #[derive(Clone, Copy, Debug, PartialEq, Eq)]
-struct Run {
+struct StreamRun {
     stream: u8,
-    count: u32,
     // how many steps there are up to its end
     end: usize,
 }
 
 /// The numbers of the streams that a processor stepped, in order, with room for some more.
 ///
-/// They are kept as runs, so steps of one stream that follow each other take no memory of their own.
+/// They are kept as runs, so steps of one stream that follow each other take no memory of their own, however many.
 #[derive(Drop)]
 pub struct Steps {
     // the runs that are over
-    runs: Vec<Run>,
+    runs: Vec<StreamRun>,
     // how many steps they have together
     before: usize,
     // the run that goes on; its count is 0 only where there is no step
     stream: u8,
-    count: u32,
+    count: usize,
     spare: usize,
 }
 
 impl Model for Steps {
     ghost use Rattle.std.specs.Prelude.{◌≤◌, ◌<◌, ◌+◌, ◌^◌, vec_len, vec_capacity};
     ghost use Rattle.processor.specs.Records.{StepsValue};
-    ghost use Rattle.processor.specs.StepRuns.{step_numbers, AreRuns};
+    ghost use Rattle.processor.specs.StreamRuns.{step_numbers, AreStreamRuns};
 
     ghost Value = { StepsValue };
 
     ghost view = { λ s. record { numbers = step_numbers s.runs.items s.stream s.count; spare = s.spare } };
 
     ghost invariant = { λ s.
-        AreRuns s.runs.items s.before s.count
+        AreStreamRuns s.runs.items s.before s.stream s.count
         × (vec_len s.runs + s.spare ≤ vec_capacity s.runs)
         × (s.before + s.count + s.spare < 2 ^ 64) };
 }
@@ -57,7 +56,7 @@ impl Steps {
     }
 
     /// So many steps of stream `s`, and no room.
-    pub fn of_run(alloc: Global, s: u8, count: u32) -> Steps
+    pub fn of_run(alloc: Global, s: u8, count: usize) -> Steps
         ensures { result ≡ record { numbers = replicate count s; spare = 0 } }
     {
         Steps {
@@ -90,13 +89,15 @@ impl Steps {
         ensures { self.new ≡ record { numbers = self.old.numbers ++ s ∷ []; spare = self.old.spare - 1 } }
     {
         self.spare -= 1;
-        if s == self.stream && self.count < u32::MAX {
+        if self.count == 0 {
+            self.stream = s;
+            self.count = 1;
+        } else if s == self.stream {
             self.count += 1;
         } else {
-            self.before += self.count as usize;
-            self.runs.push_reserved(Run {
+            self.before += self.count;
+            self.runs.push_reserved(StreamRun {
                 stream: self.stream,
-                count: self.count,
                 end: self.before,
             });
             self.stream = s;
@@ -115,7 +116,7 @@ impl Steps {
     pub fn len(&self) -> usize
         ensures { result ≡ length self.now.numbers }
     {
-        self.before + self.count as usize
+        self.before + self.count
     }
 
     /// The stream of step `i`, counted from 0; None past the last.
@@ -128,18 +129,18 @@ impl Steps {
         }
     }
 
-    /// The stream of step `i`, and up to where the steps from there on are of it: the end of its run. None past the
-    /// last step.
+    /// The stream of step `i`, and up to where the steps from there on are of it: the step at that end is of another
+    /// stream, or there is none. None past the last step.
     pub fn run_at(&self, i: usize) -> Option<(u8, usize)>
         ensures there { IsSome result ↔ (i < length self.now.numbers) }
-        ensures run { IfSome result (λ r. IsRunFrom self.now.numbers i r.0 r.1) }
+        ensures run { IfSome result (λ r. IsStreamRun self.now.numbers i r.0 r.1) }
     {
         if i < self.before {
             let over = self.runs.partition_point(|run| run.end <= i);
             let run = &self.runs[over];
             Some((run.stream, run.end))
-        } else if i - self.before < self.count as usize {
-            Some((self.stream, self.before + self.count as usize))
+        } else if i - self.before < self.count {
+            Some((self.stream, self.before + self.count))
         } else {
             None
         }

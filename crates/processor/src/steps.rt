@@ -56,7 +56,7 @@ pub struct NextStep {
     /// What it needs.
     pub next: Next,
     /// What it begins with.
-    pub fetched: StepFetch,
+    pub fetch: StepFetch,
 }
 
 /// What a step begins with: rest, a trap or the instruction at the pc. The instruction is held in a short form where it
@@ -67,10 +67,10 @@ pub struct StepFetch {
 }
 
 impl Model for StepFetch {
-    ghost use Rattle.stream_core.specs.declared.steps.Fetched.{Fetched};
+    ghost use Rattle.stream_core.specs.declared.steps.Fetch.{Fetch};
     ghost use Rattle.processor.specs.FetchForms.{fetch_in};
 
-    ghost Value = { Fetched };
+    ghost Value = { Fetch };
 
     ghost view = { λ f. fetch_in f.form };
 }
@@ -82,5 +82,5 @@ pub(crate) enum FetchForm {
     Trap(TrapKind),
     Short(ShortInsn),
     Reference(ReferenceInsn),
-    Runs(Insn),
+    Instruction(Insn),
 }

@@ -5,7 +5,7 @@ use Rattle.slab.specs.Slab.{entries_from}
 use Rattle.tag_memory.specs.Storage.{TaggedMemory}
 use Rattle.replay_debugger.specs.declared.points.Point.{Point}
 use Rattle.replay_debugger.specs.Watches.{WatchValue}
-use Rattle.replay_debugger.specs.Looks.{breaks_at, slot_breaks_at, watch_of, watches_of}
+use Rattle.replay_debugger.specs.StopFinders.{breaks_at, slot_breaks_at, watch_of, watches_of}
 
 -- whether an entry is a breakpoint at this place
 abbrev pub entry_breaks_at : ℕ → ℕ → ℕ × Point → Bool

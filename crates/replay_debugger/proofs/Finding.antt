@@ -2,7 +2,7 @@
 use Rattle.std.proofs.Common.{◌≡◌, ℕ, ◌+◌, ◌<◌, ◌≤◌, Bool, true, false, sym, ap, ◌∙◌, arith, subst}
 use Rattle.std.proofs.Common.{Option, Some, None}
 use Rattle.replay_debugger.specs.Stops.{NoneAbove}
-use Rattle.replay_debugger.specs.Looks.{IsRunToStop, IsLastSeen, IsGreatestSeen, NoneSeen}
+use Rattle.replay_debugger.specs.StopFinders.{IsRunToStop, IsLastInRun, IsGreatestInRun, NoneInRun}
 
 -- the number behind k stops
 pub run_found : (test : ℕ → Bool) (low high k n : ℕ) → low ≤ k → k < high → n ≡ k + 1 → NoneAbove test low k
@@ -19,25 +19,25 @@ run_found test low high k n from below next none stops = record {
 
 -- what is seen of the first number alone
 pub first_seen : (test : ℕ → Bool) (k : ℕ) (last : Option ℕ) → k ≡ 0 → test k ≡ true → last ≡ Some 0
-    → IsLastSeen test k k last
+    → IsLastInRun test k k last
 first_seen test k last first stops e =
-    let at : IsGreatestSeen test k k k = record {
+    let at : IsGreatestInRun test k k k = record {
       seen = omega (arith, first);
       within = omega arith;
       passes = stops;
       greatest = λ j above within. absurd (omega (arith, above, within));
     } in
-    subst (IsLastSeen test k k) (ap (λ n. Some n) first ∙ sym e) at
+    subst (IsLastInRun test k k) (ap (λ n. Some n) first ∙ sym e) at
 
 pub none_first : (test : ℕ → Bool) (k : ℕ) (last : Option ℕ) → test k ≡ false → last ≡ None
-    → IsLastSeen test k k last
+    → IsLastInRun test k k last
 none_first test k last fails e =
-    let none : NoneSeen test k k = λ j seen within. let same : j ≡ k = omega (arith, seen, within) in
+    let none : NoneInRun test k k = λ j seen within. let same : j ≡ k = omega (arith, seen, within) in
     ap test same ∙ fails in
-    subst (IsLastSeen test k k) (sym e) none
+    subst (IsLastInRun test k k) (sym e) none
 
 -- of a later number alone nothing is seen
-pub none_yet : (test : ℕ → Bool) (k : ℕ) (last : Option ℕ) → 0 < k → last ≡ None → IsLastSeen test k k last
+pub none_yet : (test : ℕ → Bool) (k : ℕ) (last : Option ℕ) → 0 < k → last ≡ None → IsLastInRun test k k last
 none_yet test k last later e =
-    let none : NoneSeen test k k = λ j seen within. absurd (omega (arith, later, seen, within)) in
-    subst (IsLastSeen test k k) (sym e) none
+    let none : NoneInRun test k k = λ j seen within. absurd (omega (arith, later, seen, within)) in
+    subst (IsLastInRun test k k) (sym e) none

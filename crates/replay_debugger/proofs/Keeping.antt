@@ -5,7 +5,7 @@ use Rattle.std.specs.List.{All, swap_remove}
 use Rattle.std.proofs.lemmas.Bool.{cases_lt}
 use Rattle.std.proofs.lemmas.List.Elements.{All-take, All-set, All-get_or}
 use Rattle.replay_debugger.specs.declared.replay.Replay.{Replay}
-use Rattle.replay_debugger.specs.Places.{Course}
+use Rattle.replay_debugger.specs.Places.{CheckpointsValue}
 use Rattle.replay_debugger.specs.Checkpoints.{IsCheckpoint, IsNearest, NoneNear}
 
 -- The nearest.
@@ -142,7 +142,7 @@ all_without {size} P old new i d below is all =
     subst (All P) (sym is) (All-take P (length old - 1) _ (All-set P old i last among all))
 
 -- kept machines at multiples of another spacing
-pub spaced_again : {size : ℕ} (course : Course) (old spacing : ℕ) (kept : List (Replay size))
+pub spaced_again : {size : ℕ} (course : CheckpointsValue) (old spacing : ℕ) (kept : List (Replay size))
     → All (IsCheckpoint course old) kept
     → ((k : ℕ) (d : Replay size) → k < length kept → (get_or kept k d).position % spacing ≡ 0)
     → All (IsCheckpoint course spacing) kept

@@ -3,7 +3,7 @@ pub mod NoPoints
 pub mod Entries
 pub mod StreamsSeen
 pub mod WatchedParts
-pub mod LooksAgain
+pub mod FindsAgain
 pub mod Meeting
 pub mod Replaying
 pub mod Finding

@@ -11,9 +11,9 @@ use Rattle.replay_debugger.specs.declared.points.Point.{Point}
 use Rattle.replay_debugger.specs.declared.points.Point.TheVariants.{Break, Watch, WatchTags}
 use Rattle.processor.specs.Records.{is_running}
 use Rattle.replay_debugger.specs.Stops.{stream_named, is_met, slot_stops, any_stops}
-use Rattle.replay_debugger.specs.Looks.{slot_breaks_at, has_place, AreBreakpoints, slot_watch_of, watches_of}
-use Rattle.replay_debugger.specs.Looks.{has_changed, seen_again, LooksFor}
-use Rattle.replay_debugger.specs.declared.stops.Stops.{Stops}
+use Rattle.replay_debugger.specs.StopFinders.{slot_breaks_at, has_place, AreBreakpoints, slot_watch_of, watches_of}
+use Rattle.replay_debugger.specs.StopFinders.{has_changed, seen_again, IsFinderOf}
+use Rattle.replay_debugger.specs.declared.stop_finder.StopFinder.{StopFinder}
 use Rattle.replay_debugger.specs.Watches.{WatchValue, watch_at}
 use Rattle.replay_debugger.proofs.WatchedParts.{tags_part}
 
@@ -119,9 +119,9 @@ watches_again m n (slot ∷ rest) =
 
 -- At a position, with the watched words in the code's hands.
 
-pub stop_changed : (before w : World) (next : Option Step) (points : List (Option Point)) (s : Stops)
+pub stop_changed : (before w : World) (next : Option Step) (points : List (Option Point)) (s : StopFinder)
     (words : List WatchValue) (changed : Bool)
-    → LooksFor points before.memory s → words ≡ s.words.items → changed ≡ list_any (has_changed w.memory) words
+    → IsFinderOf points before.memory s → words ≡ s.words.items → changed ≡ list_any (has_changed w.memory) words
     → changed ≡ true → changed ≡ any_stops before w next points
 stop_changed before w next points s words changed looks same is does =
     let seen = is ∙ ap (list_any (has_changed w.memory)) (same ∙ looks.words) in
@@ -129,9 +129,9 @@ stop_changed before w next points s words changed looks same is does =
     ∙ ap (λ b. b || is_met (has_place s.breakpoints) w next) (sym does ∙ seen)
     ∙ stops_met before w next points s.breakpoints looks.breakpoints
 
-pub stop_unchanged : (before w : World) (next : Option Step) (points : List (Option Point)) (s : Stops)
+pub stop_unchanged : (before w : World) (next : Option Step) (points : List (Option Point)) (s : StopFinder)
     (words : List WatchValue) (changed met : Bool)
-    → LooksFor points before.memory s → words ≡ s.words.items → changed ≡ list_any (has_changed w.memory) words
+    → IsFinderOf points before.memory s → words ≡ s.words.items → changed ≡ list_any (has_changed w.memory) words
     → changed ≡ false → met ≡ is_met (has_place s.breakpoints) w next → met ≡ any_stops before w next points
 stop_unchanged before w next points s words changed met looks same is does e =
     let seen = is ∙ ap (list_any (has_changed w.memory)) (same ∙ looks.words) in
@@ -139,7 +139,7 @@ stop_unchanged before w next points s words changed met looks same is does e =
     ∙ ap (λ b. b || is_met (has_place s.breakpoints) w next) (sym does ∙ seen)
     ∙ stops_met before w next points s.breakpoints looks.breakpoints
 
-pub words_again : (m n : TaggedMemory) (points : List (Option Point)) (s : Stops) (words new : List WatchValue)
-    → LooksFor points m s → words ≡ s.words.items → new ≡ map (seen_again n) words → new ≡ watches_of n points
+pub words_again : (m n : TaggedMemory) (points : List (Option Point)) (s : StopFinder) (words new : List WatchValue)
+    → IsFinderOf points m s → words ≡ s.words.items → new ≡ map (seen_again n) words → new ≡ watches_of n points
 words_again m n points s words new looks same is =
     is ∙ ap (map (seen_again n)) (same ∙ looks.words) ∙ watches_again m n points

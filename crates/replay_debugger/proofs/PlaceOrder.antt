@@ -6,7 +6,7 @@ use Rattle.std.specs.Ordering.{nat_cmp, is_eq, ordering_then}
 use Rattle.std.specs.declared.cmp.Ordering.{Ordering}
 use Rattle.std.specs.declared.cmp.Ordering.TheVariants.{Less, Equal, Greater}
 use Rattle.std.specs.Cmp.{unsigned_tied}
-use Rattle.replay_debugger.specs.Looks.{has_place}
+use Rattle.replay_debugger.specs.StopFinders.{has_place}
 
 -- the order of places
 abbrev pub place_cmp : ℕ × ℕ → ℕ × ℕ → Ordering

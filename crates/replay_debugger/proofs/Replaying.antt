@@ -9,7 +9,7 @@ use Rattle.processor.specs.World.{World, start, after, steps, run, world_step}
 use Rattle.processor.specs.declared.steps.Step.{Step}
 use Rattle.replay_debugger.specs.declared.points.Point.{Point}
 use Rattle.replay_debugger.specs.declared.replay.Replay.{Replay}
-use Rattle.replay_debugger.specs.Places.{StandsAt, Course, IsOn}
+use Rattle.replay_debugger.specs.Places.{StandsAt, CheckpointsValue, IsOn}
 use Rattle.replay_debugger.specs.Sessions.{world_at}
 use Rattle.replay_debugger.specs.Stops.{any_stops, is_stop}
 
@@ -98,7 +98,7 @@ stop_first ts m k points next r first stands follows e =
 -- A machine on a course.
 
 -- it goes on to a later position
-pub on_later : {size : ℕ} (course : Course) (ts : List Step) (r : Replay size) (m : MachineValue) (goal : ℕ)
+pub on_later : {size : ℕ} (course : CheckpointsValue) (ts : List Step) (r : Replay size) (m : MachineValue) (goal : ℕ)
     → r.position ≤ goal → goal ≤ length course.schedule → ts ≡ course.schedule
     → m ≡ record r.machine {
       world = steps r.machine.image r.machine.world (take (goal - r.position) (drop r.position ts));
@@ -113,7 +113,7 @@ on_later {size} course ts r m goal forward within same ran is =
     }
 
 -- whether its first position is a stop
-pub on_first : {size : ℕ} (course : Course) (r : Replay size) (points : List (Option Point)) (next : Option Step)
+pub on_first : {size : ℕ} (course : CheckpointsValue) (r : Replay size) (points : List (Option Point)) (next : Option Step)
     (b : Bool) → r.position ≡ 0 → IsOn course r → next ≡ slice_get course.schedule r.position
     → b ≡ any_stops r.machine.world r.machine.world next points
     → b ≡ is_stop course.image course.schedule points r.position

@@ -11,4 +11,4 @@ pub mod Table
 pub mod Places
 pub mod Checkpoints
 pub mod Watches
-pub mod Looks
+pub mod StopFinders

@@ -13,15 +13,15 @@ pub record StandsAt (schedule : List Step) (m : MachineValue) (k : ℕ) : Type 0
   pub world : m.world ≡ world_at m.image schedule k
 
 -- a schedule over an image
-pub record Course : Type 0 where
+pub record CheckpointsValue : Type 0 where
   pub image : ImageValue
   pub schedule : List Step
 
-abbrev pub course_of : ImageValue → List Step → Course
-course_of image schedule = record { image = image; schedule = schedule }
+abbrev pub checkpoints_of : ImageValue → List Step → CheckpointsValue
+checkpoints_of image schedule = record { image = image; schedule = schedule }
 
 -- a machine of the course's image stands at its position of the schedule
-pub record IsOn {size : ℕ} (course : Course) (r : Replay size) : Type 0 where
+pub record IsOn {size : ℕ} (course : CheckpointsValue) (r : Replay size) : Type 0 where
   pub image : r.machine.image ≡ course.image
   pub stands : StandsAt course.schedule r.machine r.position
 

@@ -17,6 +17,7 @@ use Rattle.replay_debugger.specs.Sessions.{world_at}
 
 -- Breakpoints.
 
+-- the stream of this number; the idle one where there is no processor
 abbrev pub stream_named_in : ℕ → Option ProcessorValue → StreamValue
 stream_named_in s None = idle
 stream_named_in s (Some proc) = stream_at proc.streams s
@@ -54,6 +55,7 @@ point_stops before w next (Break p pc) = is_met (λ q at. (q == p) && (at == pc)
 point_stops before w next (Watch a) = word_differs (cell_at before.memory a) (cell_at w.memory a)
 point_stops before w next (WatchTags a) = tags_differ (cell_at before.memory a) (cell_at w.memory a)
 
+-- whether the point of a slot, if it has one, stops between two worlds
 abbrev pub slot_stops : World → World → Option Step → Option Point → Bool
 slot_stops before w next None = false
 slot_stops before w next (Some point) = point_stops before w next point

@@ -1,5 +1,5 @@
 -- What a session answers to each command, and where it refuses one.
-use Rattle.std.specs.Prelude.{◌≡◌, ℕ, zero, suc, ◌+◌, ◌^◌, ◌&&◌, Bool, nat_lt, nat_le, if◌then◌else◌}
+use Rattle.std.specs.Prelude.{◌≡◌, ℕ, zero, suc, ◌+◌, ◌^◌, ◌&&◌, Bool, true, false, nat_lt, nat_le, if◌then◌else◌}
 use Rattle.std.specs.Prelude.{List, [], ◌∷◌, length, Option, Some, None, is_some, Result, Ok, Err}
 use Rattle.tag_memory.specs.Cell.{Cell}
 use Rattle.tag_memory.specs.Storage.{TaggedMemory, cell_at}
@@ -29,6 +29,7 @@ abbrev pub with_address : ℕ → Option Cell → Option (ℕ × Cell)
 with_address a None = None
 with_address a (Some c) = Some (a, c)
 
+-- a word before others, where there are all
 abbrev pub onto_words : ℕ → Option Cell → Option (List (ℕ × Cell)) → Option (List (ℕ × Cell))
 onto_words a (Some c) (Some ws) = Some ((a, c) ∷ ws)
 onto_words a (Some c) None = None
@@ -51,18 +52,18 @@ abbrev pub stops_of : SessionValue → ℕ → Bool
 stops_of s k = is_stop s.image s.schedule s.points k
 
 -- where `c` goes: to the least stop above, else to the end
-abbrev pub IsNext : SessionValue → ℕ → Why → Type 0
-IsNext s k Stop = IsLeastAbove (stops_of s) s.position (length s.schedule) k
-IsNext s k End = (k ≡ length s.schedule) × NoneAbove (stops_of s) s.position (length s.schedule)
-IsNext s k Moved = ⊥
-IsNext s k Start = ⊥
+abbrev pub ContinuesTo : SessionValue → ℕ → Why → Type 0
+ContinuesTo s k Stop = IsLeastAbove (stops_of s) s.position (length s.schedule) k
+ContinuesTo s k End = (k ≡ length s.schedule) × NoneAbove (stops_of s) s.position (length s.schedule)
+ContinuesTo s k Moved = ⊥
+ContinuesTo s k Start = ⊥
 
 -- where `back` goes: to the greatest stop below, else to the start
-abbrev pub IsLast : SessionValue → ℕ → Why → Type 0
-IsLast s k Stop = IsGreatestBelow (stops_of s) s.position k
-IsLast s k Start = (k ≡ 0) × NoneBelow (stops_of s) s.position
-IsLast s k Moved = ⊥
-IsLast s k End = ⊥
+abbrev pub GoesBackTo : SessionValue → ℕ → Why → Type 0
+GoesBackTo s k Stop = IsGreatestBelow (stops_of s) s.position k
+GoesBackTo s k Start = (k ≡ 0) × NoneBelow (stops_of s) s.position
+GoesBackTo s k Moved = ⊥
+GoesBackTo s k End = ⊥
 
 -- Points.
 
@@ -81,10 +82,11 @@ pub record Takes (old : SessionValue) (key : ℕ) (result : Answer) (new : Sessi
 
 -- The table: the answer of each command, and the session after it.
 
+-- the answer to each command, and the session after it
 abbrev pub IsAnswerTo : SessionValue → Command → Answer → SessionValue → Type 0
 IsAnswerTo old (Forward n) result new = GoesTo old (old.position + n) Moved result new
-IsAnswerTo old Continue result new = (k : ℕ) × (why : Why) × IsNext old k why × GoesTo old k why result new
-IsAnswerTo old Back result new = (k : ℕ) × (why : Why) × IsLast old k why × GoesTo old k why result new
+IsAnswerTo old Continue result new = (k : ℕ) × (why : Why) × ContinuesTo old k why × GoesTo old k why result new
+IsAnswerTo old Back result new = (k : ℕ) × (why : Why) × GoesBackTo old k why × GoesTo old k why result new
 IsAnswerTo old (Go k) result new = GoesTo old k Moved result new
 IsAnswerTo old (Break p pc) result new = Adds old (point.Break p pc) result new
 IsAnswerTo old (Watch a) result new = Adds old (point.Watch a) result new
@@ -98,6 +100,7 @@ IsAnswerTo old (Show a n) result new =
 
 -- Refusals.
 
+-- a fault unless a test holds
 abbrev pub refused_unless : Bool → DebugFault → Option DebugFault
 refused_unless test f = if test then None else Some f
 
@@ -127,7 +130,22 @@ named_fault fault.NoSuchPoint = Some fault.NoSuchPoint
 named_fault fault.Past = Some fault.Past
 named_fault fault.NoMemory = None
 
--- The result of a command. A refusal leaves the session as it was.
+-- whether a command takes memory: `r` and `d` take none
+abbrev pub takes_memory : Command → Bool
+takes_memory (Forward n) = true
+takes_memory Continue = true
+takes_memory Back = true
+takes_memory (Go k) = true
+takes_memory (Break p pc) = true
+takes_memory (Watch a) = true
+takes_memory (WatchTags a) = true
+takes_memory (Delete n) = false
+takes_memory (Registers p s) = false
+takes_memory (Show a n) = true
+
+-- The result of a command. A refusal leaves the session as it was, and want of memory is told of those commands alone
+-- that take some.
 abbrev pub IsResultOf : SessionValue → Command → Result Answer DebugFault → SessionValue → Type 0
 IsResultOf old command (Ok result) new = (refusal_of old command ≡ None) × IsAnswerTo old command result new
-IsResultOf old command (Err f) new = (refusal_of old command ≡ named_fault f) × (new ≡ old)
+IsResultOf old command (Err f) new =
+    (refusal_of old command ≡ named_fault f) × (new ≡ old) × (f ≡ fault.NoMemory → takes_memory command ≡ true)

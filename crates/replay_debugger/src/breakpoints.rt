@@ -1,7 +1,7 @@
 //! The places of breakpoints, to be looked up before each step.
 
 ghost use Rattle.std.specs.Prelude.{◌≡◌, ◌==◌, ◌&&◌, ◌||◌, ℕ, [], IfOk, OnOk};
-ghost use Rattle.replay_debugger.specs.Looks.{AreBreakpoints, has_place, breaks_at};
+ghost use Rattle.replay_debugger.specs.StopFinders.{AreBreakpoints, has_place, breaks_at};
 ghost use Rattle.replay_debugger.specs.Stops.{is_met};
 
 use crate::points::{Point, Points};

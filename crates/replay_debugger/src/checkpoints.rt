@@ -3,7 +3,7 @@
 ghost use Rattle.std.specs.Prelude.{◌≡◌, ◌<◌, ◌≤◌, ℕ, ◌%◌, length, IfOk, IfSome, IfNone, slice_index_or};
 ghost use Rattle.std.specs.List.{All};
 ghost use Rattle.replay_debugger.specs.declared.replay.Replay.{Replay};
-ghost use Rattle.replay_debugger.specs.Places.{Course, StandsAt, IsOn, course_of};
+ghost use Rattle.replay_debugger.specs.Places.{CheckpointsValue, StandsAt, IsOn, checkpoints_of};
 ghost use Rattle.replay_debugger.specs.Checkpoints.{IsCheckpoint, IsNearest, NoneNear};
 
 use crate::replay::Replay;
@@ -34,15 +34,15 @@ pub(crate) struct Checkpoints<'i, const S: usize> {
 }
 
 impl<'i, const S: usize> Model for Checkpoints<'i, S> {
-    ghost use Rattle.replay_debugger.specs.Places.{Course, course_of};
+    ghost use Rattle.replay_debugger.specs.Places.{CheckpointsValue, checkpoints_of};
     ghost use Rattle.replay_debugger.specs.Checkpoints.{AreCheckpoints};
 
-    ghost Value = { Course };
+    ghost Value = { CheckpointsValue };
 
-    ghost view = { λ c. course_of c.image.now c.schedule.items };
+    ghost view = { λ c. checkpoints_of c.image.now c.schedule.items };
 
     ghost invariant = { λ c.
-        AreCheckpoints S (course_of c.image.now c.schedule.items) c.spacing c.start c.kept.items };
+        AreCheckpoints S (checkpoints_of c.image.now c.schedule.items) c.spacing c.start c.kept.items };
 }
 
 impl<'i, const S: usize> Checkpoints<'i, S> {
@@ -54,7 +54,7 @@ impl<'i, const S: usize> Checkpoints<'i, S> {
     ) -> Checkpoints<'i, S>
         requires first { start.now.position ≡ 0 }
         requires stands { StandsAt schedule.items start.now.machine 0 }
-        ensures { result ≡ course_of start.now.machine.image schedule.items }
+        ensures { result ≡ checkpoints_of start.now.machine.image schedule.items }
     {
         Checkpoints {
             image: start.machine.image(),
@@ -191,7 +191,7 @@ fn has_position<const S: usize>(kept: &[Replay<S>], position: usize) -> bool {
 /// Drops what is kept at no multiple of a spacing.
 fn drop_between<const S: usize>(kept: &mut Vec<Replay<S>>, spacing: usize)
     ensures few { length kept.new.items ≤ length kept.old.items }
-    ensures spaced { (course : Course) (old : ℕ) → All (IsCheckpoint course old) kept.old.items
+    ensures spaced { (course : CheckpointsValue) (old : ℕ) → All (IsCheckpoint course old) kept.old.items
         → All (IsCheckpoint course spacing) kept.new.items }
 {
     let mut place = 0;

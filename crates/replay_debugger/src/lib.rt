@@ -8,7 +8,7 @@ mod checkpoints;
 mod points;
 mod replay;
 mod session;
-mod stops;
+mod stop_finder;
 mod watched_words;
 
 pub use begin_fault::BeginFault;

@@ -5,11 +5,11 @@ ghost use Rattle.tag_memory.specs.Storage.{TaggedMemory};
 ghost use Rattle.processor.specs.World.{start};
 ghost use Rattle.replay_debugger.specs.Stops.{is_stop};
 ghost use Rattle.replay_debugger.specs.Places.{StandsAt, IsOn};
-ghost use Rattle.replay_debugger.specs.Looks.{LooksFor, IsRunToStop, IsLastSeen};
+ghost use Rattle.replay_debugger.specs.StopFinders.{IsFinderOf, IsRunToStop, IsLastInRun};
 ghost use Rattle.replay_debugger.specs.declared.points.Point.{Point};
 
 use crate::checkpoints::Checkpoints;
-use crate::stops::Stops;
+use crate::stop_finder::StopFinder;
 use image_file::Image;
 use machine::{LoadFault, Machine};
 use processor::Step;
@@ -67,16 +67,16 @@ impl<'i, const S: usize> Replay<'i, S> {
 
     /// Takes the next step, and says whether the position behind it is a stop.
     #[inline(always)]
-    fn advance(&mut self, schedule: &[Step], stops: &mut Stops) -> bool
+    fn advance(&mut self, schedule: &[Step], stops: &mut StopFinder) -> bool
         requires within { self.old.position < length schedule.now }
         requires stands { StandsAt schedule.now self.old.machine self.old.position }
         ensures position { self.new.position ≡ self.old.position + 1 }
         ensures image { self.new.machine.image ≡ self.old.machine.image }
         ensures stands { StandsAt schedule.now self.new.machine self.new.position }
-        ensures stop { (points : List (Option Point)) → LooksFor points self.old.machine.world.memory stops.old
+        ensures stop { (points : List (Option Point)) → IsFinderOf points self.old.machine.world.memory stops.old
             → result ≡ is_stop self.old.machine.image schedule.now points (self.old.position + 1) }
-        ensures looks { (points : List (Option Point)) → LooksFor points self.old.machine.world.memory stops.old
-            → LooksFor points self.new.machine.world.memory stops.new }
+        ensures looks { (points : List (Option Point)) → IsFinderOf points self.old.machine.world.memory stops.old
+            → IsFinderOf points self.new.machine.world.memory stops.new }
     {
         let step = schedule[self.position];
         self.machine.step(step.p, step.s);
@@ -92,7 +92,7 @@ impl<'i, const S: usize> Replay<'i, S> {
     }
 
     /// Goes on to the next stop, or to a limit, and says whether it is a stop.
-    fn step_to_stop(&mut self, schedule: &[Step], stops: &mut Stops, limit: usize) -> bool
+    fn step_to_stop(&mut self, schedule: &[Step], stops: &mut StopFinder, limit: usize) -> bool
         requires forward { self.old.position ≤ limit }
         requires within { limit ≤ length schedule.now }
         requires stands { StandsAt schedule.now self.old.machine self.old.position }
@@ -100,11 +100,11 @@ impl<'i, const S: usize> Replay<'i, S> {
         ensures within { self.new.position ≤ limit }
         ensures image { self.new.machine.image ≡ self.old.machine.image }
         ensures stands { StandsAt schedule.now self.new.machine self.new.position }
-        ensures goes { (points : List (Option Point)) → LooksFor points self.old.machine.world.memory stops.old
+        ensures goes { (points : List (Option Point)) → IsFinderOf points self.old.machine.world.memory stops.old
             → IsRunToStop (is_stop self.old.machine.image schedule.now points) self.old.position limit
             self.new.position result }
-        ensures looks { (points : List (Option Point)) → LooksFor points self.old.machine.world.memory stops.old
-            → LooksFor points self.new.machine.world.memory stops.new }
+        ensures looks { (points : List (Option Point)) → IsFinderOf points self.old.machine.world.memory stops.old
+            → IsFinderOf points self.new.machine.world.memory stops.new }
     {
         while self.position < limit {
             if self.advance(schedule, stops) {
@@ -118,7 +118,7 @@ impl<'i, const S: usize> Replay<'i, S> {
     pub(crate) fn run_to_stop(
         &mut self,
         checkpoints: &mut Checkpoints<'i, S>,
-        stops: &mut Stops,
+        stops: &mut StopFinder,
         limit: usize,
     ) -> bool
         requires on { IsOn checkpoints.old self.old }
@@ -128,11 +128,11 @@ impl<'i, const S: usize> Replay<'i, S> {
         ensures within { self.new.position ≤ limit }
         ensures on { IsOn checkpoints.old self.new }
         ensures kept { checkpoints.new ≡ checkpoints.old }
-        ensures goes { (points : List (Option Point)) → LooksFor points self.old.machine.world.memory stops.old
+        ensures goes { (points : List (Option Point)) → IsFinderOf points self.old.machine.world.memory stops.old
             → IsRunToStop (is_stop checkpoints.old.image checkpoints.old.schedule points) self.old.position limit
             self.new.position result }
-        ensures looks { (points : List (Option Point)) → LooksFor points self.old.machine.world.memory stops.old
-            → LooksFor points self.new.machine.world.memory stops.new }
+        ensures looks { (points : List (Option Point)) → IsFinderOf points self.old.machine.world.memory stops.old
+            → IsFinderOf points self.new.machine.world.memory stops.new }
     {
         while self.position < limit {
             let pause = checkpoints.pause_after(self.position, limit);
@@ -149,18 +149,18 @@ impl<'i, const S: usize> Replay<'i, S> {
     pub(crate) fn last_stop(
         &mut self,
         checkpoints: &mut Checkpoints<'i, S>,
-        stops: &mut Stops,
+        stops: &mut StopFinder,
         limit: usize,
     ) -> Option<usize>
         requires on { IsOn checkpoints.old self.old }
         requires forward { self.old.position ≤ limit }
         requires within { limit ≤ length checkpoints.old.schedule }
         ensures kept { checkpoints.new ≡ checkpoints.old }
-        ensures last { (points : List (Option Point)) (seen : TaggedMemory) → LooksFor points seen stops.old
-            → IsLastSeen (is_stop checkpoints.old.image checkpoints.old.schedule points) self.old.position limit
+        ensures last { (points : List (Option Point)) (seen : TaggedMemory) → IsFinderOf points seen stops.old
+            → IsLastInRun (is_stop checkpoints.old.image checkpoints.old.schedule points) self.old.position limit
             result }
-        ensures looks { (points : List (Option Point)) (seen : TaggedMemory) → LooksFor points seen stops.old
-            → LooksFor points self.new.machine.world.memory stops.new }
+        ensures looks { (points : List (Option Point)) (seen : TaggedMemory) → IsFinderOf points seen stops.old
+            → IsFinderOf points self.new.machine.world.memory stops.new }
     {
         stops.look(&self.machine);
         let mut last = None;

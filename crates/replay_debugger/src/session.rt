@@ -5,7 +5,7 @@ mod pointing;
 mod showing;
 
 ghost use Rattle.std.specs.Prelude.{◌≡◌, ◌<◌, ◌↔◌, IfOk, IfErr, IsErrAnd};
-ghost use Rattle.replay_debugger.specs.Sessions.{session_at_start};
+ghost use Rattle.replay_debugger.specs.Sessions.{session_at_start, session_world};
 ghost use Rattle.replay_debugger.specs.Table.{IsResultOf};
 
 use crate::begin_fault::BeginFault;
@@ -14,7 +14,7 @@ use crate::points::{Point, Points};
 use crate::replay::Replay;
 use debug_commands::{Answer, Command, DebugFault};
 use image_file::Image;
-use machine::LoadFault;
+use machine::{LoadFault, Machine};
 use processor::Step;
 use std::alloc::Global;
 use std::marker::Model;
@@ -71,6 +71,13 @@ impl<'i, const S: usize> Session<'i, S> {
         ensures { result ≡ self.now.position }
     {
         self.replay.position as u64
+    }
+
+    /// The machine at the session's position: the image's, after so many steps of the schedule.
+    pub fn machine(&self) -> &Machine<'i, S>
+        ensures { result.now ≡ record { image = self.now.image; world = session_world self.now } }
+    {
+        &self.replay.machine
     }
 
     /// How many steps the machine took for the last command that was answered; 0 before any. No clause speaks of it.

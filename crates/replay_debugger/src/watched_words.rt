@@ -3,7 +3,7 @@
 ghost use Rattle.std.specs.Prelude.{◌≡◌, map, IfOk};
 ghost use Rattle.std.specs.List.{list_any};
 ghost use Rattle.std.specs.Option.{option_to_list};
-ghost use Rattle.replay_debugger.specs.Looks.{watches_of, watch_of, has_changed, seen_again};
+ghost use Rattle.replay_debugger.specs.StopFinders.{watches_of, watch_of, has_changed, seen_again};
 
 use crate::points::{Point, Points};
 use machine::Machine;

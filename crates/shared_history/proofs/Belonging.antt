@@ -1,4 +1,4 @@
--- What the scans of the records show.
+-- What the part_faults of the records show.
 use Rattle.std.proofs.Common.{◌≡◌, ℕ, ◌+◌, ◌<◌, ◌≤◌, sym, refl, ◌∙◌, subst, arith, inl, inr, length, List, Option}
 use Rattle.std.proofs.Common.{Some}
 use Rattle.std.proofs.Common.{None}

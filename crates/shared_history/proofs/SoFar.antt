@@ -116,7 +116,7 @@ advance shared records ts done i j p n r rs y so here from upto hist own legal =
       makes = g.makes;
     }
 
-zeros-at : (n p : ℕ) → get_or {A = ℕ} (replicate n 0) p 0 ≡ 0
+pub zeros-at : (n p : ℕ) → get_or {A = ℕ} (replicate n 0) p 0 ≡ 0
 zeros-at zero p = refl
 zeros-at (suc n) zero = refl
 zeros-at (suc n) (suc p) = zeros-at n p

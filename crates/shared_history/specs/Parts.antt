@@ -7,6 +7,7 @@ use Rattle.processor.specs.Records.{RecordValue, any_runs, IsKept}
 use Rattle.processor.specs.declared.steps.Entry.{Entry}
 use Rattle.shared_history.specs.SharedMemory.{SharedValue}
 
+-- what a run leaves: the steps that each processor may take, the memory and a record for each processor
 pub record PartsValue : Type 0 where
   pub fuel : ℕ
   pub shared : SharedValue
@@ -39,6 +40,7 @@ abbrev pub Belongs : ImageValue → ℕ → Option RecordValue → Type 0
 Belongs image p None = length image.entries ≤ p
 Belongs image p (Some r) = (p < length image.entries) × (r.image ≡ image) × (r.number ≡ p)
 
+-- whether a record has its fuel of steps, or no stream of it runs
 abbrev pub has_finished : ℕ → RecordValue → Bool
 has_finished fuel r = nat_le fuel (length r.steps) || not (any_runs r.state)
 
@@ -54,12 +56,15 @@ HasEntries history p (Some r) = r.pairs ≡ pairs_of p history
 
 -- The same of parts.
 
+-- the record of processor p is of the memory's image and of this processor
 abbrev pub PartBelongs : PartsValue → ℕ → Type 0
 PartBelongs parts p = Belongs parts.shared.image p (slice_get parts.records p)
 
+-- the record of processor p is finished
 abbrev pub PartHasFinished : PartsValue → ℕ → Type 0
 PartHasFinished parts p = HasFinished parts.fuel (slice_get parts.records p)
 
+-- the record of processor p has just its entries of the history
 abbrev pub PartHasEntries : PartsValue → ℕ → Type 0
 PartHasEntries parts p = HasEntries parts.shared.history p (slice_get parts.records p)
 

@@ -5,8 +5,8 @@ ghost use Rattle.shared_history.specs.FaultNumbers.{gather_fault_number};
 ghost use Rattle.shared_history.specs.Schedule.{IsLongEnough};
 ghost use Rattle.shared_history.specs.Gathering.{IsGathered, Refuses, AreWhole};
 
+use crate::part_faults::{first_foreign, first_short, first_torn};
 use crate::parts::Parts;
-use crate::scans::{first_foreign, first_short, first_torn};
 use crate::weaving::weave;
 use crate::woven::Woven;
 use std::alloc::Global;

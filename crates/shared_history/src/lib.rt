@@ -3,8 +3,8 @@
 #![tactic(auto)]
 
 mod gathering;
+mod part_faults;
 mod parts;
-mod scans;
 mod shared_memory;
 mod weaving;
 mod woven;

@@ -24,7 +24,7 @@ use Rattle.stream_core.specs.Effects.{displaced_pointer, access_of, request_by, 
 use Rattle.stream_core.specs.Effects.{arithmetic_value, ssw_before_control, code_at, next_pc, skip_pc}
 use Rattle.stream_core.specs.Effects.{after_instruction}
 use Rattle.stream_core.specs.StreamRow.{fetch_instruction, fetch_word, fetch_of, control_by, control_of}
-use Rattle.stream_core.specs.declared.steps.Fetched.TheVariants as fetch
+use Rattle.stream_core.specs.declared.steps.Fetch.TheVariants as fetch
 use Rattle.stream_core.specs.declared.steps.Control.TheVariants as asks
 use Rattle.stream_core.specs.ShortEffects.{pc_after_control, asked_operation, asked_value}
 use Rattle.stream_core.specs.declared.status_words.StatusWord.{StatusWord}
@@ -35,14 +35,14 @@ use Rattle.stream_core.specs.declared.status_words.Codes.{Codes}
 pub short_found : (program : List ℕ) (s : StreamValue) (word : ℕ) (found : Option ShortInsn)
     → ((p : Profile) → fetch_of p program s ≡ fetch_word p (Some word))
     → ((p : Profile) → IfSome found (λ i. instruction_in p word ≡ Some (short_instruction i)))
-    → (p : Profile) → IfSome found (λ i. fetch_of p program s ≡ fetch.Runs (short_instruction i))
+    → (p : Profile) → IfSome found (λ i. fetch_of p program s ≡ fetch.Instruction (short_instruction i))
 short_found program s word None e h p = tt
 short_found program s word (Some i) e h p = e p ∙ ap fetch_instruction (h p)
 
 pub reference_found : (program : List ℕ) (s : StreamValue) (word : ℕ) (found : Option ReferenceInsn)
     → ((p : Profile) → fetch_of p program s ≡ fetch_word p (Some word))
     → ((p : Profile) → IfSome found (λ r. instruction_in p word ≡ Some (reference_instruction r)))
-    → (p : Profile) → IfSome found (λ r. fetch_of p program s ≡ fetch.Runs (reference_instruction r))
+    → (p : Profile) → IfSome found (λ r. fetch_of p program s ≡ fetch.Instruction (reference_instruction r))
 reference_found program s word None e h p = tt
 reference_found program s word (Some r) e h p = e p ∙ ap fetch_instruction (h p)
 

@@ -14,13 +14,16 @@ signed n = cast_signed w64 n
 abbrev pub fits_unsigned : ℕ → Bool
 fits_unsigned n = nat_lt n (2 ^ 64)
 
+-- whether a number is a signed one of 64 bits
 abbrev pub fits_signed : ℤ → Bool
 fits_signed (pos n) = nat_lt n (2 ^ 63)
 fits_signed (negsuc n) = nat_lt n (2 ^ 63)
 
+-- 64 bits, shifted to the left; 0 from 64 places on
 abbrev pub shift_left : ℕ → ℕ → ℕ
 shift_left a b = if nat_lt b 64 then a * 2 ^ b % 2 ^ 64 else 0
 
+-- 64 bits, shifted to the right; 0 from 64 places on
 abbrev pub shift_right : ℕ → ℕ → ℕ
 shift_right a b = if nat_lt b 64 then a / 2 ^ b else 0
 
@@ -33,6 +36,7 @@ abbrev pub shift_right_signed : ℕ → ℕ → ℕ
 shift_right_signed a b =
     if nat_lt a (2 ^ 63) then shift_right a b else ones_complement (shift_right (ones_complement a) b)
 
+-- the number that a bit is
 abbrev pub bit_number : Bool → ℕ
 bit_number b = if b then 1 else 0
 
@@ -54,6 +58,7 @@ result_of op.LessSigned a b = bit_number (int_lt (signed a) (signed b))
 result_of op.LessUnsigned a b = bit_number (nat_lt a b)
 result_of op.Pointer a b = b % 2 ^ 5 * 2 ^ 59 + a % 2 ^ 59
 
+-- the bit C of each operation's code
 abbrev pub carries : ArithmeticOp → ℕ → ℕ → Bool
 carries op.Nop a b = false
 carries op.Add a b = not (fits_unsigned (a + b))
@@ -71,6 +76,7 @@ carries op.LessSigned a b = false
 carries op.LessUnsigned a b = false
 carries op.Pointer a b = false
 
+-- the bit V of each operation's code
 abbrev pub overflows : ArithmeticOp → ℕ → ℕ → Bool
 overflows op.Nop a b = false
 overflows op.Add a b = not (fits_signed (signed a +ℤ signed b))

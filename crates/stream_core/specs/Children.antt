@@ -6,6 +6,7 @@ use Rattle.stream_core.specs.Streams.{StreamValue, idle}
 use Rattle.stream_core.specs.declared.steps.Child.{Child}
 use Rattle.stream_core.specs.declared.steps.Status.TheVariants.{Running}
 
+-- the stream that CREATE starts: all that it is not given is zero
 abbrev pub child_stream : Child → StreamValue
 child_stream c = record idle {
   registers = with_register (replicate 32 0) 1 c.value;

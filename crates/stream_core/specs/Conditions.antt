@@ -8,6 +8,7 @@ use Rattle.insn_word.specs.declared.operations.Condition.TheVariants.{GreaterUns
 use Rattle.insn_word.specs.declared.operations.Condition.TheVariants.{Overflow, NoOverflow}
 use Rattle.stream_core.specs.declared.conditions.Code.{Code}
 
+-- whether two bits differ
 abbrev pub differ : Bool → Bool → Bool
 differ true b = not b
 differ false b = b

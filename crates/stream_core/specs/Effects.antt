@@ -36,12 +36,14 @@ abbrev pub displaced_pointer : ℕ → ℤ → ℕ
 displaced_pointer p (pos n) = p / 2 ^ 48 * 2 ^ 48 + (p % 2 ^ 48 + 8 * n) % 2 ^ 48
 displaced_pointer p (negsuc n) = p / 2 ^ 48 * 2 ^ 48 + (p % 2 ^ 48 + (2 ^ 48 - 8 * suc n)) % 2 ^ 48
 
+-- the access of a request, by the access of the instruction
 abbrev pub access_of : Access → Acc
 access_of access.FromPointer = acc.FromPointer
 access_of access.Normal = acc.Normal
 access_of access.Future = acc.Future
 access_of access.Sync = acc.Sync
 
+-- the request of a memory operation with this value: its pointer is displaced, its masks are the stream's
 abbrev pub request_with : StreamValue → MPart → MemOp → ℕ → Request
 request_with s m op value = record {
   op = op;
@@ -51,6 +53,7 @@ request_with s m op value = record {
   masked = record { trap0 = s.ssw.mask.trap0; trap1 = s.ssw.mask.trap1 };
 }
 
+-- the request of each memory operation; NOP makes none
 abbrev pub request_by : StreamValue → MPart → MemoryOp → Option Request
 request_by s m memory.Nop = None
 request_by s m memory.Load = Some (request_with s m op.Load 0)
@@ -77,12 +80,15 @@ retries_after memory.Purge n = 0
 
 -- The arithmetic operation.
 
+-- the second operand: a number of the word, or a register
 abbrev pub second_operand : StreamValue → APart → ℕ
 second_operand s a = if a.imm then a.rb else register_at s.registers a.rb
 
+-- the result of the arithmetic operation
 abbrev pub arithmetic_value : StreamValue → APart → ℕ
 arithmetic_value s a = result_of a.op (register_at s.registers a.ra) (second_operand s a)
 
+-- the pc of the next word
 abbrev pub next_pc : ℕ → ℕ
 next_pc pc = (pc + 1) % 2 ^ 32
 
@@ -97,13 +103,16 @@ ssw_before_control s a = record s.ssw {
 
 -- The control operation; l is the status word that the step would leave.
 
+-- the condition code of this place, 0 for the newest
 abbrev pub code_at : Codes → ℕ → Code
 code_at cs k = if k == 0 then cs.newest else if k == 1 then cs.second else if k == 2 then cs.third else cs.oldest
 
+-- the pc so many words past the next one
 abbrev pub skip_pc : ℕ → ℤ → ℕ
 skip_pc pc (pos n) = (pc + 1 + n) % 2 ^ 32
 skip_pc pc (negsuc n) = (pc + 1 + (2 ^ 32 - suc n)) % 2 ^ 32
 
+-- whether the condition of the control operation holds
 abbrev pub control_holds : StreamValue → CPart → Bool
 control_holds s c = condition_holds c.cond (code_at s.ssw.codes c.code)
 
@@ -165,6 +174,7 @@ registers_after s m a c value grant =
     (arithmetic_destination a.op a.rd) (arithmetic_value s a))
     (control_destination c.op c.rd) (control_value s c c.op grant)
 
+-- the stream after a word of up to three operations, given the memory's number and the grant
 abbrev pub after_parts : StreamValue → MPart → APart → CPart → ℕ → ℕ → StreamValue
 after_parts s m a c value grant = record s {
   registers = registers_after s m a c value grant;
@@ -173,6 +183,7 @@ after_parts s m a c value grant = record s {
   retries = retries_after m.op s.retries;
 }
 
+-- the stream after a wide word
 abbrev pub after_wide : StreamValue → WideOp → ℕ → ℕ → StreamValue
 after_wide s wide.Literal reg imm = record s {
   registers = with_register s.registers reg imm;

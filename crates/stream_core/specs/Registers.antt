@@ -15,5 +15,6 @@ with_register rs r v = if r == 0 then rs else slice_set rs r v
 abbrev pub target_at : List StatusWord → ℕ → StatusWord
 target_at ts t = slice_index_or ts t (status_at 0)
 
+-- the target registers after one of them is written
 abbrev pub with_target : List StatusWord → ℕ → StatusWord → List StatusWord
 with_target ts t s = slice_set ts t s

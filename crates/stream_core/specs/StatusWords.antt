@@ -11,6 +11,7 @@ use Rattle.stream_core.specs.declared.status_words.StatusWord.{StatusWord}
 abbrev pub code_number : Code → ℕ
 code_number c = bit_number c.zero + 2 * bit_number c.negative + 4 * bit_number c.carry + 8 * bit_number c.overflow
 
+-- the condition code in the lowest four bits of a number
 abbrev pub code_from : ℕ → Code
 code_from n = record { zero = has_bit n 0; negative = has_bit n 1; carry = has_bit n 2; overflow = has_bit n 3 }
 
@@ -19,6 +20,7 @@ unfoldable pub codes_number : Codes → ℕ
 codes_number c =
     code_number c.newest + code_number c.second * 2 ^ 4 + code_number c.third * 2 ^ 8 + code_number c.oldest * 2 ^ 12
 
+-- the four condition codes in the lowest 16 bits of a number, the newest lowest
 unfoldable pub codes_from : ℕ → Codes
 codes_from n = record {
   newest = code_from n;
@@ -27,9 +29,11 @@ codes_from n = record {
   oldest = code_from (n / 2 ^ 12);
 }
 
+-- the trap mask as a number of three bits
 abbrev pub mask_number : TrapMask → ℕ
 mask_number m = bit_number m.trap0 + 2 * bit_number m.trap1 + 4 * bit_number m.blocked
 
+-- the trap mask in the lowest three bits of a number
 abbrev pub mask_from : ℕ → TrapMask
 mask_from n = record { trap0 = has_bit n 0; trap1 = has_bit n 1; blocked = has_bit n 2 }
 
@@ -58,12 +62,15 @@ with_newest_code c cs = record { newest = c; second = cs.newest; third = cs.seco
 abbrev pub no_code : Code
 no_code = record { zero = false; negative = false; carry = false; overflow = false }
 
+-- four condition codes without a bit
 abbrev pub no_codes : Codes
 no_codes = record { newest = no_code; second = no_code; third = no_code; oldest = no_code }
 
+-- the trap mask that masks nothing
 abbrev pub no_mask : TrapMask
 no_mask = record { trap0 = false; trap1 = false; blocked = false }
 
+-- the status word at this pc, in which all else is zero
 abbrev pub status_at : ℕ → StatusWord
 status_at pc = record { pc = pc; codes = no_codes; mask = no_mask; in_trap = false }
 

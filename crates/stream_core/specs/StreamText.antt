@@ -26,6 +26,7 @@ status_line s =
 unfoldable pub register_line : ℕ → ℕ → List ℕ
 register_line r v = if v == 0 then [] else codes "r" ++ two_digits r ++ codes " " ++ hexadecimal_16 v ++ codes "\n"
 
+-- the line of a target register; none where it is zero
 unfoldable pub target_line : ℕ → ℕ → List ℕ
 target_line t v = if v == 0 then [] else codes "t" ++ decimal t ++ codes " " ++ hexadecimal_16 v ++ codes "\n"
 
@@ -34,9 +35,11 @@ unfoldable pub register_lines : List ℕ → ℕ → ℕ → List ℕ
 register_lines rs zero r = []
 register_lines rs (suc k) r = register_line r (register_at rs r) ++ register_lines rs k (r + 1)
 
+-- the lines of so many target registers from this one on
 unfoldable pub target_lines : List StatusWord → ℕ → ℕ → List ℕ
 target_lines ts zero t = []
 target_lines ts (suc k) t = target_line t (status_number (target_at ts t)) ++ target_lines ts k (t + 1)
 
+-- the text of a stream: its status, its registers, its target registers
 unfoldable pub stream_text_of : StreamValue → List ℕ
 stream_text_of s = status_line s ++ register_lines s.registers 32 0 ++ target_lines s.targets 8 0

@@ -10,6 +10,7 @@ use Rattle.stream_core.specs.declared.steps.Status.TheVariants.{Idle, Stopped}
 use Rattle.stream_core.specs.declared.steps.Outcome.{Outcome}
 use Rattle.stream_core.specs.declared.steps.Outcome.TheVariants as outcome
 
+-- a stream: its registers, target registers, status word, trap register, retry count and status
 pub record StreamValue : Type 0 where
   pub registers : List ℕ
   pub targets : List StatusWord

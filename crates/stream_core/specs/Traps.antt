@@ -5,6 +5,7 @@ use Rattle.tag_memory.specs.declared.requests.MemTrap.TheVariants as memory
 use Rattle.stream_core.specs.declared.traps.TrapKind.{TrapKind}
 use Rattle.stream_core.specs.declared.traps.TrapKind.TheVariants as kind
 
+-- the number of each trap
 abbrev pub trap_number : TrapKind → ℕ
 trap_number kind.Program = 1
 trap_number kind.Illegal = 2

@@ -46,13 +46,13 @@ pub struct Child {
 
 /// What stands at a stream's pc, read once a step.
 #[derive(Clone, Copy, Debug, PartialEq, Eq)]
-pub enum Fetched {
+pub enum Fetch {
     /// The stream does not run.
     Rest,
     /// It traps: PROGRAM or ILLEGAL.
     Trap(TrapKind),
     /// The instruction.
-    Runs(Insn),
+    Instruction(Insn),
 }
 
 /// What the next step of a stream needs.

@@ -2,20 +2,20 @@
 use Rattle.std.specs.Prelude.{ℕ, ◌+◌, ◌%◌, ◌^◌, ◌==◌, true, false, Option, Some, None, if◌then◌else◌}
 use Rattle.tag_memory.specs.Cell.{Cell, cell_of, tag_number}
 use Rattle.tag_memory.specs.Address.{pointer_control_number}
-use Rattle.tag_memory.specs.declared.pointers.Control.{Control}
-use Rattle.tag_memory.specs.declared.pointers.Control.TheVariants.{Normal, Future, Sync}
+use Rattle.tag_memory.specs.declared.pointers.AccessControl.{AccessControl}
+use Rattle.tag_memory.specs.declared.pointers.AccessControl.TheVariants.{Normal, Future, Sync}
 use Rattle.tag_memory.specs.declared.requests.MemOp.{MemOp}
 use Rattle.tag_memory.specs.declared.requests.MemOp.TheVariants.{Load, Store, Fadd, TagGet, TagSet, Purge}
 use Rattle.tag_memory.specs.declared.requests.Acc.{Acc}
 use Rattle.tag_memory.specs.declared.requests.Acc.TheVariants as acc
 
 -- the control that a pointer carries; the reserved one, which no reference gets to use, reads as normal
-abbrev pub pointer_control : ℕ → Control
+abbrev pub pointer_control : ℕ → AccessControl
 pointer_control p =
     if pointer_control_number p == 2 then Future else if pointer_control_number p == 3 then Sync else Normal
 
 -- the control that the access field asks for, of a reference by the pointer p
-abbrev pub access_control : Acc → ℕ → Control
+abbrev pub access_control : Acc → ℕ → AccessControl
 access_control acc.FromPointer p = pointer_control p
 access_control acc.Normal p = Normal
 access_control acc.Future p = Future
@@ -46,7 +46,7 @@ abbrev pub sum_of : Cell → ℕ → ℕ
 sum_of c v = (c.value + v) % 2 ^ 64
 
 -- The word after, and the number answered; none where the reference is blocked.
-abbrev pub effect : MemOp → Control → Cell → ℕ → Option (Cell × ℕ)
+abbrev pub effect : MemOp → AccessControl → Cell → ℕ → Option (Cell × ℕ)
 effect Load Normal c v = Some (c, c.value)
 effect Load Future c v = if c.full then Some (c, c.value) else None
 effect Load Sync c v = if c.full then Some (with_full_clear c, c.value) else None

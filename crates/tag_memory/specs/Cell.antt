@@ -2,6 +2,7 @@
 use Rattle.std.specs.Prelude.{ℕ, ◌+◌, ◌/◌, ◌%◌, ◌^◌, ◌==◌, Bool, if◌then◌else◌}
 use Rattle.tag_memory.specs.declared.tag_set.Tags.{Tags}
 
+-- a word of the memory: its value and its four tags
 pub record Cell : Type 0 where
   pub value : ℕ
   pub full : Bool

@@ -3,6 +3,7 @@
 use Rattle.std.specs.Prelude.{ℕ, ◌≤◌, ◌/◌, ◌%◌, ◌==◌, List, length, Option, None, if◌then◌else◌, slice_get, slice_set}
 use Rattle.tag_memory.specs.Cell.{Cell}
 
+-- a memory: its words from byte address 0 on, and how many of them may forward one reference
 pub record TaggedMemory : Type 0 where
   pub cells : List Cell
   pub chain_limit : ℕ

@@ -5,6 +5,7 @@
 
 mod bank;
 mod chain;
+mod endings;
 mod full_empty;
 mod packed_tags;
 mod pointers;
@@ -14,8 +15,9 @@ mod storage;
 mod tag_set;
 mod tagged_word;
 
-pub use pointers::{Control, Pointer};
-pub use requests::{Acc, Masked, MemOp, MemTrap, Reply, Request};
+pub use endings::Ending;
+pub use pointers::{AccessControl, Pointer};
+pub use requests::{Acc, MemOp, MemTrap, Reply, Request, RequestMask};
 pub use serving::serving_laws;
 pub use storage::{DEFAULT_CHAIN_LIMIT, MAX_CHAIN_LIMIT, MAX_WORDS, Memory};
 pub use tag_set::Tags;

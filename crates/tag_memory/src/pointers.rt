@@ -8,7 +8,7 @@ use std::marker::Model;
 
 /// What a reference asks of the full bit of the word that it reaches, by the full/empty table of docs/MACHINE.md.
 #[derive(Clone, Copy, PartialEq, Eq, Debug)]
-pub enum Control {
+pub enum AccessControl {
     /// The full bit is not looked at.
     Normal,
     /// The word has to be full, and stays so.
@@ -78,13 +78,13 @@ impl Pointer {
     }
 
     /// The control. The reserved one reads as normal: no reference by such a pointer gets as far as to use it.
-    pub fn control(self) -> Control
+    pub fn control(self) -> AccessControl
         ensures { result ≡ pointer_control self }
     {
         match self.0 >> Self::CONTROL_SHIFT & Self::CONTROL_MASK {
-            2 => Control::Future,
-            3 => Control::Sync,
-            _ => Control::Normal,
+            2 => AccessControl::Future,
+            3 => AccessControl::Sync,
+            _ => AccessControl::Normal,
         }
     }
 

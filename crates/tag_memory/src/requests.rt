@@ -3,7 +3,7 @@ ghost use Rattle.std.specs.Prelude.{◌≡◌};
 ghost use Rattle.tag_memory.specs.Access.{access_control};
 ghost use Rattle.tag_memory.specs.Chain.{is_tag_operation};
 
-use crate::{Control, Pointer};
+use crate::{AccessControl, Pointer};
 
 /// The operation of a request.
 #[derive(Clone, Copy, PartialEq, Eq, Debug)]
@@ -49,14 +49,14 @@ pub enum Acc {
 
 impl Acc {
     /// The control of a reference with this access field by a pointer.
-    pub(crate) fn control(self, pointer: Pointer) -> Control
+    pub(crate) fn control(self, pointer: Pointer) -> AccessControl
         ensures { result ≡ access_control self pointer }
     {
         match self {
             Acc::FromPointer => pointer.control(),
-            Acc::Normal => Control::Normal,
-            Acc::Future => Control::Future,
-            Acc::Sync => Control::Sync,
+            Acc::Normal => AccessControl::Normal,
+            Acc::Future => AccessControl::Future,
+            Acc::Sync => AccessControl::Sync,
         }
     }
 }
@@ -81,7 +81,7 @@ pub enum MemTrap {
 /// Which of the two trap bits a request passes over, on every word of its chain. Where it is written as a number,
 /// trap0 counts 1 and trap1 counts 2.
 #[derive(Clone, Copy, PartialEq, Eq, Debug)]
-pub struct Masked {
+pub struct RequestMask {
     /// The trap0 bit is passed over.
     pub trap0: bool,
     /// The trap1 bit is passed over.
@@ -102,7 +102,7 @@ pub struct Request {
     /// Where the control comes from.
     pub acc: Acc,
     /// The trap bits that are passed over.
-    pub masked: Masked,
+    pub masked: RequestMask,
 }
 
 /// What the memory replies to a request.

@@ -4,7 +4,7 @@ pub mod Columns
 pub mod Reading
 pub mod Numbers
 pub mod Laws
-pub mod Parts
+pub mod Pieces
 pub mod Lines
 pub mod Runs
 -- What the code has of numbers on its way.

@@ -3,7 +3,7 @@
 ghost use Rattle.std.specs.Prelude.{◌≡◌, ◌≤◌, ◌∷◌, ◌==◌, ◌||◌, length};
 ghost use Rattle.std.specs.List.{position};
 ghost use Rattle.std.specs.Option.{option_copied};
-ghost use Rattle.text_parts.specs.Parts.{parts, text_before, text_after, rest_parts, rest_length};
+ghost use Rattle.text_parts.specs.Pieces.{pieces, text_before, text_after, rest_pieces, rest_length};
 
 use memchr::{memchr, memchr2};
 
@@ -13,11 +13,11 @@ const VECTOR: usize = 32;
 /// What stands before the first of a byte, and what stands after it. Where the byte stands nowhere, the first is the
 /// whole text, and the second is None.
 #[inline(always)]
-#[tactic(auto, unfolding(crate::specs::Parts::text_after), using(crate::proofs::Pieces::parts_cut))]
+#[tactic(auto, unfolding(crate::specs::Pieces::text_after), using(crate::proofs::Pieces::pieces_cut))]
 pub fn cut(text: &[u8], byte: u8) -> (&[u8], Option<&[u8]>)
     ensures before { result.0.now ≡ text_before byte text.now }
     ensures after { option_copied result.1 ≡ text_after byte text.now }
-    ensures parts { parts byte text.now ≡ result.0.now ∷ rest_parts byte (option_copied result.1) }
+    ensures pieces { pieces byte text.now ≡ result.0.now ∷ rest_pieces byte (option_copied result.1) }
     ensures shorter { rest_length (option_copied result.1) ≤ length text.now }
 {
     match find(text, byte) {

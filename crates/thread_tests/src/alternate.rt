@@ -1,5 +1,5 @@
 //! A producer and a consumer over one full/empty word, whose requests alternate.
-use crate::runs::{Came, Way, run_under};
+use crate::runs::{Came, run_under};
 use crate::turns::Turns;
 use memory_lock::Gate;
 use std::process::Abort;
@@ -10,9 +10,9 @@ use std::time::Clock;
 use tag_memory::Word;
 
 /// Processor 0 puts 1 to 10 into word 0, one after the other; processor 1 takes them, adds them up, and stores the
-/// sum in word 1.
-const PUT_AND_TAKE: &str = ".slim 1\n.entry 0\n.entry c\nLIT r1, 1\n\
-    STORE.S r1, r0, 0 | ADD r1, r1, 1\nSUB.T r0, r1, 11\nSKIP NE, 0, -3\nQUIT\n\
+/// sum in word 1. A processor that begins at `q` ends at once.
+const PUT_AND_TAKE: &str = "LIT r1, 1\n\
+    STORE.S r1, r0, 0 | ADD r1, r1, 1\nSUB.T r0, r1, 11\nSKIP NE, 0, -3\nq: QUIT\n\
     c: LIT r3, 10\nLOAD.S r4, r0, 0 | SUB.T r3, r3, 1\nADD r5, r5, r4\nSKIP NE, 0, -3\n\
     STORE.N r5, r0, 1\nQUIT\n.data 0, 0\n.data 0\n";
 
@@ -51,25 +51,30 @@ impl<'c, C: Clock> Gate for AlternateGate<'c, C> {
 }
 
 /// What a run with alternating requests came to; none where a processor waited in vain.
-fn alternated<R: AllocGlobal + Clock + Threads + Wait + Sync>(rt: &R, way: Way) -> Option<Came> {
+fn alternated<R: AllocGlobal + Clock + Threads + Wait + Sync>(
+    rt: &R,
+    entries: &str,
+) -> Option<Came> {
     let gate = AlternateGate::new(rt);
-    let came = run_under(rt, PUT_AND_TAKE, 100, &gate, way);
+    let came = run_under(rt, entries, PUT_AND_TAKE, 100, &gate);
     if gate.turns.ran_out() { None } else { came }
 }
 
 /// Asserts that no request was blocked: there were ten puts, ten takes and a store. Processor 0 takes 32 steps,
-/// processor 1 takes 33.
-fn assert_never_blocked(rt: &impl Abort, came: Option<Came>) {
+/// processor 1 takes 33, so they are 65 together, and more where there is a third.
+fn assert_never_blocked(rt: &impl Abort, came: Option<Came>, steps: usize) {
     let Some(came) = came else {
         assert!(rt; false, "refused, or waited in vain");
         return;
     };
-    assert!(rt; (came.requests, came.steps, came.alternating) == (21, 65, ALTERNATING));
+    assert!(rt; (came.requests, came.steps, came.alternating) == (21, steps, ALTERNATING));
     assert!(rt; came.second == Word::from_number(55, 1));
 }
 
 #[test]
 fn alternate_requests_are_never_blocked(rt: HostRuntime) {
-    assert_never_blocked(&rt, alternated(&rt, Way::Lock));
-    assert_never_blocked(&rt, alternated(&rt, Way::Turns));
+    let in_turn = alternated(&rt, ".slim 1\n.entry 0\n.entry c\n");
+    assert_never_blocked(&rt, in_turn, 65);
+    let through_the_lock = alternated(&rt, ".slim 1\n.entry 0\n.entry c\n.entry q\n");
+    assert_never_blocked(&rt, through_the_lock, 66);
 }

@@ -13,6 +13,10 @@ mod counting;
 #[cfg(test)]
 mod gates;
 #[cfg(test)]
+mod limits;
+#[cfg(test)]
+mod logs;
+#[cfg(test)]
 mod ports;
 #[cfg(test)]
 mod runs;

@@ -6,24 +6,17 @@ use image_file::Image;
 use memory_lock::{FreeGate, Gate, LockPort, NoRoom, Port, SharedMemory, drive};
 use processor::Recorded;
 use std::alloc::Global;
-use std::sync::atomic::{AtomicU64, Ordering};
 use std::sync::{Mutex, Wait};
 use tag_memory::{Reply, Request};
 
 /// Adds, and adds what it read.
-const ADDING: &str =
-    ".slim 1\n.entry 0\nLIT r1, 2\nFADD.N r1, r0, 0\nADD r1, r1, 1\nFADD.N r1, r0, 0\n\
+const ADDING: &str = "LIT r1, 2\nFADD.N r1, r0, 0\nADD r1, r1, 1\nFADD.N r1, r0, 0\n\
     FADD.N r1, r0, 0\nQUIT\n.data 5\n";
 
-/// Stream 0 starts stream 1, which stores; then stream 0 loads, and both end.
-const OF_TWO_STREAMS: &str =
-    ".slim 2\n.entry 0\nLIT r1, 1\nRESERVE r2, r1\nTLIT t1, c\nCREATE t1, r1\nLOAD.S r3, r0, 0\nQUIT\n\
-    c: STORE.S r1, r0, 0\nQUIT\n.data 0, 0\n";
-
-/// A port that replies as its table says, and refuses past its end.
+/// A port that replies as its table says, and refuses where that says none, and past its end.
 #[derive(Drop)]
 struct TablePort<'t> {
-    replies: &'t [Reply],
+    replies: &'t [Option<Reply>],
     refused: bool,
 }
 
@@ -44,7 +37,10 @@ impl<'t> Port for TablePort<'t> {
             return Err(NoRoom);
         };
         self.replies = rest;
-        Ok(*first)
+        if first.is_none() {
+            self.refused = true;
+        }
+        first.ok_or(NoRoom)
     }
 
     fn refused(&self) -> bool {
@@ -89,89 +85,38 @@ fn seen(record: &Recorded<2>) -> (usize, usize, Option<u64>, bool) {
     )
 }
 
-/// Whether a drive takes all replies, and ends where they do.
-fn is_driven_by<R: Wait>(rt: &R, record: &mut Recorded<2>, replies: &[Reply]) -> bool {
-    let mut port = TablePort {
-        replies,
-        refused: false,
-    };
-    let is_driven = is_driven(rt, record, &mut port, &FreeGate);
-    port.replies.is_empty() && is_driven != port.refused
-}
-
-/// Whether a drive is refused behind the first two requests, and a later one goes on from there.
+/// Whether a drive is refused behind the first two requests, and a later one through the same port asks again and goes
+/// on to the end.
 fn goes_on<R: AllocGlobal + Wait>(rt: &R, image: &Image) -> Option<bool> {
     let mut record = record_of(rt.alloc(), image)?;
+    let mut port = TablePort {
+        replies: &[
+            Some(Reply::Done(5)),
+            Some(Reply::Done(7)),
+            None,
+            Some(Reply::Blocked(0)),
+            Some(Reply::Done(14)),
+        ],
+        refused: false,
+    };
     // r1 is 5, and 5 + 1; then 7
-    let is_refused = is_driven_by(rt, &mut record, &[Reply::Done(5), Reply::Done(7)])
+    let is_refused = !is_driven(rt, &mut record, &mut port, &FreeGate)
+        && port.refused
         && seen(&record) == (4, 2, Some(7), true);
-    let is_ended = is_driven_by(rt, &mut record, &[Reply::Blocked(0), Reply::Done(14)])
+    let is_ended = is_driven(rt, &mut record, &mut port, &FreeGate)
+        && port.replies.is_empty()
         && seen(&record) == (7, 4, Some(0), false);
     Some(is_refused && is_ended)
 }
 
 #[test]
 fn a_refused_request_ends_a_drive_and_is_asked_again(rt: HostRuntime) {
-    let image = image_of(rt.alloc(), ADDING);
+    let image = image_of(rt.alloc(), ".slim 1\n.entry 0\n", ADDING);
     let goes = match &image {
         Some(image) => goes_on(&rt, image),
         None => None,
     };
     assert!(rt; goes == Some(true));
-}
-
-/// Writes down what it is told: a digit for a call, 1 and 2 for a local step of stream 0 and 1, 3 and 4 before a request,
-/// 5 and 6 after it.
-#[derive(Drop)]
-struct ToldGate {
-    digits: AtomicU64,
-}
-
-impl ToldGate {
-    fn add(&self, digit: u8) {
-        let digits = self.digits.load(Ordering::SeqCst);
-        let longer = digits.wrapping_mul(10).wrapping_add(u64::from(digit));
-        self.digits.store(longer, Ordering::SeqCst);
-    }
-}
-
-impl Gate for ToldGate {
-    fn local<R: Wait>(&self, _rt: &R, _p: u8, s: u8) {
-        self.add(s.wrapping_add(1));
-    }
-
-    fn before<R: Wait>(&self, _rt: &R, _p: u8, s: u8) {
-        self.add(s.wrapping_add(3));
-    }
-
-    fn after<R: Wait>(&self, _rt: &R, _p: u8, s: u8) {
-        self.add(s.wrapping_add(5));
-    }
-}
-
-/// What a gate is told of a run of two streams.
-fn told<R: AllocGlobal + Wait>(rt: &R, image: &Image) -> Option<u64> {
-    let mut record = record_of(rt.alloc(), image)?;
-    let gate = ToldGate {
-        digits: AtomicU64::new(0),
-    };
-    let mut port = TablePort {
-        replies: &[Reply::Done(0), Reply::Done(1)],
-        refused: false,
-    };
-    let is_driven = is_driven(rt, &mut record, &mut port, &gate);
-    let digits = gate.digits.load(Ordering::SeqCst);
-    if is_driven { Some(digits) } else { None }
-}
-
-#[test]
-fn a_gate_is_told_which_stream_steps(rt: HostRuntime) {
-    let image = image_of(rt.alloc(), OF_TWO_STREAMS);
-    let told = match &image {
-        Some(image) => told(&rt, image),
-        None => None,
-    };
-    assert!(rt; told == Some(1_111_463_521));
 }
 
 /// What a drive leaves where the memory behind a lock has no room for an entry.
@@ -190,7 +135,7 @@ fn left_without_room<R: AllocGlobal + Wait>(
 
 #[test]
 fn a_memory_without_room_ends_a_drive(rt: HostRuntime) {
-    let image = image_of(rt.alloc(), ADDING);
+    let image = image_of(rt.alloc(), ".slim 1\n.entry 0\n", ADDING);
     let left = match &image {
         Some(image) => left_without_room(&rt, image),
         None => None,

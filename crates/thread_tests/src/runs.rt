@@ -1,20 +1,11 @@
 //! Runs of all processors at once, and what is gathered of them.
 use asm_text::assemble;
 use image_file::Image;
-use memory_lock::{Gate, Woven, threaded, threaded_by_lock};
+use memory_lock::{Gate, Woven, threaded};
 use std::alloc::Global;
 use std::sync::Wait;
 use std::thread::Threads;
 use tag_memory::Word;
-
-/// How processors reach the memory.
-#[derive(Clone, Copy)]
-pub(crate) enum Way {
-    /// Through a lock.
-    Lock,
-    /// In turn, where they are two.
-    Turns,
-}
 
 /// What a run came to: how many requests and steps it had, how many of the first requests were of processors 0 and 1 in
 /// turn, and its second word.
@@ -26,23 +17,12 @@ pub(crate) struct Came {
     pub(crate) second: Option<Word>,
 }
 
-/// The image of a source text; none where it has a fault.
-pub(crate) fn image_of(alloc: Global, source: &str) -> Option<Image> {
+/// The image of a source text in two pieces; none where it has a fault.
+pub(crate) fn image_of(alloc: Global, head: &str, program: &str) -> Option<Image> {
+    let mut source = String::new(alloc);
+    source.push_str(head).ok()?;
+    source.push_str(program).ok()?;
     assemble(alloc, source.as_bytes()).ok()
-}
-
-fn woven_of<'i, R: Threads + Wait + Sync, G: Gate + Sync>(
-    rt: &R,
-    alloc: Global,
-    image: &'i Image,
-    fuel: usize,
-    gate: &G,
-    way: Way,
-) -> Option<Woven<'i, 1>> {
-    match way {
-        Way::Lock => threaded_by_lock(rt, alloc, image, fuel, gate).ok(),
-        Way::Turns => threaded(rt, alloc, image, fuel, gate).ok(),
-    }
 }
 
 fn alternating(woven: &Woven<1>) -> usize {
@@ -65,15 +45,16 @@ fn came_to(woven: &Woven<1>) -> Came {
     }
 }
 
-/// What a run of a program came to, whose processors have one stream; none where it was refused.
+/// What a run of a program came to, whose processors, one for each line of `entries`, have one stream; none where it was
+/// refused. Two processors ask in turn, others go through a lock.
 pub(crate) fn run_under<R: AllocGlobal + Threads + Wait + Sync, G: Gate + Sync>(
     rt: &R,
-    source: &str,
+    entries: &str,
+    program: &str,
     fuel: usize,
     gate: &G,
-    way: Way,
 ) -> Option<Came> {
-    let image = image_of(rt.alloc(), source)?;
-    let woven = woven_of(rt, rt.alloc(), &image, fuel, gate, way)?;
+    let image = image_of(rt.alloc(), entries, program)?;
+    let woven = threaded(rt, rt.alloc(), &image, fuel, gate).ok()?;
     Some(came_to(&woven))
 }

@@ -14,8 +14,8 @@ use Rattle.text_parts.specs.declared.numbers.Number.{Number}
 use Rattle.trace_text.specs.ScheduleLines.{fields_of, decimal_number, values, values_in, values_of}
 use Rattle.trace_text.specs.Fields.{times_in}
 use Rattle.trace_text.specs.LineNumbers.{numbers_from}
-use Rattle.text_parts.specs.Parts.{rest_parts}
-use Rattle.text_parts.proofs.Pieces.{parts_cut, one_part}
+use Rattle.text_parts.specs.Pieces.{rest_pieces}
+use Rattle.text_parts.proofs.Pieces.{pieces_cut, one_part}
 
 values-none_last : (p s : Option ℕ) → values p s None ≡ None
 values-none_last None s = refl
@@ -53,13 +53,13 @@ third : (p s digits : List ℕ)
     → values_in (p ∷ s ∷ fields_of digits) ≡ values (decimal_number p) (decimal_number s) (decimal_number digits)
 third p s digits = ⊎_elim
     (λ h. third-found p s digits _ _ (no_number-space digits h) (slice_split_first (λ b. b == 32) digits 0 h) _ _
-    (parts_cut 32 (drop (position_or_len (λ b. b == 32) digits + 1) digits)))
+    (pieces_cut 32 (drop (position_or_len (λ b. b == 32) digits + 1) digits)))
     (λ h. ap (λ fs. values_in (p ∷ s ∷ fs)) (one_part 32 digits h))
     (cases_lt (position_or_len (λ b. b == 32) digits) (length digits))
 
 -- a line of two fields, with a third or not
 values_of-two : (line rest p s : List ℕ) (third_field : Option (List ℕ)) → fields_of line ≡ p ∷ fields_of rest
-    → fields_of rest ≡ s ∷ rest_parts 32 third_field
+    → fields_of rest ≡ s ∷ rest_pieces 32 third_field
     → values_of line ≡ values (decimal_number p) (decimal_number s) (times_in third_field)
 unfolding values_of
 values_of-two line rest p s None e e' = ap values_in (e ∙ ap (λ fs. p ∷ fs) e')
@@ -85,7 +85,7 @@ three_numbers (Some p) (Some s) (Some n) x y z a b c = cc
 -- What is read of a line of two fields, with a third or not.
 
 module _ (line rest p s : List ℕ) (third_field : Option (List ℕ)) (first : fields_of line ≡ p ∷ fields_of rest)
-    (second : fields_of rest ≡ s ∷ rest_parts 32 third_field) where
+    (second : fields_of rest ≡ s ∷ rest_pieces 32 third_field) where
   two : option_map numbers_from (values_of line)
       ≡ option_map numbers_from (values (decimal_number p) (decimal_number s) (times_in third_field))
   two = ap (option_map numbers_from) (values_of-two line rest p s third_field first second)

@@ -8,7 +8,7 @@ use Rattle.tag_memory.specs.declared.requests.MemOp.{MemOp}
 use Rattle.tag_memory.specs.declared.requests.MemOp.TheVariants as op
 use Rattle.tag_memory.specs.declared.requests.Acc.{Acc}
 use Rattle.tag_memory.specs.declared.requests.Acc.TheVariants as acc
-use Rattle.tag_memory.specs.declared.requests.Masked.{Masked}
+use Rattle.tag_memory.specs.declared.requests.RequestMask.{RequestMask}
 use Rattle.tag_memory.specs.declared.requests.Request.{Request}
 use Rattle.tag_memory.specs.declared.requests.Reply.{Reply}
 use Rattle.tag_memory.specs.declared.requests.Reply.TheVariants as reply
@@ -41,7 +41,7 @@ acc_number acc.Future = 2
 acc_number acc.Sync = 3
 
 -- the trap bits that are passed over, as a number
-abbrev pub masked_number : Masked → ℕ
+abbrev pub masked_number : RequestMask → ℕ
 masked_number m = (if m.trap0 then 1 else 0) + (if m.trap1 then 2 else 0)
 
 -- the operation, the pointer and the access field

@@ -5,6 +5,7 @@ use Rattle.std.specs.List.{flat_map}
 use Rattle.text_parts.specs.Runs.{Run, runs_of}
 use Rattle.processor.specs.declared.steps.Step.{Step}
 
+-- whether two steps are of the same stream
 abbrev pub same_step : Step → Step → Bool
 same_step t u = t.p == u.p && t.s == u.s
 
@@ -12,6 +13,7 @@ same_step t u = t.p == u.p && t.s == u.s
 abbrev pub step_runs : List Step → List (Run Step)
 step_runs steps = runs_of same_step steps
 
+-- a run of so many steps; none of no step
 abbrev pub rest_of : Step → ℕ → List (Run Step)
 rest_of t n = if n == 0 then [] else record { thing = t; times = n } ∷ []
 
@@ -21,6 +23,7 @@ run_parts r =
     replicate (r.times / 1000000) (record { thing = r.thing; times = 1000000 })
     ++ rest_of r.thing (r.times % 1000000)
 
+-- the line of a run of steps: processor, stream, how often
 unfoldable pub schedule_line : Run Step → List ℕ
 schedule_line r = decimal r.thing.p ++ codes " " ++ decimal r.thing.s ++ codes " " ++ decimal r.times ++ codes "\n"
 

@@ -21,6 +21,7 @@ schedule_line_fault before None = Some Form
 schedule_line_fault before (Some v) =
     if is_within v then (if nat_le (before + v.times) 1000000 then None else Some Limit) else Some Number
 
+-- the fault of a line, or where it has none a later one
 abbrev pub on_line : ℕ → Option ScheduleFaultKind → Option ScheduleFault → Option ScheduleFault
 on_line line None later = later
 on_line line (Some kind) later = Some (record { line = line; kind = kind })

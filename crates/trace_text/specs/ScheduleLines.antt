@@ -1,6 +1,6 @@
 -- A line of a schedule: `p s` or `p s n`.
 use Rattle.std.specs.Prelude.{ℕ, Bool, nat_le, ◌&&◌, List, [], ◌∷◌, Option, Some, None, replicate}
-use Rattle.text_parts.specs.Parts.{parts}
+use Rattle.text_parts.specs.Pieces.{pieces}
 use Rattle.text_parts.specs.Reading.{number_of_digits}
 use Rattle.processor.specs.declared.steps.Step.{Step}
 
@@ -10,14 +10,15 @@ pub record LineValues : Type 0 where
   pub stream : ℕ
   pub times : ℕ
 
--- the parts between single spaces
+-- the pieces between single spaces
 abbrev pub fields_of : List ℕ → List (List ℕ)
-fields_of line = parts 32 line
+fields_of line = pieces 32 line
 
 -- decimal digits, and nothing else
 abbrev pub decimal_number : List ℕ → Option ℕ
 decimal_number digits = number_of_digits 10 digits
 
+-- the three numbers of a line, where it has all of them
 abbrev pub values : Option ℕ → Option ℕ → Option ℕ → Option LineValues
 values (Some p) (Some s) (Some n) = Some (record { processor = p; stream = s; times = n })
 values _ _ _ = None
@@ -36,6 +37,7 @@ values_of line = values_in (fields_of line)
 abbrev pub is_within : LineValues → Bool
 is_within v = (nat_le v.processor 255 && nat_le v.stream 255) && (nat_le 1 v.times && nat_le v.times 1000000)
 
+-- the step that a line names
 abbrev pub step_of : LineValues → Step
 step_of v = record { p = v.processor; s = v.stream }
 

@@ -19,6 +19,7 @@ schedule_fault text = fault_from 1 0 (values_by_line text)
 unfoldable pub schedule_steps : List ℕ → List Step
 schedule_steps text = flat_map steps_on (values_by_line text)
 
+-- the steps, or the fault where there is one
 abbrev pub unless_fault : Option ScheduleFault → List Step → Result (List Step) ScheduleFault
 unless_fault None steps = Ok steps
 unless_fault (Some fault) steps = Err fault

@@ -7,6 +7,7 @@ use Rattle.stream_core.specs.Traps.{trap_number}
 use Rattle.stream_core.specs.declared.steps.Outcome.{Outcome}
 use Rattle.stream_core.specs.declared.steps.Outcome.TheVariants.{Skipped, Done, Blocked, Trapped, Stopped}
 
+-- the name of each outcome
 unfoldable pub outcome_text : Outcome → List ℕ
 outcome_text Skipped = codes "SKIPPED"
 outcome_text Done = codes "DONE"
@@ -23,5 +24,6 @@ place_text n t =
 abbrev pub result_text : ℕ → Outcome → List ℕ
 result_text pc o = hexadecimal_8 pc ++ codes " " ++ outcome_text o ++ codes "\n"
 
+-- the trace line of a step: its number, its stream, the pc and the outcome
 unfoldable pub trace_line_of : ℕ → Step → ℕ → Outcome → List ℕ
 trace_line_of n t pc o = place_text n t ++ result_text pc o

@@ -13,6 +13,7 @@ use Rattle.processor.specs.World.{World}
 
 -- Streams.
 
+-- the line above a stream's text
 unfoldable pub stream_line : ℕ → ℕ → List ℕ
 stream_line p s = codes "stream " ++ decimal p ++ codes " " ++ decimal s ++ codes "\n"
 
@@ -27,11 +28,13 @@ stream_parts p s (v ∷ vs) = stream_part p s v ++ stream_parts p (s + 1) vs
 
 -- Processors.
 
+-- the line of a processor and its counts
 unfoldable pub processor_line : ℕ → ProcessorValue → List ℕ
 processor_line p d =
-    codes "processor " ++ decimal p ++ codes " scur " ++ decimal d.current
-    ++ codes " sres " ++ decimal d.reserved ++ codes "\n"
+    codes "processor " ++ decimal p ++ codes " scur " ++ decimal d.scur
+    ++ codes " sres " ++ decimal d.sres ++ codes "\n"
 
+-- the text of a processor: its line and its streams
 abbrev pub processor_part : ℕ → ProcessorValue → List ℕ
 processor_part p d = processor_line p d ++ stream_parts p 0 d.streams
 
@@ -42,6 +45,7 @@ processor_parts p (d ∷ ds) = processor_part p d ++ processor_parts (p + 1) ds
 
 -- Words.
 
+-- the line of a word of the memory
 unfoldable pub cell_line : ℕ → Cell → List ℕ
 cell_line address c =
     codes "cell " ++ hexadecimal_12 address ++ codes " " ++ hexadecimal_16 c.value
@@ -59,5 +63,6 @@ changes k m (c ∷ cs) = change (8 * k) c (cell_at m (8 * k)) ++ changes (k + 1)
 
 -- The world of a machine that was loaded from this image.
 
+-- the text of a world: its processors, and the words that are not the image's
 unfoldable pub world_text_of : ImageValue → World → List ℕ
 world_text_of image w = processor_parts 0 w.processors ++ changes 0 w.memory image.cells

@@ -11,7 +11,7 @@ use arrayvec::ArrayString;
 use processor::{Entry, Step};
 use std::alloc::{AllocError, Global};
 use stream_core::trap_of;
-use tag_memory::{Acc, Masked, MemOp, Reply, Request};
+use tag_memory::{Acc, MemOp, Reply, Request, RequestMask};
 use text_parts::{add_hexadecimal, add_two_digits};
 
 /// The most bytes of a line.
@@ -139,7 +139,7 @@ fn acc_number(acc: Acc) -> u8
 }
 
 /// The trap bits that are passed over as a number, 0 to 3: trap0 counts 1 and trap1 counts 2.
-fn masked_number(masked: Masked) -> u8
+fn masked_number(masked: RequestMask) -> u8
     ensures { result ≡ masked_number masked }
 {
     u8::from(masked.trap0) + 2 * u8::from(masked.trap1)

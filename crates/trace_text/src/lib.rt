@@ -9,6 +9,7 @@ mod runs;
 mod schedule_fault;
 mod schedules;
 mod trace_lines;
+mod world_readers;
 mod world_texts;
 mod written_schedules;
 
@@ -18,5 +19,6 @@ pub use rounds::round_schedule;
 pub use schedule_fault::{ScheduleFault, ScheduleFaultKind};
 pub use schedules::read_schedule;
 pub use trace_lines::{push_trace_line, trace_line};
-pub use world_texts::world_text;
+pub use world_readers::WorldReaders;
+pub use world_texts::{world_text, world_text_of_readers};
 pub use written_schedules::write_schedule;

@@ -2,10 +2,12 @@
 
 ghost use Rattle.std.specs.Prelude.{◌≡◌, ◌++◌, ◌<◌, ◌≤◌, length, slice_get, IfOk, OnOk, string_bytes};
 ghost use Rattle.std.specs.Option.{option_copied};
+ghost use Rattle.machine.specs.MachineValue.{IsMachine};
 ghost use Rattle.trace_text.specs.WorldTexts.{stream_parts, processor_parts, cell_line, change, changes};
 ghost use Rattle.trace_text.specs.WorldTexts.{world_text_of};
 ghost use Rattle.trace_text.specs.WorldParts.{stream_part_at, processor_part_at, streams_of};
 
+use crate::world_readers::WorldReaders;
 use image_file::Image;
 use machine::Machine;
 use std::alloc::{AllocError, Global};
@@ -26,59 +28,94 @@ pub fn world_text<const S: usize>(
     requires { machine.now.image ≡ image.now }
     ensures { IfOk result (λ text. string_bytes text ≡ world_text_of image.now machine.now.world) }
 {
+    text_by_readers(alloc, machine, machine.image(), image.cells())
+}
+
+/// The same of any readers of a world: it has a processor for each entry of the image, each with as many streams as
+/// the image says.
+#[tactic(auto, unfolding(crate::specs::WorldTexts::world_text_of))]
+pub fn world_text_of_readers<T: WorldReaders>(
+    alloc: Global,
+    readers: &T,
+    image: &Image,
+) -> Result<String, AllocError>
+    requires { IsMachine T.room (record { image = image.now; world = T.world readers.now }) }
+    ensures { IfOk result (λ text. string_bytes text ≡ world_text_of image.now (T.world readers.now)) }
+{
+    text_by_readers(alloc, readers, image, image.cells())
+}
+
+/// The text of a world that has the image's processors: these, and the words that differ from these cells.
+fn text_by_readers<T: WorldReaders>(
+    alloc: Global,
+    readers: &T,
+    image: &Image,
+    cells: &[Word],
+) -> Result<String, AllocError>
+    requires shape { IsMachine T.room (record { image = image.now; world = T.world readers.now }) }
+    requires few { length cells.now ≤ 262144 }
+    ensures { IfOk result (λ text. string_bytes text
+        ≡ processor_parts 0 (T.world readers.now).processors ++ changes 0 (T.world readers.now).memory cells.now) }
+{
     let mut text = String::new(alloc);
-    push_processors(alloc, &mut text, machine)?;
-    push_changes(&mut text, machine, image.cells())?;
+    push_processors(alloc, &mut text, readers, image)?;
+    push_changes(&mut text, readers, cells)?;
     Ok(text)
 }
 
-/// Appends the processors of a machine.
-fn push_processors<const S: usize>(
+/// Appends the processors of a world.
+fn push_processors<T: WorldReaders>(
     alloc: Global,
     text: &mut String,
-    machine: &Machine<S>,
+    readers: &T,
+    image: &Image,
 ) -> Result<(), AllocError>
+    requires { IsMachine T.room (record { image = image.now; world = T.world readers.now }) }
     ensures { OnOk result
-        (string_bytes text.new ≡ string_bytes text.old ++ processor_parts 0 machine.now.world.processors) }
+        (string_bytes text.new ≡ string_bytes text.old ++ processor_parts 0 (T.world readers.now).processors) }
 {
-    let count = machine.image().processors() as u8;
+    let count = image.processors() as u8;
     for p in 0..count {
-        push_processor(alloc, text, machine, p)?;
+        push_processor(alloc, text, readers, image, p)?;
     }
     Ok(())
 }
 
 /// Appends a processor's counts and streams.
 #[tactic(auto, unfolding(crate::specs::WorldTexts::processor_line))]
-fn push_processor<const S: usize>(
+fn push_processor<T: WorldReaders>(
     alloc: Global,
     text: &mut String,
-    machine: &Machine<S>,
+    readers: &T,
+    image: &Image,
     p: u8,
 ) -> Result<(), AllocError>
-    ensures { let processor = slice_get machine.now.world.processors p in
+    requires { IsMachine T.room (record { image = image.now; world = T.world readers.now }) }
+    ensures { let processor = slice_get (T.world readers.now).processors p in
         OnOk result (string_bytes text.new ≡ string_bytes text.old ++ processor_part_at p processor) }
 {
-    let Some((current, reserved)) = machine.counts(p) else {
+    let Some((scur, sres)) = readers.counts(p) else {
         return Ok(());
     };
-    writeln!(text, "processor {p} scur {current} sres {reserved}")?;
-    push_streams(alloc, text, machine, p)
+    writeln!(text, "processor {p} scur {scur} sres {sres}")?;
+    push_streams(alloc, text, readers, image, p)
 }
 
 /// Appends the streams of a processor that are not idle.
-fn push_streams<const S: usize>(
+fn push_streams<T: WorldReaders>(
     alloc: Global,
     text: &mut String,
-    machine: &Machine<S>,
+    readers: &T,
+    image: &Image,
     p: u8,
 ) -> Result<(), AllocError>
+    requires { IsMachine T.room (record { image = image.now; world = T.world readers.now }) }
     ensures { OnOk result
-        (string_bytes text.new ≡ string_bytes text.old ++ stream_parts p 0 (streams_of machine.now.world p)) }
+        (string_bytes text.new ≡ string_bytes text.old ++ stream_parts p 0 (streams_of (T.world readers.now) p)) }
 {
-    let slim = machine.image().slim() as u8;
+    let slim = image.slim() as u8;
     for s in 0..slim {
-        push_stream(alloc, text, p, s, machine.stream(p, s))?;
+        push_stream(alloc, text, p, s, readers.stream(p, s))?;
     }
     Ok(())
 }
@@ -106,19 +143,19 @@ fn push_stream(
     text.push_str(&lines)
 }
 
-/// Appends the words of a machine that differ from these cells.
-fn push_changes<const S: usize>(
+/// Appends the words of a world that differ from these cells.
+fn push_changes<T: WorldReaders>(
     text: &mut String,
-    machine: &Machine<S>,
+    readers: &T,
     cells: &[Word],
 ) -> Result<(), AllocError>
     requires { length cells.now ≤ 262144 }
     ensures { OnOk result
-        (string_bytes text.new ≡ string_bytes text.old ++ changes 0 machine.now.world.memory cells.now) }
+        (string_bytes text.new ≡ string_bytes text.old ++ changes 0 (T.world readers.now).memory cells.now) }
 {
     let mut address = 0;
     for cell in cells {
-        push_change(text, address, *cell, machine.word(address))?;
+        push_change(text, address, *cell, readers.word(address))?;
         address += 8;
     }
     Ok(())

@@ -1,17 +1,18 @@
 //! The largest image, to bytes and back.
 use image_file::{Image, read_image, write_image};
+use mta_engines::MAX_PROGRAM_WORDS;
 use std::alloc::Global;
-use tag_memory::{Tags, Word};
+use tag_memory::{MAX_WORDS, Tags, Word};
 
 /// Every number of it is at its limit.
 fn largest_image(alloc: Global) -> Option<Image> {
     let Ok(mut entries) = vec![in alloc; 65_535; 16] else {
         return None;
     };
-    let Ok(mut program) = vec![in alloc; 0x8010_0000_0000_0005; 65_536] else {
+    let Ok(mut program) = vec![in alloc; 0x8010_0000_0000_0005; MAX_PROGRAM_WORDS] else {
         return None;
     };
-    let Ok(mut cells) = vec![in alloc; Word::new(7, Tags::FULL); 262_144] else {
+    let Ok(mut cells) = vec![in alloc; Word::new(7, Tags::FULL); MAX_WORDS] else {
         return None;
     };
     match Image::from_parts(&mut entries, 128, 0, u32::MAX, &mut program, &mut cells) {

@@ -3,7 +3,7 @@ use asm_text::assemble;
 use image_file::Image;
 use processor::{Entry, Step};
 use std::alloc::Global;
-use tag_memory::{Acc, Masked, MemOp, Pointer, Reply, Request};
+use tag_memory::{Acc, MemOp, Pointer, Reply, Request, RequestMask};
 
 /// Processor 0 adds 3 to word 0, processor 1 stores 7 in word 1.
 pub(crate) const SOURCE: &str =
@@ -51,7 +51,7 @@ pub(crate) fn steps(alloc: Global) -> Option<Vec<Step>> {
 
 /// Its first request of the memory.
 pub(crate) fn first_entry() -> Entry {
-    let masked = Masked {
+    let masked = RequestMask {
         trap0: false,
         trap1: false,
     };

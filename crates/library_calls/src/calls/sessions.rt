@@ -4,6 +4,7 @@ use crate::calls::programs::{STEPS, steps};
 use debug_commands::{Answer, Command, DebugFault, answer_text};
 use image_file::Image;
 use machine::LoadFault;
+use processor::Step;
 use replay_debugger::{BeginFault, Session};
 use std::alloc::Global;
 
@@ -46,28 +47,30 @@ pub(crate) fn of_begin(alloc: Global, image: &Image) -> Ended {
     }
 }
 
-/// A session over the steps.
-fn session(alloc: Global, image: &Image) -> Option<Session<2>> {
-    let Some(steps) = steps(alloc) else {
-        return None;
-    };
-    match Session::begin(alloc, image, steps) {
-        Ok(session) => Some(session),
-        Err(_) => None,
-    }
-}
-
 /// All commands in one session.
 pub(crate) fn of_commands(alloc: Global, image: &Image) -> Ended {
-    match session(alloc, image) {
-        Some(mut session) => commands_ended(alloc, &mut session),
-        None => Ended::NotMade,
+    commands_of(alloc, image, steps(alloc), &COMMANDS)
+}
+
+/// Commands in one session over these steps, for which there may be no memory.
+pub(crate) fn commands_of(
+    alloc: Global,
+    image: &Image,
+    steps: Option<Vec<Step>>,
+    commands: &[(Command, &str)],
+) -> Ended {
+    let Some(steps) = steps else {
+        return Ended::NotMade;
+    };
+    match Session::begin(alloc, image, steps) {
+        Ok(mut session) => commands_ended(alloc, &mut session, commands),
+        Err(_) => Ended::NotMade,
     }
 }
 
-fn commands_ended(alloc: Global, session: &mut Session<2>) -> Ended {
+fn commands_ended(alloc: Global, session: &mut Session<2>, commands: &[(Command, &str)]) -> Ended {
     let mut ended = Ended::Done;
-    for (command, text) in &COMMANDS {
+    for (command, text) in commands {
         ended = ended.and(of_command(alloc, session, command, text));
     }
     ended

@@ -2,7 +2,7 @@
 use crate::calls::endings::Ended;
 use crate::calls::programs::{FUEL, STEPS};
 use image_file::Image;
-use memory_lock::{FreeGate, ThreadsFault, run_threads, threaded, threaded_by_lock};
+use memory_lock::{FreeGate, ThreadsFault, run_threads, threaded};
 use processor::Recorded;
 use shared_history::{GatherFault, Parts, PartsFault, SharedMemory, Woven, gather};
 use std::alloc::Global;
@@ -97,14 +97,5 @@ fn threaded_ended<'i>(alloc: Global, run: Result<Woven<'i, 2>, ThreadsFault<'i, 
 
 pub(crate) fn of_threaded<R: AllocGlobal + Threads + Wait + Sync>(rt: &R, image: &Image) -> Ended {
     let run = threaded(rt, rt.alloc(), image, FUEL, &FreeGate);
-    threaded_ended(rt.alloc(), run)
-}
-
-/// Through a lock, where no memory is taken for turns.
-pub(crate) fn of_threaded_through_lock<R: AllocGlobal + Threads + Wait + Sync>(
-    rt: &R,
-    image: &Image,
-) -> Ended {
-    let run = threaded_by_lock(rt, rt.alloc(), image, FUEL, &FreeGate);
     threaded_ended(rt.alloc(), run)
 }

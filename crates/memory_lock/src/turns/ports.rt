@@ -4,6 +4,7 @@ ghost use Rattle.std.specs.Prelude.{◌≡◌, ◌≤◌, ◌+◌, false, Some, 
 ghost use Rattle.processor.specs.Histories.{entry_by};
 ghost use Rattle.memory_lock.specs.Seats.{IsIdleSeat};
 
+use crate::back_off::BackOff;
 use crate::ports::Port;
 use crate::turns::asking::ask_in_turn;
 use crate::turns::rule::{TurnSeat, TurnTable};
@@ -14,31 +15,32 @@ use tag_memory::{Reply, Request};
 
 /// A type that names one table. Of a port that was lent no more is known than its type and what `Port` tells, so the
 /// type has to say at which table its seat is.
-pub trait Room {
+pub trait TableBrand {
     ghost use Rattle.atomic_table.specs.Seated.{TableId};
 
     /// The table.
     ghost table: { TableId };
 }
 
-impl Room for Brand {
+impl TableBrand for Brand {
     ghost use Rattle.memory_lock.specs.Seats.{no_table};
 
     ghost table = { no_table };
 }
 
-/// A thread's own way to the memory, with a seat at the table of its room. It asks for processor `N`, 0 or 1, alone,
+/// A thread's own way to the memory, with a seat at the table of its brand. It asks for processor `N`, 0 or 1, alone,
 /// and only so often. Contracts see how often it may still ask, the pairs that its seat made, and whether it was
 /// refused.
-pub struct TurnPort<'m, 'i, B: Room, const N: u8> {
+pub struct TurnPort<'m, 'i, B: TableBrand, const N: u8> {
     table: &'m TurnTable<'i>,
     seat: TurnSeat<'i>,
     left: u64,
     is_refused: bool,
-    room: PhantomData<B>,
+    back_off: BackOff,
+    brand: PhantomData<B>,
 }
 
-impl<'m, 'i, B: Room, const N: u8> Model for TurnPort<'m, 'i, B, N> {
+impl<'m, 'i, B: TableBrand, const N: u8> Model for TurnPort<'m, 'i, B, N> {
     ghost use Rattle.std.specs.Prelude.{◌≡◌, ◌≤◌, ◌+◌};
     ghost use Rattle.memory_lock.specs.Seats.{TurnPortValue, IsIdleSeat};
 
@@ -50,7 +52,7 @@ impl<'m, 'i, B: Room, const N: u8> Model for TurnPort<'m, 'i, B, N> {
         × (a.seat.me.0.own.asks + a.left ≤ 4294967295) };
 }
 
-impl<'m, 'i, B: Room, const N: u8> TurnPort<'m, 'i, B, N> {
+impl<'m, 'i, B: TableBrand, const N: u8> TurnPort<'m, 'i, B, N> {
     /// A port with this seat, which may ask so often and was not refused yet.
     pub fn new(table: &'m TurnTable<'i>, seat: TurnSeat<'i>, left: u64) -> TurnPort<'m, 'i, B, N>
         requires table { table.now.table_id ≡ B.table }
@@ -63,7 +65,8 @@ impl<'m, 'i, B: Room, const N: u8> TurnPort<'m, 'i, B, N> {
             seat,
             left,
             is_refused: false,
-            room: PhantomData,
+            back_off: BackOff::new(),
+            brand: PhantomData,
         }
     }
 
@@ -77,13 +80,14 @@ impl<'m, 'i, B: Room, const N: u8> TurnPort<'m, 'i, B, N> {
             seat,
             left: _,
             is_refused: _,
-            room: _,
+            back_off: _,
+            brand: _,
         } = self;
         seat
     }
 }
 
-impl<'m, 'i, B: Room, const N: u8> Port for TurnPort<'m, 'i, B, N> {
+impl<'m, 'i, B: TableBrand, const N: u8> Port for TurnPort<'m, 'i, B, N> {
     ghost made = { λ a. Some (map (entry_by N) a.made) };
 
     ghost is_refused = { λ a. a.is_refused };
@@ -93,7 +97,15 @@ impl<'m, 'i, B: Room, const N: u8> Port for TurnPort<'m, 'i, B, N> {
             self.is_refused = true;
             return Err(NoRoom);
         }
-        let reply = ask_in_turn(rt, self.table, &mut self.seat, p, s, request);
+        let reply = ask_in_turn(
+            rt,
+            self.table,
+            &mut self.seat,
+            &mut self.back_off,
+            p,
+            s,
+            request,
+        );
         self.left -= 1;
         if reply.is_err() {
             self.is_refused = true;

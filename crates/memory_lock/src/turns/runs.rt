@@ -3,15 +3,15 @@
 ghost use Rattle.std.specs.Prelude.{◌≡◌, ◌<◌, ◌≤◌, ◌+◌, ℕ, All, [], drop, length, slice_index_or};
 ghost use Rattle.processor.specs.Histories.{pairs_of};
 ghost use Rattle.memory_lock.specs.Driving.{IsGrown};
-ghost use Rattle.memory_lock.specs.Runs.{HaveRoom, IsRun};
+ghost use Rattle.memory_lock.specs.Runs.{HaveRoom, IsContinued, IsRunOfThreads};
 ghost use Rattle.memory_lock.specs.Seats.{IsSeatOf, first_view};
 ghost use Rattle.memory_lock.specs.TurnRuns.{HaveNewEntries};
 
 use crate::gates::Gate;
 use crate::threads::{Worker, run_by_lock};
 use crate::turns::pairs::drive_both;
-use crate::turns::ports::{Room, TurnPort};
-use crate::turns::rule::{Pair, TurnMemory, TurnSeat};
+use crate::turns::ports::{TableBrand, TurnPort};
+use crate::turns::rule::{TurnMemory, TurnSeat, TwoSeats};
 use crate::turns::tables::{close_table, open_table};
 use shared_history::{Parts, SharedMemory};
 use std::alloc::Global;
@@ -30,7 +30,7 @@ pub fn run_threads<'i, R: Threads + Wait + Sync, G: Gate + Sync, const S: usize>
     gate: &G,
 ) -> Parts<'i, S>
     requires room { HaveRoom parts }
-    ensures run { IsRun parts.entry result }
+    ensures run { IsRunOfThreads parts.entry result }
     ensures room_again { HaveRoom result }
     ensures entries { length parts.entry.records ≡ 2 → parts.entry.shared.history ≡ []
         → HaveNewEntries parts.entry result }
@@ -53,7 +53,7 @@ pub fn run_two<'i, R: Threads + Wait + Sync, G: Gate + Sync, const S: usize>(
     requires room { HaveRoom parts }
     requires two { length parts.records ≡ 2 }
     requires empty { parts.shared.history ≡ [] }
-    ensures run { IsRun parts.entry result }
+    ensures run { IsRunOfThreads parts.entry result }
     ensures room_again { HaveRoom result }
     ensures entries { HaveNewEntries parts.entry result }
 {
@@ -80,12 +80,14 @@ fn run_workers<'i, W: Worker + Send, R: Threads + Wait + Sync, G: Gate + Sync>(
     ensures made { (p : ℕ) (d : W) → p < 2 → pairs_of p result.history
         ≡ drop (length (W.value (slice_index_or workers.old p d)).pairs)
         (W.value (slice_index_or workers.new p d)).pairs }
+    ensures shared { IsContinued memory.entry result }
 {
     let (front, back) = workers.split_at_mut(1);
     run_pair(rt, alloc, memory, &mut front[0], &mut back[0], fuel, gate)
 }
 
-/// The same of two that are named.
+/// The same of two that are named. The ports' type names the table: which one that is, is picked with this call's proof
+/// once it is made (proofs/turns/runs/run_pair/Invariants.antt).
 fn run_pair<'i, W: Worker + Send, R: Threads + Wait + Sync, G: Gate + Sync>(
     rt: &R,
     alloc: Global,
@@ -102,15 +104,22 @@ fn run_pair<'i, W: Worker + Send, R: Threads + Wait + Sync, G: Gate + Sync>(
     ensures two_grown { IsGrown fuel (W.value two.old) (W.value two.new) }
     ensures one_made { pairs_of 0 result.history ≡ drop (length (W.value one.old).pairs) (W.value one.new).pairs }
     ensures two_made { pairs_of 1 result.history ≡ drop (length (W.value two.old).pairs) (W.value two.new).pairs }
+    ensures shared { IsContinued memory.entry result }
 {
     match open_table(alloc, memory) {
-        Ok((table, seat)) => run_at::<Brand, W, R, G>(rt, table, seat, one, two, fuel, gate),
+        Ok((table, seat)) => run_at_table::<Brand, W, R, G>(rt, table, seat, one, two, fuel, gate),
         Err(memory) => memory,
     }
 }
 
 /// The same at the table that the room names, each with a port that is made before it.
-fn run_at<'i, B: Room + Send, W: Worker + Send, R: Threads + Wait + Sync, G: Gate + Sync>(
+fn run_at_table<
+    'i,
+    B: TableBrand + Send,
+    W: Worker + Send,
+    R: Threads + Wait + Sync,
+    G: Gate + Sync,
+>(
     rt: &R,
     table: TurnMemory<'i>,
     mut seat: TurnSeat<'i>,
@@ -127,13 +136,14 @@ fn run_at<'i, B: Room + Send, W: Worker + Send, R: Threads + Wait + Sync, G: Gat
     ensures two_grown { IsGrown fuel (W.value two.old) (W.value two.new) }
     ensures one_made { pairs_of 0 result.history ≡ drop (length (W.value one.old).pairs) (W.value one.new).pairs }
     ensures two_made { pairs_of 1 result.history ≡ drop (length (W.value two.old).pairs) (W.value two.new).pairs }
+    ensures image { result.image ≡ table.entry.shared.key }
 {
-    let other = table.shared.split_seat::<Pair>(&mut seat);
+    let other = table.shared.split_seat::<TwoSeats>(&mut seat);
     let mut one_port = TurnPort::<B, 0>::new(&table.shared, seat, MOST_ASKS);
     let mut two_port = TurnPort::<B, 1>::new(&table.shared, other, MOST_ASKS);
     drive_both(rt, one, &mut one_port, two, &mut two_port, fuel, gate);
     let mut seat = one_port.into_seat();
     let other = two_port.into_seat();
-    table.shared.join_seat::<Pair>(&mut seat, other);
+    table.shared.join_seat::<TwoSeats>(&mut seat, other);
     close_table(table, seat)
 }

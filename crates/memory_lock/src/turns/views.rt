@@ -1,7 +1,16 @@
 //! What a seat at the table knows. No value of these types is made: they stand in proofs alone.
 
+use image_file::Image;
 use processor::{Asked, Entry};
 use std::collections::LinkedList;
+
+/// What a memory has behind it.
+pub struct Past {
+    /// The image whose memory it was at first.
+    pub image: Image,
+    /// What was asked of it since.
+    pub history: LinkedList<Entry>,
+}
 
 /// How far a call is.
 pub enum Stage {
@@ -9,8 +18,8 @@ pub enum Stage {
     Idle,
     /// It drew this ticket.
     Waits(u64),
-    /// Its ticket is served, and it has the memory, with the history that it found.
-    Holds(u64, LinkedList<Entry>),
+    /// Its ticket is served, and it has the memory, with the past that it found.
+    Holds(u64, Past),
 }
 
 /// What a processor did at the table.

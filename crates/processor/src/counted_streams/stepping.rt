@@ -10,7 +10,7 @@ use super::CountedStreams;
 use crate::steps::{FetchForm, Next, NextStep, StepFetch};
 use image_file::Image;
 use insn_word::{ReferenceInsn, ShortInsn};
-use stream_core::{Fetched, Outcome};
+use stream_core::{Fetch, Outcome};
 use tag_memory::{Memory, Reply, Request};
 
 impl<const S: usize> CountedStreams<S> {
@@ -18,7 +18,7 @@ impl<const S: usize> CountedStreams<S> {
     #[inline(always)]
     pub(crate) fn short_fetch(&self, image: &Image, place: usize) -> Option<ShortInsn>
         ensures { IfSome result (λ short. step_fetch_of image.now self.now place
-            ≡ Fetched.Runs (short_instruction short)) }
+            ≡ Fetch.Instruction (short_instruction short)) }
     {
         self.table.used(place)?.fetch_short(image.program())
     }
@@ -27,7 +27,7 @@ impl<const S: usize> CountedStreams<S> {
     #[inline(always)]
     fn reference_fetch(&self, image: &Image, place: usize) -> Option<ReferenceInsn>
         ensures { IfSome result (λ r. step_fetch_of image.now self.now place
-            ≡ Fetched.Runs (reference_instruction r)) }
+            ≡ Fetch.Instruction (reference_instruction r)) }
     {
         self.table.used(place)?.fetch_reference(image.program())
     }
@@ -41,7 +41,7 @@ impl<const S: usize> CountedStreams<S> {
         if let Some(short) = self.short_fetch(image, place) {
             return NextStep {
                 next: Next::Local,
-                fetched: StepFetch {
+                fetch: StepFetch {
                     form: FetchForm::Short(short),
                 },
             };
@@ -49,7 +49,7 @@ impl<const S: usize> CountedStreams<S> {
         if let Some(reference) = self.reference_fetch(image, place) {
             return NextStep {
                 next: Next::Ask(self.at(place).request_reference(&reference)),
-                fetched: StepFetch {
+                fetch: StepFetch {
                     form: FetchForm::Reference(reference),
                 },
             };
@@ -62,22 +62,22 @@ impl<const S: usize> CountedStreams<S> {
         ensures { result ≡ next_step_of image.now self.now place }
     {
         match self.step_fetch(image, place) {
-            Fetched::Rest => NextStep {
+            Fetch::Rest => NextStep {
                 next: Next::Skip,
-                fetched: StepFetch {
+                fetch: StepFetch {
                     form: FetchForm::Rest,
                 },
             },
-            Fetched::Trap(kind) => NextStep {
+            Fetch::Trap(kind) => NextStep {
                 next: Next::Local,
-                fetched: StepFetch {
+                fetch: StepFetch {
                     form: FetchForm::Trap(kind),
                 },
             },
-            Fetched::Runs(insn) => NextStep {
+            Fetch::Instruction(insn) => NextStep {
                 next: next_asking(self.at(place).request(&insn)),
-                fetched: StepFetch {
-                    form: FetchForm::Runs(insn),
+                fetch: StepFetch {
+                    form: FetchForm::Instruction(insn),
                 },
             },
         }
@@ -85,18 +85,13 @@ impl<const S: usize> CountedStreams<S> {
 
     /// Finishes the step of the stream of this number that begins with this and asks nothing of the memory.
     #[inline(always)]
-    pub(crate) fn finish_local(
-        &mut self,
-        image: &Image,
-        place: usize,
-        fetched: &StepFetch,
-    ) -> Outcome
+    pub(crate) fn finish_local(&mut self, image: &Image, place: usize, fetch: &StepFetch) -> Outcome
         requires counts { IsCounted self.old }
-        requires fetch { fetched.now ≡ step_fetch_of image.now self.old place }
+        requires fetch { fetch.now ≡ step_fetch_of image.now self.old place }
         requires local { request image.now self.old place ≡ None }
         ensures { (self.new, result) ≡ row image.now self.old place None }
     {
-        match &fetched.form {
+        match &fetch.form {
             FetchForm::Short(short) => {
                 self.execute_short(place, short);
                 Outcome::Done
@@ -104,7 +99,7 @@ impl<const S: usize> CountedStreams<S> {
             FetchForm::Rest => Outcome::Skipped,
             FetchForm::Trap(kind) => self.trap(place, *kind),
             FetchForm::Reference(_) => unreachable!(),
-            FetchForm::Runs(insn) => self.complete(image, place, insn, None),
+            FetchForm::Instruction(insn) => self.complete(image, place, insn, None),
         }
     }
 
@@ -114,19 +109,19 @@ impl<const S: usize> CountedStreams<S> {
         &mut self,
         image: &Image,
         place: usize,
-        fetched: &StepFetch,
+        fetch: &StepFetch,
         reply: Reply,
     ) -> Outcome
         requires counts { IsCounted self.old }
-        requires fetch { fetched.now ≡ step_fetch_of image.now self.old place }
+        requires fetch { fetch.now ≡ step_fetch_of image.now self.old place }
         requires asks { is_some (request image.now self.old place) ≡ true }
         ensures { (self.new, result) ≡ row image.now self.old place (Some reply) }
     {
-        match &fetched.form {
+        match &fetch.form {
             FetchForm::Reference(reference) => {
                 self.complete_reference(image, place, reference, reply)
             }
-            FetchForm::Runs(insn) => self.complete(image, place, insn, Some(reply)),
+            FetchForm::Instruction(insn) => self.complete(image, place, insn, Some(reply)),
             FetchForm::Rest | FetchForm::Trap(_) | FetchForm::Short(_) => unreachable!(),
         }
     }
@@ -155,9 +150,9 @@ impl<const S: usize> CountedStreams<S> {
         ensures { ((self.new, result), memory.new) ≡ row_over_memory image.now self.old place memory.old }
     {
         match self.step_fetch(image, place) {
-            Fetched::Rest => Outcome::Skipped,
-            Fetched::Trap(kind) => self.trap(place, kind),
-            Fetched::Runs(insn) => {
+            Fetch::Rest => Outcome::Skipped,
+            Fetch::Trap(kind) => self.trap(place, kind),
+            Fetch::Instruction(insn) => {
                 let request = self.at(place).request(&insn);
                 let reply = reply_of(memory, request);
                 self.complete(image, place, &insn, reply)

@@ -1,11 +1,11 @@
 //! The commands that go to another position.
 
 ghost use Rattle.std.specs.Prelude.{◌≡◌, ◌≤◌, length, IfOk, IfSome, OnOk, OnErr};
-ghost use Rattle.replay_debugger.specs.Looks.{IsLastBelow};
+ghost use Rattle.replay_debugger.specs.StopFinders.{IsLastBelow};
 ghost use Rattle.replay_debugger.specs.Table.{IsResultOf, stops_of};
 
 use crate::session::Session;
-use crate::stops::Stops;
+use crate::stop_finder::StopFinder;
 use debug_commands::{Answer, Command, DebugFault, Why};
 use std::alloc::AllocError;
 
@@ -45,7 +45,7 @@ impl<'i, const S: usize> Session<'i, S> {
             return Ok(Answer::At(end as u64, Why::End));
         }
         let alloc = self.checkpoints.allocator();
-        let mut stops = Stops::of(alloc, &self.points, &self.replay.machine)?;
+        let mut stops = StopFinder::of(alloc, &self.points, &self.replay.machine)?;
         let from = self.replay.position;
         let why = if self
             .replay
@@ -103,7 +103,7 @@ impl<'i, const S: usize> Session<'i, S> {
             return Ok((None, 0));
         };
         let alloc = self.checkpoints.allocator();
-        let mut stops = Stops::of(alloc, &self.points, &self.replay.machine)?;
+        let mut stops = StopFinder::of(alloc, &self.points, &self.replay.machine)?;
         let mut high = top;
         loop {
             let mut replay = self.checkpoints.nearest_below(high.saturating_sub(1))?;

@@ -16,7 +16,7 @@ use crate::arithmetic::{alu, code_of, value_of};
 use crate::conditions::holds;
 use crate::conversions::trap_of;
 use crate::status_words::{StatusWord, TrapMask};
-use crate::steps::{Fetched, Outcome, Plan};
+use crate::steps::{Fetch, Outcome, Plan};
 use crate::traps::TrapKind;
 use insn_word::{
     APart, CPart, Condition, ControlOp, Insn, MPart, MemoryOp, Profile, ReferenceInsn,
@@ -315,7 +315,7 @@ impl Stream {
         requires local { plan_of profile program.now self.old ≡ Plan.Local }
         ensures { (limit : ℕ) → (self.new, Outcome.Done) ≡ stream_row profile program.now limit self.old grant None }
     {
-        let Fetched::Runs(insn) = self.fetch(profile, program) else {
+        let Fetch::Instruction(insn) = self.fetch(profile, program) else {
             unreachable!();
         };
         self.execute(&insn, 0, grant);
@@ -333,7 +333,7 @@ impl Stream {
         requires asks { (q : Request) × (plan_of profile program.now self.old ≡ Plan.Ask q) }
         ensures { (self.new, result) ≡ stream_row profile program.now limit self.old grant (Some reply) }
     {
-        let Fetched::Runs(insn) = self.fetch(profile, program) else {
+        let Fetch::Instruction(insn) = self.fetch(profile, program) else {
             unreachable!();
         };
         self.reply(&insn, reply, limit, grant)

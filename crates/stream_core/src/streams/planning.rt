@@ -9,13 +9,13 @@ ghost use Rattle.stream_core.specs.StreamRow.{fetch_word, fetch_of, plan_of, con
 
 use super::Stream;
 use crate::conversions::{acc_of, operation_of};
-use crate::steps::{Child, Control, Fetched, Plan, Status};
+use crate::steps::{Child, Control, Fetch, Plan, Status};
 use crate::traps::TrapKind;
 use insn_word::{
     ControlOp, Insn, MPart, MemoryOp, Profile, ReferenceInsn, ReferenceOp, ReferencePart,
     ShortInsn, decode_as, decode_reference, decode_short,
 };
-use tag_memory::{Masked, MemOp, Pointer, Request};
+use tag_memory::{MemOp, Pointer, Request, RequestMask};
 
 /// Bits 0 to 3 of a register: the tags that TAGSET writes.
 const TAGS_WIDTH: u32 = 4;
@@ -29,17 +29,17 @@ impl Stream {
     /// instruction or the trap PROGRAM or ILLEGAL ("Traps", docs/MACHINE.md). One step needs one call: `request`,
     /// `control_of`, `execute` and `reply` go by its instruction.
     #[tactic(auto, unfolding(crate::specs::StreamRow::fetch_of))]
-    pub fn fetch(&self, profile: Profile, program: &[u64]) -> Fetched
+    pub fn fetch(&self, profile: Profile, program: &[u64]) -> Fetch
         ensures { result ≡ fetch_of profile program.now self.now }
     {
         if self.status != Status::Running {
-            return Fetched::Rest;
+            return Fetch::Rest;
         }
         match program.get(self.ssw.pc as usize) {
-            None => Fetched::Trap(TrapKind::Program),
+            None => Fetch::Trap(TrapKind::Program),
             Some(word) => match decode_as(profile, *word) {
-                None => Fetched::Trap(TrapKind::Illegal),
-                Some(insn) => Fetched::Runs(insn),
+                None => Fetch::Trap(TrapKind::Illegal),
+                Some(insn) => Fetch::Instruction(insn),
             },
         }
     }
@@ -49,7 +49,7 @@ impl Stream {
     #[inline(always)]
     pub fn fetch_short(&self, program: &[u64]) -> Option<ShortInsn>
         ensures { (p : Profile) → IfSome result (λ short. fetch_of p program.now self.now
-            ≡ Fetched.Runs (short_instruction short)) }
+            ≡ Fetch.Instruction (short_instruction short)) }
     {
         decode_short(self.fetch_word(program)?)
     }
@@ -58,7 +58,7 @@ impl Stream {
     #[inline(always)]
     pub fn fetch_reference(&self, program: &[u64]) -> Option<ReferenceInsn>
         ensures { (p : Profile) → IfSome result (λ r. fetch_of p program.now self.now
-            ≡ Fetched.Runs (reference_instruction r)) }
+            ≡ Fetch.Instruction (reference_instruction r)) }
     {
         decode_reference(self.fetch_word(program)?)
     }
@@ -108,10 +108,10 @@ impl Stream {
         let m = &reference.m;
         Request {
             op: operation_of(m.op),
-            pointer: moved(self.register(m.base), m.disp),
+            pointer: displaced_pointer(self.register(m.base), m.disp),
             acc: acc_of(m.acc),
             value: self.asked_value(m),
-            masked: Masked {
+            masked: RequestMask {
                 trap0: self.ssw.mask.trap0,
                 trap1: self.ssw.mask.trap1,
             },
@@ -136,10 +136,10 @@ impl Stream {
     {
         Request {
             op,
-            pointer: moved(self.register(m.base), m.disp),
+            pointer: displaced_pointer(self.register(m.base), m.disp),
             acc: acc_of(m.acc),
             value,
-            masked: Masked {
+            masked: RequestMask {
                 trap0: self.ssw.mask.trap0,
                 trap1: self.ssw.mask.trap1,
             },
@@ -183,9 +183,9 @@ impl Stream {
         ensures { result ≡ plan_of profile program.now self.now }
     {
         match self.fetch(profile, program) {
-            Fetched::Rest => Plan::Rest,
-            Fetched::Trap(kind) => Plan::Trap(kind),
-            Fetched::Runs(insn) => match self.request(&insn) {
+            Fetch::Rest => Plan::Rest,
+            Fetch::Trap(kind) => Plan::Trap(kind),
+            Fetch::Instruction(insn) => match self.request(&insn) {
                 None => Plan::Local,
                 Some(request) => Plan::Ask(request),
             },
@@ -199,15 +199,15 @@ impl Stream {
         ensures { result ≡ control_at profile program.now self.now }
     {
         match self.fetch(profile, program) {
-            Fetched::Runs(insn) => self.control_of(&insn),
-            Fetched::Rest | Fetched::Trap(_) => Control::Plain,
+            Fetch::Instruction(insn) => self.control_of(&insn),
+            Fetch::Rest | Fetch::Trap(_) => Control::Plain,
         }
     }
 }
 
 /// The effective pointer: so many words further, modulo 2^48, with the upper 16 bits as they are.
 #[inline(always)]
-fn moved(pointer: u64, words: i8) -> Pointer
+fn displaced_pointer(pointer: u64, words: i8) -> Pointer
     ensures { result ≡ displaced_pointer pointer words }
 {
     let bytes = i64::from(words) * WORD_BYTES;

@@ -6,6 +6,6 @@ use Rattle.asm_line.proofs.arguments.read_arguments.Goals as goal
 pub returns-in-Some-rest-2 : goal.returns-in-Some-rest-2
 returns-in-Some-rest-2 c =
     more_operands c.args.text.now _ _ _ _ _ _ _ _ _ (sym c.is_empty.ensures ∙ c.if-is_empty.false)
-    c.cut.ensures.parts (ap option_copied c.in-Some.is)
-    c.cut-2.ensures.parts (ap option_copied c.in-Some-rest.is)
-    c.cut-3.ensures.parts (ap option_copied c.in-Some-rest-2.is)
+    c.cut.ensures.pieces (ap option_copied c.in-Some.is)
+    c.cut-2.ensures.pieces (ap option_copied c.in-Some-rest.is)
+    c.cut-3.ensures.pieces (ap option_copied c.in-Some-rest-2.is)

@@ -1,7 +1,7 @@
 use Rattle.std.proofs.Common.{sym, ◌∙◌}
 use Rattle.std.specs.Option.{option_copied}
-use Rattle.text_parts.specs.Parts.{text_before}
-use Rattle.asm_line.specs.Seen.{line_seen}
+use Rattle.text_parts.specs.Pieces.{text_before}
+use Rattle.asm_line.specs.SourceLines.{line_seen}
 use Rattle.asm_line.proofs.CodeCut.{lines_cut, line_end_first, rest_is_shorter}
 use Rattle.asm_line.proofs.lines.next_source_line.Goals as goal
 

@@ -2,7 +2,7 @@ use Rattle.std.proofs.Common.{sym, subst, Result}
 use Rattle.std.specs.Prelude.{IfOk}
 use Rattle.asm_line.specs.Labels.{places_of}
 use Rattle.asm_line.specs.Ranges.{IsItemInRange}
-use Rattle.asm_line.specs.Seen.{line_seen}
+use Rattle.asm_line.specs.SourceLines.{line_seen}
 use Rattle.asm_line.specs.declared.fault.Fault.{Fault}
 use Rattle.asm_line.specs.declared.item.Item.{Item}
 use Rattle.asm_line.proofs.ItemRanges.{item_range}

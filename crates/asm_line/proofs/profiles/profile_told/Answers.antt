@@ -1,6 +1,6 @@
 use Rattle.std.proofs.Common.{sym, ◌∙◌, ap}
 use Rattle.std.specs.Prelude.{◌==◌, slice_index}
-use Rattle.asm_line.specs.Seen.{line_seen}
+use Rattle.asm_line.specs.SourceLines.{line_seen}
 use Rattle.asm_line.proofs.ProfileHeads.{other_first, other_second}
 use Rattle.asm_line.proofs.profiles.profile_told.Goals as goal
 

@@ -2,7 +2,7 @@ use Rattle.std.proofs.Common.{◌≡◌, ◌+◌, ◌≤◌, length}
 use Rattle.std.specs.Option.{option_copied}
 use Rattle.asm_line.specs.Lines.{lines, rest_lines}
 use Rattle.asm_line.specs.Labels.{places_of}
-use Rattle.text_parts.specs.Parts.{rest_length}
+use Rattle.text_parts.specs.Pieces.{rest_length}
 use Rattle.asm_text.specs.Drafts.{empty}
 use Rattle.asm_text.specs.Limits.{KeepsLimits}
 use Rattle.asm_text.specs.Sources.{with_lines}

@@ -1,8 +1,8 @@
 use Rattle.std.proofs.Common.{◌≡◌, ◌+◌, ◌∷◌, cond, ◌∙◌, ap, arith}
 use Rattle.std.specs.Option.{option_copied}
 use Rattle.asm_line.specs.Lines.{rest_lines}
-use Rattle.text_parts.specs.Parts.{rest_length}
-use Rattle.asm_line.specs.Seen.{line_seen}
+use Rattle.text_parts.specs.Pieces.{rest_length}
+use Rattle.asm_line.specs.SourceLines.{line_seen}
 use Rattle.asm_text.proofs.Standing.{labels_taken, labels_end, profile_taken, profile_end, words_taken, one_word}
 use Rattle.asm_text.proofs.Standing.{few_more, then_one, else_none}
 use Rattle.asm_text.proofs.source.outline_of.Goals as goal

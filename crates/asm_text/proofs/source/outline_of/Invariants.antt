@@ -3,7 +3,7 @@ use Rattle.std.specs.Option.{option_copied, option_or}
 use Rattle.asm_line.specs.Lines.{lines, place, count_words, rest_lines}
 use Rattle.asm_line.specs.Profiles.{profile_of}
 use Rattle.asm_line.specs.Labels.{places_of}
-use Rattle.text_parts.specs.Parts.{rest_length}
+use Rattle.text_parts.specs.Pieces.{rest_length}
 use Rattle.asm_text.proofs.Standing.{moved}
 use Rattle.asm_text.proofs.source.outline_of.Given as goal
 

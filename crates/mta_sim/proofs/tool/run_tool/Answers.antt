@@ -1,11 +1,11 @@
 use Rattle.std.proofs.Common.{◌≡◌, ◌∙◌, sym, Result, Ok, Err, OnOk, MatchResult, Some}
 use Rattle.command_line.specs.CommandLine.{CommandValue, debug_image, run_threads, value_of_command}
-use Rattle.mta_sim.specs.declared.status.Status.{Status}
-use Rattle.mta_sim.specs.declared.status.Status.TheVariants.{Done, Fault}
+use Rattle.mta_sim.specs.declared.status.ExitStatus.{ExitStatus}
+use Rattle.mta_sim.specs.declared.status.ExitStatus.TheVariants.{Done, Fault}
 use Rattle.mta_sim.proofs.tool.run_tool.Goals as goal
 
 -- a command of status Done ended well
-when_done : {A E P : Type 0} (r : Result A E) (s : Status) → MatchResult r (λ _. s ≡ Done) (λ _. s ≡ Fault) → s ≡ Done
+when_done : {A E P : Type 0} (r : Result A E) (s : ExitStatus) → MatchResult r (λ _. s ≡ Done) (λ _. s ≡ Fault) → s ≡ Done
     → OnOk r P → P
 when_done (Ok x) s told done h = h
 when_done (Err e) s told done h = absurd (let never : Fault ≡ Done = sym told ∙ done in cc)

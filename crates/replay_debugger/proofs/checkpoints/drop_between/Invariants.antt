@@ -1,7 +1,7 @@
 use Rattle.std.proofs.Common.{◌≡◌, ℕ, ◌-◌, ◌<◌, ◌≤◌, ◌%◌, length, vec_len, get_or}
 use Rattle.std.specs.List.{All}
 use Rattle.replay_debugger.specs.declared.replay.Replay.{Replay}
-use Rattle.replay_debugger.specs.Places.{Course}
+use Rattle.replay_debugger.specs.Places.{CheckpointsValue}
 use Rattle.replay_debugger.specs.Checkpoints.{IsCheckpoint}
 use Rattle.replay_debugger.proofs.checkpoints.drop_between.Given as goal
 
@@ -12,7 +12,7 @@ decreases-loop-place g l = vec_len l.kept - l.place
 abbrev pub invariant-loop-place : goal.invariant-loop-place
 invariant-loop-place g l = record {
   few : length l.kept.items ≤ length l.initial.kept.items;
-  kept : (course : Course) (old : ℕ) → All (IsCheckpoint course old) l.initial.kept.items
+  kept : (course : CheckpointsValue) (old : ℕ) → All (IsCheckpoint course old) l.initial.kept.items
       → All (IsCheckpoint course old) l.kept.items;
   multiples : (k : ℕ) (d : Replay g.row.S) → k < l.place → (get_or l.kept.items k d).position % l.spacing ≡ 0;
 }

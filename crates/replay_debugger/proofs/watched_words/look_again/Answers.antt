@@ -1,5 +1,5 @@
 use Rattle.std.proofs.Common.{sym, ◌∙◌}
-use Rattle.replay_debugger.proofs.LooksAgain.{unchanged}
+use Rattle.replay_debugger.proofs.FindsAgain.{unchanged}
 use Rattle.replay_debugger.proofs.watched_words.look_again.Goals as goal
 
 pub returns-clause-seen : goal.returns-clause-seen

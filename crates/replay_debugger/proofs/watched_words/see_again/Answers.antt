@@ -1,5 +1,5 @@
 use Rattle.std.proofs.Common.{◌<◌, length, arith}
-use Rattle.replay_debugger.proofs.LooksAgain.{word_written}
+use Rattle.replay_debugger.proofs.FindsAgain.{word_written}
 use Rattle.replay_debugger.proofs.watched_words.see_again.Goals as goal
 
 pub loop-place-preserved : goal.loop-place-preserved

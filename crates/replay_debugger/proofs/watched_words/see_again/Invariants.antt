@@ -1,5 +1,5 @@
 use Rattle.std.proofs.Common.{◌≡◌, ◌++◌, map, take, drop}
-use Rattle.replay_debugger.specs.Looks.{seen_again}
+use Rattle.replay_debugger.specs.StopFinders.{seen_again}
 use Rattle.replay_debugger.proofs.watched_words.see_again.Given as goal
 
 -- the words so far are seen again

@@ -1,5 +1,5 @@
 use Rattle.std.proofs.Common.{◌≡◌, ◌++◌}
-use Rattle.replay_debugger.specs.Looks.{watches_of}
+use Rattle.replay_debugger.specs.StopFinders.{watches_of}
 use Rattle.replay_debugger.proofs.Entries.{watches_among}
 use Rattle.replay_debugger.proofs.watched_words.watched_words.Given as goal
 

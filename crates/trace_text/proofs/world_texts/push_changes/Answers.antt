@@ -6,7 +6,7 @@ use Rattle.trace_text.proofs.world_texts.push_changes.Goals as goal
 
 pub loop-cell-preserved : goal.loop-cell-preserved
 loop-cell-preserved g c =
-    let memory = c.args.machine.now.world.memory in
+    let memory = (g.T.WorldReaders.world c.args.readers.now).memory in
     let at = c.loop-cell.invariant.address in
     let written = c.in_ok-push_change.ensures
     ∙ ap (λ o. string_bytes c.loop-cell.text ++ change c.loop-cell.address c.cell-item.result o) c.word.ensures
@@ -22,7 +22,7 @@ loop-cell-preserved g c =
 
 pub returns : goal.returns
 returns g c =
-    let memory = c.args.machine.now.world.memory in
+    let memory = (g.T.WorldReaders.world c.args.readers.now).memory in
     changes_end memory c.args.cells.now c.loop-cell.cell-index (string_bytes c.loop-cell.text)
     (string_bytes c.args.text.now ++ changes 0 memory c.args.cells.now)
     (omega (arith, c.loop-cell-test.false)) c.loop-cell.invariant.whole

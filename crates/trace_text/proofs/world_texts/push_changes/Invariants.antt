@@ -6,6 +6,6 @@ use Rattle.trace_text.proofs.world_texts.push_changes.Given as goal
 abbrev pub invariant-loop-cell : goal.invariant-loop-cell
 invariant-loop-cell g l = record {
   address : l.address ≡ 8 * l.cell-index;
-  whole : string_bytes l.text ++ changes l.cell-index l.machine.world.memory (drop l.cell-index l.cells)
-      ≡ string_bytes l.initial.text ++ changes 0 l.machine.world.memory l.cells;
+  whole : string_bytes l.text ++ changes l.cell-index (g.T.WorldReaders.world l.readers).memory (drop l.cell-index l.cells)
+      ≡ string_bytes l.initial.text ++ changes 0 (g.T.WorldReaders.world l.readers).memory l.cells;
 }

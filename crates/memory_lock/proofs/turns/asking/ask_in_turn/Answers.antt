@@ -3,7 +3,7 @@ use Rattle.atomic_table.specs.Table.{rest}
 use Rattle.shared_history.specs.SharedMemory.{SharedValue}
 use Rattle.processor.specs.Histories.{entry_by}
 use Rattle.memory_lock.specs.declared.turns.views.View.{View}
-use Rattle.memory_lock.specs.Seats.{Slot}
+use Rattle.memory_lock.specs.Seats.{Slot, past_of}
 use Rattle.memory_lock.proofs.Keeping.{M, draws, raises}
 use Rattle.memory_lock.proofs.OneCall.{told, grew, told-ok, goes-out, out-at, goes-home}
 use Rattle.memory_lock.proofs.turns.asking.ask_in_turn.Goals as goal
@@ -12,7 +12,7 @@ pub fetch_add-ticket-requires : goal.fetch_add-ticket-requires
 fetch_add-ticket-requires g c = (
   c.requires.table.0,
   omega (arith, c.requires.table.1),
-  draws _ _ _ c.requires.idle.0 c.requires.idle.3,
+  draws _ _ _ _ c.requires.idle.0 c.requires.idle.3,
 )
 
 pub slot_mut-requires : goal.slot_mut-requires
@@ -46,8 +46,8 @@ fetch_add-requires g c =
     let at = out-at v lent _ x x2 out c.requires.idle.0 in (
       c.wait_turn.ensures.same.0 ∙ c.fetch_add-ticket.ensures.0 ∙ c.requires.table.0,
       omega (arith, c.requires.table.1),
-      raises _ _ _ c.fetch_add-ticket.result x.history x2 more at.0 at.1
-          (subst P (sym (at.2 ∙ c.requires.idle.2)) grown),
+      raises _ _ _ _ c.fetch_add-ticket.result (past_of x) x2 more at.0 at.1 grown.0
+          (subst P (sym (at.2 ∙ c.requires.idle.2)) grown.1),
     )
 
 pub returns-clause-ok : goal.returns-clause-ok
@@ -64,4 +64,4 @@ returns-clause-ok g c =
     let P : ℕ → Type 0 = λ n. x2.history ≡ x.history ++ map (entry_by n) more in
     let grown = grew c.ask_slot-reply.result c.args.p c.args.s c.args.request.now x x2 asked.4 asked.5 in
     told-ok c.ask_slot-reply.result c.args.s c.args.request.now _ v
-    (goes-home v _ _ _ x x2 more out (subst P (sym c.requires.idle.2) grown) c.fetch_add.ensures.2)
+    (goes-home v _ _ _ x x2 more out (subst P (sym c.requires.idle.2) grown.1) c.fetch_add.ensures.2)

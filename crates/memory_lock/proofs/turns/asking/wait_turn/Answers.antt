@@ -10,5 +10,5 @@ load-served-requires g c =
     let P : M → Type 0 = λ m. IsAt m.0 (Waits c.args.ticket) in (
       since.0.0 ∙ c.requires.table.0,
       omega (arith, c.requires.table.1),
-      looks _ _ _ c.args.ticket (subst P (sym since.1) c.requires.waits.0),
+      looks _ _ _ _ c.args.ticket (subst P (sym since.1) c.requires.waits.0),
     )

@@ -1,8 +1,7 @@
 use Rattle.std.proofs.Common.{◌∙◌, ap, arith, sym, length}
 use Rattle.std.proofs.lemmas.List.{with_items_is}
 use Rattle.shared_history.specs.Parts.{PartsValue}
-use Rattle.memory_lock.proofs.Running.{is-run}
-use Rattle.memory_lock.proofs.Running.{room-again}
+use Rattle.memory_lock.proofs.Running.{is-run, continued, room-again}
 use Rattle.memory_lock.proofs.TurnRunning.{new-entries}
 use Rattle.memory_lock.proofs.turns.runs.run_two.Goals as goal
 
@@ -19,6 +18,7 @@ returns-clause-run g c =
     (ap (λ (x : PartsValue). x.fuel) c.of.ensures) (slice.value ∙ parts.records)
     (ap (λ (x : PartsValue). x.records) c.of.ensures ∙ is) len
     (λ p d h. c.run_workers-shared.ensures.grown p d (omega (arith, h, two)))
+    (continued parts.shared (ap (λ (x : PartsValue). x.shared) c.of.ensures) c.run_workers-shared.ensures.shared)
 
 pub returns-clause-entries : goal.returns-clause-entries
 returns-clause-entries g c =

@@ -8,7 +8,7 @@ pub returns-in-Some : goal.returns-in-Some
 returns-in-Some g c =
     let found = c.in-Some.ensures in
     let next = short_next c.args.image.now c.args.self.now c.args.place c.in-Some.short found in
-    λ i. record { next = next i; fetched = sym found i }
+    λ i. record { next = next i; fetch = sym found i }
 
 pub at-requires : goal.at-requires
 at-requires g c =
@@ -20,4 +20,4 @@ returns-in-Some-reference_fetch g c =
     let next = next_needed c.args.image.now c.args.self.now c.args.place
     (reference_instruction c.in-Some-reference_fetch.reference) c.at.result.now _ found c.at.ensures
     c.request_reference.ensures in
-    λ i. record { next = next i; fetched = sym found i }
+    λ i. record { next = next i; fetch = sym found i }

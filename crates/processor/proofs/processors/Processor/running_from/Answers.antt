@@ -5,14 +5,14 @@ use Rattle.processor.proofs.processors.Processor.running_from.Goals as goal
 
 pub returns-then-current_among-from : goal.returns-then-current_among-from
 returns-then-current_among-from g c =
-    let current = ap (λ i. i.streams.current) c.self-inside.view_is in
+    let scur = ap (λ i. i.streams.scur) c.self-inside.view_is in
     let counted = ap (λ (p : ProcessorValue). count_current p.streams) c.self.view_is in
     let among = ap (λ i. count_current (take c.args.from i.streams.streams)) c.self-inside.view_is
     ∙ ap (λ (p : ProcessorValue). count_current (take c.args.from p.streams)) c.self.view_is in
     sym (none-runs-above c.args.self.now.streams c.args.from (omega (
       arith,
       c.self.invariant.counts,
-      current,
+      scur,
       counted,
       among,
       c.current_among.ensures,

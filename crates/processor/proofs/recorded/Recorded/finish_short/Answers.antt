@@ -7,4 +7,4 @@ finish_local-requires g c =
     let now = c.args.self.now in
     let found = c.requires.fetch in
     let next = short_next now.image now.state c.args.s c.args.short.now found in
-    (lit< tt, (λ i. record { next = next i; fetched = sym found i }, (refl, c.requires.room)))
+    (lit< tt, (λ i. record { next = next i; fetch = sym found i }, (refl, c.requires.room)))

@@ -1,5 +1,5 @@
 use Rattle.std.proofs.Common.{◌||◌, sym, ◌∙◌}
-use Rattle.replay_debugger.specs.Looks.{has_place, breaks_at}
+use Rattle.replay_debugger.specs.StopFinders.{has_place, breaks_at}
 use Rattle.replay_debugger.proofs.PlaceOrder.{place_added}
 use Rattle.replay_debugger.proofs.breakpoints.Breakpoints.add.Goals as goal
 

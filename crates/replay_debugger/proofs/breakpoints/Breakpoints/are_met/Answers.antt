@@ -2,7 +2,7 @@ use Rattle.std.proofs.Common.{◌&&◌, Bool, sym, ap, ◌∙◌, None}
 use Rattle.stream_core.specs.Streams.{StreamValue}
 use Rattle.processor.specs.Records.{is_running}
 use Rattle.replay_debugger.specs.Stops.{is_met}
-use Rattle.replay_debugger.specs.Looks.{has_place}
+use Rattle.replay_debugger.specs.StopFinders.{has_place}
 use Rattle.replay_debugger.proofs.StreamsSeen.{stream_seen_is}
 use Rattle.replay_debugger.proofs.breakpoints.Breakpoints.are_met.Goals as goal
 

@@ -1,6 +1,6 @@
 use Rattle.std.proofs.Common.{◌||◌, sym, ap, ◌∙◌}
 use Rattle.std.specs.List.{list_any}
-use Rattle.replay_debugger.specs.Looks.{has_place, slot_breaks_at, breaks_at}
+use Rattle.replay_debugger.specs.StopFinders.{has_place, slot_breaks_at, breaks_at}
 use Rattle.replay_debugger.proofs.Entries.{entry_breaks_at, entries_break, or_moves, or_none}
 use Rattle.replay_debugger.proofs.breakpoints.Breakpoints.of.Goals as goal
 

@@ -1,6 +1,6 @@
 use Rattle.std.proofs.Common.{◌≡◌, ℕ, ◌||◌}
 use Rattle.std.specs.List.{list_any}
-use Rattle.replay_debugger.specs.Looks.{has_place, slot_breaks_at}
+use Rattle.replay_debugger.specs.StopFinders.{has_place, slot_breaks_at}
 use Rattle.replay_debugger.proofs.Entries.{entry_breaks_at}
 use Rattle.replay_debugger.proofs.breakpoints.Breakpoints.of.Given as goal
 

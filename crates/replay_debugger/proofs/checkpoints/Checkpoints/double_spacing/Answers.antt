@@ -1,5 +1,5 @@
 use Rattle.std.proofs.Common.{arith}
-use Rattle.replay_debugger.specs.Places.{course_of}
+use Rattle.replay_debugger.specs.Places.{checkpoints_of}
 use Rattle.replay_debugger.proofs.checkpoints.Checkpoints.double_spacing.Goals as goal
 
 pub invariant_of-self : goal.invariant_of-self
@@ -11,5 +11,5 @@ invariant_of-self g c =
       first = c.self.invariant.first;
       few = omega arith;
       each =
-          c.drop_between.ensures.spaced (course_of s.image.now s.schedule.items) s.spacing c.self.invariant.each;
+          c.drop_between.ensures.spaced (checkpoints_of s.image.now s.schedule.items) s.spacing c.self.invariant.each;
     }

@@ -1,7 +1,7 @@
 use Rattle.std.proofs.Common.{refl, sym, ◌∙◌, ap, arith, subst, slice_get, List, ◌<◌}
 use Rattle.processor.specs.declared.steps.Step.{Step}
 use Rattle.replay_debugger.specs.Stops.{is_stop}
-use Rattle.replay_debugger.specs.Looks.{LooksFor}
+use Rattle.replay_debugger.specs.StopFinders.{IsFinderOf}
 use Rattle.replay_debugger.proofs.Replaying.{on_first}
 use Rattle.replay_debugger.proofs.Finding.{first_seen, none_first, none_yet}
 use Rattle.replay_debugger.proofs.replay.Replay.last_stop.Goals.{then-self-eq0+then-meet, else-self-eq0}
@@ -24,12 +24,12 @@ loop-self-init g c =
           let now = c.look.ensures points seen looks in
           elim c.if-self-eq0.branch [
             | then-self-eq0+then-meet w ↦
-                subst (LooksFor points m) (sym w.stops-is) (w.meet.ensures.looks points m now)
+                subst (IsFinderOf points m) (sym w.stops-is) (w.meet.ensures.looks points m now)
             | else-self-eq0 w ↦ elim w.else-self-eq0.branch [
               | else-self-eq0-via-then-self-eq0+else-meet v ↦
-                  subst (LooksFor points m) (sym (w.stops-is ∙ v.stops-is)) (v.meet.ensures.looks points m now)
+                  subst (IsFinderOf points m) (sym (w.stops-is ∙ v.stops-is)) (v.meet.ensures.looks points m now)
               | else-self-eq0-via-else-self-eq0 v ↦
-                  subst (LooksFor points m) (sym (w.stops-is ∙ v.stops-is)) now
+                  subst (IsFinderOf points m) (sym (w.stops-is ∙ v.stops-is)) now
             ]
           ];
       last = λ points seen looks.

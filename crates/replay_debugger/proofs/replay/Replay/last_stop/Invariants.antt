@@ -3,7 +3,7 @@ use Rattle.tag_memory.specs.Storage.{TaggedMemory}
 use Rattle.replay_debugger.specs.declared.points.Point.{Point}
 use Rattle.replay_debugger.specs.Places.{IsOn}
 use Rattle.replay_debugger.specs.Stops.{is_stop}
-use Rattle.replay_debugger.specs.Looks.{LooksFor, IsLastSeen}
+use Rattle.replay_debugger.specs.StopFinders.{IsFinderOf, IsLastInRun}
 use Rattle.replay_debugger.proofs.replay.Replay.last_stop.Given as goal
 
 abbrev pub decreases-loop-self : goal.decreases-loop-self
@@ -16,9 +16,9 @@ invariant-loop-self g l = record {
   within : l.self.position ≤ l.limit;
   kept : l.checkpoints ≡ l.fn.checkpoints;
   on : IsOn l.checkpoints l.self;
-  looks : (points : List (Option Point)) (seen : TaggedMemory) → LooksFor points seen l.fn.stops
-      → LooksFor points l.self.machine.world.memory l.stops;
-  last : (points : List (Option Point)) (seen : TaggedMemory) → LooksFor points seen l.fn.stops
-      → IsLastSeen (is_stop l.fn.checkpoints.image l.fn.checkpoints.schedule points) l.fn.self.position
+  looks : (points : List (Option Point)) (seen : TaggedMemory) → IsFinderOf points seen l.fn.stops
+      → IsFinderOf points l.self.machine.world.memory l.stops;
+  last : (points : List (Option Point)) (seen : TaggedMemory) → IsFinderOf points seen l.fn.stops
+      → IsLastInRun (is_stop l.fn.checkpoints.image l.fn.checkpoints.schedule points) l.fn.self.position
       l.self.position l.last;
 }

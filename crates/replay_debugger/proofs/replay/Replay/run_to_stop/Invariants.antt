@@ -2,7 +2,7 @@ use Rattle.std.proofs.Common.{◌≡◌, ◌≤◌, ◌-◌, List, Option}
 use Rattle.replay_debugger.specs.declared.points.Point.{Point}
 use Rattle.replay_debugger.specs.Places.{IsOn}
 use Rattle.replay_debugger.specs.Stops.{is_stop, NoneAbove}
-use Rattle.replay_debugger.specs.Looks.{LooksFor}
+use Rattle.replay_debugger.specs.StopFinders.{IsFinderOf}
 use Rattle.replay_debugger.proofs.replay.Replay.run_to_stop.Given as goal
 
 abbrev pub decreases-loop-self : goal.decreases-loop-self
@@ -16,10 +16,10 @@ invariant-loop-self g l = record {
   kept : l.checkpoints ≡ l.initial.checkpoints;
   on : IsOn l.checkpoints l.self;
   looks : (points : List (Option Point))
-      → LooksFor points l.initial.self.machine.world.memory l.initial.stops
-      → LooksFor points l.self.machine.world.memory l.stops;
+      → IsFinderOf points l.initial.self.machine.world.memory l.initial.stops
+      → IsFinderOf points l.self.machine.world.memory l.stops;
   none : (points : List (Option Point))
-      → LooksFor points l.initial.self.machine.world.memory l.initial.stops
+      → IsFinderOf points l.initial.self.machine.world.memory l.initial.stops
       → NoneAbove (is_stop l.checkpoints.image l.checkpoints.schedule points) l.initial.self.position
       l.self.position;
 }

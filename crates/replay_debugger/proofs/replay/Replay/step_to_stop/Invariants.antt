@@ -2,7 +2,7 @@ use Rattle.std.proofs.Common.{◌≡◌, ◌≤◌, ◌-◌, List, Option}
 use Rattle.replay_debugger.specs.declared.points.Point.{Point}
 use Rattle.replay_debugger.specs.Places.{StandsAt}
 use Rattle.replay_debugger.specs.Stops.{is_stop, NoneAbove}
-use Rattle.replay_debugger.specs.Looks.{LooksFor}
+use Rattle.replay_debugger.specs.StopFinders.{IsFinderOf}
 use Rattle.replay_debugger.proofs.replay.Replay.step_to_stop.Given as goal
 
 abbrev pub decreases-loop-self : goal.decreases-loop-self
@@ -16,9 +16,9 @@ invariant-loop-self g l = record {
   image : l.self.machine.image ≡ l.initial.self.machine.image;
   stands : StandsAt l.schedule l.self.machine l.self.position;
   looks : (points : List (Option Point))
-      → LooksFor points l.initial.self.machine.world.memory l.initial.stops
-      → LooksFor points l.self.machine.world.memory l.stops;
+      → IsFinderOf points l.initial.self.machine.world.memory l.initial.stops
+      → IsFinderOf points l.self.machine.world.memory l.stops;
   none : (points : List (Option Point))
-      → LooksFor points l.initial.self.machine.world.memory l.initial.stops
+      → IsFinderOf points l.initial.self.machine.world.memory l.initial.stops
       → NoneAbove (is_stop l.initial.self.machine.image l.schedule points) l.initial.self.position l.self.position;
 }

@@ -1,7 +1,7 @@
 use Rattle.std.proofs.Common.{◌≡◌, ◌≤◌}
 use Rattle.tag_memory.specs.Storage.{TaggedMemory}
 use Rattle.replay_debugger.specs.Stops.{is_stop, NoneAbove}
-use Rattle.replay_debugger.specs.Looks.{LooksFor}
+use Rattle.replay_debugger.specs.StopFinders.{IsFinderOf}
 use Rattle.replay_debugger.proofs.session.Session.last_stop.Given as goal
 
 abbrev pub decreases-loop-stops : goal.decreases-loop-stops
@@ -14,6 +14,6 @@ invariant-loop-stops g l =
     record {
       under : l.high ≤ l.top;
       same : l.self-inside ≡ s;
-      looks : (m : TaggedMemory) × LooksFor s.points m l.stops;
+      looks : (m : TaggedMemory) × IsFinderOf s.points m l.stops;
       none : NoneAbove (is_stop s.checkpoints.image s.checkpoints.schedule s.points) l.high l.top;
     }

@@ -1,0 +1,8 @@
+-- The definitions, in the order of reading: the lines of program words, labels, the lines
+-- of data words, what the code holds of them, the law.
+-- All of them are promises: clauses of public functions cite them.
+pub mod ProgramLines
+pub mod SourceLabels
+pub mod DataLines
+pub mod SourcePlaces
+pub mod Laws

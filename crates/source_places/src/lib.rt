@@ -1,0 +1,12 @@
+//! Where in a source text the words of its program, its labels and its comments stand (docs/WRITING_PROGRAMS.md).
+//! Lines count from 0.
+#![tactic(auto)]
+
+mod laws;
+mod lines;
+mod source_places;
+mod walks;
+
+pub use laws::program_words_stand_on_their_lines;
+pub use lines::{DataLine, ProgramLine, comment_of};
+pub use source_places::{SourceLabel, SourcePlaces};
