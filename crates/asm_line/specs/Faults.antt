@@ -20,6 +20,7 @@ kind_number fault.NoMemory = 10
 abbrev pub least_fault : Fault → Fault → Fault
 least_fault e f = if nat_le (kind_number e) (kind_number f) then e else f
 
+-- what is made of a value, where there is one; a fault stays
 abbrev pub map_ok : {A B : Type 0} → (A → B) → Result A Fault → Result B Fault
 map_ok f (Ok x) = Ok (f x)
 map_ok f (Err e) = Err e

@@ -27,24 +27,31 @@ use Rattle.asm_line.specs.declared.operation.Directive.{Directive}
 -- Names. NOP, the first operation of each part of a normal word, is named by no part: it is an instruction of its
 -- own. A memory operation or directive that the profile lacks is named by nothing.
 
+-- the wide operation of a name
 unfoldable pub wide_named : List ℕ → Option WideOp
 wide_named name = find (λ o. bytes_eq name (wide_name o)) wide_operations
 
+-- the memory operation of a name that the profile has
 unfoldable pub memory_named : Profile → List ℕ → Option MemoryOp
 memory_named p name = find (λ o. bytes_eq name (memory_name o) && has_operation p o) (drop 1 memory_operations)
 
+-- the arithmetic operation of a name
 unfoldable pub arithmetic_named : List ℕ → Option ArithmeticOp
 arithmetic_named name = find (λ o. bytes_eq name (arithmetic_name o)) (drop 1 arithmetic_operations)
 
+-- the control operation of a name
 unfoldable pub control_named : List ℕ → Option ControlOp
 control_named name = find (λ o. bytes_eq name (control_name o)) (drop 1 control_operations)
 
+-- the condition of a name
 unfoldable pub condition_named : List ℕ → Option Condition
 condition_named name = find (λ o. bytes_eq name (condition_name o)) conditions
 
+-- the directive of a name that the profile has
 unfoldable pub directive_named : Profile → List ℕ → Option Directive
 directive_named p name = find (λ d. bytes_eq name (directive_name d) && has_directive p d) directives
 
+-- NOP, by its name
 abbrev pub nop_named : List ℕ → Option Operation
 nop_named name = if bytes_eq name (codes "NOP") then Some operation.Nop else None
 
@@ -69,6 +76,7 @@ has_access memory.TagGet = false
 has_access memory.TagSet = false
 has_access memory.Purge = false
 
+-- the access of a memory operation by its suffix, none where the suffix may not stand there
 unfoldable pub access_named : MemoryOp → Option (List ℕ) → Option Access
 access_named op None = Some access.FromPointer
 access_named op (Some letter) = if has_access op then letter_access letter else None
@@ -78,9 +86,11 @@ unfoldable pub test_named : Option (List ℕ) → Option Bool
 test_named None = Some false
 test_named (Some letter) = if bytes_eq letter (drop 1 (test_suffix true)) then Some true else None
 
+-- a memory operation with its suffix, none where that may not stand there
 abbrev pub memory_suffixed : Option (List ℕ) → MemoryOp → Option Operation
 memory_suffixed suffix op = option_map (operation.Memory op) (access_named op suffix)
 
+-- an arithmetic operation with its suffix, none where that may not stand there
 abbrev pub arithmetic_suffixed : Option (List ℕ) → ArithmeticOp → Option Operation
 arithmetic_suffixed suffix op = option_map (operation.Arithmetic op) (test_named suffix)
 
@@ -92,19 +102,24 @@ plain_named name =
     option_or (nop_named name)
     (option_or (option_map operation.Wide (wide_named name)) (option_map operation.Control (control_named name)))
 
+-- a memory operation where the name is that of one, else an operation without suffix
 abbrev pub memory_or_plain : List ℕ → Option (List ℕ) → Option MemoryOp → Option Operation
 memory_or_plain name suffix (Some op) = memory_suffixed suffix op
 memory_or_plain name suffix None = without_suffix suffix (plain_named name)
 
+-- an arithmetic operation where the name is that of one, else one of the others
 abbrev pub arithmetic_or_other : Profile → List ℕ → Option (List ℕ) → Option ArithmeticOp → Option Operation
 arithmetic_or_other p name suffix (Some op) = arithmetic_suffixed suffix op
 arithmetic_or_other p name suffix None = memory_or_plain name suffix (memory_named p name)
 
+-- the operation of a name and a suffix, none where nothing has them in this profile
 unfoldable pub operation_named : Profile → List ℕ → Option (List ℕ) → Option Operation
 operation_named p name suffix = arithmetic_or_other p name suffix (arithmetic_named name)
 
+-- the operation that a head names: its name stands before the first dot, its suffix behind it
 unfoldable pub operation_of : Profile → List ℕ → Result Operation Fault
 operation_of p head = unless_unknown (operation_named p (text_before 46 head) (text_after 46 head))
 
+-- the directive that a head names
 unfoldable pub directive_of : Profile → List ℕ → Result Directive Fault
 directive_of p head = unless_unknown (directive_named p head)

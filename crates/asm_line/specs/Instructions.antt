@@ -24,15 +24,19 @@ use Rattle.asm_line.specs.declared.fault.Fault.TheVariants as fault
 use Rattle.asm_line.specs.declared.operation.Operation.{Operation}
 use Rattle.asm_line.specs.declared.operation.Operation.TheVariants as operation
 
+-- the control part that controls nothing
 abbrev pub no_operation : CPart
 no_operation = only_control control.Nop
 
+-- a word with a memory operation alone
 abbrev pub memory_word : MPart → Insn
 memory_word m = insn.Normal 0 m arithmetic_nop no_operation
 
+-- a word with an arithmetic operation alone
 abbrev pub arithmetic_word : APart → Insn
 arithmetic_word a = insn.Normal 0 memory_nop a no_operation
 
+-- a word with a control operation alone
 abbrev pub control_word : CPart → Insn
 control_word c = insn.Normal 0 memory_nop arithmetic_nop c
 
@@ -51,34 +55,43 @@ single places here (operation.Control op) ops = map_ok control_word (control_par
 
 -- No two parts write the same register other than r0.
 
+-- whether a memory and an arithmetic part write no register both, other than r0
 abbrev pub memory_arithmetic_apart : MPart → APart → Bool
 memory_arithmetic_apart m a = are_apart (memory_destination m.op m.rd) (arithmetic_destination a.op a.rd)
 
+-- whether a memory and a control part write no register both, other than r0
 abbrev pub memory_control_apart : MPart → CPart → Bool
 memory_control_apart m c = are_apart (memory_destination m.op m.rd) (control_destination c.op c.rd)
 
+-- whether an arithmetic and a control part write no register both, other than r0
 abbrev pub arithmetic_control_apart : APart → CPart → Bool
 arithmetic_control_apart a c = are_apart (arithmetic_destination a.op a.rd) (control_destination c.op c.rd)
 
+-- what parts make that are apart; others are two writers of one register
 abbrev pub unless_two : {A : Type 0} → Bool → A → Result A Fault
 unless_two apart x = if apart then Ok x else Err fault.TwoWriters
 
 -- Two writers are seen before a label that stands on no line: only SKIP asks for one, and it writes nothing.
 
+-- a memory and an arithmetic part, which have to be apart
 abbrev pub memory_arithmetic : Result MPart Fault → Result APart Fault → Result (MPart × APart) Fault
 memory_arithmetic m a = both m a >>= λ v. unless_two (memory_arithmetic_apart v.0 v.1) v
 
+-- a word with a memory and an arithmetic operation
 unfoldable pub memory_arithmetic_word : Result MPart Fault → Result APart Fault → Result Insn Fault
 memory_arithmetic_word m a = map_ok (λ v. insn.Normal 0 v.0 v.1 no_operation) (memory_arithmetic m a)
 
+-- a word with a memory and a control operation
 unfoldable pub memory_control_word : Result MPart Fault → Result CPart Fault → Result Insn Fault
 memory_control_word m c =
     both m c >>= λ v. unless_two (memory_control_apart v.0 v.1) (insn.Normal 0 v.0 arithmetic_nop v.1)
 
+-- a word with an arithmetic and a control operation
 unfoldable pub arithmetic_control_word : Result APart Fault → Result CPart Fault → Result Insn Fault
 arithmetic_control_word a c =
     both a c >>= λ v. unless_two (arithmetic_control_apart v.0 v.1) (insn.Normal 0 memory_nop v.0 v.1)
 
+-- a word with an operation in each of its three parts
 unfoldable pub full_word : Result MPart Fault → Result APart Fault → Result CPart Fault → Result Insn Fault
 full_word m a c =
     both (memory_arithmetic m a) c
@@ -88,6 +101,7 @@ full_word m a c =
 -- Two operations: a memory operation and then an arithmetic or a control one, or an arithmetic one and then a control
 -- one.
 
+-- a memory part and the operation behind it
 abbrev pub memory_and : Places → ℕ → Result MPart Fault → Operation → List (List ℕ) → Result Insn Fault
 memory_and places here m operation.Nop ys = Err fault.Operand
 memory_and places here m (operation.Wide p) ys = Err fault.Operand
@@ -95,6 +109,7 @@ memory_and places here m (operation.Memory p acc) ys = Err fault.Operand
 memory_and places here m (operation.Arithmetic p test) ys = memory_arithmetic_word m (arithmetic_part p test ys)
 memory_and places here m (operation.Control p) ys = memory_control_word m (control_part places here p ys)
 
+-- an arithmetic part and the operation behind it
 abbrev pub arithmetic_and : Places → ℕ → Result APart Fault → Operation → List (List ℕ) → Result Insn Fault
 arithmetic_and places here a operation.Nop ys = Err fault.Operand
 arithmetic_and places here a (operation.Wide p) ys = Err fault.Operand
@@ -102,6 +117,7 @@ arithmetic_and places here a (operation.Memory p acc) ys = Err fault.Operand
 arithmetic_and places here a (operation.Arithmetic p test) ys = Err fault.Operand
 arithmetic_and places here a (operation.Control p) ys = arithmetic_control_word a (control_part places here p ys)
 
+-- two operations with the operands of each
 unfoldable pub double : Places → ℕ → Operation → Operation → List (List ℕ) → List (List ℕ) → Result Insn Fault
 double places here operation.Nop p xs ys = Err fault.Operand
 double places here (operation.Wide o) p xs ys = Err fault.Operand
@@ -111,6 +127,7 @@ double places here (operation.Control o) p xs ys = Err fault.Operand
 
 -- Three operations: a memory, an arithmetic and a control one.
 
+-- a memory part, an arithmetic one, and the operation behind them
 abbrev pub both_and : Places → ℕ → Result MPart Fault → Result APart Fault → Operation → List (List ℕ)
     → Result Insn Fault
 both_and places here m a operation.Nop zs = Err fault.Operand
@@ -119,6 +136,7 @@ both_and places here m a (operation.Memory q acc) zs = Err fault.Operand
 both_and places here m a (operation.Arithmetic q test) zs = Err fault.Operand
 both_and places here m a (operation.Control q) zs = full_word m a (control_part places here q zs)
 
+-- a memory part and the two operations behind it
 abbrev pub memory_and_two : Places → ℕ → Result MPart Fault → Operation → Operation → List (List ℕ) → List (List ℕ)
     → Result Insn Fault
 memory_and_two places here m operation.Nop q ys zs = Err fault.Operand
@@ -128,6 +146,7 @@ memory_and_two places here m (operation.Arithmetic p test) q ys zs =
     both_and places here m (arithmetic_part p test ys) q zs
 memory_and_two places here m (operation.Control p) q ys zs = Err fault.Operand
 
+-- three operations with the operands of each
 unfoldable pub triple : Places → ℕ → Operation → Operation → Operation
     → List (List ℕ) → List (List ℕ) → List (List ℕ) → Result Insn Fault
 triple places here operation.Nop p q xs ys zs = Err fault.Operand
@@ -137,6 +156,7 @@ triple places here (operation.Memory o acc) p q xs ys zs =
 triple places here (operation.Arithmetic o test) p q xs ys zs = Err fault.Operand
 triple places here (operation.Control o) p q xs ys zs = Err fault.Operand
 
+-- whether a result is no fault
 abbrev pub is_ok : {A : Type 0} → Result A Fault → Bool
 is_ok (Ok _) = true
 is_ok (Err _) = false
@@ -148,19 +168,23 @@ too_many p texts =
 
 -- All heads are looked at first.
 
+-- a text of one operation
 abbrev pub one_part : Profile → Places → ℕ → List ℕ → Result Insn Fault
 one_part p places here x = operation_of p (head x) >>= λ o. single places here o (operands x)
 
+-- the texts of two operations
 abbrev pub two_parts : Profile → Places → ℕ → List ℕ → List ℕ → Result Insn Fault
 two_parts p places here x y =
     both (operation_of p (head x)) (operation_of p (head y))
     >>= λ o. double places here o.0 o.1 (operands x) (operands y)
 
+-- the texts of three operations
 abbrev pub three_parts : Profile → Places → ℕ → List ℕ → List ℕ → List ℕ → Result Insn Fault
 three_parts p places here x y z =
     both (both (operation_of p (head x)) (operation_of p (head y))) (operation_of p (head z))
     >>= λ o. triple places here o.0.0 o.0.1 o.1 (operands x) (operands y) (operands z)
 
+-- the instruction of the texts of its operations, one to three
 abbrev pub instruction_of : Profile → Places → ℕ → List (List ℕ) → Result Insn Fault
 instruction_of p places here (x ∷ []) = one_part p places here x
 instruction_of p places here (x ∷ y ∷ []) = two_parts p places here x y
@@ -171,6 +195,7 @@ instruction_of p places here texts = too_many p texts
 unfoldable pub operations : Profile → Places → ℕ → List ℕ → Result Insn Fault
 operations p places here text = instruction_of p places here (map trim (pieces 124 text))
 
+-- an instruction with this lookahead
 abbrev pub with_lookahead : ℕ → Insn → Insn
 with_lookahead n (insn.Wide look op reg imm) = insn.Wide n op reg imm
 with_lookahead n (insn.Normal look m a c) = insn.Normal n m a c

@@ -23,6 +23,7 @@ pub record Line : Type 0 where
   pub label : Option (List ℕ)
   pub statement : List ℕ
 
+-- a line, by what stands behind its first colon, if it has one
 abbrev pub line_with_label : List ℕ → Option (List ℕ) → Line
 line_with_label text None = record { label = None; statement = text }
 line_with_label text (Some rest) = record { label = Some (text_before 58 text); statement = trim rest }
@@ -46,6 +47,7 @@ is_word statement =
     nat_lt 0 (length statement)
     && (not (slice_index statement 0 == 46) || bytes_eq (head statement) (codes ".word"))
 
+-- 1 for a line that is a word of the program, else 0
 abbrev pub word_count : Line → ℕ
 word_count l = if is_word l.statement then 1 else 0
 
@@ -54,6 +56,7 @@ abbrev pub count_words : List Line → ℕ
 count_words [] = 0
 count_words (l ∷ ls) = word_count l + count_words ls
 
+-- whether a line's label is this name
 abbrev pub stands : List ℕ → Option (List ℕ) → Bool
 stands name None = false
 stands name (Some label) = bytes_eq label name
@@ -68,6 +71,7 @@ place [] name = None
 place (l ∷ ls) name =
     if stands name l.label then Some (record { line = 0; value = 0 }) else option_map (further l) (place ls name)
 
+-- whether a label stands on a line before line k
 abbrev pub stands_earlier : ℕ → Option Place → Bool
 stands_earlier k None = false
 stands_earlier k (Some p) = nat_lt p.line k
@@ -83,6 +87,7 @@ label_fault places k (Some name) statement =
     if is_label name statement then (if stands_earlier k (places name) then Err fault.LabelTwice else Ok tt)
     else Err fault.Unknown
 
+-- what a directive adds
 abbrev pub directive_item : Profile → Places → ℕ → List ℕ → Result Item Fault
 directive_item p places words text =
     directive_of p (head text) >>= λ d. item_of_directive places words d (operands text)

@@ -20,11 +20,13 @@ use Rattle.asm_line.specs.declared.operation.Operation.TheVariants as operation
 use Rattle.asm_line.specs.declared.operation.Directive.{Directive}
 use Rattle.asm_line.specs.declared.operation.Directive.TheVariants as directive
 
+-- the name of each wide operation
 abbrev pub wide_name : WideOp → List ℕ
 wide_name wide.Literal = codes "LIT"
 wide_name wide.LiteralHigh = codes "LITH"
 wide_name wide.TargetLiteral = codes "TLIT"
 
+-- the name of each memory operation
 abbrev pub memory_name : MemoryOp → List ℕ
 memory_name memory.Nop = codes "NOP"
 memory_name memory.Load = codes "LOAD"
@@ -34,6 +36,7 @@ memory_name memory.TagGet = codes "TAGGET"
 memory_name memory.TagSet = codes "TAGSET"
 memory_name memory.Purge = codes "PURGE"
 
+-- the name of each arithmetic operation
 abbrev pub arithmetic_name : ArithmeticOp → List ℕ
 arithmetic_name arithmetic.Nop = codes "NOP"
 arithmetic_name arithmetic.Add = codes "ADD"
@@ -51,6 +54,7 @@ arithmetic_name arithmetic.LessSigned = codes "LTS"
 arithmetic_name arithmetic.LessUnsigned = codes "LTU"
 arithmetic_name arithmetic.Pointer = codes "PTR"
 
+-- the name of each control operation
 abbrev pub control_name : ControlOp → List ℕ
 control_name control.Nop = codes "NOP"
 control_name control.Jump = codes "JUMP"
@@ -66,6 +70,7 @@ control_name control.Quit = codes "QUIT"
 control_name control.QuitKeep = codes "QUITP"
 control_name control.Mask = codes "MASK"
 
+-- the name of each condition
 abbrev pub condition_name : Condition → List ℕ
 condition_name condition.Always = codes "ALWAYS"
 condition_name condition.Equal = codes "EQ"
@@ -83,6 +88,7 @@ condition_name condition.Positive = codes "POS"
 condition_name condition.Overflow = codes "OV"
 condition_name condition.NoOverflow = codes "NOV"
 
+-- the name of each directive, with the dot that it begins with
 abbrev pub directive_name : Directive → List ℕ
 directive_name directive.Profile = codes ".profile"
 directive_name directive.Slim = codes ".slim"
@@ -94,12 +100,14 @@ directive_name directive.Word = codes ".word"
 directive_name directive.Data = codes ".data"
 directive_name directive.Fill = codes ".fill"
 
+-- what follows the name of a memory operation for each access; nothing where the pointer says it
 abbrev pub access_suffix : Access → List ℕ
 access_suffix access.FromPointer = []
 access_suffix access.Normal = codes ".N"
 access_suffix access.Future = codes ".F"
 access_suffix access.Sync = codes ".S"
 
+-- what follows the name of an arithmetic operation that makes a condition code; nothing follows the others
 abbrev pub test_suffix : Bool → List ℕ
 test_suffix false = []
 test_suffix true = codes ".T"
@@ -120,10 +128,12 @@ directives =
 
 -- Profile 2 has all of Profile 1, and .chain.
 
+-- whether a profile has .chain
 abbrev pub has_chain : Profile → Bool
 has_chain profile.One = false
 has_chain profile.Two = true
 
+-- whether a profile has a directive
 abbrev pub has_directive : Profile → Directive → Bool
 has_directive p directive.Profile = true
 has_directive p directive.Slim = true
@@ -135,8 +145,7 @@ has_directive p directive.Word = true
 has_directive p directive.Data = true
 has_directive p directive.Fill = true
 
--- The number of a profile, as .profile has it.
-
+-- the number of a profile, as .profile has it
 abbrev pub profile_number : Profile → ℕ
 profile_number profile.One = 1
 profile_number profile.Two = 2

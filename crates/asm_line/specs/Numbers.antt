@@ -7,6 +7,7 @@ use Rattle.asm_line.specs.Faults.{map_ok, ◌>>=◌}
 use Rattle.asm_line.specs.declared.fault.Fault.{Fault}
 use Rattle.asm_line.specs.declared.fault.Fault.TheVariants as fault
 
+-- a number of at most so much; a greater one is out of range
 abbrev pub within : ℕ → ℕ → Result ℕ Fault
 within most n = if nat_le n most then Ok n else Err fault.Range
 
@@ -22,6 +23,7 @@ at_least_one n = if nat_lt 0 n then Ok n else Err fault.Range
 unfoldable pub count_within : ℕ → List ℕ → Result ℕ Fault
 count_within most text = number_within most text >>= at_least_one
 
+-- whether a text begins with a minus sign
 abbrev pub has_minus : List ℕ → Bool
 has_minus text = slice_index text 0 == 45
 

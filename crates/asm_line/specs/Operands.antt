@@ -26,6 +26,7 @@ is_register text =
     slice_index text 0 == 114 && (are_digits 10 (drop 1 text) && (nat_lt (number_behind_letter text) 32
     && (length text == 2 || (length text == 3 && nat_lt 48 (slice_index text 1)))))
 
+-- the number of the register that an operand names
 unfoldable pub register : List ℕ → Result ℕ Fault
 register text = if is_register text then Ok (number_behind_letter text) else Err fault.Operand
 
@@ -35,6 +36,7 @@ is_target text =
     slice_index text 0 == 116
     && (length text == 2 && (nat_le 48 (slice_index text 1) && nat_lt (slice_index text 1) 56))
 
+-- the number of the target register that an operand names
 unfoldable pub target : List ℕ → Result ℕ Fault
 target text = if is_target text then Ok (slice_index text 1 - 48) else Err fault.Operand
 
@@ -78,17 +80,21 @@ source_of text =
     if slice_index text 0 == 114 then map_ok source.Register (register text)
     else map_ok source.Number (number_within 31 text)
 
+-- whether a source is a number, not a register
 abbrev pub is_number : Source → Bool
 is_number (source.Register n) = false
 is_number (source.Number n) = true
 
+-- the number that a source is, or that of its register
 abbrev pub source_number : Source → ℕ
 source_number (source.Register n) = n
 source_number (source.Number n) = n
 
+-- the condition that a table has; an operand that names none is a fault
 abbrev pub condition_found : Option Condition → Result Condition Fault
 condition_found None = Err fault.Operand
 condition_found (Some c) = Ok c
 
+-- the condition that an operand names
 unfoldable pub condition : List ℕ → Result Condition Fault
 condition text = condition_found (condition_named text)

@@ -8,6 +8,7 @@ use Rattle.asm_line.specs.Directives.{profile_read}
 use Rattle.asm_line.specs.Lines.{Line}
 use Rattle.asm_line.specs.declared.fault.Fault.{Fault}
 
+-- the profile that was read, or Profile 1 where it has a fault
 abbrev pub profile_or_one : Result Profile Fault → Profile
 profile_or_one (Ok p) = p
 profile_or_one (Err e) = profile.One

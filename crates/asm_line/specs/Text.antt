@@ -9,6 +9,7 @@ use Rattle.text_parts.specs.Pieces.{pieces}
 abbrev pub is_blank : ℕ → Bool
 is_blank b = b == 32 || (b == 9 || b == 13)
 
+-- without the blanks in front
 abbrev pub skip_blanks : List ℕ → List ℕ
 skip_blanks [] = []
 skip_blanks (b ∷ bytes) = if is_blank b then skip_blanks bytes else b ∷ bytes
@@ -29,6 +30,7 @@ behind_head text = trim (after_first is_blank text)
 unfoldable pub operands_of : List ℕ → List (List ℕ)
 operands_of text = if length text == 0 then [] else map trim (pieces 44 text)
 
+-- the operands of a statement, which are separated by commas
 abbrev pub operands : List ℕ → List (List ℕ)
 operands text = operands_of (behind_head text)
 
@@ -36,6 +38,7 @@ operands text = operands_of (behind_head text)
 abbrev pub is_first : ℕ → Bool
 is_first b = is_ascii_alphabetic b || b == 95
 
+-- a letter, a digit or _
 abbrev pub is_further : ℕ → Bool
 is_further b = is_ascii_alphanumeric b || b == 95
 

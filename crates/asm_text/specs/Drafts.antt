@@ -15,28 +15,34 @@ use Rattle.asm_line.specs.declared.item.Item.TheVariants as item
 use Rattle.asm_text.specs.declared.settings.Settings.{Settings}
 use Rattle.asm_text.specs.Settings.{no_settings, profile_set, slim_set, chain_set, retry_set, trap_set}
 
+-- what the lines have set, and the entries, program words and cells that they have added
 pub record DraftValue : Type 0 where
   pub settings : Settings
   pub entries : List ℕ
   pub words : List ℕ
   pub cells : List Cell
 
+-- the draft of no line
 abbrev pub empty : DraftValue
 empty = record { settings = no_settings; entries = []; words = []; cells = [] }
 
+-- the draft with these settings, where they may stand
 abbrev pub with_settings : DraftValue → Result Settings Fault → Result DraftValue Fault
 with_settings d r = map_ok (λ s. record d { settings = s }) r
 
 -- There are at most 16 entries, 65,536 program words and 262,144 cells.
 
+-- the draft with one more entry
 abbrev pub with_entry : DraftValue → ℕ → Result DraftValue Fault
 with_entry d n =
     if nat_lt (length d.entries) 16 then Ok (record d { entries = d.entries ++ n ∷ [] }) else Err fault.Limit
 
+-- the draft with one more program word
 abbrev pub with_word : DraftValue → ℕ → Result DraftValue Fault
 with_word d w =
     if nat_lt (length d.words) 65536 then Ok (record d { words = d.words ++ w ∷ [] }) else Err fault.Limit
 
+-- the draft with so many more cells, which are alike
 abbrev pub with_cells : DraftValue → ℕ → Cell → Result DraftValue Fault
 with_cells d n c =
     if nat_le (length d.cells + n) 262144 then Ok (record d { cells = d.cells ++ replicate n c }) else Err fault.Limit

@@ -20,6 +20,7 @@ abbrev pub chain_lines : Profile → ℕ → List (List ℕ)
 chain_lines profile.One limit = []
 chain_lines profile.Two limit = chain_line limit ∷ []
 
+-- the lines of the directives that stand once
 abbrev pub setting_lines : ImageValue → List (List ℕ)
 setting_lines i =
     profile_line i.profile ∷ slim_line i.slim
@@ -30,6 +31,7 @@ abbrev pub word_lines : Profile → ℕ → List ℕ → List (List ℕ)
 word_lines p place [] = []
 word_lines p place (w ∷ ws) = word_line p place w ∷ word_lines p (place + 1) ws
 
+-- the line of a run of equal cells
 abbrev pub cell_run_line : Run Cell → List ℕ
 cell_run_line r = fill_line r.times r.thing.value (tag_number r.thing)
 
@@ -39,11 +41,14 @@ listing_lines i =
     setting_lines i ++
     (map entry_line i.entries ++ (word_lines i.profile 0 i.program ++ map cell_run_line (cell_runs i.cells)))
 
+-- a line with its line feed
 abbrev pub with_line_end : List ℕ → List ℕ
 with_line_end line = line ++ codes "\n"
 
+-- lines as a text, each with its end
 abbrev pub text_of_lines : List (List ℕ) → List ℕ
 text_of_lines lines = flat_map with_line_end lines
 
+-- the listing of an image: the text of its lines
 unfoldable pub listing : ImageValue → List ℕ
 listing i = text_of_lines (listing_lines i)

@@ -17,6 +17,7 @@ use Rattle.asm_text.specs.Drafts.{DraftValue, empty, add, has_all, image_of_draf
 unfoldable pub with_line : Profile → Places → ℕ → ℕ → DraftValue → Line → Result DraftValue Fault
 with_line p places words k d l = line_item p places words k (length d.words) l >>= add d
 
+-- what is made of the draft with line k, or that line's fault; a fault names its line from 1 on
 abbrev pub after_line : Result DraftValue Fault → ℕ → (DraftValue → Result DraftValue AsmFault)
     → Result DraftValue AsmFault
 after_line (Ok d) k f = f d
@@ -42,6 +43,7 @@ abbrev pub image_or_incomplete : Profile → DraftValue → Result ImageValue As
 image_or_incomplete p d =
     if has_all d then Ok (image_of_draft p d) else Err (record { line = 0; kind = fault.Directive })
 
+-- the image of the draft of all lines, or the fault of one
 abbrev pub complete : Profile → Result DraftValue AsmFault → Result ImageValue AsmFault
 complete p (Ok d) = image_or_incomplete p d
 complete p (Err e) = Err e
@@ -50,6 +52,7 @@ complete p (Err e) = Err e
 unfoldable pub meaning_of_lines : List Line → Result ImageValue AsmFault
 meaning_of_lines ls = let p = profile_of ls in complete p (with_lines p (place ls) (count_words ls) 0 empty ls)
 
+-- a text with a byte that is not ASCII has that fault, whatever its lines say
 abbrev pub meaning_unless : Option ℕ → List Line → Result ImageValue AsmFault
 meaning_unless (Some k) ls = Err (record { line = k; kind = fault.NotAscii })
 meaning_unless None ls = meaning_of_lines ls
@@ -58,8 +61,10 @@ meaning_unless None ls = meaning_of_lines ls
 unfoldable pub meaning_of : List ℕ → Result ImageValue AsmFault
 meaning_of text = meaning_unless (not_ascii text) (lines text)
 
+-- A text means an image.
 abbrev pub Means : List ℕ → ImageValue → Type 0
 Means text i = meaning_of text ≡ Ok i
 
+-- A text has a fault, and means nothing.
 abbrev pub HasFault : List ℕ → AsmFault → Type 0
 HasFault text e = meaning_of text ≡ Err e

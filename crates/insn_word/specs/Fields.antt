@@ -13,9 +13,11 @@ pub data Field : Type 0 where
   unsigned : ℕ → ℕ → Field
   signed : ℕ → ℤ → Field
 
+-- a field of so many digits 0
 abbrev pub zeros : ℕ → Field
 zeros k = unsigned k 0
 
+-- a field of one digit: 1 for yes, 0 for no
 abbrev pub flag : Bool → Field
 flag b = unsigned 1 (if b then 1 else 0)
 
@@ -32,10 +34,12 @@ abbrev pub twos_complement : ℕ → ℤ → ℕ
 twos_complement k (pos n) = n
 twos_complement k (negsuc n) = 2 ^ k - suc n
 
+-- how many digits a field has
 abbrev pub width : Field → ℕ
 width (unsigned k n) = k
 width (signed k z) = k
 
+-- the number that a field's digits are
 abbrev pub value : Field → ℕ
 value (unsigned k n) = n
 value (signed k z) = twos_complement k z
@@ -45,11 +49,12 @@ unfoldable pub spelling : List Field → List ℕ
 spelling [] = []
 spelling (f ∷ fs) = digits (width f) (value f) ++ spelling fs
 
--- how many digits fields have together, and the number that these are
+-- how many digits fields have together
 abbrev pub total_width : List Field → ℕ
 total_width [] = 0
 total_width (f ∷ fs) = width f + total_width fs
 
+-- the number that the digits of fields are, one field after another
 abbrev pub number_of_fields : List Field → ℕ
 number_of_fields [] = 0
 number_of_fields (f ∷ fs) = value f * 2 ^ total_width fs + number_of_fields fs

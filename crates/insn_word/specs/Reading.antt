@@ -30,21 +30,27 @@ use Rattle.insn_word.specs.declared.insn.Insn.TheVariants as insn
 
 -- The operation of a number. A number past the end reads as the first one, which the test at the end refuses.
 
+-- the wide operation of a number
 abbrev pub wide_read : ℕ → WideOp
 wide_read n = slice_index_or wide_operations n wide.Literal
 
+-- the memory operation of a number
 abbrev pub memory_read : ℕ → MemoryOp
 memory_read n = slice_index_or memory_operations n memory.Nop
 
+-- the access of a number
 abbrev pub access_read : ℕ → Access
 access_read n = slice_index_or accesses n access.FromPointer
 
+-- the arithmetic operation of a number
 abbrev pub arithmetic_read : ℕ → ArithmeticOp
 arithmetic_read n = slice_index_or arithmetic_operations n arithmetic.Nop
 
+-- the control operation of a number
 abbrev pub control_read : ℕ → ControlOp
 control_read n = slice_index_or control_operations n control.Nop
 
+-- the condition of a number
 abbrev pub condition_read : ℕ → Condition
 condition_read n = slice_index_or conditions n condition.Always
 
@@ -54,6 +60,7 @@ signed_read k n = if nat_lt n (2 ^ (k - 1)) then pos n else negsuc (2 ^ k - 1 - 
 
 -- Parts and words.
 
+-- a memory part as its 21 digits say it, together with what its operation doesn't use
 abbrev pub memory_raw : ℕ → MPart
 memory_raw bits = record {
   op = memory_read (bits / 2 ^ 18 % 2 ^ 3);
@@ -63,6 +70,7 @@ memory_raw bits = record {
   disp = signed_read 6 (bits % 2 ^ 6);
 }
 
+-- an arithmetic part as its 21 digits say it, together with what its operation doesn't use
 abbrev pub arithmetic_raw : ℕ → APart
 arithmetic_raw bits = record {
   op = arithmetic_read (bits / 2 ^ 17 % 2 ^ 4);
@@ -112,12 +120,15 @@ control_part_from control.Quit bits = only_control control.Quit
 control_part_from control.QuitKeep bits = only_control control.QuitKeep
 control_part_from control.Mask bits = record (only_control control.Mask) { n = pos (bits / 2 ^ 11 % 2 ^ 3) }
 
+-- the memory part of these digits, with only what its operation uses
 abbrev pub memory_part_at : ℕ → MPart
 memory_part_at bits = used_memory (memory_raw bits).op (memory_raw bits)
 
+-- the arithmetic part of these digits, with only what its operation uses
 abbrev pub arithmetic_part_at : ℕ → APart
 arithmetic_part_at bits = used_arithmetic (arithmetic_raw bits).op (arithmetic_raw bits)
 
+-- the control part of these 18 digits
 abbrev pub control_part_at : ℕ → CPart
 control_part_at bits = control_part_from (control_read (bits / 2 ^ 14 % 2 ^ 4)) bits
 
@@ -127,12 +138,15 @@ register_from wide.Literal reg = reg
 register_from wide.LiteralHigh reg = reg
 register_from wide.TargetLiteral reg = reg % 2 ^ 3
 
+-- what a wide word says whose operation is known
 abbrev pub wide_from : WideOp → ℕ → Insn
 wide_from op word = insn.Wide (word / 2 ^ 60 % 2 ^ 3) op (register_from op (word / 2 ^ 52 % 2 ^ 5)) (word % 2 ^ 32)
 
+-- what a word says that is read as a wide one
 abbrev pub wide_at : ℕ → Insn
 wide_at word = wide_from (wide_read (word / 2 ^ 57 % 2 ^ 3)) word
 
+-- what a word says that is read as a normal one
 abbrev pub normal_at : ℕ → Insn
 normal_at word =
     insn.Normal (word / 2 ^ 60 % 2 ^ 3)
@@ -144,9 +158,11 @@ normal_at word =
 unfoldable pub candidate : ℕ → Insn
 candidate word = if nat_lt word (2 ^ 63) then normal_at word else wide_at word
 
+-- whether two destinations are different registers, or both r0
 abbrev pub are_apart : ℕ → ℕ → Bool
 are_apart x y = not (x == y) || (x == 0)
 
+-- whether no two parts of an instruction write one register other than r0
 abbrev pub has_one_writer : Insn → Bool
 has_one_writer (insn.Wide look op reg imm) = true
 has_one_writer (insn.Normal look m a c) =
@@ -158,6 +174,7 @@ has_one_writer (insn.Normal look m a c) =
 abbrev pub reads_back : Profile → ℕ → Insn → Bool
 reads_back p word i = number_of_fields (fields i) == word && has_one_writer i && is_in p i
 
+-- an instruction where it counts, else none
 abbrev pub kept_if : Bool → Insn → Option Insn
 kept_if keep i = if keep then Some i else None
 

@@ -23,21 +23,25 @@ use Rattle.insn_word.specs.declared.insn.Insn.TheVariants as insn
 
 -- Fields, the most significant first.
 
+-- the register of a wide word in five digits; a target register takes the last three of them
 abbrev pub register_fields : WideOp → ℕ → List Field
 register_fields wide.Literal reg = unsigned 5 reg ∷ []
 register_fields wide.LiteralHigh reg = unsigned 5 reg ∷ []
 register_fields wide.TargetLiteral reg = zeros 2 ∷ unsigned 3 reg ∷ []
 
+-- the memory part of a normal word
 abbrev pub memory_fields : MPart → List Field
 memory_fields m =
     unsigned 3 (memory_number m.op) ∷ unsigned 2 (access_number m.acc) ∷ unsigned 5 m.rd ∷ unsigned 5 m.base
     ∷ signed 6 m.disp ∷ []
 
+-- the arithmetic part of a normal word
 abbrev pub arithmetic_fields : APart → List Field
 arithmetic_fields a =
     unsigned 4 (arithmetic_number a.op) ∷ flag a.test ∷ flag a.imm ∷ unsigned 5 a.rd ∷ unsigned 5 a.ra
     ∷ unsigned 5 a.rb ∷ []
 
+-- the arguments of a control operation in 14 digits, with zeros where it uses none
 abbrev pub argument_fields : ControlOp → CPart → List Field
 argument_fields control.Nop c = zeros 14 ∷ []
 argument_fields control.Jump c =
@@ -54,9 +58,11 @@ argument_fields control.Quit c = zeros 14 ∷ []
 argument_fields control.QuitKeep c = zeros 14 ∷ []
 argument_fields control.Mask c = unsigned 3 (unsigned_abs c.n) ∷ zeros 11 ∷ []
 
+-- the control part of a normal word
 abbrev pub control_fields : CPart → List Field
 control_fields c = unsigned 4 (control_number c.op) ∷ argument_fields c.op c
 
+-- a whole word: 1 for a wide one and 0 for a normal one, the lookahead, and the operation or the three parts
 abbrev pub fields : Insn → List Field
 fields (insn.Wide look op reg imm) =
     unsigned 1 1 ∷ unsigned 3 look ∷ unsigned 3 (wide_number op) ∷ register_fields op reg ++ zeros 20
@@ -66,9 +72,11 @@ fields (insn.Normal look m a c) =
 
 -- Each part with nothing but what its operation uses.
 
+-- the memory part that asks nothing of the memory
 abbrev pub memory_nop : MPart
 memory_nop = record { op = memory.Nop; acc = access.FromPointer; rd = 0; base = 0; disp = pos 0 }
 
+-- a memory part with what its operation uses, and zeros in place of the rest
 abbrev pub used_memory : MemoryOp → MPart → MPart
 used_memory memory.Nop m = memory_nop
 used_memory memory.Load m = m
@@ -78,9 +86,11 @@ used_memory memory.TagGet m = record m { acc = access.FromPointer }
 used_memory memory.TagSet m = record m { acc = access.FromPointer }
 used_memory memory.Purge m = record m { acc = access.FromPointer }
 
+-- the arithmetic part that computes nothing
 abbrev pub arithmetic_nop : APart
 arithmetic_nop = record { op = arithmetic.Nop; test = false; imm = false; rd = 0; ra = 0; rb = 0 }
 
+-- an arithmetic part with what its operation uses, and zeros in place of the rest
 abbrev pub used_arithmetic : ArithmeticOp → APart → APart
 used_arithmetic arithmetic.Nop a = arithmetic_nop
 used_arithmetic arithmetic.Add a = a
@@ -98,9 +108,11 @@ used_arithmetic arithmetic.LessSigned a = a
 used_arithmetic arithmetic.LessUnsigned a = a
 used_arithmetic arithmetic.Pointer a = a
 
+-- a control part of this operation, with zeros for all arguments
 abbrev pub only_control : ControlOp → CPart
 only_control op = record { op = op; cond = condition.Always; code = 0; t = 0; u = 0; rd = 0; ra = 0; n = pos 0 }
 
+-- a control part with what its operation uses, and zeros in place of the rest
 abbrev pub used_control : ControlOp → CPart → CPart
 used_control control.Nop c = only_control control.Nop
 used_control control.Jump c = record (only_control control.Jump) { cond = c.cond; code = c.code; t = c.t }
@@ -125,6 +137,7 @@ RestIsZero (insn.Normal look m a c) =
 
 -- The register that an operation with this rd writes, and 0 where it writes none.
 
+-- the register that a memory operation writes: rd, where it brings something back
 abbrev pub memory_destination : MemoryOp → ℕ → ℕ
 memory_destination memory.Nop rd = 0
 memory_destination memory.Load rd = rd
@@ -134,6 +147,7 @@ memory_destination memory.TagGet rd = rd
 memory_destination memory.TagSet rd = 0
 memory_destination memory.Purge rd = 0
 
+-- the register that an arithmetic operation writes: rd for all but NOP
 abbrev pub arithmetic_destination : ArithmeticOp → ℕ → ℕ
 arithmetic_destination arithmetic.Nop rd = 0
 arithmetic_destination arithmetic.Add rd = rd
@@ -151,6 +165,7 @@ arithmetic_destination arithmetic.LessSigned rd = rd
 arithmetic_destination arithmetic.LessUnsigned rd = rd
 arithmetic_destination arithmetic.Pointer rd = rd
 
+-- the register that a control operation writes: rd for TGET, XGET and RESERVE
 abbrev pub control_destination : ControlOp → ℕ → ℕ
 control_destination control.Nop rd = 0
 control_destination control.Jump rd = 0
@@ -170,11 +185,13 @@ control_destination control.Mask rd = 0
 abbrev pub AreApart : ℕ → ℕ → Type 0
 AreApart x y = x ≡ y → x ≡ 0
 
+-- No two of the three parts write one register other than r0.
 pub record WriteApart (m : MPart) (a : APart) (c : CPart) : Type 0 where
   pub memory_arithmetic : AreApart (memory_destination m.op m.rd) (arithmetic_destination a.op a.rd)
   pub memory_control : AreApart (memory_destination m.op m.rd) (control_destination c.op c.rd)
   pub arithmetic_control : AreApart (arithmetic_destination a.op a.rd) (control_destination c.op c.rd)
 
+-- No two parts of an instruction write one register other than r0.
 abbrev pub HasOneWriter : Insn → Type 0
 HasOneWriter (insn.Wide look op reg imm) = ⊤
 HasOneWriter (insn.Normal look m a c) = WriteApart m a c
@@ -197,10 +214,10 @@ pub record SpellsIn (p : Profile) (word : ℕ) (i : Insn) : Type 0 where
 abbrev pub IsValidIn : Profile → Insn → Type 0
 IsValidIn p i = (word : ℕ) × SpellsIn p word i
 
--- The same in Profile 1.
-
+-- A word spells an instruction in Profile 1.
 abbrev pub Spells : ℕ → Insn → Type 0
 Spells = SpellsIn profile.One
 
+-- Some word spells an instruction in Profile 1.
 abbrev pub IsValid : Insn → Type 0
 IsValid = IsValidIn profile.One

@@ -11,21 +11,27 @@ use Rattle.listing_line.specs.WordText.{statement_text, digits_text}
 abbrev pub number_line : Directive → ℕ → List ℕ
 number_line d number = statement_text (directive_name d) (decimal number ∷ [])
 
+-- the line of a profile
 unfoldable pub profile_line : Profile → List ℕ
 profile_line p = number_line directive.Profile (profile_number p)
 
+-- the line of a slim
 unfoldable pub slim_line : ℕ → List ℕ
 slim_line slim = number_line directive.Slim slim
 
+-- the line of a chain limit
 unfoldable pub chain_line : ℕ → List ℕ
 chain_line limit = number_line directive.Chain limit
 
+-- the line of a retry limit
 unfoldable pub retry_line : ℕ → List ℕ
 retry_line retry = number_line directive.Retry retry
 
+-- the line of a trap entry
 unfoldable pub trap_line : ℕ → List ℕ
 trap_line trap = number_line directive.Trap trap
 
+-- the line of an entry
 unfoldable pub entry_line : ℕ → List ℕ
 entry_line entry = number_line directive.Entry entry
 

@@ -38,9 +38,11 @@ statement_text head (x ∷ xs) = head ++ (codes " " ++ comma_separated (x ∷ xs
 
 -- Operands.
 
+-- a register by its number
 abbrev pub register_text : ℕ → List ℕ
 register_text number = codes "r" ++ decimal number
 
+-- a target register by its number
 abbrev pub target_text : ℕ → List ℕ
 target_text number = codes "t" ++ decimal number
 
@@ -53,11 +55,13 @@ source_text false number = register_text number
 abbrev pub digits_text : ℕ → List ℕ
 digits_text word = codes "0x" ++ hexadecimal_16 word
 
+-- the operands of a wide operation, in the order of the assembler
 abbrev pub wide_operands : WideOp → ℕ → ℕ → List (List ℕ)
 wide_operands wide.Literal reg imm = register_text reg ∷ decimal imm ∷ []
 wide_operands wide.LiteralHigh reg imm = register_text reg ∷ decimal imm ∷ []
 wide_operands wide.TargetLiteral reg imm = target_text reg ∷ decimal imm ∷ []
 
+-- the operands of a memory operation, in the order of the assembler
 abbrev pub memory_operands : MPart → List (List ℕ)
 memory_operands m = register_text m.rd ∷ register_text m.base ∷ signed_decimal m.disp ∷ []
 
@@ -65,6 +69,7 @@ memory_operands m = register_text m.rd ∷ register_text m.base ∷ signed_decim
 abbrev pub operands_of_two : APart → List (List ℕ)
 operands_of_two a = register_text a.rd ∷ register_text a.ra ∷ source_text a.imm a.rb ∷ []
 
+-- the operands of an arithmetic operation, in the order of the assembler
 abbrev pub arithmetic_operands : ArithmeticOp → APart → List (List ℕ)
 arithmetic_operands arithmetic.Nop a = []
 arithmetic_operands arithmetic.Add a = operands_of_two a
@@ -82,6 +87,7 @@ arithmetic_operands arithmetic.LessSigned a = operands_of_two a
 arithmetic_operands arithmetic.LessUnsigned a = operands_of_two a
 arithmetic_operands arithmetic.Pointer a = operands_of_two a
 
+-- the operands of a control operation, in the order of the assembler
 abbrev pub control_operands : ControlOp → CPart → List (List ℕ)
 control_operands control.Nop c = []
 control_operands control.Jump c = condition_name c.cond ∷ decimal c.code ∷ target_text c.t ∷ []
@@ -99,20 +105,25 @@ control_operands control.Mask c = signed_decimal c.n ∷ []
 
 -- Operations.
 
+-- a wide operation with its operands
 unfoldable pub wide_text : WideOp → ℕ → ℕ → List ℕ
 wide_text op reg imm = statement_text (wide_name op) (wide_operands op reg imm)
 
+-- a memory operation with its access and its operands
 unfoldable pub memory_text : MPart → List ℕ
 memory_text m = statement_text (operation_name (operation.Memory m.op m.acc)) (memory_operands m)
 
+-- an arithmetic operation with its test and its operands
 unfoldable pub arithmetic_text : APart → List ℕ
 arithmetic_text a = statement_text (operation_name (operation.Arithmetic a.op a.test)) (arithmetic_operands a.op a)
 
+-- a control operation with its operands
 unfoldable pub control_text : CPart → List ℕ
 control_text c = statement_text (operation_name (operation.Control c.op)) (control_operands c.op c)
 
 -- Instructions.
 
+-- whether a memory operation is NOP
 abbrev pub is_no_memory : MemoryOp → Bool
 is_no_memory memory.Nop = true
 is_no_memory memory.Load = false
@@ -122,6 +133,7 @@ is_no_memory memory.TagGet = false
 is_no_memory memory.TagSet = false
 is_no_memory memory.Purge = false
 
+-- whether an arithmetic operation is NOP
 abbrev pub is_no_arithmetic : ArithmeticOp → Bool
 is_no_arithmetic arithmetic.Nop = true
 is_no_arithmetic arithmetic.Add = false
@@ -139,6 +151,7 @@ is_no_arithmetic arithmetic.LessSigned = false
 is_no_arithmetic arithmetic.LessUnsigned = false
 is_no_arithmetic arithmetic.Pointer = false
 
+-- whether a control operation is NOP
 abbrev pub is_no_control : ControlOp → Bool
 is_no_control control.Nop = true
 is_no_control control.Jump = false
@@ -154,18 +167,22 @@ is_no_control control.Quit = false
 is_no_control control.QuitKeep = false
 is_no_control control.Mask = false
 
+-- the text, but where this is so none
 abbrev pub unless : Bool → List ℕ → List (List ℕ)
 unless true text = []
 unless false text = text ∷ []
 
 -- the operation of a part; NOP is none
 
+-- the memory operation of a word
 abbrev pub memory_texts : MPart → List (List ℕ)
 memory_texts m = unless (is_no_memory m.op) (memory_text m)
 
+-- the arithmetic operation of a word
 abbrev pub arithmetic_texts : APart → List (List ℕ)
 arithmetic_texts a = unless (is_no_arithmetic a.op) (arithmetic_text a)
 
+-- the control operation of a word
 abbrev pub control_texts : CPart → List (List ℕ)
 control_texts c = unless (is_no_control c.op) (control_text c)
 
@@ -183,6 +200,7 @@ bar_separated (x ∷ y ∷ ys) = x ++ (codes " | " ++ bar_separated (y ∷ ys))
 abbrev pub lookahead_text : ℕ → List ℕ
 lookahead_text look = if look == 0 then [] else codes "@" ++ (decimal look ++ codes " ")
 
+-- an instruction: its lookahead and its operations
 unfoldable pub insn_text : Insn → List ℕ
 insn_text (insn.Wide look op reg imm) = lookahead_text look ++ wide_text op reg imm
 insn_text (insn.Normal look m a c) = lookahead_text look ++ bar_separated (operation_texts m a c)
@@ -193,10 +211,12 @@ insn_text (insn.Normal look m a c) = lookahead_text look ++ bar_separated (opera
 unfoldable pub raw_text : ℕ → List ℕ
 raw_text word = statement_text (directive_name directive.Word) (digits_text word ∷ [])
 
+-- the instruction of a word, or the word itself where it spells none
 abbrev pub instruction_or_raw_text : ℕ → Option Insn → List ℕ
 instruction_or_raw_text word None = raw_text word
 instruction_or_raw_text word (Some i) = insn_text i
 
+-- a program word as a statement
 unfoldable pub word_text : Profile → ℕ → List ℕ
 word_text p word = instruction_or_raw_text word (instruction_in p word)
 

@@ -18,14 +18,17 @@ first_running (s ∷ ss) n = if is_running s then Some n else first_running ss (
 abbrev pub running_from : ProcessorValue → ℕ → Option ℕ
 running_from proc n = first_running (drop n proc.streams) n
 
+-- the one stream where there is one, else the other
 abbrev pub or_first : Option ℕ → Option ℕ → Option ℕ
 or_first (Some s) o = Some s
 or_first None o = o
 
+-- the stream whose turn it is, after the one that stepped last if any has; none where no stream runs
 abbrev pub turn_after : ProcessorValue → Option ℕ → Option ℕ
 turn_after proc None = running_from proc 0
 turn_after proc (Some last) = or_first (running_from proc (last + 1)) (running_from proc 0)
 
+-- the stream that stepped last, none before the first step
 abbrev pub last_of : List ℕ → Option ℕ
 last_of ss = slice_get ss (length ss - 1)
 
