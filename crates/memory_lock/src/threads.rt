@@ -73,8 +73,8 @@ impl<'i, const S: usize> Worker for Recorded<'i, S> {
     }
 }
 
-/// Drives each worker through the memory behind a lock. The lock's type names the memory that it began with: which one
-/// that is, is picked with this call's proof (proofs/threads/run_workers/Invariants.antt).
+/// Drives each worker through the memory behind a lock. The lock's type names the memory that it began with, which is
+/// this one: the call of [`run_from`] picks it, in proofs/threads/run_workers/Invariants.antt.
 fn run_workers<'i, W: Worker + Send, R: Threads + Wait + Sync, G: Gate + Sync>(
     rt: &R,
     workers: &mut [W],

@@ -284,7 +284,8 @@ impl<'i, const S: usize> Recorded<'i, S> {
     pub fn turn(&self) -> Option<u8>
         ensures { result ≡ turn_after self.now.state (last_of self.now.steps) }
     {
-        let slim = self.image.slim();
+        // the clauses of `slim` say that a stream's number fits eight bits
+        let _ = self.image.slim();
         match self.processor.turn_after(self.steps.last()) {
             Some(s) => Some(s as u8),
             None => None,

@@ -26,22 +26,25 @@ pub(crate) enum Piece {
     RightAligned,
 }
 
-/// Pieces, and their texts.
+/// A trace line, and its text.
 pub(crate) const TRACE_LINE: [(Piece, &str); 1] = [(
     Piece::TraceLine,
     "      1   0   0 00000000 DONE\n",
 )];
 
+/// A history line, and its text.
 pub(crate) const HISTORY_LINE: [(Piece, &str); 1] = [(
     Piece::HistoryLine,
     "      1   0   0 FADD   0000000000000000 1 0000000000000003 0 DONE 0000000000000005\n",
 )];
 
+/// A line of a listing, and its text.
 pub(crate) const WORD_LINE: [(Piece, &str); 1] = [(
     Piece::WordLine,
     "LIT r1, 3 ; 00000 8010000000000003\n",
 )];
 
+/// Hexadecimal digits of each width, and their texts.
 pub(crate) const HEXADECIMALS: [(Piece, &str); 4] = [
     (Piece::Sixteen, "0000000000000ABC"),
     (Piece::Twelve, "000000000ABC"),
@@ -49,6 +52,7 @@ pub(crate) const HEXADECIMALS: [(Piece, &str); 4] = [
     (Piece::Digit, "A"),
 ];
 
+/// Decimal digits of each form, and their texts.
 pub(crate) const DECIMALS: [(Piece, &str); 3] = [
     (Piece::TwoDigits, "07"),
     (Piece::FiveDigits, "65535"),

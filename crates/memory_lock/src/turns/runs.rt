@@ -86,8 +86,8 @@ fn run_workers<'i, W: Worker + Send, R: Threads + Wait + Sync, G: Gate + Sync>(
     run_pair(rt, alloc, memory, &mut front[0], &mut back[0], fuel, gate)
 }
 
-/// The same of two that are named. The ports' type names the table: which one that is, is picked with this call's proof
-/// once it is made (proofs/turns/runs/run_pair/Invariants.antt).
+/// The same of two that are named. The ports' type names the table, which is made here: the call of [`run_at_table`]
+/// picks it, in proofs/turns/runs/run_pair/Invariants.antt.
 fn run_pair<'i, W: Worker + Send, R: Threads + Wait + Sync, G: Gate + Sync>(
     rt: &R,
     alloc: Global,
