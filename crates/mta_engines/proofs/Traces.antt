@@ -1,61 +1,15 @@
 -- The trace of a machine's steps, line by line.
-use Rattle.std.proofs.Common.{◌≡◌, ℕ, zero, suc, ◌+◌, ◌<◌, ◌≤◌, inl, inr, refl, sym, ap, ◌∙◌, arith, add-one}
+use Rattle.std.proofs.Common.{◌≡◌, ℕ, zero, suc, ◌+◌, ◌<◌, ◌≤◌, refl, sym, ap, ◌∙◌, arith, add-one}
 use Rattle.std.proofs.Common.{List, [], ◌∷◌, ◌++◌, length, drop, get_or, append_assoc, append-nil}
 use Rattle.std.proofs.Math.Seq.{drop-cons}
 use Rattle.std.proofs.Math.ListN.{drop_of_length-le}
-use Rattle.std.proofs.Common.{Bool, Option, Some, None, if◌then◌else◌, lt-ltb}
-use Rattle.std.proofs.lemmas.Bool.{cases_lt, le-ltb}
-use Rattle.std.proofs.lemmas.Option.{get_or_from_slice_get}
-use Rattle.std.specs.List.{slice_get}
-use Rattle.stream_core.specs.Streams.{StreamValue, idle}
-use Rattle.processor.specs.Processors.{ProcessorValue, stream_at}
 use Rattle.processor.specs.declared.steps.Step.{Step}
-use Rattle.machine.specs.MachineValue.{MachineValue, IsMachine}
+use Rattle.machine.specs.MachineValue.{MachineValue}
 use Rattle.image_file.specs.ImageValue.{ImageValue}
 use Rattle.stream_core.specs.declared.steps.Outcome.{Outcome}
-use Rattle.processor.specs.World.{World, stream_of, stream_seen_at, world_step, after, outcome_of}
+use Rattle.processor.specs.World.{World, world_step, after, outcome_of}
 use Rattle.trace_text.specs.TraceLines.{trace_line_of}
-use Rattle.mta_engines.specs.RunOutput.{pc_in, pc_of, trace_from}
-
--- The pc of a line is that of the stream that the machine shows.
-
-abbrev pub pc_at : Option StreamValue → ℕ
-pc_at None = 0
-pc_at (Some s) = s.ssw.pc
-
-idle_past : (ss : List StreamValue) (k : ℕ) → length ss ≤ k → stream_at ss k ≡ idle
-idle_past [] k past = refl
-idle_past (s ∷ ss) zero past = absurd (omega arith)
-idle_past (s ∷ ss) (suc k) past = idle_past ss k (omega arith)
-
-within_get : {A : Type 0} (xs : List A) (k : ℕ) (x : A) → slice_get xs k ≡ Some x → k < length xs
-within_get [] k x e = cc
-within_get (y ∷ ys) zero x e = omega arith
-within_get (y ∷ ys) (suc k) x e = let rest = within_get ys k x e in omega (arith, rest)
-
--- a processor of the machine has no more streams than there is room for
-few_streams : (size : ℕ) (m : MachineValue) (p : ℕ) (d : ProcessorValue) → IsMachine size m
-    → slice_get m.world.processors p ≡ Some d → length d.streams ≤ size
-few_streams size m p d kept e =
-    let slim = kept.slims p d (within_get m.world.processors p d e) in
-    let same : length d.streams ≡ m.image.slim =
-    ap (λ (q : ProcessorValue). length q.streams) (sym (get_or_from_slice_get m.world.processors p d d e)) ∙ slim in
-    let within = kept.within in
-    omega (arith, same, within)
-
-seen_at : (size : ℕ) (m : MachineValue) (t : Step) (d : Option ProcessorValue) → IsMachine size m
-    → slice_get m.world.processors t.p ≡ d → pc_at (stream_seen_at size t.s d) ≡ pc_in t.s d
-seen_at size m t None kept e = refl
-seen_at size m t (Some d) kept e = elim (cases_lt t.s size) [
-  | inl below ↦ ap (λ (b : Bool). pc_at (if b then Some (stream_at d.streams t.s) else None)) (lt-ltb t.s size below)
-  | inr past ↦ let few = few_streams size m t.p d kept e in
-      ap (λ (b : Bool). pc_at (if b then Some (stream_at d.streams t.s) else None)) (le-ltb t.s size past)
-      ∙ sym (ap (λ (s : StreamValue). s.ssw.pc) (idle_past d.streams t.s (omega (arith, few, past))))
-]
-
-pub pc_seen : (size : ℕ) (m : MachineValue) (t : Step) (x : Option StreamValue) → IsMachine size m
-    → x ≡ stream_of size m.world t.p t.s → pc_at x ≡ pc_of m.world t
-pc_seen size m t x kept e = ap pc_at e ∙ seen_at size m t (slice_get m.world.processors t.p) kept refl
+use Rattle.mta_engines.specs.RunOutput.{pc_of, trace_from}
 
 -- The text so far and the lines to come are the whole trace.
 

@@ -1,10 +1,10 @@
 -- What the command `run` writes for an image and a schedule.
-use Rattle.std.specs.Prelude.{◌≡◌, ◌≤◌, ◌<◌, ℕ, ◌+◌, List, [], ◌∷◌, ◌++◌, length, Option, Some, None, Ok, Err}
-use Rattle.std.specs.Prelude.{slice_get, ◌⊎◌}
+use Rattle.std.specs.Prelude.{◌≡◌, ◌≤◌, ◌<◌, ℕ, ◌+◌, List, [], ◌∷◌, ◌++◌, length, Ok, Err}
+use Rattle.std.specs.Prelude.{◌⊎◌}
 use Rattle.image_file.specs.ImageValue.{ImageValue}
-use Rattle.processor.specs.Processors.{ProcessorValue, stream_at}
 use Rattle.processor.specs.World.{World, start, after, outcome_of, run}
 use Rattle.processor.specs.declared.steps.Step.{Step}
+use Rattle.replay_debugger.specs.Stops.{stream_named}
 use Rattle.trace_text.specs.Schedules.{schedule_of}
 use Rattle.trace_text.specs.TraceLines.{trace_line_of}
 use Rattle.trace_text.specs.WorldTexts.{world_text_of}
@@ -16,14 +16,9 @@ use Rattle.mta_engines.specs.declared.tool_fault.ToolFault.TheVariants.{Asm, Ima
 
 -- The text.
 
--- a stream that is not there has the pc of an idle one, 0
-abbrev pub pc_in : ℕ → Option ProcessorValue → ℕ
-pc_in s None = 0
-pc_in s (Some proc) = (stream_at proc.streams s).ssw.pc
-
--- the pc of the stream that a step names; 0 where there is none
+-- the pc of the stream that a step names; 0, as of an idle one, where there is none
 abbrev pub pc_of : World → Step → ℕ
-pc_of w t = pc_in t.s (slice_get w.processors t.p)
+pc_of w t = (stream_named w t).ssw.pc
 
 -- a line for each step, of which the first has this number
 abbrev pub trace_from : ImageValue → World → ℕ → List Step → List ℕ
