@@ -13,12 +13,11 @@ ghost use Rattle.trace_text.specs.declared.schedule_fault.ScheduleFault.{Schedul
 
 use crate::debug_answers::answer_lines;
 use crate::image_and_schedule::{read_image_input, read_schedule_input};
+use crate::loading::begun;
 use crate::stream_room::StreamRoom;
 use crate::tool_fault::ToolFault;
 use image_file::Image;
-use machine::LoadFault;
 use processor::Step;
-use replay_debugger::Session;
 use std::alloc::Global;
 use std::io::{Read, Write};
 
@@ -92,12 +91,6 @@ fn debug_image<const S: usize, C: Read, W: Write>(
     ensures fault { IfErr result (IsLaterFault (session_at_start image.now steps.items)
         (C.remaining commands.old) (C.remaining commands.new) (W.contents writer.old) (W.contents writer.new)) }
 {
-    let mut session = match Session::<S>::begin(alloc, image, steps) {
-        Ok(session) => session,
-        Err(fault) => match fault.kind {
-            LoadFault::NoMemory => return Err(ToolFault::NoMemory),
-            LoadFault::Streams => unreachable!(),
-        },
-    };
+    let mut session = begun::<S>(alloc, image, steps)?;
     answer_lines(alloc, &mut session, commands, writer)
 }

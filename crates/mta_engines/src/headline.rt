@@ -2,15 +2,15 @@
 ghost use Rattle.std.specs.Prelude.{◌≡◌, ◌≤◌, length, IfOk, MatchResult, string_bytes};
 ghost use Rattle.image_file.specs.ImageValue.{ImageValue};
 ghost use Rattle.image_file.specs.Spelling.{Stands};
-ghost use Rattle.processor.specs.World.{start};
 ghost use Rattle.asm_text.specs.Sources.{Means, HasFault};
 ghost use Rattle.replay_debugger.specs.Sessions.{session_at_start};
 ghost use Rattle.mta_engines.specs.OneMachine.{IsOneMachine};
 
+use crate::loading::{begun, loaded};
 use asm_text::{AsmFault, Fault, assemble, listing, listings_are_read_back};
 use debug_commands::{Command, DebugFault};
 use image_file::{Image, ImageFault, image_bytes_laws, read_image, write_image};
-use machine::{LoadFault, Machine};
+use machine::Machine;
 use processor::Step;
 use replay_debugger::Session;
 use std::alloc::{AllocError, Global};
@@ -115,18 +115,6 @@ fn written_image(alloc: Global, bytes: &[u8]) -> Result<Image, AllocError>
     }
 }
 
-/// The image's machine, before any step.
-fn loaded<'i, const S: usize>(alloc: Global, image: &'i Image) -> Result<Machine<'i, S>, AllocError>
-    requires room { image.now.slim ≤ S }
-    ensures { IfOk result (λ m. m ≡ record { image = image.entry.now; world = start image.entry.now }) }
-{
-    match Machine::load(alloc, image) {
-        Ok(machine) => Ok(machine),
-        Err(LoadFault::NoMemory) => Err(AllocError),
-        Err(LoadFault::Streams) => unreachable!(),
-    }
-}
-
 /// A session of the debugger, gone to a position.
 fn session_at<'i, const S: usize>(
     alloc: Global,
@@ -139,13 +127,7 @@ fn session_at<'i, const S: usize>(
     ensures { IfOk result (λ s.
         s ≡ record (session_at_start image.entry.now schedule.items) { position = position }) }
 {
-    let mut session = match Session::begin(alloc, image, schedule) {
-        Ok(session) => session,
-        Err(fault) => match fault.kind {
-            LoadFault::NoMemory => return Err(AllocError),
-            LoadFault::Streams => unreachable!(),
-        },
-    };
+    let mut session = begun(alloc, image, schedule)?;
     match session.command(&Command::Go(position)) {
         Ok(_) => Ok(session),
         Err(DebugFault::NoMemory) => Err(AllocError),

@@ -11,6 +11,7 @@ mod input;
 mod line_reader;
 mod line_start;
 mod list;
+mod loading;
 mod output;
 mod program_lines;
 mod run;

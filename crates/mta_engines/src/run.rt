@@ -12,11 +12,12 @@ ghost use Rattle.image_file.specs.declared.fault.ImageFault.{ImageFault};
 ghost use Rattle.trace_text.specs.declared.schedule_fault.ScheduleFault.{ScheduleFault};
 
 use crate::image_and_schedule::{read_image_input, read_schedule_input};
+use crate::loading::loaded;
 use crate::output::write_output;
 use crate::stream_room::StreamRoom;
 use crate::tool_fault::ToolFault;
 use image_file::Image;
-use machine::{LoadFault, Machine};
+use machine::Machine;
 use processor::Step;
 use std::alloc::{AllocError, Global};
 use std::io::{Read, Write};
@@ -83,11 +84,7 @@ fn run_machine<const S: usize>(
     requires room { image.now.slim ≤ S }
     ensures { IfOk result (λ text. string_bytes text ≡ run_output image.now steps.now) }
 {
-    let mut machine = match Machine::<S>::load(alloc, image) {
-        Ok(machine) => machine,
-        Err(LoadFault::NoMemory) => return Err(AllocError),
-        Err(LoadFault::Streams) => unreachable!(),
-    };
+    let mut machine = loaded::<S>(alloc, image)?;
     let mut text = String::with_capacity(alloc, steps.len().saturating_mul(TRACE_LINE))?;
     push_trace(&mut text, &mut machine, steps)?;
     let world = world_text(alloc, &machine, image)?;

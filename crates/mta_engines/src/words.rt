@@ -7,11 +7,11 @@ ghost use Rattle.mta_engines.specs.ProgramLines.{program_of};
 ghost use Rattle.mta_engines.specs.WordsOutput.{IsWordsOutput, program_text, text_or_fault, words_output};
 
 use crate::input::read_input;
+use crate::loading::loaded;
 use crate::output::write_output;
 use crate::program_lines::read_program;
 use crate::tool_fault::ToolFault;
 use crate::words_image::words_image;
-use machine::{LoadFault, Machine};
 use processor::Step;
 use std::alloc::Global;
 use std::io::{Read, Write};
@@ -61,11 +61,7 @@ fn run_program(alloc: Global, program: Vec<u64>) -> Result<String, ToolFault>
 {
     let steps = vec![in alloc; ONLY_STEP; program.len()]?;
     let image = words_image(alloc, program)?;
-    let mut machine = match Machine::<1>::load(alloc, &image) {
-        Ok(machine) => machine,
-        Err(LoadFault::NoMemory) => return Err(ToolFault::NoMemory),
-        Err(LoadFault::Streams) => unreachable!(),
-    };
+    let mut machine = loaded::<1>(alloc, &image)?;
     machine.run(&steps);
     let text = match machine.stream(0, 0) {
         Some(stream) => stream_text(alloc, stream)?,
