@@ -5,8 +5,8 @@ use Rattle.insn_word.specs.Fields.{number_of_fields}
 use Rattle.insn_word.specs.Words.{fields}
 use Rattle.insn_word.specs.declared.profiles.Profile.{Profile}
 use Rattle.tag_memory.specs.Cell.{Cell, cell_of}
-use Rattle.tag_memory.specs.Storage.{default_chain_limit}
-use Rattle.image_file.specs.ImageValue.{ImageValue}
+use Rattle.tag_memory.specs.Storage.{default_chain_limit, most_memory_words}
+use Rattle.image_file.specs.ImageValue.{ImageValue, most_processors, most_program_words}
 use Rattle.asm_line.specs.Faults.{map_ok}
 use Rattle.asm_line.specs.declared.fault.Fault.{Fault}
 use Rattle.asm_line.specs.declared.fault.Fault.TheVariants as fault
@@ -30,22 +30,22 @@ empty = record { settings = no_settings; entries = []; words = []; cells = [] }
 abbrev pub with_settings : DraftValue → Result Settings Fault → Result DraftValue Fault
 with_settings d r = map_ok (λ s. record d { settings = s }) r
 
--- There are at most 16 entries, 65,536 program words and 262,144 cells.
+-- There are at most as many entries, program words and cells as an image may have.
 
 -- the draft with one more entry
 abbrev pub with_entry : DraftValue → ℕ → Result DraftValue Fault
 with_entry d n =
-    if nat_lt (length d.entries) 16 then Ok (record d { entries = d.entries ++ n ∷ [] }) else Err fault.Limit
+    if nat_lt (length d.entries) most_processors then Ok (record d { entries = d.entries ++ n ∷ [] }) else Err fault.Limit
 
 -- the draft with one more program word
 abbrev pub with_word : DraftValue → ℕ → Result DraftValue Fault
 with_word d w =
-    if nat_lt (length d.words) 65536 then Ok (record d { words = d.words ++ w ∷ [] }) else Err fault.Limit
+    if nat_lt (length d.words) most_program_words then Ok (record d { words = d.words ++ w ∷ [] }) else Err fault.Limit
 
 -- the draft with so many more cells, which are alike
 abbrev pub with_cells : DraftValue → ℕ → Cell → Result DraftValue Fault
 with_cells d n c =
-    if nat_le (length d.cells + n) 262144 then Ok (record d { cells = d.cells ++ replicate n c }) else Err fault.Limit
+    if nat_le (length d.cells + n) most_memory_words then Ok (record d { cells = d.cells ++ replicate n c }) else Err fault.Limit
 
 -- What a line's item adds, if it may. An instruction adds the word of its fields.
 unfoldable pub add : DraftValue → Item → Result DraftValue Fault

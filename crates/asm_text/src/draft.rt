@@ -14,20 +14,14 @@ use crate::fault::AsmFault;
 use crate::settings::Settings;
 use crate::spelling::spelling_of;
 use asm_line::{Fault, Item};
-use image_file::{Image, ImageFault};
+use image_file::{Image, ImageFault, MAX_PROCESSORS, MAX_PROGRAM_WORDS};
 use insn_word::Profile;
 use std::alloc::Global;
 use std::marker::Model;
-use tag_memory::{DEFAULT_CHAIN_LIMIT, Word};
+use tag_memory::{DEFAULT_CHAIN_LIMIT, MAX_WORDS, Word};
 
 /// How many streams a processor has at most where no `.slim` says it.
 const DEFAULT_SLIM: u8 = 8;
-
-const MAX_ENTRIES: usize = 16;
-
-const MAX_PROGRAM_WORDS: usize = 65_536;
-
-const MAX_CELLS: usize = 262_144;
 
 /// What the first lines of a text give of its image.
 #[derive(Drop)]
@@ -91,7 +85,7 @@ impl Draft {
         ensures { MatchResult result (λ _. with_entry self.old entry ≡ Ok self.new)
             (λ e. IsItemFault e (with_entry self.old entry)) }
     {
-        if self.entries.len() >= MAX_ENTRIES {
+        if self.entries.len() >= MAX_PROCESSORS {
             return Err(Fault::Limit);
         }
         self.entries.push(entry).map_err(|_| Fault::NoMemory)
@@ -113,7 +107,7 @@ impl Draft {
             (λ e. IsItemFault e (with_cells self.old count (cell_of value tags))) }
     {
         let count = count as usize;
-        if count > MAX_CELLS || self.cells.len() > MAX_CELLS - count {
+        if count > MAX_WORDS || self.cells.len() > MAX_WORDS - count {
             return Err(Fault::Limit);
         }
         let Some(cell) = Word::from_number(value, tags) else {

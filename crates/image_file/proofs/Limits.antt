@@ -6,22 +6,22 @@ use Rattle.std.specs.List.{All}
 use Rattle.std.proofs.lemmas.Bool.Decides.{nat_tests}
 use Rattle.std.proofs.lemmas.List.Quantifiers.{position-Some}
 use Rattle.insn_word.specs.declared.profiles.Profile.TheVariants.{One}
-use Rattle.tag_memory.specs.Storage.{default_chain_limit, most_chain_limit}
-use Rattle.image_file.specs.ImageValue.{ImageValue, IsWithin}
+use Rattle.tag_memory.specs.Storage.{default_chain_limit, most_chain_limit, most_memory_words}
+use Rattle.image_file.specs.ImageValue.{ImageValue, IsWithin, most_processors, most_program_words}
 use Rattle.image_file.proofs.Searches.{none_fails}
 use Rattle.image_file.specs.Parts.{count_fault, entry_fault}
 use Rattle.image_file.specs.declared.fault.CountField.{CountField}
 
 pub record AreCounts (processors slim limit words cells : ℕ) : Type 0 where
   pub some_processors : 1 ≤ processors
-  pub few_processors : processors ≤ 16
+  pub few_processors : processors ≤ most_processors
   pub some_slim : 1 ≤ slim
   pub few_slim : slim ≤ 128
   pub chain : limit ≤ most_chain_limit
   pub some_words : 1 ≤ words
-  pub few_words : words ≤ 65536
+  pub few_words : words ≤ most_program_words
   pub some_cells : 1 ≤ cells
-  pub few_cells : cells ≤ 262144
+  pub few_cells : cells ≤ most_memory_words
 
 pub counts_stand : (p s l w c : ℕ) → count_fault p s l w c ≡ None → AreCounts p s l w c
 counts_stand p s l w c e = record {

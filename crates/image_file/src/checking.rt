@@ -2,6 +2,7 @@
 
 ghost use Rattle.std.specs.Prelude.{◌≡◌, ◌*◌, ◌<◌, ◌≤◌, length, IfSome};
 ghost use Rattle.image_file.specs.Header.{header_at};
+ghost use Rattle.image_file.specs.ImageValue.{most_processors};
 ghost use Rattle.image_file.specs.Parts.{entry_fault};
 ghost use Rattle.image_file.specs.Reading.{body_fault, entries_from, tags_from, tag_fault};
 
@@ -45,7 +46,7 @@ fn tag_fault(count: usize, bytes: &[u8]) -> Option<usize>
 #[tactic(auto, unfolding(crate::specs::Reading::body_fault))]
 pub(crate) fn body_fault(header: Header, bytes: &[u8]) -> Option<ImageFault>
     requires header { header ≡ header_at bytes.now }
-    requires few { header.processors ≤ 16 }
+    requires few { header.processors ≤ most_processors }
     ensures { result ≡ body_fault bytes.now }
 {
     if bytes.len() < header.file_length() {

@@ -2,8 +2,8 @@
 
 ghost use Rattle.std.specs.Prelude.{◌≡◌, ◌<◌, ◌≤◌, ◌↔◌, length, slice_get, IsSome, IfSome};
 ghost use Rattle.std.specs.Bool.{IsTrue};
-ghost use Rattle.tag_memory.specs.Storage.{default_chain_limit, most_chain_limit};
-ghost use Rattle.image_file.specs.ImageValue.{IsWithin};
+ghost use Rattle.tag_memory.specs.Storage.{default_chain_limit, most_chain_limit, most_memory_words};
+ghost use Rattle.image_file.specs.ImageValue.{IsWithin, most_processors, most_program_words};
 ghost use Rattle.image_file.specs.Same.{same_image};
 ghost use Rattle.image_file.specs.SameLaws.{same_image-laws};
 
@@ -64,7 +64,7 @@ impl Image {
     pub fn processors(&self) -> usize
         ensures is { result ≡ length self.now.entries }
         ensures some { 1 ≤ result }
-        ensures few { result ≤ 16 }
+        ensures few { result ≤ most_processors }
         ensures kept { IsWithin self.now }
     {
         self.entries.len()
@@ -106,7 +106,7 @@ impl Image {
     pub fn program(&self) -> &[u64]
         ensures is { result.now ≡ self.now.program }
         ensures some { 1 ≤ length result.now }
-        ensures few { length result.now ≤ 65536 }
+        ensures few { length result.now ≤ most_program_words }
     {
         &self.program
     }
@@ -115,7 +115,7 @@ impl Image {
     pub fn cells(&self) -> &[Word]
         ensures is { result.now ≡ self.now.cells }
         ensures some { 1 ≤ length result.now }
-        ensures few { length result.now ≤ 262144 }
+        ensures few { length result.now ≤ most_memory_words }
     {
         &self.cells
     }
@@ -123,7 +123,7 @@ impl Image {
     /// The entries of the processors.
     pub(crate) fn entries(&self) -> &[u32]
         ensures is { result.now ≡ self.now.entries }
-        ensures few { length result.now ≤ 16 }
+        ensures few { length result.now ≤ most_processors }
     {
         &self.entries
     }

@@ -16,5 +16,6 @@ mod writing;
 pub use fault::{CountField, ImageFault};
 pub use image::Image;
 pub use laws::image_bytes_laws;
+pub use parts::{MAX_PROCESSORS, MAX_PROGRAM_WORDS};
 pub use reading::read_image;
 pub use writing::write_image;

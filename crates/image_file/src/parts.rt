@@ -8,15 +8,19 @@ ghost use Rattle.image_file.specs.Parts.{count_fault, entry_fault, parts_fault};
 use crate::{CountField, Image, ImageFault};
 use insn_word::Profile;
 use std::mem;
-use tag_memory::{DEFAULT_CHAIN_LIMIT, MAX_CHAIN_LIMIT, Word};
+use tag_memory::{DEFAULT_CHAIN_LIMIT, MAX_CHAIN_LIMIT, MAX_WORDS, Word};
 
-const MAX_PROCESSORS: usize = 16;
+/// The most processors of an image.
+pub const MAX_PROCESSORS: usize = 16;
+
+const _: () = prove!(MAX_PROCESSORS == 16);
 
 const MAX_SLIM: usize = 128;
 
-const MAX_PROGRAM_WORDS: usize = 65_536;
+/// The most program words of an image.
+pub const MAX_PROGRAM_WORDS: usize = 65_536;
 
-const MAX_CELLS: usize = 262_144;
+const _: () = prove!(MAX_PROGRAM_WORDS == 65_536);
 
 /// The first number that is out of its limits.
 pub(crate) fn count_fault(
@@ -36,7 +40,7 @@ pub(crate) fn count_fault(
         Some(CountField::Chain)
     } else if words < 1 || words > MAX_PROGRAM_WORDS {
         Some(CountField::Program)
-    } else if cells < 1 || cells > MAX_CELLS {
+    } else if cells < 1 || cells > MAX_WORDS {
         Some(CountField::Cells)
     } else {
         None

@@ -1,6 +1,7 @@
 //! A run of an image's processors at once, and the schedule that does the same.
 
 ghost use Rattle.std.specs.Prelude.{◌≡◌, ◌≢◌, ◌<◌, ◌≤◌, ◌*◌, ◌↔◌, ℕ, length, IfOk, Err};
+ghost use Rattle.processor.specs.World.{most_steps};
 ghost use Rattle.shared_history.specs.Parts.{PartsValue};
 ghost use Rattle.shared_history.specs.Gathering.{Refuses};
 ghost use Rattle.memory_lock.specs.Runs.{AreRunParts, IsThreaded};
@@ -38,7 +39,7 @@ pub fn threaded<'i, R: Threads + Wait + Sync, G: Gate + Sync, const S: usize>(
     ensures ok { IfOk result (λ w. IsThreaded image.entry.now fuel w) }
     ensures streams { (result ≡ Err (ThreadsFault.Build PartsFault.Streams)) ↔ (S < image.entry.now.slim) }
     ensures too_long { (result ≡ Err (ThreadsFault.Build PartsFault.TooLong))
-        ↔ ((image.entry.now.slim ≤ S) × (1000000 < length image.entry.now.entries * fuel)) }
+        ↔ ((image.entry.now.slim ≤ S) × (most_steps < length image.entry.now.entries * fuel)) }
     ensures gather { (parts : PartsValue) (fault : GatherFault) → result ≡ Err (ThreadsFault.Gather parts fault)
         → AreRunParts image.entry.now fuel parts × Refuses parts fault }
     ensures two { length image.entry.now.entries ≡ 2 → (parts : PartsValue) (p : ℕ)

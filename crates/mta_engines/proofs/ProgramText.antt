@@ -8,7 +8,8 @@ use Rattle.std.specs.List.{filter_map, cons_option, before_first, after_first}
 use Rattle.text_parts.specs.Reading.{hexadecimal_word}
 use Rattle.text_parts.specs.Lines.{is_line_end, lines_of}
 use Rattle.text_parts.proofs.FirstLine.{lines-first}
-use Rattle.mta_engines.specs.ProgramLines.{most_program_words, program_of, least_line, empty_fault, too_many_fault, malformed_from}
+use Rattle.image_file.specs.ImageValue.{most_program_words}
+use Rattle.mta_engines.specs.ProgramLines.{program_of, least_line, empty_fault, too_many_fault, malformed_from}
 use Rattle.mta_engines.specs.ProgramLines.{words_unless}
 use Rattle.mta_engines.specs.declared.tool_fault.ToolFault.{ToolFault}
 use Rattle.mta_engines.specs.declared.tool_fault.ToolFault.TheVariants.{Words}

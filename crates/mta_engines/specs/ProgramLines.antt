@@ -4,12 +4,9 @@ use Rattle.std.specs.Prelude.{nat_le, ◌==◌, if◌then◌else◌}
 use Rattle.std.specs.List.{filter_map}
 use Rattle.text_parts.specs.Reading.{hexadecimal_word}
 use Rattle.text_parts.specs.Lines.{lines_of}
+use Rattle.image_file.specs.ImageValue.{most_program_words}
 use Rattle.mta_engines.specs.declared.tool_fault.ToolFault.{ToolFault}
 use Rattle.mta_engines.specs.declared.tool_fault.ToolFault.TheVariants.{Words}
-
--- the most words of a program
-abbrev pub most_program_words : ℕ
-most_program_words = 65536
 
 -- the first line that is not 16 hexadecimal digits, where the lines are numbered from n on
 abbrev pub malformed_from : ℕ → List (List ℕ) → Option ℕ

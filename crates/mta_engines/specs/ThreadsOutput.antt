@@ -1,7 +1,7 @@
 -- What the command `threads` writes for an image and a fuel.
 use Rattle.std.specs.Prelude.{◌≡◌, ◌≢◌, ◌<◌, ◌+◌, ◌*◌, ℕ, List, [], ◌∷◌, ◌++◌, length, ◌⊎◌}
 use Rattle.image_file.specs.ImageValue.{ImageValue}
-use Rattle.processor.specs.World.{run, history_of}
+use Rattle.processor.specs.World.{run, history_of, most_steps}
 use Rattle.processor.specs.declared.steps.Entry.{Entry}
 use Rattle.processor.specs.declared.steps.Step.{Step}
 use Rattle.shared_history.specs.Parts.{PartsValue}
@@ -50,9 +50,9 @@ IsThreadsSchedule bytes fuel schedule_output = (output : List ℕ) × IsThreadsO
 
 -- The faults.
 
--- the processors would take more than 1,000,000 steps together
+-- the processors would take more steps together than a schedule has
 abbrev pub IsTooLong : ImageValue → ℕ → Type 0
-IsTooLong image fuel = 1000000 < length image.entries * fuel
+IsTooLong image fuel = most_steps < length image.entries * fuel
 
 -- a run of the image's processors left parts that are not gathered for this reason
 pub record IsNotGathered (image : ImageValue) (fuel : ℕ) (fault : GatherFault) : Type 0 where

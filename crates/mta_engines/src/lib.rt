@@ -28,7 +28,6 @@ pub use debug::debug_engine;
 pub use headline::{OneMachine, one_machine};
 pub use input::INPUT_LIMIT;
 pub use list::list_engine;
-pub use program_lines::MAX_PROGRAM_WORDS;
 pub use run::run_engine;
 pub use threads::threads_engine;
 pub use tool_fault::ToolFault;

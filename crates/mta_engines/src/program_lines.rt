@@ -1,13 +1,12 @@
 //! Program words as lines of text.
 ghost use Rattle.std.specs.Prelude.{◌≡◌, ◌≢◌, ◌≤◌, IfOk, IfErr, length};
+ghost use Rattle.image_file.specs.ImageValue.{most_program_words};
 ghost use Rattle.mta_engines.specs.ProgramLines.{program_of};
 
 use crate::tool_fault::ToolFault;
+use image_file::MAX_PROGRAM_WORDS;
 use std::alloc::Global;
 use text_parts::{read_hexadecimal, split_line};
-
-/// The most words of a program.
-pub const MAX_PROGRAM_WORDS: usize = 65_536;
 
 /// The words that a text spells, one a line as 16 hexadecimal digits of either case ("Lines of `words`",
 /// docs/FORMATS.md).
@@ -17,7 +16,7 @@ pub const MAX_PROGRAM_WORDS: usize = 65_536;
 pub(crate) fn read_program(alloc: Global, text: &[u8]) -> Result<Vec<u64>, ToolFault>
     ensures words { IfOk result (λ words. program_of text.now ≡ Ok words.items) }
     ensures some { IfOk result (λ words. 1 ≤ length words.items) }
-    ensures few { IfOk result (λ words. length words.items ≤ 65536) }
+    ensures few { IfOk result (λ words. length words.items ≤ most_program_words) }
     ensures fault { IfErr result (λ fault. fault ≢ ToolFault.NoMemory
         → program_of text.now ≡ Err fault) }
 {

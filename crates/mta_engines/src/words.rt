@@ -1,6 +1,7 @@
 //! The engine of the command `words`.
 ghost use Rattle.std.specs.Prelude.{◌≡◌, ◌≢◌, ◌≤◌, length, OnOk, IfOk, IfErr, IfSome, string_bytes};
 ghost use Rattle.std.specs.Io.KnownBytes.{Keeps};
+ghost use Rattle.image_file.specs.ImageValue.{most_program_words};
 ghost use Rattle.mta_engines.specs.Faults.{IsFaultOf};
 ghost use Rattle.mta_engines.specs.InputOutput.{HasInput, HasOutput};
 ghost use Rattle.mta_engines.specs.ProgramLines.{program_of};
@@ -55,7 +56,7 @@ fn compose_text(alloc: Global, input: &[u8]) -> Result<String, ToolFault>
 #[tactic(auto, unfolding(crate::specs::WordsMachine::words_world, crate::specs::WordsOutput::program_text))]
 fn run_program(alloc: Global, program: Vec<u64>) -> Result<String, ToolFault>
     requires some { 1 ≤ length program.items }
-    requires few { length program.items ≤ 65536 }
+    requires few { length program.items ≤ most_program_words }
     ensures text { IfOk result (λ text. string_bytes text ≡ program_text program.items) }
     ensures fault { IfErr result (λ fault. fault ≡ ToolFault.NoMemory) }
 {

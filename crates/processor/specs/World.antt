@@ -69,6 +69,10 @@ outcome_of image w t = (world_step image w t).1
 
 -- A schedule.
 
+-- the most steps of a schedule that is read from a text, and of all processors together that run at once
+abbrev pub most_steps : ℕ
+most_steps = 1000000
+
 -- the world after steps
 abbrev pub steps : ImageValue → World → List Step → World
 steps image w [] = w

@@ -12,4 +12,4 @@ mod stream_table;
 pub use processors::Processor;
 pub use recorded::Recorded;
 pub use recorded_steps::Steps;
-pub use steps::{Asked, Entry, Next, NextStep, Step};
+pub use steps::{Asked, Entry, MAX_STEPS, Next, NextStep, Step};

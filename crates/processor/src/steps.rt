@@ -5,6 +5,11 @@ use std::marker::Model;
 use stream_core::TrapKind;
 use tag_memory::{Reply, Request};
 
+/// The most steps of a schedule that is read from a text, and of all processors together that run at once.
+pub const MAX_STEPS: usize = 1_000_000;
+
+const _: () = prove!(MAX_STEPS == 1_000_000);
+
 /// A step of one stream of one processor, as a schedule names it.
 #[derive(Clone, Copy, Debug, PartialEq, Eq)]
 pub struct Step {

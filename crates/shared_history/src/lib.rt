@@ -10,6 +10,6 @@ mod weaving;
 mod woven;
 
 pub use gathering::{GatherFault, gather};
-pub use parts::{MAX_STEPS, Parts, PartsFault};
+pub use parts::{Parts, PartsFault};
 pub use shared_memory::{NoRoom, SharedMemory};
 pub use woven::Woven;

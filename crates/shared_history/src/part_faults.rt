@@ -6,14 +6,9 @@ ghost use Rattle.shared_history.specs.Parts.{AllBelong, AllHaveEntries, Belongs,
 ghost use Rattle.shared_history.specs.Parts.{FailsFirst};
 
 use crate::SharedMemory;
-use image_file::Image;
+use image_file::{Image, MAX_PROCESSORS};
 use processor::{Asked, Entry, Recorded};
 use tag_memory::{MemOp, Reply, Request};
-
-/// The most processors of an image.
-const MAX_PROCESSORS: usize = 16;
-
-const _: () = prove!(MAX_PROCESSORS == 16);
 
 /// The least place where there is a record but no processor of the memory's image, or a processor but no record, or
 /// a record of another processor or image.

@@ -1,20 +1,16 @@
 //! The parts of a run.
 
 ghost use Rattle.std.specs.Prelude.{◌≡◌, ◌<◌, ◌≤◌, ◌*◌, ◌↔◌, length, IfOk, Err};
+ghost use Rattle.processor.specs.World.{most_steps};
 ghost use Rattle.shared_history.specs.FaultNumbers.{parts_fault_number};
 ghost use Rattle.shared_history.specs.Parts.{AreNewParts};
 ghost use Rattle.shared_history.specs.declared.parts.PartsFault.TheVariants.{NoMemory};
 
 use crate::SharedMemory;
 use image_file::Image;
-use processor::Recorded;
+use processor::{MAX_STEPS, Recorded};
 use std::alloc::{AllocError, AllocFailed, Global};
 use std::marker::Model;
-
-/// The most steps that the processors of an image are to take together.
-pub const MAX_STEPS: usize = 1_000_000;
-
-const _: () = prove!(MAX_STEPS == 1_000_000);
 
 /// Why there are no parts for a run. The first of these that holds is named.
 #[derive(Clone, Copy, Debug, PartialEq, Eq)]
@@ -82,7 +78,7 @@ impl<'i, const S: usize> Parts<'i, S> {
         ensures is { IfOk result (λ parts. AreNewParts image.entry.now fuel parts) }
         ensures streams { (result ≡ Err PartsFault.Streams) ↔ (S < image.entry.now.slim) }
         ensures too_long { (result ≡ Err PartsFault.TooLong)
-            ↔ ((image.entry.now.slim ≤ S) × (1000000 < length image.entry.now.entries * fuel)) }
+            ↔ ((image.entry.now.slim ≤ S) × (most_steps < length image.entry.now.entries * fuel)) }
     {
         if usize::from(image.slim()) > S {
             return Err(PartsFault::Streams);

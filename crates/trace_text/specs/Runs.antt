@@ -3,6 +3,7 @@ use Rattle.std.specs.Prelude.{ℕ, ◌/◌, ◌%◌, ◌==◌, ◌&&◌, Bool, i
 use Rattle.std.specs.Fmt.{decimal}
 use Rattle.std.specs.List.{flat_map}
 use Rattle.text_parts.specs.Runs.{Run, runs_of}
+use Rattle.processor.specs.World.{most_steps}
 use Rattle.processor.specs.declared.steps.Step.{Step}
 
 -- whether two steps are of the same stream
@@ -17,11 +18,11 @@ step_runs steps = runs_of same_step steps
 abbrev pub rest_of : Step → ℕ → List (Run Step)
 rest_of t n = if n == 0 then [] else record { thing = t; times = n } ∷ []
 
--- a run in parts of 1,000,000 and a rest, if there is one
+-- a run in parts of the most steps that a schedule has, and a rest, if there is one
 abbrev pub run_parts : Run Step → List (Run Step)
 run_parts r =
-    replicate (r.times / 1000000) (record { thing = r.thing; times = 1000000 })
-    ++ rest_of r.thing (r.times % 1000000)
+    replicate (r.times / most_steps) (record { thing = r.thing; times = most_steps })
+    ++ rest_of r.thing (r.times % most_steps)
 
 -- the line of a run of steps: processor, stream, how often
 unfoldable pub schedule_line : Run Step → List ℕ

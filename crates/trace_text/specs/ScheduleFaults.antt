@@ -1,5 +1,6 @@
 -- Faults of the lines of a schedule: the least line with a fault, and its first fault.
 use Rattle.std.specs.Prelude.{ℕ, ◌+◌, nat_le, if◌then◌else◌, List, [], ◌∷◌, Option, Some, None}
+use Rattle.processor.specs.World.{most_steps}
 use Rattle.trace_text.specs.ScheduleLines.{LineValues, is_within, times_on}
 use Rattle.trace_text.specs.declared.schedule_fault.ScheduleFault.{ScheduleFault}
 use Rattle.trace_text.specs.declared.schedule_fault.ScheduleFaultKind.{ScheduleFaultKind}
@@ -19,7 +20,7 @@ schedule_no_memory = record { line = 0; kind = NoMemory }
 abbrev pub schedule_line_fault : ℕ → Option LineValues → Option ScheduleFaultKind
 schedule_line_fault before None = Some Form
 schedule_line_fault before (Some v) =
-    if is_within v then (if nat_le (before + v.times) 1000000 then None else Some Limit) else Some Number
+    if is_within v then (if nat_le (before + v.times) most_steps then None else Some Limit) else Some Number
 
 -- the fault of a line, or where it has none a later one
 abbrev pub on_line : ℕ → Option ScheduleFaultKind → Option ScheduleFault → Option ScheduleFault

@@ -2,6 +2,7 @@
 use Rattle.std.specs.Prelude.{ℕ, Bool, nat_le, ◌&&◌, List, [], ◌∷◌, Option, Some, None, replicate}
 use Rattle.text_parts.specs.Pieces.{pieces}
 use Rattle.text_parts.specs.Reading.{number_of_digits}
+use Rattle.processor.specs.World.{most_steps}
 use Rattle.processor.specs.declared.steps.Step.{Step}
 
 -- what a line says: the numbers of a processor and of a stream, and how often the stream is stepped
@@ -33,9 +34,9 @@ values_in _ = None
 unfoldable pub values_of : List ℕ → Option LineValues
 values_of line = values_in (fields_of line)
 
--- processor and stream to 255, and 1 to 1,000,000 times
+-- processor and stream to 255, and once to as often as a schedule has steps
 abbrev pub is_within : LineValues → Bool
-is_within v = (nat_le v.processor 255 && nat_le v.stream 255) && (nat_le 1 v.times && nat_le v.times 1000000)
+is_within v = (nat_le v.processor 255 && nat_le v.stream 255) && (nat_le 1 v.times && nat_le v.times most_steps)
 
 -- the step that a line names
 abbrev pub step_of : LineValues → Step

@@ -7,8 +7,8 @@ ghost use Rattle.trace_text.specs.ScheduleLines.{LineValues, values_of};
 ghost use Rattle.trace_text.specs.Fields.{times_in};
 ghost use Rattle.trace_text.specs.LineNumbers.{numbers_from, run_within};
 
-use crate::runs::{MAX_STEPS, StepRun};
-use processor::Step;
+use crate::runs::StepRun;
+use processor::{MAX_STEPS, Step};
 use text_parts::{Base, Number, cut, read_digits};
 
 /// The numbers of a line, of any size.

@@ -1,6 +1,8 @@
 //! Schedules of rounds over all streams.
 
 ghost use Rattle.std.specs.Prelude.{◌≡◌, ◌++◌, ◌*◌, ◌≤◌, ◌<◌, IfOk, OnOk};
+ghost use Rattle.image_file.specs.ImageValue.{most_processors};
+ghost use Rattle.processor.specs.World.{most_steps};
 ghost use Rattle.trace_text.specs.Rounds.{turns, round, rounds};
 
 use processor::Step;
@@ -13,9 +15,9 @@ pub fn round_schedule(
     streams: u8,
     count: u32,
 ) -> Result<Vec<Step>, AllocError>
-    requires processors { processors ≤ 16 }
+    requires processors { processors ≤ most_processors }
     requires streams { streams ≤ 128 }
-    requires steps { processors * streams * count ≤ 1000000 }
+    requires steps { processors * streams * count ≤ most_steps }
     ensures { IfOk result (λ steps. steps.items ≡ rounds processors streams count) }
 {
     let round = usize::from(processors) * usize::from(streams);

@@ -1,15 +1,16 @@
 //! Schedules, read from their text.
 
 ghost use Rattle.std.specs.Prelude.{◌≡◌, ◌≢◌, ◌≤◌, ◌+◌, ◌++◌, Ok, Err, IfOk, IfErr, OnOk, replicate, vec_len};
+ghost use Rattle.processor.specs.World.{most_steps};
 ghost use Rattle.trace_text.specs.Schedules.{schedule_of};
 ghost use Rattle.trace_text.specs.LineRuns.{IsLineRun};
 ghost use Rattle.trace_text.specs.ScheduleLines.{values_of};
 ghost use Rattle.trace_text.specs.declared.schedule_fault.ScheduleFaultKind.TheVariants.{NoMemory};
 
 use crate::line_numbers::LineNumbers;
-use crate::runs::{MAX_STEPS, StepRun};
+use crate::runs::StepRun;
 use crate::schedule_fault::{ScheduleFault, ScheduleFaultKind};
-use processor::Step;
+use processor::{MAX_STEPS, Step};
 use std::alloc::{AllocError, Global};
 use text_parts::split_line;
 
@@ -39,7 +40,7 @@ pub fn read_schedule(alloc: Global, text: &[u8]) -> Result<Vec<Step>, ScheduleFa
 
 /// The steps of a line before which so many steps stand, or its first fault.
 fn read_run(line: &[u8], before: usize) -> Result<StepRun, ScheduleFaultKind>
-    requires { before ≤ 1000000 }
+    requires { before ≤ most_steps }
     ensures { IsLineRun before (values_of line.now) result }
 {
     let numbers = LineNumbers::read(line).ok_or(ScheduleFaultKind::Form)?;
@@ -52,7 +53,7 @@ fn read_run(line: &[u8], before: usize) -> Result<StepRun, ScheduleFaultKind>
 
 /// Appends the steps of a run.
 fn append_run(steps: &mut Vec<Step>, run: StepRun) -> Result<(), AllocError>
-    requires { vec_len steps.old + run.times ≤ 1000000 }
+    requires { vec_len steps.old + run.times ≤ most_steps }
     ensures items { OnOk result (steps.new.items ≡ steps.old.items ++ replicate run.times run.step) }
     ensures len { OnOk result (vec_len steps.new ≡ vec_len steps.old + run.times) }
 {

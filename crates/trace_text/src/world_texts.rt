@@ -2,6 +2,7 @@
 
 ghost use Rattle.std.specs.Prelude.{◌≡◌, ◌++◌, ◌<◌, ◌≤◌, length, slice_get, IfOk, OnOk, string_bytes};
 ghost use Rattle.std.specs.Option.{option_copied};
+ghost use Rattle.tag_memory.specs.Storage.{most_memory_words};
 ghost use Rattle.machine.specs.MachineValue.{IsMachine};
 ghost use Rattle.trace_text.specs.WorldTexts.{stream_parts, processor_parts, cell_line, change, changes};
 ghost use Rattle.trace_text.specs.WorldTexts.{world_text_of};
@@ -53,7 +54,7 @@ fn text_by_readers<T: WorldReaders>(
     cells: &[Word],
 ) -> Result<String, AllocError>
     requires shape { IsMachine T.room (record { image = image.now; world = T.world readers.now }) }
-    requires few { length cells.now ≤ 262144 }
+    requires few { length cells.now ≤ most_memory_words }
     ensures { IfOk result (λ text. string_bytes text
         ≡ processor_parts 0 (T.world readers.now).processors ++ changes 0 (T.world readers.now).memory cells.now) }
 {
@@ -149,7 +150,7 @@ fn push_changes<T: WorldReaders>(
     readers: &T,
     cells: &[Word],
 ) -> Result<(), AllocError>
-    requires { length cells.now ≤ 262144 }
+    requires { length cells.now ≤ most_memory_words }
     ensures { OnOk result
         (string_bytes text.new ≡ string_bytes text.old ++ changes 0 (T.world readers.now).memory cells.now) }
 {

@@ -3,14 +3,13 @@
 ghost use Rattle.std.specs.Prelude.{◌≡◌, ◌++◌, IfOk, OnOk, string_bytes};
 ghost use Rattle.trace_text.specs.Runs.{schedule_line, schedule_run_text, schedule_text};
 
-use crate::runs::MAX_STEPS;
-use processor::Step;
+use processor::{MAX_STEPS, Step};
 use std::alloc::{AllocError, Global};
 use std::fmt::Write;
 use text_parts::run_length;
 
 /// The text of a schedule: one line `p s n` for each run of equal steps that is as long as it can be, and for a run
-/// of more than 1,000,000 steps lines of 1,000,000 and one of the rest ("Schedules", docs/FORMATS.md).
+/// of more than [`MAX_STEPS`] steps lines of so many and one of the rest ("Schedules", docs/FORMATS.md).
 pub fn write_schedule(alloc: Global, steps: &[Step]) -> Result<String, AllocError>
     ensures { IfOk result (λ text. string_bytes text ≡ schedule_text steps.now) }
 {

@@ -1,12 +1,11 @@
 //! The largest image, to bytes and back.
-use image_file::{Image, read_image, write_image};
-use mta_engines::MAX_PROGRAM_WORDS;
+use image_file::{Image, MAX_PROCESSORS, MAX_PROGRAM_WORDS, read_image, write_image};
 use std::alloc::Global;
 use tag_memory::{MAX_WORDS, Tags, Word};
 
 /// Every number of it is at its limit.
 fn largest_image(alloc: Global) -> Option<Image> {
-    let Ok(mut entries) = vec![in alloc; 65_535; 16] else {
+    let Ok(mut entries) = vec![in alloc; 65_535; MAX_PROCESSORS] else {
         return None;
     };
     let Ok(mut program) = vec![in alloc; 0x8010_0000_0000_0005; MAX_PROGRAM_WORDS] else {

@@ -1,6 +1,7 @@
 use Rattle.std.proofs.Common.{◌≡◌, ◌≤◌, length, vec_len}
 use Rattle.text_parts.specs.Lines.{lines_of}
-use Rattle.mta_engines.specs.ProgramLines.{most_program_words, program_of}
+use Rattle.image_file.specs.ImageValue.{most_program_words}
+use Rattle.mta_engines.specs.ProgramLines.{program_of}
 use Rattle.mta_engines.proofs.ProgramText.{read_on}
 use Rattle.mta_engines.proofs.program_lines.read_program.Given as goal
 
