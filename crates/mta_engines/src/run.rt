@@ -21,10 +21,7 @@ use machine::Machine;
 use processor::Step;
 use std::alloc::{AllocError, Global};
 use std::io::{Read, Write};
-use trace_text::{push_trace_line, world_text};
-
-/// The most bytes of a trace line.
-const TRACE_LINE: usize = 36;
+use trace_text::{TRACE_LINE, push_trace_line, world_text};
 
 /// Reads an image and a schedule, runs the image by it, and writes a trace line for each step, then what the machine
 /// came to ("Traces", docs/FORMATS.md).

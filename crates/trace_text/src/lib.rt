@@ -18,7 +18,7 @@ pub use laws::written_schedules_are_read_back;
 pub use rounds::round_schedule;
 pub use schedule_fault::{ScheduleFault, ScheduleFaultKind};
 pub use schedules::read_schedule;
-pub use trace_lines::{push_trace_line, trace_line};
+pub use trace_lines::{TRACE_LINE, push_trace_line, trace_line};
 pub use world_readers::WorldReaders;
 pub use world_texts::{world_text, world_text_of_readers};
 pub use written_schedules::write_schedule;

@@ -11,8 +11,11 @@ use std::alloc::{AllocError, Global};
 use stream_core::Outcome;
 use text_parts::{add_hexadecimal, add_right_aligned_3, add_right_aligned_7, add_two_digits};
 
-/// The most bytes of a line.
-const LINE: usize = 49;
+/// The most bytes of a trace line whose number has at most seven digits.
+pub const TRACE_LINE: usize = 36;
+
+/// The most bytes of any line, whose number has at most twenty.
+const LINE: usize = TRACE_LINE + 13;
 
 /// The line of a step in a trace: its number, counted from 1, its processor and stream, the pc that the stream had
 /// before it, and how it came out ("Traces", docs/FORMATS.md).
