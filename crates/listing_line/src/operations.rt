@@ -93,31 +93,22 @@ pub(crate) fn add_control(line: &mut ArrayString<LINE>, part: &CPart)
             add_signed(line, part.n);
         }
         ControlOp::Call => {
-            line.push_str(" ");
-            add_target(line, part.t);
+            add_first_target(line, part.t);
             line.push_str(", ");
             add_target(line, part.u);
         }
-        ControlOp::Exchange => {
-            line.push_str(" ");
-            add_target(line, part.t);
-        }
+        ControlOp::Exchange => add_first_target(line, part.t),
         ControlOp::TargetSet | ControlOp::Create => {
-            line.push_str(" ");
-            add_target(line, part.t);
+            add_first_target(line, part.t);
             line.push_str(", ");
             add_register(line, part.ra);
         }
         ControlOp::TargetGet => {
-            line.push_str(" ");
-            add_register(line, part.rd);
+            add_first_register(line, part.rd);
             line.push_str(", ");
             add_target(line, part.t);
         }
-        ControlOp::TrapGet => {
-            line.push_str(" ");
-            add_register(line, part.rd);
-        }
+        ControlOp::TrapGet => add_first_register(line, part.rd),
         ControlOp::Reserve => add_registers(line, part.rd, part.ra),
         ControlOp::Mask => {
             line.push_str(" ");
@@ -147,10 +138,29 @@ fn add_registers(line: &mut ArrayString<LINE>, first: u8, second: u8)
         ++ (codes " " ++ (register_text first ++ (codes ", " ++ register_text second))) }
     ensures len { array_string_len line.new ≤ array_string_len line.old + 25 }
 {
-    line.push_str(" ");
-    add_register(line, first);
+    add_first_register(line, first);
     line.push_str(", ");
     add_register(line, second);
+}
+
+/// Appends a blank and a register.
+fn add_first_register(line: &mut ArrayString<LINE>, number: u8)
+    requires { array_string_len line.old ≤ 118 }
+    ensures bytes { line.new.bytes ≡ line.old.bytes ++ (codes " " ++ register_text number) }
+    ensures len { array_string_len line.new ≤ array_string_len line.old + 12 }
+{
+    line.push_str(" ");
+    add_register(line, number);
+}
+
+/// Appends a blank and a target register.
+fn add_first_target(line: &mut ArrayString<LINE>, number: u8)
+    requires { array_string_len line.old ≤ 118 }
+    ensures bytes { line.new.bytes ≡ line.old.bytes ++ (codes " " ++ target_text number) }
+    ensures len { array_string_len line.new ≤ array_string_len line.old + 12 }
+{
+    line.push_str(" ");
+    add_target(line, number);
 }
 
 fn add_register(line: &mut ArrayString<LINE>, number: u8)

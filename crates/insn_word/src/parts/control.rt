@@ -69,7 +69,8 @@ impl CPart {
     {
         let none = CPart { op, ..CPart::NOP };
         let t = small_field(bits, TARGET_PLACE, TARGET_WIDTH);
-        let register = small_field(bits, REGISTER_PLACE, REGISTER_WIDTH);
+        // of TSET and CREATE it is ra
+        let rd = small_field(bits, REGISTER_PLACE, REGISTER_WIDTH);
         let of_t = CPart { t, ..none };
         let part = match op {
             ControlOp::Nop | ControlOp::Quit | ControlOp::QuitKeep => none,
@@ -86,20 +87,11 @@ impl CPart {
                 ..of_t
             },
             ControlOp::Exchange => of_t,
-            ControlOp::TargetSet | ControlOp::Create => CPart {
-                ra: register,
-                ..of_t
-            },
-            ControlOp::TargetGet => CPart {
-                rd: register,
-                ..of_t
-            },
-            ControlOp::TrapGet => CPart {
-                rd: register,
-                ..none
-            },
+            ControlOp::TargetSet | ControlOp::Create => CPart { ra: rd, ..of_t },
+            ControlOp::TargetGet => CPart { rd, ..of_t },
+            ControlOp::TrapGet => CPart { rd, ..none },
             ControlOp::Reserve => CPart {
-                rd: register,
+                rd,
                 ra: small_field(bits, REQUEST_PLACE, REGISTER_WIDTH),
                 ..none
             },
