@@ -11,6 +11,8 @@ mod alternate;
 #[cfg(test)]
 mod counting;
 #[cfg(test)]
+mod engine_gates;
+#[cfg(test)]
 mod gates;
 #[cfg(test)]
 mod limits;
@@ -20,5 +22,7 @@ mod logs;
 mod ports;
 #[cfg(test)]
 mod runs;
+#[cfg(test)]
+mod turn_limits;
 #[cfg(test)]
 mod turns;

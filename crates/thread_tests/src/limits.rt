@@ -9,7 +9,7 @@ use std::thread::Threads;
 use tag_memory::{Acc, MemOp, Pointer, Reply, Request, RequestMask};
 
 /// A processor that begins at 0 asks twice; one that begins at `q` ends at once.
-const ASKING: &str = "FADD.N r1, r0, 0\nFADD.N r1, r0, 0\nq: QUIT\n.data 0\n";
+pub(crate) const ASKING: &str = "FADD.N r1, r0, 0\nFADD.N r1, r0, 0\nq: QUIT\n.data 0\n";
 
 /// In a processor that begins at 0, stream 0 starts all others, each of the 128 waits 400 steps, by when all are started,
 /// and adds once: 51,968 steps. One that begins at `q` ends at once.
@@ -48,7 +48,7 @@ fn each_stream_may_ask(rt: HostRuntime) {
 }
 
 /// Adds 3 to word 0.
-fn request() -> Request {
+pub(crate) fn request() -> Request {
     Request {
         pointer: Pointer::new(0),
         value: 3,

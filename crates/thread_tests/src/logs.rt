@@ -17,7 +17,7 @@ const OF_TWO_STREAMS: &str =
 
 /// What happened: a call of the gate, or of the port.
 #[derive(Clone, Copy, Debug, PartialEq, Eq)]
-enum Kind {
+pub(crate) enum Kind {
     Local,
     Before,
     Ask,
@@ -26,24 +26,24 @@ enum Kind {
 
 /// For which processor and stream it was.
 #[derive(Clone, Copy, Debug, PartialEq, Eq)]
-struct Call {
+pub(crate) struct Call {
     kind: Kind,
     p: u8,
     s: u8,
 }
 
-fn told(kind: Kind, p: u8, s: u8) -> Call {
+pub(crate) fn told(kind: Kind, p: u8, s: u8) -> Call {
     Call { kind, p, s }
 }
 
 /// All that happened, in order.
 #[derive(Drop)]
-struct Log {
+pub(crate) struct Log {
     calls: Mutex<Vec<Call>>,
 }
 
 impl Log {
-    fn new(alloc: Global) -> Log {
+    pub(crate) fn new(alloc: Global) -> Log {
         Log {
             calls: Mutex::new(Vec::new(alloc)),
         }
@@ -58,6 +58,12 @@ impl Log {
     fn is(&self, rt: &impl Wait, wanted: &[Call]) -> bool {
         let calls = self.calls.lock(rt);
         calls.as_slice() == wanted
+    }
+
+    /// Whether these are the calls for processor `p`, in order.
+    pub(crate) fn is_of(&self, rt: &impl Wait, p: u8, wanted: &[Call]) -> bool {
+        let calls = self.calls.lock(rt);
+        calls.iter().filter(|call| call.p == p).eq(wanted)
     }
 }
 
