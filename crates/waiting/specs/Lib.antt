@@ -1,0 +1,6 @@
+-- What public contracts promise: which streams run, which of them are stuck, and what a stream waits for.
+pub mod Running
+pub mod Stuck
+pub mod Waits
+-- Cited by private contracts alone.
+pub mod Deciding

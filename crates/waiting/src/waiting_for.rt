@@ -1,0 +1,46 @@
+//! What a stream waits for whose reference is blocked.
+
+ghost use Rattle.std.specs.Prelude.{◌≡◌, ◌↔◌, Some, IsSome};
+ghost use Rattle.waiting.specs.Stuck.{IsStuck};
+ghost use Rattle.waiting.specs.Waits.{IsWaitOf, IsAskedInVain};
+ghost use Rattle.waiting.specs.Deciding.{wanted_by};
+
+use crate::waits::{Wait, Wanted};
+use machine::Machine;
+use processor::Next;
+use tag_memory::{Acc, AccessControl, MemOp, Reply, Request};
+
+/// What stream `s` of processor `p` waits for: Some exactly where its next step asks the memory and the memory would
+/// reply Blocked. That step need not leave all as it is: a retry count may grow, and the stream may trap for it.
+pub fn wait_of<const S: usize>(machine: &Machine<'_, S>, p: u8, s: u8) -> Option<Wait>
+    ensures asked { IsSome result ↔ IsAskedInVain machine.now (record { p = p; s = s }) }
+    ensures is { (wait : Wait) → (result ≡ Some wait) ↔ IsWaitOf machine.now (record { p = p; s = s }) wait }
+    ensures stuck { IsStuck machine.now.image machine.now.world (record { p = p; s = s }) → IsSome result }
+{
+    let Next::Ask(request) = machine.next(p, s) else {
+        return None;
+    };
+    match machine.ending(&request).reply {
+        Reply::Blocked(address) => Some(Wait {
+            address,
+            wanted: wanted_by(&request),
+        }),
+        Reply::Done(_) | Reply::Trap(_, _) => None,
+    }
+}
+
+/// The state that the full/empty table wants of a word that blocks the request.
+fn wanted_by(request: &Request) -> Wanted
+    ensures { result ≡ wanted_by request.now }
+{
+    let control = match request.acc {
+        Acc::FromPointer => request.pointer.control(),
+        Acc::Normal => AccessControl::Normal,
+        Acc::Future => AccessControl::Future,
+        Acc::Sync => AccessControl::Sync,
+    };
+    match (request.op, control) {
+        (MemOp::Store, AccessControl::Sync) => Wanted::Empty,
+        _ => Wanted::Full,
+    }
+}
