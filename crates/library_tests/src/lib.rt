@@ -30,3 +30,5 @@ mod refused;
 mod replays;
 #[cfg(test)]
 mod sources;
+#[cfg(test)]
+mod waits;
