@@ -1,5 +1,5 @@
 -- What private functions compute.
-use Rattle.std.specs.Prelude.{ℕ, ◌==◌, ◌||◌, ◌&&◌, nat_le, Bool, false}
+use Rattle.std.specs.Prelude.{ℕ, ◌==◌, ◌||◌, ◌&&◌, nat_le, Bool, false, Option, Some, None}
 use Rattle.tag_memory.specs.Access.{access_control}
 use Rattle.tag_memory.specs.declared.pointers.AccessControl.{AccessControl}
 use Rattle.tag_memory.specs.declared.pointers.AccessControl.TheVariants.{Normal, Future, Sync}
@@ -9,6 +9,7 @@ use Rattle.tag_memory.specs.declared.requests.Request.{Request}
 use Rattle.tag_memory.specs.declared.requests.Reply.{Reply}
 use Rattle.tag_memory.specs.declared.requests.Reply.TheVariants as reply
 use Rattle.stream_core.specs.Streams.{StreamValue}
+use Rattle.waiting.specs.declared.waits.Wait.{Wait}
 use Rattle.waiting.specs.declared.waits.Wanted.{Wanted}
 use Rattle.waiting.specs.declared.waits.Wanted.TheVariants.{Full, Empty}
 
@@ -41,3 +42,9 @@ wanted_of Purge control = Full
 -- the state that a request wants of a word that blocks it
 abbrev pub wanted_by : Request → Wanted
 wanted_by q = wanted_of q.op (access_control q.acc q.pointer)
+
+-- what a stream waits for whose request gets this reply
+abbrev pub wait_replied : Request → Reply → Option Wait
+wait_replied q (reply.Done n) = None
+wait_replied q (reply.Blocked a) = Some (record { address = a; wanted = wanted_by q })
+wait_replied q (reply.Trap k a) = None

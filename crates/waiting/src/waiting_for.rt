@@ -3,7 +3,7 @@
 ghost use Rattle.std.specs.Prelude.{◌≡◌, ◌↔◌, Some, IsSome};
 ghost use Rattle.waiting.specs.Stuck.{IsStuck};
 ghost use Rattle.waiting.specs.Waits.{IsWaitOf, IsAskedInVain};
-ghost use Rattle.waiting.specs.Deciding.{wanted_by};
+ghost use Rattle.waiting.specs.Deciding.{wait_replied, wanted_by};
 
 use crate::waits::{Wait, Wanted};
 use machine::Machine;
@@ -17,13 +17,20 @@ pub fn wait_of<const S: usize>(machine: &Machine<'_, S>, p: u8, s: u8) -> Option
     ensures is { (wait : Wait) → (result ≡ Some wait) ↔ IsWaitOf machine.now (record { p = p; s = s }) wait }
     ensures stuck { IsStuck machine.now.image machine.now.world (record { p = p; s = s }) → IsSome result }
 {
-    let Next::Ask(request) = machine.next(p, s) else {
-        return None;
-    };
-    match machine.ending(&request).reply {
+    match machine.next(p, s) {
+        Next::Skip | Next::Local => None,
+        Next::Ask(request) => wait_replied(&request, machine.ending(&request).reply),
+    }
+}
+
+/// What a stream waits for whose request gets this reply.
+fn wait_replied(request: &Request, reply: Reply) -> Option<Wait>
+    ensures { result ≡ wait_replied request.now reply }
+{
+    match reply {
         Reply::Blocked(address) => Some(Wait {
             address,
-            wanted: wanted_by(&request),
+            wanted: wanted_by(request),
         }),
         Reply::Done(_) | Reply::Trap(_, _) => None,
     }

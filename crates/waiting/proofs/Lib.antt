@@ -1,0 +1,9 @@
+pub mod Needs
+pub mod Refusals
+pub mod Blocked
+pub mod StuckSteps
+pub mod Standing
+pub mod Lists
+pub mod Table
+pub mod Told
+pub mod Looking
