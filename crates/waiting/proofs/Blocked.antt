@@ -22,7 +22,7 @@ use Rattle.stream_core.specs.declared.steps.Fetch.{Fetch}
 use Rattle.stream_core.specs.declared.steps.Fetch.TheVariants as fetch
 use Rattle.stream_core.specs.declared.steps.Control.{Control}
 use Rattle.processor.specs.Processors.{ProcessorValue, stream_at}
-use Rattle.processor.specs.Row.{step_fetch_of, request_on_fetch, request, next_asking, next_on_fetch, next_of}
+use Rattle.processor.specs.Row.{step_fetch_of, request_on_fetch, next_asking, next_on_fetch, next_of}
 use Rattle.processor.specs.Row.{grant_of, with_stream, after_control_if_done, put_back, row_on_fetch, row}
 use Rattle.processor.specs.Row.{memory_reply, row_over_memory}
 use Rattle.processor.specs.declared.steps.Next.TheVariants as next

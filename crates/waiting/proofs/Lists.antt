@@ -1,9 +1,9 @@
 -- The list of the streams that run, and that it has all of them.
-use Rattle.std.proofs.Common.{◌≡◌, ℕ, zero, suc, ◌+◌, ◌<◌, ◌≤◌, Bool, true, false, refl, sym, ap, ◌∙◌, subst, arith}
-use Rattle.std.proofs.Common.{Option, Some, None, List, [], ◌∷◌, ◌++◌, length, drop, get_or, slice_get, ◌⊎◌, inl, inr}
-use Rattle.std.proofs.Common.{if◌then◌else◌, append_assoc}
+use Rattle.std.proofs.Common.{◌≡◌, ℕ, zero, suc, ◌+◌, Bool, true, false, refl, sym, ap, ◌∙◌, subst, arith}
+use Rattle.std.proofs.Common.{List, [], ◌∷◌, ◌++◌, drop, slice_get, inl, inr}
+use Rattle.std.proofs.Common.{if◌then◌else◌}
 use Rattle.std.proofs.Math.Seq.{drop-nil}
-use Rattle.std.specs.Prelude.{Contains, IsTrue, ◌↔◌}
+use Rattle.std.specs.Prelude.{Contains}
 use Rattle.std.proofs.lemmas.List.Elements.{Contains-append_left, Contains-append_right, Contains-append_cases}
 use Rattle.std.proofs.lemmas.List.Elements.{Contains-push, Contains-push_cases}
 use Rattle.stream_core.specs.Streams.{StreamValue}
@@ -11,7 +11,7 @@ use Rattle.processor.specs.Processors.{ProcessorValue}
 use Rattle.processor.specs.Records.{is_running}
 use Rattle.processor.specs.World.{World}
 use Rattle.processor.specs.declared.steps.Step.{Step}
-use Rattle.waiting.specs.Running.{streams_at, runs_at, runs_in, running_from, running_of, running_steps, AreRunning}
+use Rattle.waiting.specs.Running.{streams_at, runs_at, running_from, running_of, running_steps, AreRunning}
 
 -- a step, if a test holds
 abbrev pub step_if : Bool → ℕ → ℕ → List Step

@@ -1,15 +1,13 @@
 -- What is added for a stream, and what is known when all were looked at.
 use Rattle.std.proofs.Common.{◌≡◌, ℕ, ◌+◌, ◌<◌, ◌≤◌, Bool, true, false, refl, sym, ap, ◌∙◌, subst, arith}
-use Rattle.std.proofs.Common.{Option, Some, None, List, [], ◌∷◌, ◌++◌, length, drop, slice_get, append_assoc, append-nil}
+use Rattle.std.proofs.Common.{List, [], ◌++◌, length, drop, slice_get, append_assoc, append-nil}
 use Rattle.std.proofs.lemmas.List.{drop_all}
-use Rattle.stream_core.specs.Streams.{StreamValue}
-use Rattle.processor.specs.Processors.{ProcessorValue}
 use Rattle.processor.specs.World.{World}
 use Rattle.processor.specs.declared.steps.Step.{Step}
 use Rattle.machine.specs.MachineValue.{MachineValue, IsMachine}
-use Rattle.waiting.specs.Running.{streams_at, runs_at, runs_in, running_from, running_of, running_steps, AreRunning}
+use Rattle.waiting.specs.Running.{streams_at, runs_in, running_from, running_of, running_steps, AreRunning}
 use Rattle.waiting.proofs.Lists.{step_if, running-drop, running_of-drop, all_running}
-use Rattle.std.specs.Prelude.{IsTrue, ◌⊎◌}
+use Rattle.std.specs.Prelude.{IsTrue}
 use Rattle.std.proofs.Common.{inl, inr}
 use Rattle.std.proofs.lemmas.Bool.{cases_lt}
 use Rattle.waiting.specs.Stuck.{IsStuck, SomeRuns, AllStuck}

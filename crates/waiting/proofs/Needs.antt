@@ -3,7 +3,6 @@ use Rattle.std.proofs.Common.{◌≡◌, ℕ, Bool, true, false, refl, sym, ap, 
 use Rattle.std.proofs.Common.{if◌then◌else◌}
 use Rattle.std.specs.Prelude.{not, ◌⊎◌}
 use Rattle.std.proofs.Common.{inl, inr}
-use Rattle.std.proofs.lemmas.Option.{slice_get_past}
 use Rattle.insn_word.specs.Reading.{instruction_in}
 use Rattle.insn_word.specs.declared.insn.Insn.{Insn}
 use Rattle.insn_word.specs.declared.profiles.Profile.{Profile}
@@ -22,7 +21,6 @@ use Rattle.processor.specs.Records.{is_running_status}
 use Rattle.processor.specs.Row.{lacks_stream, image_fetch, step_fetch_from, step_fetch, step_fetch_of}
 use Rattle.processor.specs.Row.{next_asking, next_on_fetch, next_of}
 use Rattle.processor.specs.Row as row
-use Rattle.processor.specs.World.{World}
 use Rattle.processor.specs.declared.steps.Next.{Next}
 use Rattle.processor.specs.declared.steps.Next.TheVariants as next
 use Rattle.processor.specs.declared.steps.Step.{Step}

@@ -1,5 +1,5 @@
 -- A request that is refused, by a block or a trap, leaves the memory as it is.
-use Rattle.std.proofs.Common.{◌≡◌, ℕ, Bool, true, false, refl, arith}
+use Rattle.std.proofs.Common.{◌≡◌, Bool, true, false, arith}
 use Rattle.tag_memory.specs.Storage.{TaggedMemory}
 use Rattle.tag_memory.specs.Answer.{answer}
 use Rattle.tag_memory.specs.declared.requests.Request.{Request}

@@ -1,24 +1,22 @@
 -- A standstill stays as it is, for ever.
-use Rattle.std.proofs.Common.{◌≡◌, ℕ, ◌<◌, ◌≤◌, Bool, true, false, refl, sym, ap, ◌∙◌, subst, arith}
+use Rattle.std.proofs.Common.{◌≡◌, ℕ, ◌<◌, ◌≤◌, Bool, true, false, refl, sym, ap, ◌∙◌, arith}
 use Rattle.std.proofs.Common.{Option, Some, None, List, [], ◌∷◌, length, get_or, set, slice_get}
-use Rattle.std.specs.Prelude.{IsTrue, ◌↔◌, not}
+use Rattle.std.specs.Prelude.{not}
 use Rattle.std.proofs.lemmas.List.{set-get_or}
-use Rattle.std.proofs.lemmas.Option.{slice_get_within, slice_get_past, get_or_from_slice_get}
-use Rattle.tag_memory.specs.declared.requests.Request.{Request}
+use Rattle.std.proofs.lemmas.Option.{slice_get_within, get_or_from_slice_get}
 use Rattle.image_file.specs.ImageValue.{ImageValue}
 use Rattle.stream_core.specs.declared.steps.Outcome.{Outcome}
-use Rattle.stream_core.specs.declared.steps.Outcome.TheVariants as outcome
 use Rattle.stream_core.specs.declared.steps.Fetch.{Fetch}
 use Rattle.stream_core.specs.declared.steps.Fetch.TheVariants as fetch
 use Rattle.processor.specs.Processors.{ProcessorValue}
-use Rattle.processor.specs.Row.{step_fetch_of, next_of, request, row}
+use Rattle.processor.specs.Row.{step_fetch_of, next_of, request}
 use Rattle.processor.specs.World.{World, after, steps}
 use Rattle.processor.specs.declared.steps.Step.{Step}
 use Rattle.processor.proofs.Begun.{rests, row_begun, request_begun}
-use Rattle.processor.proofs.Histories.{after_asking, after-known, after-absent}
-use Rattle.machine.specs.MachineValue.{MachineValue, IsMachine, next_at}
+use Rattle.processor.proofs.Histories.{after-known, after-absent}
+use Rattle.machine.specs.MachineValue.{MachineValue, IsMachine}
 use Rattle.waiting.specs.Running.{streams_at, runs_at, runs_in}
-use Rattle.waiting.specs.Stuck.{AllStuck, IsStandstill, StaysForEver}
+use Rattle.waiting.specs.Stuck.{AllStuck, StaysForEver}
 use Rattle.waiting.proofs.Needs.{skips, skips-at, rests-begun}
 
 rest_alone : (f : Fetch) → rests f ≡ true → f ≡ fetch.Rest

@@ -1,11 +1,11 @@
 -- A stream is stuck exactly where its request is blocked and the retry rules leave it as it is.
-use Rattle.std.proofs.Common.{◌≡◌, ℕ, ◌<◌, ◌≤◌, Bool, true, false, refl, sym, ap, ◌∙◌, subst, arith}
+use Rattle.std.proofs.Common.{◌≡◌, ℕ, ◌<◌, Bool, true, false, refl, sym, ap, ◌∙◌, subst, arith}
 use Rattle.std.proofs.Common.{Option, Some, None, List, length, get_or, set, slice_get, nat_lt, if◌then◌else◌}
 use Rattle.std.specs.Prelude.{IsTrue, ◌↔◌, not, ◌⊎◌}
 use Rattle.std.proofs.Common.{inl, inr}
 use Rattle.std.proofs.lemmas.Bool.Decides.{nat_tests}
 use Rattle.std.proofs.lemmas.List.{set-get_or, get_or-set_same}
-use Rattle.std.proofs.lemmas.Option.{slice_get_within, slice_get_past, get_or_from_slice_get}
+use Rattle.std.proofs.lemmas.Option.{slice_get_within, get_or_from_slice_get}
 use Rattle.tag_memory.specs.Storage.{TaggedMemory}
 use Rattle.tag_memory.specs.Answer.{answer}
 use Rattle.tag_memory.specs.declared.requests.Request.{Request}
@@ -23,12 +23,12 @@ use Rattle.processor.specs.declared.steps.Next.{Next}
 use Rattle.processor.specs.declared.steps.Next.TheVariants as next
 use Rattle.processor.specs.declared.steps.Step.{Step}
 use Rattle.processor.proofs.Begun.{rests, awake}
-use Rattle.processor.proofs.World.{world_step-absent, world_step-present}
+use Rattle.processor.proofs.World.{world_step-present}
 use Rattle.machine.specs.MachineValue.{MachineValue, IsMachine, next_at, next_in}
 use Rattle.waiting.specs.Running.{streams_at, runs_at, runs_in}
 use Rattle.waiting.specs.Stuck.{IsStuck}
 use Rattle.waiting.specs.Deciding.{retries_for_ever, is_kept_by}
-use Rattle.waiting.proofs.Needs.{skips, skips-at, runs-next, rests-begun}
+use Rattle.waiting.proofs.Needs.{skips, runs-next, rests-begun}
 use Rattle.waiting.proofs.Blocked.{is_blocked, IsRefused, blocked_over, refused_over, blocked-kept, kept-blocked}
 
 -- A processor and its stream, as they were.
@@ -76,7 +76,8 @@ asks_within image proc n q asks =
 
 put_same : (image : ImageValue) (w : World) (t : Step) (proc : ProcessorValue) (e : StreamValue × Outcome)
     (m : TaggedMemory) → slice_get w.processors t.p ≡ Some proc → t.s < length proc.streams
-    → world_with w t.p (put_back proc t.s e, m) ≡ (w, outcome.Blocked) → e ≡ (stream_at proc.streams t.s, outcome.Blocked)
+    → world_with w t.p (put_back proc t.s e, m) ≡ (w, outcome.Blocked)
+    → e ≡ (stream_at proc.streams t.s, outcome.Blocked)
 put_same image w t proc e m there within same =
     let changed = with_stream proc t.s e.0 in
     let lists : set w.processors t.p changed ≡ w.processors = ap (λ (x : World × Outcome). x.0.processors) same in

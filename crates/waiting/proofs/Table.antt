@@ -96,6 +96,7 @@ probed m q p a rest e = by_pointer (is_reserved p) refl where
       → IsBlocked m q a (end_by_probe p (probe_cell q p (cell_at m (address_of p))) rest)
   by_address true unaligned free = let f = rw (free, unaligned) at e in cc
   by_address false aligned free = rw (free, aligned) at e
+
   by_pointer : (b : Bool) → is_reserved p ≡ b
       → IsBlocked m q a (end_by_probe p (probe_cell q p (cell_at m (address_of p))) rest)
   by_pointer true reserved = let f = rw reserved at e in cc
@@ -114,15 +115,18 @@ at_word m q p a c rest e = by_operation (is_tag_operation q.op) refl where
       → GoesOn m q p a c rest
   by_forward true forwards high low none = record { either = inr (rw (none, low, high, forwards) at e) }
   by_forward false reached high low none = record { either = inl (rw (none, low, high, reached) at e) }
+
   by_trap1 : (b : Bool) → (c.trap1 && not (has_bit p 63) && not q.masked.trap1) ≡ b
       → (c.trap0 && not (has_bit p 62) && not q.masked.trap0) ≡ false → is_tag_operation q.op ≡ false
       → GoesOn m q p a c rest
   by_trap1 true high low none = let f = rw (none, low, high) at e in cc
   by_trap1 false high low none = by_forward (c.forward && not (has_bit p 61)) refl high low none
+
   by_trap0 : (b : Bool) → (c.trap0 && not (has_bit p 62) && not q.masked.trap0) ≡ b → is_tag_operation q.op ≡ false
       → GoesOn m q p a c rest
   by_trap0 true low none = let f = rw (none, low) at e in cc
   by_trap0 false low none = by_trap1 (c.trap1 && not (has_bit p 63) && not q.masked.trap1) refl low none
+
   by_operation : (b : Bool) → is_tag_operation q.op ≡ b → GoesOn m q p a c rest
   by_operation true tags = record { either = inl (rw tags at e) }
   by_operation false none = by_trap0 (c.trap0 && not (has_bit p 62) && not q.masked.trap0) refl none

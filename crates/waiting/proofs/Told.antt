@@ -1,10 +1,10 @@
 -- What is told of a step that is blocked, by what it needs and the reply.
-use Rattle.std.proofs.Common.{◌≡◌, ℕ, Bool, true, false, refl, sym, ap, ◌∙◌, subst, Option, Some, None, slice_get}
+use Rattle.std.proofs.Common.{◌≡◌, ℕ, refl, sym, ap, ◌∙◌, subst, Option, Some, None, slice_get}
 use Rattle.std.specs.Prelude.{IsSome, ◌↔◌, not, ◌⊎◌}
 use Rattle.std.proofs.Common.{inl, inr}
 use Rattle.std.proofs.lemmas.Option.{same_Some}
 use Rattle.tag_memory.specs.Cell.{Cell}
-use Rattle.tag_memory.specs.Storage.{TaggedMemory, cell_at}
+use Rattle.tag_memory.specs.Storage.{TaggedMemory}
 use Rattle.tag_memory.specs.Answer.{answer}
 use Rattle.tag_memory.specs.declared.requests.Request.{Request}
 use Rattle.tag_memory.specs.declared.requests.Reply.{Reply}
@@ -16,7 +16,6 @@ use Rattle.processor.specs.declared.steps.Step.{Step}
 use Rattle.machine.specs.MachineValue.{MachineValue, next_at, next_in}
 use Rattle.waiting.specs.declared.waits.Wait.{Wait}
 use Rattle.waiting.specs.Stuck.{IsStuck}
-use Rattle.waiting.specs.declared.waits.Wanted.{Wanted}
 use Rattle.waiting.specs.Waits.{is_full_state, Wants, IsAskedInVain, IsWaitOf}
 use Rattle.waiting.specs.Deciding.{wanted_by, wait_replied}
 use Rattle.waiting.proofs.StuckSteps.{stays-then, runs_nowhere}

@@ -39,7 +39,7 @@ pub record IsAskedInVain (m : MachineValue) (t : Step) : Type 0 where
   pub asks : next_in m t ≡ next.Ask request
   pub blocked : (answer m.world.memory request).1 ≡ reply.Blocked address
 
--- The step waits so: it asks, the memory would reply Blocked at this address, where its request ends, and the word there
+-- The step waits so: it asks, and the memory would reply Blocked at this address. There its request ends, at a word that
 -- is not in the state that the request wants.
 pub record IsWaitOf (m : MachineValue) (t : Step) (wait : Wait) : Type 0 where
   pub request : Request

@@ -1,5 +1,5 @@
-//! Who can go on: which streams run, which of them are stuck, what a stream waits for, and whether nobody can ever go on
-//! (docs/MACHINE.md, "Retries", "The full/empty table").
+//! Who can go on: which streams run, which of them are stuck, what a blocked stream waits for, and whether nobody can
+//! ever go on (docs/MACHINE.md, "Retries", "The full/empty table").
 #![tactic(auto)]
 
 mod running;

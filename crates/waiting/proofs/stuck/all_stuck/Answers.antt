@@ -1,6 +1,5 @@
-use Rattle.std.proofs.Common.{true, false, refl, sym, ◌∙◌, rules, ◌≡◌}
+use Rattle.std.proofs.Common.{refl, rules}
 use Rattle.std.specs.Prelude.{IsTrue}
-use Rattle.processor.specs.declared.steps.Step.{Step}
 use Rattle.waiting.specs.Running.{runs_in}
 use Rattle.waiting.specs.Stuck.{IsStuck}
 use Rattle.waiting.proofs.Looking.{below_next, each_stuck, all_are_stuck}

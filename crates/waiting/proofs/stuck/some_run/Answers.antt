@@ -1,5 +1,4 @@
-use Rattle.std.proofs.Common.{true, false, refl, sym, ◌∙◌, rules, ◌≡◌}
-use Rattle.processor.specs.declared.steps.Step.{Step}
+use Rattle.std.proofs.Common.{false, refl, rules, ◌≡◌}
 use Rattle.waiting.specs.Running.{runs_in}
 use Rattle.waiting.proofs.Looking.{below_next, none_runs, none_run}
 use Rattle.waiting.proofs.stuck.some_run.Goals as goal
