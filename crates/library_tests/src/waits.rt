@@ -41,7 +41,10 @@ fn a_standstill_comes_where_no_count_grows_any_more(rt: HostRuntime) {
         (COUNTED, 3, false),
         (COUNTED, 4, true),
     ] {
-        assert!(rt; stands_still(rt.alloc(), source, count) == Some(stands), "{count}");
+        assert!(rt;
+            stands_still(rt.alloc(), source, count) == Some(stands),
+            "{count}"
+        );
     }
 }
 
