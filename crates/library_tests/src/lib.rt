@@ -15,6 +15,8 @@ mod debugging;
 #[cfg(test)]
 mod devices;
 #[cfg(test)]
+mod expectations;
+#[cfg(test)]
 mod faults;
 #[cfg(test)]
 mod gathered;

@@ -1,0 +1,5 @@
+mod Behind
+mod Words
+mod Resting
+mod Faults
+mod TextRead

@@ -1,0 +1,26 @@
+use Rattle.std.proofs.Common.{◌≡◌, ◌+◌, ◌<◌, length, true, false, sym, ap, ◌∙◌, arith}
+use Rattle.std.specs.List.{slice_get}
+use Rattle.image_file.specs.ImageValue.{ImageValue}
+use Rattle.expectations.specs.Meeting.{all_idle_at}
+use Rattle.expectations.proofs.Resting.{rest_more, rest_fails}
+use Rattle.expectations.proofs.judging.is_finished.Goals as goal
+
+pub returns-then-not-is_at_rest : goal.returns-then-not-is_at_rest
+returns-then-not-is_at_rest g c =
+    let ds = c.args.machine.now.world.processors in
+    let within : c.loop-p.p < length ds =
+    omega (arith, c.image.ensures.kept.one_each, ap (λ (i : ImageValue). length i.entries) c.image.ensures.is) in
+    let h = c.is_at_rest.ensures in
+    let k = c.if-not-is_at_rest.true in
+    let runs : all_idle_at (slice_get ds c.loop-p.p) ≡ false = ? in
+    sym (rest_fails ds c.loop-p.p within runs) ∙ c.loop-p.invariant
+
+pub loop-p-preserved : goal.loop-p-preserved
+loop-p-preserved g c =
+    let ds = c.args.machine.now.world.processors in
+    let within : c.loop-p.p < length ds =
+    omega (arith, c.image.ensures.kept.one_each, ap (λ (i : ImageValue). length i.entries) c.image.ensures.is) in
+    let h = c.is_at_rest.ensures in
+    let k = c.if-not-is_at_rest.false in
+    let rest : all_idle_at (slice_get ds c.loop-p.p) ≡ true = ? in
+    rest_more ds c.loop-p.p within rest ∙ c.loop-p.invariant

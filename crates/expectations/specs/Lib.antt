@@ -1,0 +1,8 @@
+-- The promises, in the order of reading: clauses of public functions cite them.
+pub mod LineWords
+pub mod Values
+pub mod Lines
+pub mod Expectations
+pub mod Meeting
+-- The aid: what the code holds of the words of a line.
+pub mod OperandsSeen

@@ -1,0 +1,124 @@
+//! Whether a machine is as expected.
+
+ghost use Rattle.std.specs.Prelude.{◌≡◌, not};
+ghost use Rattle.std.specs.List.{position};
+ghost use Rattle.std.specs.Option.{option_copied};
+ghost use Rattle.std.specs.Prelude.{slice_get};
+ghost use Rattle.expectations.specs.Meeting.{is_met, is_word, holds_in_register, is_finished, is_stopped_by};
+ghost use Rattle.expectations.specs.Meeting.{stream_in, is_in_state, all_idle_at};
+
+use crate::expectation::{Expectation, FullEmpty};
+use machine::Machine;
+use stream_core::{Status, Stream};
+use tag_memory::Word;
+
+/// Whether a machine is as an expectation says. A word or a stream that the machine does not have is not as expected.
+pub fn is_met<const S: usize>(machine: &Machine<'_, S>, expectation: &Expectation) -> bool
+    ensures { result ≡ is_met machine.now.world expectation.now }
+{
+    match *expectation {
+        Expectation::Word {
+            address,
+            value,
+            state,
+        } => is_word(machine.word(address), value, state),
+        Expectation::Register {
+            p,
+            s,
+            number,
+            value,
+        } => holds_in_register(stream(machine, p, s), number, value),
+        Expectation::Finished => is_finished(machine),
+        Expectation::Stopped { p, s, trap } => is_stopped_by(stream(machine, p, s), trap),
+    }
+}
+
+/// The first of some expectations that a machine does not meet, counted from 0.
+pub fn first_missed<const S: usize>(
+    machine: &Machine<'_, S>,
+    expectations: &[Expectation],
+) -> Option<usize>
+    ensures { result ≡ position (λ e. not (is_met machine.now.world e)) expectations.now }
+{
+    expectations.iter().position(
+        |expectation: &Expectation| -> bool
+            ensures { result ≡ not (is_met machine.entry.now.world expectation.now) }
+        { !is_met(machine, expectation) },
+    )
+}
+
+fn is_word(word: Option<Word>, value: u64, state: Option<FullEmpty>) -> bool
+    ensures { result ≡ is_word value state word }
+{
+    match word {
+        Some(word) => word.value() == value && is_in_state(word.is_full(), state),
+        None => false,
+    }
+}
+
+fn is_in_state(full: bool, state: Option<FullEmpty>) -> bool
+    ensures { result ≡ is_in_state state full }
+{
+    match state {
+        Some(FullEmpty::Full) => full,
+        Some(FullEmpty::Empty) => !full,
+        None => true,
+    }
+}
+
+/// The stream of these numbers, where the machine has it.
+fn stream<'m, const S: usize>(machine: &'m Machine<'_, S>, p: u8, s: u8) -> Option<&'m Stream>
+    ensures { option_copied result ≡ stream_in machine.now.world p s }
+{
+    if u16::from(s) >= machine.image().slim() {
+        return None;
+    }
+    machine.stream(p, s)
+}
+
+fn holds_in_register(stream: Option<&Stream>, number: u8, value: u64) -> bool
+    ensures { result ≡ holds_in_register number value (option_copied stream.entry) }
+{
+    match stream {
+        Some(stream) => match stream.reg(number) {
+            Some(held) => held == value,
+            None => false,
+        },
+        None => false,
+    }
+}
+
+fn is_stopped_by(stream: Option<&Stream>, trap: u8) -> bool
+    ensures { result ≡ is_stopped_by trap (option_copied stream.entry) }
+{
+    match stream {
+        Some(stream) => match stream.status() {
+            Status::Stopped(kind) => kind.number() == trap,
+            Status::Idle | Status::Running => false,
+        },
+        None => false,
+    }
+}
+
+/// Whether no stream runs and none was stopped.
+fn is_finished<const S: usize>(machine: &Machine<'_, S>) -> bool
+    ensures { result ≡ is_finished machine.now.world }
+{
+    let count = machine.image().processors() as u8;
+    for p in 0..count {
+        if !is_at_rest(machine, p) {
+            return false;
+        }
+    }
+    true
+}
+
+/// Whether each stream of a processor is idle.
+fn is_at_rest<const S: usize>(machine: &Machine<'_, S>, p: u8) -> bool
+    ensures { result ≡ all_idle_at (slice_get machine.now.world.processors p) }
+{
+    match machine.counts(p) {
+        Some((current, _)) => current == 0,
+        None => true,
+    }
+}

@@ -1,0 +1,15 @@
+//! What the end of a run has to be: read from a text, and judged of a machine ("Expectations", docs/FORMATS.md).
+#![tactic(auto)]
+
+mod expectation;
+mod expectation_fault;
+mod judging;
+mod line_words;
+mod lines;
+mod reading;
+mod values;
+
+pub use expectation::{Expectation, FullEmpty};
+pub use expectation_fault::{ExpectationFault, ExpectationFaultKind};
+pub use judging::{first_missed, is_met};
+pub use reading::read_expectations;
