@@ -87,11 +87,7 @@ fn read_register(operands: &Operands) -> Result<Expectation, ExpectationFaultKin
     }
 }
 
-fn register(
-    stream: &[u8],
-    number: &[u8],
-    value: &[u8],
-) -> Result<Expectation, ExpectationFaultKind>
+fn register(stream: &[u8], number: &[u8], value: &[u8]) -> Result<Expectation, ExpectationFaultKind>
     ensures { result ≡ register_of (stream_named stream.now) (register_named number.now) (value_named value.now) }
 {
     let stream = stream_named(stream).ok_or(ExpectationFaultKind::Stream)?;

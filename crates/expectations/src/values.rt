@@ -40,7 +40,11 @@ pub(crate) fn address_named(text: &[u8]) -> Option<u64>
     ensures { result ≡ address_named text.now }
 {
     let address = number_to(LAST_ADDRESS, text)?;
-    if address % 8 == 0 { Some(address) } else { None }
+    if address % 8 == 0 {
+        Some(address)
+    } else {
+        None
+    }
 }
 
 /// A stream that some machine has, `P.S`.

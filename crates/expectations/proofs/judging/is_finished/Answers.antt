@@ -10,17 +10,11 @@ returns-then-not-is_at_rest g c =
     let ds = c.args.machine.now.world.processors in
     let within : c.loop-p.p < length ds =
     omega (arith, c.image.ensures.kept.one_each, ap (λ (i : ImageValue). length i.entries) c.image.ensures.is) in
-    let h = c.is_at_rest.ensures in
-    let k = c.if-not-is_at_rest.true in
-    let runs : all_idle_at (slice_get ds c.loop-p.p) ≡ false = ? in
-    sym (rest_fails ds c.loop-p.p within runs) ∙ c.loop-p.invariant
+    sym (rest_fails ds c.loop-p.p within (sym c.is_at_rest.ensures ∙ c.if-not-is_at_rest.true)) ∙ c.loop-p.invariant
 
 pub loop-p-preserved : goal.loop-p-preserved
 loop-p-preserved g c =
     let ds = c.args.machine.now.world.processors in
     let within : c.loop-p.p < length ds =
     omega (arith, c.image.ensures.kept.one_each, ap (λ (i : ImageValue). length i.entries) c.image.ensures.is) in
-    let h = c.is_at_rest.ensures in
-    let k = c.if-not-is_at_rest.false in
-    let rest : all_idle_at (slice_get ds c.loop-p.p) ≡ true = ? in
-    rest_more ds c.loop-p.p within rest ∙ c.loop-p.invariant
+    rest_more ds c.loop-p.p within (sym c.is_at_rest.ensures ∙ c.if-not-is_at_rest.false) ∙ c.loop-p.invariant

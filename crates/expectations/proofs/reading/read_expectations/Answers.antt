@@ -1,4 +1,4 @@
-use Rattle.std.proofs.Common.{◌≡◌, ◌+◌, ◌∙◌, sym, ap, [], ◌∷◌, length, Ok, Err, eqb, true, false}
+use Rattle.std.proofs.Common.{◌≡◌, ◌+◌, ◌∙◌, sym, ap, [], ◌∷◌, length, Ok, Err, eqb, rules, vec_len}
 use Rattle.std.specs.Option.{option_copied}
 use Rattle.text_parts.specs.Pieces.{pieces, rest_pieces}
 use Rattle.expectations.specs.Expectations.{lines_said}
@@ -27,7 +27,8 @@ returns-then-is_empty-clause-fault c = λ _.
     ap (λ r. behind c.loop-rest.found.items (lines_said (c.loop-rest.number + 1) (rest_pieces 10 (option_copied r))))
     (sym c.in_default.is)
     ∙ c.loop-rest.invariant.found in
-    let none : eqb (length c.loop-rest.found.items) 0 ≡ true = let h = c.is_empty.ensures in let k = c.if-is_empty.true in ? in
+    let count : length c.loop-rest.found.items ≡ vec_len c.loop-rest.found = search rules in
+    let none = ap (λ n. eqb n 0) count ∙ sym c.is_empty.ensures ∙ c.if-is_empty.true in
     nothing_found c.loop-rest.found.items c.args.text.now found none
 
 pub returns-clause-means : goal.returns-clause-means
@@ -36,5 +37,6 @@ returns-clause-means c =
     ap (λ r. behind c.loop-rest.found.items (lines_said (c.loop-rest.number + 1) (rest_pieces 10 (option_copied r))))
     (sym c.in_default.is)
     ∙ c.loop-rest.invariant.found in
-    let some : eqb (length c.loop-rest.found.items) 0 ≡ false = let h = c.is_empty.ensures in let k = c.if-is_empty.false in ? in
+    let count : length c.loop-rest.found.items ≡ vec_len c.loop-rest.found = search rules in
+    let some = ap (λ n. eqb n 0) count ∙ sym c.is_empty.ensures ∙ c.if-is_empty.false in
     all_found c.loop-rest.found.items c.args.text.now found some
