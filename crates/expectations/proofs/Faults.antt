@@ -6,7 +6,6 @@ use Rattle.expectations.specs.LineWords.{words_on}
 use Rattle.expectations.specs.Values.{address_named, stream_named, register_named, value_named, trap_named, state_named}
 use Rattle.expectations.specs.Lines.{Said, word_of, register_of, stopped_of, word_in_state, word_said, register_said}
 use Rattle.expectations.specs.Lines.{finished_said, stopped_said, expectation_named, words_said, line_said, some_said}
-use Rattle.expectations.specs.declared.expectation.Expectation.{Expectation}
 use Rattle.expectations.specs.declared.expectation.FullEmpty.{FullEmpty}
 use Rattle.expectations.specs.declared.expectation_fault.ExpectationFaultKind.{ExpectationFaultKind}
 use Rattle.expectations.specs.declared.expectation_fault.ExpectationFaultKind.TheVariants.{Form, NoMemory}

@@ -1,6 +1,6 @@
 -- When all streams are idle.
-use Rattle.std.proofs.Common.{◌≡◌, ℕ, zero, suc, ◌+◌, ◌<◌, ◌≤◌, Bool, true, false, cond, eqb, List, [], ◌∷◌, length, drop}
-use Rattle.std.proofs.Common.{refl, sym, ap, ◌∙◌, arith, ne_eqb, Option, Some, None, ◌&&◌, add-one}
+use Rattle.std.proofs.Common.{◌≡◌, ℕ, zero, suc, ◌+◌, ◌<◌, Bool, true, false, cond, eqb, List, [], ◌∷◌, length, drop}
+use Rattle.std.proofs.Common.{refl, ap, ◌∙◌, arith, ne_eqb, Option, Some, None, ◌&&◌}
 use Rattle.std.specs.List.{list_all, slice_get}
 use Rattle.stream_core.specs.Streams.{StreamValue}
 use Rattle.processor.specs.Processors.{ProcessorValue, is_idle, count_current, IsCounted}

@@ -1,4 +1,4 @@
-use Rattle.std.proofs.Common.{slice_get, sym, ◌∙◌}
+use Rattle.std.proofs.Common.{slice_get}
 use Rattle.expectations.proofs.Resting.{at_rest}
 use Rattle.expectations.proofs.judging.is_at_rest.Goals as goal
 

@@ -1,7 +1,5 @@
-use Rattle.std.proofs.Common.{◌≡◌, ◌+◌, ◌<◌, length, true, false, sym, ap, ◌∙◌, arith}
-use Rattle.std.specs.List.{slice_get}
+use Rattle.std.proofs.Common.{◌<◌, length, sym, ap, ◌∙◌, arith}
 use Rattle.image_file.specs.ImageValue.{ImageValue}
-use Rattle.expectations.specs.Meeting.{all_idle_at}
 use Rattle.expectations.proofs.Resting.{rest_more, rest_fails}
 use Rattle.expectations.proofs.judging.is_finished.Goals as goal
 

@@ -1,4 +1,4 @@
-use Rattle.std.proofs.Common.{◌≡◌, ◌+◌, ◌∙◌, sym, ap, [], ◌∷◌, length, Ok, Err, eqb, rules, vec_len}
+use Rattle.std.proofs.Common.{◌≡◌, ◌+◌, ◌∙◌, sym, ap, [], length, Ok, eqb, rules, vec_len}
 use Rattle.std.specs.Option.{option_copied}
 use Rattle.text_parts.specs.Pieces.{pieces, rest_pieces}
 use Rattle.expectations.specs.Expectations.{lines_said}
