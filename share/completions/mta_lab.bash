@@ -1,0 +1,36 @@
+# completion of mta_lab for bash
+
+# the options of a command
+_mta_lab_options() {
+  case $1 in
+    check) echo '--as --program --strict --json' ;;
+    schedule) echo '--seed --steps' ;;
+    view) echo '--fair --seed --steps --from --to --only --word --columns --hex --json' ;;
+    compare) echo '--hex --json' ;;
+    survey) echo '--seeds --from --steps --expect --hex --json' ;;
+    grade) echo '--expect --seeds --steps --hex --json' ;;
+    asm) echo '--out' ;;
+  esac
+}
+
+_mta_lab() {
+  local current=${COMP_WORDS[COMP_CWORD]} before=${COMP_WORDS[COMP_CWORD - 1]} command=${COMP_WORDS[1]} words
+  if [ "$COMP_CWORD" -eq 1 ]; then
+    words='check schedule view compare survey grade asm --help --version'
+  elif [ "$before" = --as ]; then
+    words='source image schedule'
+  elif [ "$command $COMP_CWORD" = 'schedule 2' ]; then
+    words='rounds fair random'
+  elif [[ $current = -* ]]; then
+    words="$(_mta_lab_options "$command") --help"
+  elif [[ $before = --@(seed|seeds|steps|from|to|only|word) ]]; then
+    words=''
+  else
+    # a folder gets a slash and no blank, and a name with blanks is quoted
+    compopt -o filenames 2>/dev/null
+    mapfile -t COMPREPLY < <(compgen -f -- "$current")
+    return
+  fi
+  mapfile -t COMPREPLY < <(compgen -W "$words" -- "$current")
+}
+complete -F _mta_lab mta_lab
