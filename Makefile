@@ -2,6 +2,7 @@
 PREFIX ?= /usr/local
 SHARE = $(DESTDIR)$(PREFIX)/share
 PROGRAM = crates/mta_sim/out/mta_sim
+LAB = crates/mta_lab/out/mta_lab
 CALLS = crates/library_calls/out/library_calls
 # what make try shows: a source text, and a schedule of it
 SOURCE ?= examples/lock.asm
@@ -16,23 +17,23 @@ JOBS ?= $(shell nproc)
 # the targets, each with what it does and how long it takes
 help:
 	@echo "make try        runs a SOURCE by a SCHEDULE, unproved (about a minute); examples/lock.asm where none is named"
-	@echo "make run        proves what the program needs, builds it, and shows a first run (37 minutes on four slow cores beside other work)"
+	@echo "make run        proves what the programs need, builds them, and shows a first run (37 minutes on four slow cores beside other work)"
 	@echo "make test       proves everything from nothing, tries the edits in must-fail/, runs all tests (30 minutes on four slow cores)"
 	@echo "make checks     what make test looks at before any proof (seconds)"
 	@echo "make trust      writes docs/TRUST.md, the definitions that a reader has to trust (seconds)"
 	@echo "make cases      runs the cases below tests/cases on the built program (seconds)"
 	@echo "make documents  runs the commands of the documents and compares what they print (seconds)"
 	@echo "make edits      tries the edits of the CRATES that the prover has to refuse, of all crates where none is named (some minutes a crate)"
-	@echo "make dist       packs the built program as an archive and a Debian package, in out/dist (seconds)"
+	@echo "make dist       packs the built programs as an archive and a Debian package, in out/dist (seconds)"
 	@echo "make check-dist unpacks them where nothing but the C library is, and runs the examples there (seconds)"
 	@echo "make hostile    hostile use of the built program; needs Python 3 and a C compiler (4 minutes on four idle cores)"
 	@echo "make refuse     the part of it that refuses each allocation of the commands in turn (some minutes)"
 	@echo "make bench      time, instructions and peak memory on the longest inputs (some minutes; valgrind counts instructions)"
-	@echo "make install    puts the built program, its examples and its documents under PREFIX, $(PREFIX) (a second)"
+	@echo "make install    puts the built programs, their examples and documents under PREFIX, $(PREFIX) (a second)"
 	@echo "make uninstall  takes away what make install has put there (a second)"
 	@echo "make clean      removes all that was built, and what checks keep of it in the crates (a second)"
 
-# proves and builds the program, and shows its first run
+# proves and builds the programs, and shows a first run
 run:
 	@tests/build.sh
 	@echo "== first run: mta_sim words, on these program words (LIT r1, 5 and ADD r2, r1, 3)"
@@ -56,9 +57,9 @@ checks:
 trust:
 	@python3 tests/trust
 
-# proves and builds the program, where it is not built yet
+# proves and builds the programs, where one is not built yet
 build:
-	@test -x $(PROGRAM) || tests/build.sh
+	@test -x $(PROGRAM) && test -x $(LAB) || tests/build.sh
 
 # the cases below tests/cases, on the built program
 cases: build
@@ -68,7 +69,7 @@ cases: build
 edits:
 	@python3 tests/edits.py --jobs $(JOBS) $(CRATES)
 
-# packs the built program; takes git, binutils and the kit, and dpkg-deb for the Debian package
+# packs the built programs; takes git, binutils and the kit, and dpkg-deb for the Debian package
 dist: build
 	@packaging/package.sh
 
@@ -97,12 +98,15 @@ hostile: build
 documents: build
 	@tests/documents.sh README.md CONTRIBUTING.md CHANGELOG.md docs/*.md
 
-# puts the built program, its examples and its documents in place
+# puts the built programs, their examples and documents in place
 install:
-	@test -x $(PROGRAM) || { echo "nothing is built yet: make run proves and builds the program"; exit 1; }
+	@test -x $(PROGRAM) && test -x $(LAB) || { echo "make run proves and builds the programs first"; exit 1; }
 	install -D -m 755 $(PROGRAM) $(DESTDIR)$(PREFIX)/bin/mta_sim
+	install -D -m 755 $(LAB) $(DESTDIR)$(PREFIX)/bin/mta_lab
 	install -D -m 644 share/man/man1/mta_sim.1 $(SHARE)/man/man1/mta_sim.1
+	install -D -m 644 share/man/man1/mta_lab.1 $(SHARE)/man/man1/mta_lab.1
 	install -D -m 644 share/completions/mta_sim.bash $(SHARE)/bash-completion/completions/mta_sim
+	install -D -m 644 share/completions/mta_lab.bash $(SHARE)/bash-completion/completions/mta_lab
 	install -D -m 644 share/completions/_mta_sim $(SHARE)/zsh/site-functions/_mta_sim
 	install -D -m 644 share/completions/mta_sim.fish $(SHARE)/fish/vendor_completions.d/mta_sim.fish
 	install -d $(SHARE)/doc/mta_sim/docs
@@ -112,6 +116,7 @@ install:
 
 uninstall:
 	rm -f $(DESTDIR)$(PREFIX)/bin/mta_sim $(SHARE)/man/man1/mta_sim.1 $(SHARE)/bash-completion/completions/mta_sim
+	rm -f $(DESTDIR)$(PREFIX)/bin/mta_lab $(SHARE)/man/man1/mta_lab.1 $(SHARE)/bash-completion/completions/mta_lab
 	rm -f $(SHARE)/zsh/site-functions/_mta_sim $(SHARE)/fish/vendor_completions.d/mta_sim.fish
 	rm -rf $(SHARE)/doc/mta_sim
 

@@ -1,20 +1,21 @@
 #!/usr/bin/env bash
-# build_facts.sh VERSION BUILT PACKED: prints the file BUILD of a package: of which commit and by which kit the program
-# was built, what the tests said of that commit, and what the program needs. PACKED is BUILT without its symbols.
+# build_facts.sh VERSION FOLDER NAME..: prints the file BUILD of a package: of which commit and by which kit the programs
+# of these names were built, what the tests said of that commit, and what the programs need. FOLDER has each of them as it
+# is packed, without its symbols.
 set -euo pipefail
 cd "$(dirname "$0")/.."
 version=$1
-built=$2
-packed=$3
+folder=$2
+shift 2
 commit=$(git rev-parse HEAD)
 kit=$(rt version)
 changes=$(git status --porcelain -- crates crates.txt HANDLES)
-# whether out/built says that the program was built of the crates that lie here, by this kit
+# whether out/built says that the programs were built of the crates that lie here, by this kit
 if tests/built.sh check; then known=yes; else known=no; fi
 
 sources() {
   case $known,$changes in
-    no,*) echo "not known: nothing says that this program was built of that commit" ;;
+    no,*) echo "not known: nothing says that these programs were built of that commit" ;;
     yes,) echo "those of the commit" ;;
     *) echo "those of the commit, with changes" ;;
   esac
@@ -28,7 +29,7 @@ built_by() {
 verdict() {
   local counts="" of="no commit" by="no kit"
   if [ "$known" = no ] || [ ! -s out/verdict ]; then
-    echo "none of this program"
+    echo "none of these programs"
     return
   fi
   { read -r counts && read -r of && read -r by; } <out/verdict || true
@@ -43,9 +44,17 @@ sum() {
   sha256sum <"$1" | cut -d ' ' -f 1
 }
 
-# these fail where the program needs more than can be said here
-processor=$(packaging/needs.sh processor "$packed")
-glibc=$(packaging/needs.sh glibc "$packed")
+programs() {
+  local name
+  for name in "$@"; do
+    printf '%-10s sha256 %s\n' "$name" "$(sum "$folder/$name")"
+    printf '           before its symbols were taken out: sha256 %s\n' "$(sum "crates/$name/out/$name")"
+  done
+}
+
+# these fail where the programs need more than can be said here
+processor=$(packaging/needs.sh processor "${@/#/$folder/}")
+glibc=$(packaging/needs.sh glibc "${@/#/$folder/}")
 cat <<END
 mta_sim $version
 
@@ -53,8 +62,7 @@ commit     $commit
 sources    $(sources)
 built by   $(built_by)
 verdict    $(verdict)
-program    sha256 $(sum "$packed")
-           before its symbols were taken out: sha256 $(sum "$built")
+$(programs "$@")
 processor  $processor
 C library  glibc $glibc or later
 END

@@ -1,24 +1,27 @@
 #!/usr/bin/env bash
-# package.sh: packs the built program as out/dist/mta_sim-VERSION-x86_64-linux.tar.gz and, where dpkg-deb is there, as a
-# Debian package. What stands beside the program is taken from the commit, and has its time: so the same commit, program
+# package.sh: packs the built programs as out/dist/mta_sim-VERSION-x86_64-linux.tar.gz and, where dpkg-deb is there, as a
+# Debian package. What stands beside the programs is taken from the commit, and has its time: so the same commit, programs
 # and verdict give the same bytes.
-# shellcheck disable=SC2046 # names of libraries have no blanks
+# shellcheck disable=SC2046,SC2086 # names of libraries and programs have no blanks
 set -euo pipefail
 cd "$(dirname "$0")/.."
-program=crates/mta_sim/out/mta_sim
+programs=$(tests/built.sh programs)
 kit=$(dirname "$(rt doc)")
 version=$(sed -n 's/^pub const VERSION: &str = "\(.*\)";$/\1/p' crates/command_line/src/lib.rt)
-name=mta_sim-$version-x86_64-linux
+package=mta_sim-$version-x86_64-linux
 SOURCE_DATE_EPOCH=$(git log -1 --format=%ct)
 export SOURCE_DATE_EPOCH
 umask 022
 room=$(mktemp -d)
 trap 'rm -rf "$room"' EXIT
 
-# the libraries of the kit that the program's crates use; in crates.txt a crate stands behind those that it uses
+# where a program lies that was built
+built() { echo "crates/$1/out/$1"; }
+
+# the libraries of the kit that the programs' crates use; in crates.txt a crate stands behind those that it uses
 used_libraries() {
   tac crates.txt | awk -F: '
-    BEGIN { needed["mta_sim"] }
+    BEGIN { needed["mta_sim"]; needed["mta_lab"] }
     /^[a-z]/ { ours[$1] }
     /^[a-z]/ && $1 in needed { count = split($2, below, " "); for (i = 1; i <= count; i++) needed[below[i]] }
     END { for (library in needed) if (!(library in ours)) print library }' | sort
@@ -50,21 +53,24 @@ settle() {
   find "$1" -exec touch --no-dereference --date="@$SOURCE_DATE_EPOCH" {} +
 }
 
-# strip_symbols TO: the program without its symbols; what is loaded has to be the same
+# strip_symbols FROM TO: a program without its symbols; what is loaded has to be the same
 strip_symbols() {
-  strip --strip-unneeded -o "$1" "$program"
-  chmod 755 "$1"
-  objcopy -O binary "$program" "$room/loaded"
-  objcopy -O binary "$1" "$room/packed"
+  strip --strip-unneeded -o "$2" "$1"
+  chmod 755 "$2"
+  objcopy -O binary "$1" "$room/loaded"
+  objcopy -O binary "$2" "$room/packed"
   cmp "$room/loaded" "$room/packed"
 }
 
-# the tree of the archive: the program in bin/, and the rest as it lies in the repository
+# the tree of the archive: the programs in bin/, and the rest as it lies in the repository
 lay_out_archive() {
+  local name
   mkdir -p "$1/bin"
   git archive HEAD README.md CONTRIBUTING.md CHANGELOG.md docs examples editors share | tar -x -C "$1"
-  strip_symbols "$1/bin/mta_sim"
-  packaging/build_facts.sh "$version" "$program" "$1/bin/mta_sim" >"$1/BUILD"
+  for name in $programs; do
+    strip_symbols "$(built "$name")" "$1/bin/$name"
+  done
+  packaging/build_facts.sh "$version" "$1/bin" $programs >"$1/BUILD"
   copyright >"$1/COPYRIGHT"
   settle "$1"
 }
@@ -72,13 +78,15 @@ lay_out_archive() {
 # the tree of the Debian package, made of that of the archive
 lay_out_debian() {
   local from=$1 to=$2 share=$2/usr/share
-  local doc=$share/doc/mta-sim
-  install -D -m 755 "$from/bin/mta_sim" "$to/usr/bin/mta_sim"
-  install -D -m 644 "$from/share/completions/mta_sim.bash" "$share/bash-completion/completions/mta_sim"
+  local doc=$share/doc/mta-sim name
+  mkdir -p "$share/man/man1" "$doc" "$to/DEBIAN"
+  for name in $programs; do
+    install -D -m 755 "$from/bin/$name" "$to/usr/bin/$name"
+    install -D -m 644 "$from/share/completions/$name.bash" "$share/bash-completion/completions/$name"
+    gzip -9nc "$from/share/man/man1/$name.1" >"$share/man/man1/$name.1.gz"
+  done
   install -D -m 644 "$from/share/completions/_mta_sim" "$share/zsh/vendor-completions/_mta_sim"
   install -D -m 644 "$from/share/completions/mta_sim.fish" "$share/fish/vendor_completions.d/mta_sim.fish"
-  mkdir -p "$share/man/man1" "$doc" "$to/DEBIAN"
-  gzip -9nc "$from/share/man/man1/mta_sim.1" >"$share/man/man1/mta_sim.1.gz"
   # Debian has the changes packed, under a name of its own
   sed 's/CHANGELOG\.md/changelog.gz/' "$from/README.md" >"$doc/README.md"
   cp -r "$from/CONTRIBUTING.md" "$from/docs" "$from/examples" "$from/editors" "$from/BUILD" "$doc"
@@ -102,24 +110,26 @@ debian_changelog() {
 
 control() {
   local glibc size
-  glibc=$(packaging/needs.sh glibc "$program")
+  glibc=$(packaging/needs.sh glibc "$1"/usr/bin/*)
   size=$(find "$1/usr" -type f -printf '%s\n' | awk '{ bytes += $1 } END { print int((bytes + 1023) / 1024) }')
   sed -e "s/@VERSION@/$version/" -e "s/@MAINTAINER@/$(maintainer)/" -e "s/@SIZE@/$size/" -e "s/@GLIBC@/$glibc/" \
     packaging/control
 }
 
-test -x "$program" || { echo "nothing is built yet: make run proves and builds the program"; exit 1; }
+for name in $programs; do
+  test -x "$(built "$name")" || { echo "no $name is built yet: make run proves and builds the programs"; exit 1; }
+done
 mkdir -p out/dist
 rm -f out/dist/mta[-_]sim[-_]*
-lay_out_archive "$room/$name"
-tar --sort=name --format=gnu --owner=0 --group=0 --numeric-owner -C "$room" -c "$name" | gzip -9n \
-  >"out/dist/$name.tar.gz"
-echo "out/dist/$name.tar.gz"
+lay_out_archive "$room/$package"
+tar --sort=name --format=gnu --owner=0 --group=0 --numeric-owner -C "$room" -c "$package" | gzip -9n \
+  >"out/dist/$package.tar.gz"
+echo "out/dist/$package.tar.gz"
 if command -v dpkg-deb >/dev/null; then
-  lay_out_debian "$room/$name" "$room/debian"
+  lay_out_debian "$room/$package" "$room/debian"
   dpkg-deb --root-owner-group -Zgzip --build "$room/debian" "out/dist/mta-sim_$version-1_amd64.deb" >"$room/said"
   echo "out/dist/mta-sim_$version-1_amd64.deb"
 else
   echo "no dpkg-deb here, so no Debian package"
 fi
-cat "$room/$name/BUILD"
+cat "$room/$package/BUILD"

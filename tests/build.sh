@@ -1,19 +1,18 @@
 #!/usr/bin/env bash
-# Proves what the program needs and no more, and builds it: rt ci over mta_sim and the crates below it alone, without tests
-# and must-fail edits, in a folder of its own. A line is printed for each crate that is proved. The program lies at
-# crates/mta_sim/out/mta_sim then. Where it was built of the very same files nothing is done.
+# Proves what the programs need and no more, and builds them: rt ci over mta_sim, mta_lab and the crates below them alone,
+# without tests and must-fail edits, in a folder of its own. A line is printed for each crate that is proved. The programs
+# lie at crates/NAME/out/NAME then. Where they were built of the very same files nothing is done.
 set -eu
 cd "$(dirname "$0")/.."
 root=$PWD
-program=crates/mta_sim/out/mta_sim
 
 if tests/built.sh check; then
-  echo "== the program was built of these files before"
+  echo "== the programs were built of these files before"
   exit 0
 fi
 stamp=$(tests/built.sh stamp)
 needed=$(tests/built.sh needed)
-echo "== proving the $(echo "$needed" | wc -l) crates that the program needs"
+echo "== proving the $(echo "$needed" | wc -l) crates that the programs need"
 work=$(mktemp -d)
 trap 'rm -rf "$work"' EXIT
 mkdir "$work/.git" "$work/crates"
@@ -26,5 +25,7 @@ for name in $needed; do
   done
 done
 (cd "$work" && "$root/tests/progress.sh" "$root/out/build.log" rt ci)
-install -D -m 755 "$work/$program" "$program"
+for name in $(tests/built.sh programs); do
+  install -D -m 755 "$work/crates/$name/out/$name" "crates/$name/out/$name"
+done
 tests/built.sh keep "$stamp"

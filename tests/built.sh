@@ -1,18 +1,22 @@
 #!/usr/bin/env bash
-# built.sh WHAT: tells whether the program that lies here was built of the files that lie here. out/built keeps it: a
-# checksum of all that its proof reads, and the program's own.
-#   needed      prints the program's crate and those that it stands on, a line each
+# built.sh WHAT: tells whether the programs that lie here were built of the files that lie here. out/built keeps it: a
+# checksum of all that their proof reads, and the programs' own.
+#   programs    prints the names of the programs, a line each
+#   needed      prints the programs' crates and those that they stand on, a line each
 #   stamp       prints the checksum of their files and of the kit
-#   keep STAMP  notes that the program was built of the files with this checksum
-#   check       holds where that was noted of this program and of the files as they are now
+#   keep STAMP  notes that the programs were built of the files with this checksum
+#   check       holds where that was noted of these programs and of the files as they are now
 set -euo pipefail
 cd "$(dirname "$0")/.."
-program=crates/mta_sim/out/mta_sim
+
+programs() {
+  sed -nE 's/^(mta_sim|mta_lab)[ :].*/\1/p' crates.txt
+}
 
 # in crates.txt a crate stands behind those that it uses
 needed() {
   tac crates.txt | awk -F '[: ]+' '
-    BEGIN { needed["mta_sim"] }
+    BEGIN { needed["mta_sim"]; needed["mta_lab"] }
     /^[a-z]/ && $1 in needed { print $1; for (i = 2; i <= NF; i++) needed[$i] }' | LC_ALL=C sort
 }
 
@@ -26,13 +30,27 @@ stamp() {
   } | sha256sum | cut -d ' ' -f 1
 }
 
+# the files of the programs
+built() {
+  programs | sed 's|.*|crates/&/out/&|'
+}
+
+# are_built: each program is there
+are_built() {
+  local file
+  for file in $(built); do
+    [ -x "$file" ] || return 1
+  done
+}
+
 record() {
-  echo "$1 $(sha256sum <"$program")"
+  echo "$1 $(built | xargs cat | sha256sum)"
 }
 
 case $1 in
+  programs) programs ;;
   needed) needed ;;
   stamp) stamp ;;
   keep) mkdir -p out && record "$2" >out/built ;;
-  check) [ -x "$program" ] && [ "$(cat out/built 2>/dev/null)" = "$(record "$(stamp)")" ] ;;
+  check) are_built && [ "$(cat out/built 2>/dev/null)" = "$(record "$(stamp)")" ] ;;
 esac

@@ -10,7 +10,7 @@ root=$PWD
 work=$(mktemp -d)
 trap 'rm -rf "$work"' EXIT
 mkdir "$work/bin"
-ln -s "$root/crates/mta_sim/out/mta_sim" "$work/bin/mta_sim"
+ln -s "$root/crates/mta_sim/out/mta_sim" "$root/crates/mta_lab/out/mta_lab" "$work/bin"
 export PATH="$work/bin:$PATH"
 passed=0
 failed=0

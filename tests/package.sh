@@ -26,9 +26,9 @@ unpack() {
   esac
 }
 
-# inside WORDS..: the unpacked program, with the unpacked folder as its root
+# inside WORDS..: the unpacked mta_sim, with the unpacked folder as its root
 inside() {
-  $way "$root" "$program" "$@"
+  $way "$root" "$folder/mta_sim" "$@"
 }
 
 # is WHAT WANTED GOT: two files are the same, and not empty
@@ -72,27 +72,30 @@ try_debugger() {
   is "debug on lock" "$work/wanted" "$work/got"
 }
 
-# LIT r1, 5 and ADD r2, r1, 3; the version that the package's name has; and the program that BUILD is of
+# LIT r1, 5 and ADD r2, r1, 3; of each program the version that the package's name has; and those that BUILD is of
 try_the_rest() {
+  local name
   printf '8010000000000005\n0000000A208C0000\n' | inside words | grep '^r' >"$work/got"
   printf 'r01 0000000000000005\nr02 0000000000000008\n' >"$work/wanted"
   is "words" "$work/wanted" "$work/got"
-  inside --version >"$work/got" 2>&1
-  basename "$package" | sed -E 's/mta[-_]sim[-_]([0-9.]+)-.*/mta_sim \1/' >"$work/wanted"
-  is "--version" "$work/wanted" "$work/got"
-  sha256sum <"$root$program" | sed 's/ .*//; s/^/program    sha256 /' >"$work/wanted"
-  find "$root" -name BUILD -exec grep '^program ' {} + >"$work/got"
-  is "BUILD" "$work/wanted" "$work/got"
+  for name in $(tests/built.sh programs); do
+    $way "$root" "$folder/$name" --version >"$work/got" 2>&1
+    basename "$package" | sed -E "s/mta[-_]sim[-_]([0-9.]+)-.*/$name \\1/" >"$work/wanted"
+    is "--version of $name" "$work/wanted" "$work/got"
+    sha256sum <"$root$folder/$name" | sed "s/ .*//; s/^/$name    sha256 /" >"$work/wanted"
+    find "$root" -name BUILD -exec grep "^$name .*sha256" {} + >"$work/got"
+    is "$name in BUILD" "$work/wanted" "$work/got"
+  done
 }
 
-# try_package PACKAGE: unpacks it beside the C library that its program is linked to
+# try_package PACKAGE: unpacks it beside the C library that its programs are linked to
 try_package() {
   package=$1
   root=$work/$(basename "$package").root
   unpack "$package" "$root" || exit 1
-  program=$(cd "$root" && find . -path '*/bin/mta_sim' -type f | cut -c 2-)
+  folder=$(cd "$root" && dirname "$(find . -path '*/bin/mta_sim' -type f | cut -c 2-)")
   examples=$(cd "$root" && find . -name examples -type d | cut -c 2-)
-  ldd "$root$program" | grep -oE '/[^ ]+' | xargs cp --dereference --parents -t "$root"
+  ldd "$root$folder"/* | grep -oE '/[^ ]+' | xargs cp --dereference --parents -t "$root"
   try_examples
   try_threads
   try_debugger
