@@ -95,7 +95,7 @@ try_package() {
   unpack "$package" "$root" || exit 1
   folder=$(cd "$root" && dirname "$(find . -path '*/bin/mta_sim' -type f | cut -c 2-)")
   examples=$(cd "$root" && find . -name examples -type d | cut -c 2-)
-  ldd "$root$folder"/* | grep -oE '/[^ ]+' | xargs cp --dereference --parents -t "$root"
+  ldd "$root$folder"/* | grep -v ':$' | grep -oE '/[^ ]+' | sort -u | xargs cp --dereference --parents -t "$root"
   try_examples
   try_threads
   try_debugger
