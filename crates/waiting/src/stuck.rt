@@ -11,8 +11,8 @@ use stream_core::Stream;
 use tag_memory::Reply;
 
 /// Whether stream `s` of processor `p` runs, and its step is Blocked and leaves the world as it is: so it is tried in
-/// vain for ever, unless another stream changes the word that it waits for. A stream whose retry count still grows, or
-/// that would trap, is not stuck ("Retries", docs/MACHINE.md).
+/// vain for ever, unless another stream changes what it finds. A stream whose retry count still grows, or that would
+/// trap, is not stuck ("Retries", docs/MACHINE.md).
 pub fn is_stuck<const S: usize>(machine: &Machine<'_, S>, p: u8, s: u8) -> bool
     ensures { IsTrue result ↔ IsStuck machine.now.image machine.now.world (record { p = p; s = s }) }
 {
