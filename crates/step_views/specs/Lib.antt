@@ -1,0 +1,7 @@
+-- What public contracts promise.
+pub mod Places
+pub mod Changes
+pub mod StepViews
+pub mod LastChanges
+-- What the functions inside promise.
+pub mod Comparing

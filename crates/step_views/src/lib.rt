@@ -1,0 +1,15 @@
+//! What one step of a machine did: its changes are exactly the differences between the world before it and the world
+//! after it (docs/MACHINE.md, "One step").
+#![tactic(auto)]
+
+mod differences;
+mod last_changes;
+mod places;
+mod reading;
+mod seen;
+mod step_views;
+
+pub use last_changes::last_change;
+pub use places::{Change, Content, Place, StreamPart};
+pub use reading::content_of;
+pub use step_views::{Reference, StepView, take_step};
