@@ -1,12 +1,11 @@
 -- What is compared: for each place an entry of what it had and what it has, of which those are kept that differ.
-use Rattle.std.specs.Prelude.{◌≡◌, ◌≢◌, ℕ, suc, ◌⊎◌, List, [], ◌∷◌, ◌++◌, Option, Some, None}
+use Rattle.std.specs.Prelude.{◌≡◌, ◌≢◌, ℕ, zero, suc, ◌+◌, ◌⊎◌, List, [], ◌∷◌, ◌++◌, Option, Some, None}
 use Rattle.std.specs.Prelude.{Bool, false, nat_lt, if◌then◌else◌}
 use Rattle.std.specs.List.{position}
 use Rattle.std.specs.Option.{option_map}
 use Rattle.tag_memory.specs.Cell.{Cell}
 use Rattle.tag_memory.specs.Storage.{TaggedMemory, cell_at}
 use Rattle.stream_core.specs.Streams.{StreamValue, idle}
-use Rattle.stream_core.specs.declared.status_words.StatusWord.{StatusWord}
 use Rattle.processor.specs.Processors.{ProcessorValue, is_idle}
 use Rattle.processor.specs.World.{World, counts_of}
 use Rattle.processor.specs.declared.steps.Step.{Step}
@@ -19,7 +18,7 @@ use Rattle.step_views.specs.declared.places.Content.TheVariants as content
 use Rattle.step_views.specs.declared.places.Change.{Change}
 use Rattle.step_views.specs.declared.seen.Seen.{Seen}
 use Rattle.step_views.specs.declared.step_views.Reference.{Reference}
-use Rattle.step_views.specs.Places.{tags_content, stream_at}
+use Rattle.step_views.specs.Places.{part_content, tags_content, stream_at}
 
 -- the entry of a place
 abbrev pub entry : Place → Content → Content → Change
@@ -34,36 +33,40 @@ abbrev pub AreKept : List Change → List Change → List Change → Type 0
 AreKept [] old new = new ≡ old
 AreKept (c ∷ cs) old new = (next : List Change) × IsKept c old next × AreKept cs next new
 
--- the entries of a stream that has these values before and after
+-- The entries of a stream.
 
-abbrev pub state_entries : ℕ → ℕ → StreamValue → StreamValue → List Change
-state_entries p s b a =
-    entry (place.Stream p s part.Pc) (content.Number b.ssw.pc) (content.Number a.ssw.pc)
-    ∷ entry (place.Stream p s part.Codes) (content.Codes b.ssw.codes) (content.Codes a.ssw.codes)
-    ∷ entry (place.Stream p s part.Mask) (content.Mask b.ssw.mask) (content.Mask a.ssw.mask)
-    ∷ entry (place.Stream p s part.InTrap) (content.InTrap b.ssw.in_trap) (content.InTrap a.ssw.in_trap)
-    ∷ entry (place.Stream p s part.TrapRegister) (content.Number b.xr) (content.Number a.xr)
-    ∷ entry (place.Stream p s part.Retries) (content.Number b.retries) (content.Number a.retries)
-    ∷ entry (place.Stream p s part.Status) (content.Status b.status) (content.Status a.status)
-    ∷ []
+-- of a part, where it is there before and after
+abbrev pub part_entry : Place → Option Content → Option Content → List Change
+part_entry x None after = []
+part_entry x (Some b) None = []
+part_entry x (Some b) (Some a) = entry x b a ∷ []
 
--- of its registers, from the one of this number on
-abbrev pub register_entries : ℕ → ℕ → ℕ → List ℕ → List ℕ → List Change
-register_entries p s r [] as = []
-register_entries p s r (b ∷ bs) [] = []
-register_entries p s r (b ∷ bs) (a ∷ as) =
-    entry (place.Stream p s (part.Register r)) (content.Number b) (content.Number a) ∷ register_entries p s (suc r) bs as
+-- of each of these parts of the stream, which has these values before and after
+abbrev pub part_entries : ℕ → ℕ → StreamValue → StreamValue → List StreamPart → List Change
+part_entries p s b a [] = []
+part_entries p s b a (x ∷ xs) =
+    part_entry (place.Stream p s x) (part_content b x) (part_content a x) ++ part_entries p s b a xs
 
-abbrev pub target_entries : ℕ → ℕ → ℕ → List StatusWord → List StatusWord → List Change
-target_entries p s t [] as = []
-target_entries p s t (b ∷ bs) [] = []
-target_entries p s t (b ∷ bs) (a ∷ as) =
-    entry (place.Stream p s (part.Target t)) (content.Target b) (content.Target a) ∷ target_entries p s (suc t) bs as
+-- the parts of a stream beside its registers
+abbrev pub state_parts : List StreamPart
+state_parts =
+    part.Pc ∷ part.Codes ∷ part.Mask ∷ part.InTrap ∷ part.TrapRegister ∷ part.Retries ∷ part.Status ∷ []
 
--- all of them
-abbrev pub stream_entries : ℕ → ℕ → StreamValue → StreamValue → List Change
+-- so many registers, from the one of this number on
+unfoldable pub register_parts : ℕ → ℕ → List StreamPart
+register_parts zero r = []
+register_parts (suc n) r = part.Register r ∷ register_parts n (r + 1)
+
+-- so many target registers, from the one of this number on
+unfoldable pub target_parts : ℕ → ℕ → List StreamPart
+target_parts zero t = []
+target_parts (suc n) t = part.Target t ∷ target_parts n (t + 1)
+
+-- of all parts
+unfoldable pub stream_entries : ℕ → ℕ → StreamValue → StreamValue → List Change
 stream_entries p s b a =
-    state_entries p s b a ++ register_entries p s 0 b.registers a.registers ++ target_entries p s 0 b.targets a.targets
+    part_entries p s b a state_parts ++ part_entries p s b a (register_parts 32 0)
+    ++ part_entries p s b a (target_parts 8 0)
 
 -- the entries of a processor's counts, those that are current first
 abbrev pub count_entries : ℕ → ℕ × ℕ → ℕ × ℕ → List Change

@@ -1,8 +1,9 @@
 -- What stands in the places of a world.
-use Rattle.std.specs.Prelude.{ℕ, Option, Some, None, slice_get}
-use Rattle.std.specs.Option.{option_map, option_and_then}
+use Rattle.std.specs.Prelude.{ℕ, Option, Some, None, slice_get, nat_lt, if◌then◌else◌}
+use Rattle.std.specs.Option.{option_map}
 use Rattle.tag_memory.specs.Cell.{Cell, tag_number}
 use Rattle.tag_memory.specs.Storage.{cell_at}
+use Rattle.stream_core.specs.Registers.{register_at, target_at}
 use Rattle.stream_core.specs.Streams.{StreamValue}
 use Rattle.processor.specs.Processors.{ProcessorValue}
 use Rattle.processor.specs.World.{World}
@@ -13,7 +14,7 @@ use Rattle.step_views.specs.declared.places.Place.TheVariants as place
 use Rattle.step_views.specs.declared.places.Content.{Content}
 use Rattle.step_views.specs.declared.places.Content.TheVariants as content
 
--- what stands in a part of a stream; nothing in a register past the last one
+-- what stands in a part of a stream; nothing in a register or target register past the last one
 abbrev pub part_content : StreamValue → StreamPart → Option Content
 part_content v part.Pc = Some (content.Number v.ssw.pc)
 part_content v part.Codes = Some (content.Codes v.ssw.codes)
@@ -22,8 +23,8 @@ part_content v part.InTrap = Some (content.InTrap v.ssw.in_trap)
 part_content v part.TrapRegister = Some (content.Number v.xr)
 part_content v part.Retries = Some (content.Number v.retries)
 part_content v part.Status = Some (content.Status v.status)
-part_content v (part.Register r) = option_map content.Number (slice_get v.registers r)
-part_content v (part.Target t) = option_map content.Target (slice_get v.targets t)
+part_content v (part.Register r) = if nat_lt r 32 then Some (content.Number (register_at v.registers r)) else None
+part_content v (part.Target t) = if nat_lt t 8 then Some (content.Target (target_at v.targets t)) else None
 
 -- the stream of this number of a processor, if there are both
 abbrev pub stream_in : Option ProcessorValue → ℕ → Option StreamValue

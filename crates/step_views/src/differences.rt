@@ -1,20 +1,16 @@
 //! What is compared of streams, counts and words, and noted where it differs.
 
-ghost use Rattle.std.specs.Prelude.{◌≡◌, ◌≤◌, ◌<◌, ◌+◌, length, vec_len, vec_capacity};
-ghost use Rattle.step_views.specs.declared.places.Content.{Content};
+ghost use Rattle.std.specs.Prelude.{◌≡◌, ◌≤◌, ◌<◌, ◌+◌, vec_len, vec_capacity};
 ghost use Rattle.step_views.specs.declared.places.Place.{Place};
-ghost use Rattle.step_views.specs.declared.places.StreamPart.{StreamPart};
-ghost use Rattle.step_views.specs.Comparing.{entry, IsKept, AreKept, state_entries, register_entries, target_entries};
+ghost use Rattle.step_views.specs.Places.{part_content};
+ghost use Rattle.step_views.specs.Comparing.{entry, IsKept, AreKept, part_entry, part_entries};
+ghost use Rattle.step_views.specs.Comparing.{state_parts, register_parts, target_parts};
 ghost use Rattle.step_views.specs.Comparing.{stream_entries, count_entries, word_entries};
 
 use crate::places::{Change, Content, Place, StreamPart};
+use crate::reading::part_content;
 use stream_core::Stream;
 use tag_memory::Word;
-
-/// How many parts a stream has: its general registers, its target registers, and seven more.
-pub(crate) const STREAM_PARTS: usize = 47;
-
-const _: () = prove!(STREAM_PARTS == 47);
 
 /// Notes what differs of a stream.
 pub(crate) fn note_stream(changes: &mut Vec<Change>, p: u8, s: u8, before: &Stream, after: &Stream)
@@ -22,63 +18,75 @@ pub(crate) fn note_stream(changes: &mut Vec<Change>, p: u8, s: u8, before: &Stre
     ensures kept { AreKept (stream_entries p s before.now after.now) changes.old.items changes.new.items }
     ensures few { vec_len changes.new ≤ vec_len changes.old + 47 }
     ensures capacity { vec_capacity changes.old ≤ vec_capacity changes.new }
-    ensures registers { length after.now.registers ≡ length before.now.registers }
-    ensures targets { length after.now.targets ≡ length before.now.targets }
 {
-    note_state(changes, p, s, before, after);
+    note_states(changes, p, s, before, after);
     note_registers(changes, p, s, before, after);
     note_targets(changes, p, s, before, after);
 }
 
 /// Notes what differs of a stream beside its registers.
-fn note_state(changes: &mut Vec<Change>, p: u8, s: u8, before: &Stream, after: &Stream)
+fn note_states(changes: &mut Vec<Change>, p: u8, s: u8, before: &Stream, after: &Stream)
     requires room { vec_len changes.old + 7 ≤ vec_capacity changes.old }
-    ensures kept { AreKept (state_entries p s before.now after.now) changes.old.items changes.new.items }
+    ensures kept { AreKept (part_entries p s before.now after.now state_parts) changes.old.items changes.new.items }
     ensures few { vec_len changes.new ≤ vec_len changes.old + 7 }
     ensures capacity { vec_capacity changes.old ≤ vec_capacity changes.new }
 {
-    let (was, is) = (before.ssw(), after.ssw());
-    let retries = (before.retries(), after.retries());
-    note(changes, part(p, s, StreamPart::Pc), number(was.pc), number(is.pc));
-    note(changes, part(p, s, StreamPart::Codes), Content::Codes(was.codes), Content::Codes(is.codes));
-    note(changes, part(p, s, StreamPart::Mask), Content::Mask(was.mask), Content::Mask(is.mask));
-    note(changes, part(p, s, StreamPart::InTrap), Content::InTrap(was.in_trap), Content::InTrap(is.in_trap));
-    note(changes, part(p, s, StreamPart::TrapRegister), Content::Number(before.xr()), Content::Number(after.xr()));
-    note(changes, part(p, s, StreamPart::Retries), number(retries.0), number(retries.1));
-    note(changes, part(p, s, StreamPart::Status), Content::Status(before.status()), Content::Status(after.status()));
+    note_part(changes, p, s, StreamPart::Pc, before, after);
+    note_part(changes, p, s, StreamPart::Codes, before, after);
+    note_part(changes, p, s, StreamPart::Mask, before, after);
+    note_part(changes, p, s, StreamPart::InTrap, before, after);
+    note_part(changes, p, s, StreamPart::TrapRegister, before, after);
+    note_part(changes, p, s, StreamPart::Retries, before, after);
+    note_part(changes, p, s, StreamPart::Status, before, after);
 }
 
 /// Notes which general registers of a stream differ.
 fn note_registers(changes: &mut Vec<Change>, p: u8, s: u8, before: &Stream, after: &Stream)
     requires room { vec_len changes.old + 32 ≤ vec_capacity changes.old }
-    ensures kept { AreKept (register_entries p s 0 before.now.registers after.now.registers)
+    ensures kept { AreKept (part_entries p s before.now after.now (register_parts 32 0))
         changes.old.items changes.new.items }
     ensures few { vec_len changes.new ≤ vec_len changes.old + 32 }
     ensures capacity { vec_capacity changes.old ≤ vec_capacity changes.new }
-    ensures many { length after.now.registers ≡ length before.now.registers }
 {
-    for number in 0..u8::MAX {
-        let (Some(was), Some(is)) = (before.reg(number), after.reg(number)) else {
-            return;
-        };
-        note(changes, part(p, s, StreamPart::Register(number)), Content::Number(was), Content::Number(is));
+    for number in 0..32 {
+        note_part(changes, p, s, StreamPart::Register(number), before, after);
     }
 }
 
 /// Notes which target registers of a stream differ.
 fn note_targets(changes: &mut Vec<Change>, p: u8, s: u8, before: &Stream, after: &Stream)
     requires room { vec_len changes.old + 8 ≤ vec_capacity changes.old }
-    ensures kept { AreKept (target_entries p s 0 before.now.targets after.now.targets)
+    ensures kept { AreKept (part_entries p s before.now after.now (target_parts 8 0))
         changes.old.items changes.new.items }
     ensures few { vec_len changes.new ≤ vec_len changes.old + 8 }
     ensures capacity { vec_capacity changes.old ≤ vec_capacity changes.new }
-    ensures many { length after.now.targets ≡ length before.now.targets }
 {
-    for number in 0..u8::MAX {
-        let (Some(was), Some(is)) = (before.target(number), after.target(number)) else {
-            return;
-        };
-        note(changes, part(p, s, StreamPart::Target(number)), Content::Target(was), Content::Target(is));
+    for number in 0..8 {
+        note_part(changes, p, s, StreamPart::Target(number), before, after);
+    }
+}
+
+/// Notes a part of a stream where it differs.
+#[inline(always)]
+fn note_part(
+    changes: &mut Vec<Change>,
+    p: u8,
+    s: u8,
+    part: StreamPart,
+    before: &Stream,
+    after: &Stream,
+)
+    requires room { vec_len changes.old < vec_capacity changes.old }
+    ensures kept { AreKept
+        (part_entry (Place.Stream p s part) (part_content before.now part) (part_content after.now part))
+        changes.old.items changes.new.items }
+    ensures few { vec_len changes.new ≤ vec_len changes.old + 1 }
+    ensures capacity { vec_capacity changes.old ≤ vec_capacity changes.new }
+{
+    let was = part_content(before, part);
+    let is = part_content(after, part);
+    if let (Some(was), Some(is)) = (was, is) {
+        note(changes, Place::Stream { p, s, part }, was, is);
     }
 }
 
@@ -89,8 +97,12 @@ pub(crate) fn note_counts(changes: &mut Vec<Change>, p: u8, before: (u16, u16), 
     ensures few { vec_len changes.new ≤ vec_len changes.old + 2 }
     ensures capacity { vec_capacity changes.old ≤ vec_capacity changes.new }
 {
-    note(changes, Place::Current { p }, number(before.0.into()), number(after.0.into()));
-    note(changes, Place::Reserved { p }, number(before.1.into()), number(after.1.into()));
+    let was = Content::Number(u64::from(before.0));
+    let is = Content::Number(u64::from(after.0));
+    note(changes, Place::Current { p }, was, is);
+    let was = Content::Number(u64::from(before.1));
+    let is = Content::Number(u64::from(after.1));
+    note(changes, Place::Reserved { p }, was, is);
 }
 
 /// Notes what differs of the word at a byte address.
@@ -100,11 +112,15 @@ pub(crate) fn note_word(changes: &mut Vec<Change>, address: u64, before: Word, a
     ensures few { vec_len changes.new ≤ vec_len changes.old + 2 }
     ensures capacity { vec_capacity changes.old ≤ vec_capacity changes.new }
 {
-    note(changes, Place::Value { address }, Content::Number(before.value()), Content::Number(after.value()));
-    note(changes, Place::Tags { address }, Content::Tags(before.tags()), Content::Tags(after.tags()));
+    let was = Content::Number(before.value());
+    let is = Content::Number(after.value());
+    note(changes, Place::Value { address }, was, is);
+    let was = Content::Tags(before.tags());
+    let is = Content::Tags(after.tags());
+    note(changes, Place::Tags { address }, was, is);
 }
 
-/// Notes a place where it does not hold what it held.
+/// Notes a place that does not hold what it held.
 fn note(changes: &mut Vec<Change>, place: Place, before: Content, after: Content)
     requires room { vec_len changes.old < vec_capacity changes.old }
     ensures kept { IsKept (entry place before after) changes.old.items changes.new.items }
@@ -123,16 +139,4 @@ fn note(changes: &mut Vec<Change>, place: Place, before: Content, after: Content
         Ok(()) => {}
         Err(_) => unreachable!(),
     }
-}
-
-fn part(p: u8, s: u8, part: StreamPart) -> Place
-    ensures { result ≡ Place.Stream p s part }
-{
-    Place::Stream { p, s, part }
-}
-
-fn number(value: u32) -> Content
-    ensures { result ≡ Content.Number value }
-{
-    Content::Number(u64::from(value))
 }

@@ -38,7 +38,7 @@ pub fn content_of<const S: usize>(machine: &Machine<'_, S>, place: Place) -> Opt
 }
 
 /// What stands in a part of a stream; None in a register past the last one.
-fn part_content(stream: &Stream, part: StreamPart) -> Option<Content>
+pub(crate) fn part_content(stream: &Stream, part: StreamPart) -> Option<Content>
     ensures { result ≡ part_content stream.now part }
 {
     let ssw = stream.ssw();
@@ -56,7 +56,11 @@ fn part_content(stream: &Stream, part: StreamPart) -> Option<Content>
 }
 
 /// The stream of these numbers; None where there is no such processor, and from the image's slim on.
-pub(crate) fn stream_of<'m, const S: usize>(machine: &'m Machine<'_, S>, p: u8, s: u8) -> Option<&'m Stream>
+pub(crate) fn stream_of<'m, const S: usize>(
+    machine: &'m Machine<'_, S>,
+    p: u8,
+    s: u8,
+) -> Option<&'m Stream>
     ensures { option_copied result ≡ stream_at machine.now.world p s }
 {
     if u16::from(s) >= machine.image().slim() {

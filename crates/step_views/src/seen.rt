@@ -19,6 +19,7 @@ use tag_memory::Word;
 
 /// What a step may change, as it is before the step: its stream, the stream that it may start, the counts of its
 /// processor, and the word at which its reference ends.
+#[derive(Drop)]
 pub(crate) struct Seen {
     stream: Option<Stream>,
     free: Option<u8>,
@@ -28,7 +29,11 @@ pub(crate) struct Seen {
 
 impl Seen {
     /// What a step with this reference may change.
-    pub(crate) fn of<const S: usize>(machine: &Machine<'_, S>, step: Step, reference: Option<Reference>) -> Seen
+    pub(crate) fn of<const S: usize>(
+        machine: &Machine<'_, S>,
+        step: Step,
+        reference: Option<Reference>,
+    ) -> Seen
         ensures stream { result.stream ≡ stream_at machine.now.world step.p step.s }
         ensures free { result.free ≡ free_in (slice_get machine.now.world.processors step.p) }
         ensures counts { result.counts ≡ counts_of machine.now.world step.p }
@@ -71,7 +76,12 @@ impl Seen {
     }
 
     /// Notes the parts of a stream that the step has started.
-    fn note_started<const S: usize>(&self, changes: &mut Vec<Change>, machine: &Machine<'_, S>, p: u8)
+    fn note_started<const S: usize>(
+        &self,
+        changes: &mut Vec<Change>,
+        machine: &Machine<'_, S>,
+        p: u8,
+    )
         requires room { vec_len changes.old + 47 ≤ vec_capacity changes.old }
         ensures kept { AreKept (started_compared p self.now.free self.now.counts machine.now.world)
             changes.old.items changes.new.items }
@@ -82,12 +92,23 @@ impl Seen {
             return;
         };
         if was.0 < is.0 {
-            note_streams(changes, p, s, &Some(Stream::idle()), stream_of(machine, p, s));
+            note_streams(
+                changes,
+                p,
+                s,
+                &Some(Stream::idle()),
+                stream_of(machine, p, s),
+            );
         }
     }
 
     /// Notes what differs of the counts.
-    fn note_counts<const S: usize>(&self, changes: &mut Vec<Change>, machine: &Machine<'_, S>, p: u8)
+    fn note_counts<const S: usize>(
+        &self,
+        changes: &mut Vec<Change>,
+        machine: &Machine<'_, S>,
+        p: u8,
+    )
         requires room { vec_len changes.old + 2 ≤ vec_capacity changes.old }
         ensures kept { AreKept (counts_compared p self.now.counts (counts_of machine.now.world p))
             changes.old.items changes.new.items }
@@ -117,7 +138,13 @@ impl Seen {
 }
 
 /// Notes what differs of a stream that is there before and after.
-fn note_streams(changes: &mut Vec<Change>, p: u8, s: u8, before: &Option<Stream>, after: Option<&Stream>)
+fn note_streams(
+    changes: &mut Vec<Change>,
+    p: u8,
+    s: u8,
+    before: &Option<Stream>,
+    after: Option<&Stream>,
+)
     requires room { vec_len changes.old + 47 ≤ vec_capacity changes.old }
     ensures kept { AreKept (stream_compared p s before.now (option_copied after)) changes.old.items changes.new.items }
     ensures few { vec_len changes.new ≤ vec_len changes.old + 47 }
@@ -130,7 +157,11 @@ fn note_streams(changes: &mut Vec<Change>, p: u8, s: u8, before: &Option<Stream>
 
 /// The stream that a CREATE of a processor with these counts would start: the lowest idle one. None where all reserved
 /// ones are in use.
-fn free_stream<const S: usize>(machine: &Machine<'_, S>, p: u8, counts: Option<(u16, u16)>) -> Option<u8>
+fn free_stream<const S: usize>(
+    machine: &Machine<'_, S>,
+    p: u8,
+    counts: Option<(u16, u16)>,
+) -> Option<u8>
     requires { counts ≡ counts_of machine.now.world p }
     ensures { result ≡ free_in (slice_get machine.now.world.processors p) }
 {
@@ -142,7 +173,10 @@ fn free_stream<const S: usize>(machine: &Machine<'_, S>, p: u8, counts: Option<(
 }
 
 /// The word at which a reference ends.
-fn word_at_end<const S: usize>(machine: &Machine<'_, S>, reference: Option<Reference>) -> Option<(u64, Word)>
+fn word_at_end<const S: usize>(
+    machine: &Machine<'_, S>,
+    reference: Option<Reference>,
+) -> Option<(u64, Word)>
     ensures { result ≡ word_seen machine.now.world.memory reference }
 {
     let address = reference?.address;

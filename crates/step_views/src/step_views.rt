@@ -4,7 +4,6 @@ ghost use Rattle.std.specs.Prelude.{◌≡◌, IfOk, OnOk, OnErr};
 ghost use Rattle.processor.specs.World.{after};
 ghost use Rattle.step_views.specs.StepViews.{reference_of, IsViewOf};
 
-use crate::differences::STREAM_PARTS;
 use crate::places::Change;
 use crate::seen::Seen;
 use machine::Machine;
@@ -13,9 +12,9 @@ use std::alloc::{AllocError, Global};
 use stream_core::Outcome;
 use tag_memory::{Reply, Request, serving_laws};
 
-/// The most changes of a step: all parts of its stream and of one that it starts, two counts, a word's value and its
-/// tags.
-const MOST_CHANGES: usize = 2 * STREAM_PARTS + 4;
+/// The most changes of a step: 47 parts of its stream and as many of one that it starts, two counts, a word's value and
+/// its tags.
+const MOST_CHANGES: usize = 98;
 
 /// What a step asked of the memory.
 #[derive(Clone, Copy, Debug, PartialEq, Eq)]
