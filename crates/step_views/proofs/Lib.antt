@@ -1,2 +1,4 @@
 pub mod Entries
 pub mod Covering
+pub mod Parts
+pub mod Seeing

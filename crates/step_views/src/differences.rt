@@ -1,6 +1,6 @@
 //! What is compared of streams, counts and words, and noted where it differs.
 
-ghost use Rattle.std.specs.Prelude.{◌≡◌, ◌≤◌, ◌<◌, ◌+◌, vec_len, vec_capacity};
+ghost use Rattle.std.specs.Prelude.{◌≡◌, ◌≤◌, ◌<◌, ◌+◌, ◌↔◌, IsTrue, vec_len, vec_capacity};
 ghost use Rattle.step_views.specs.declared.places.Place.{Place};
 ghost use Rattle.step_views.specs.Places.{part_content};
 ghost use Rattle.step_views.specs.Comparing.{entry, IsKept, AreKept, part_entry, part_entries};
@@ -127,7 +127,7 @@ fn note(changes: &mut Vec<Change>, place: Place, before: Content, after: Content
     ensures few { vec_len changes.new ≤ vec_len changes.old + 1 }
     ensures capacity { vec_capacity changes.old ≤ vec_capacity changes.new }
 {
-    if before == after {
+    if is_same(&before, &after) {
         return;
     }
     let change = Change {
@@ -139,4 +139,10 @@ fn note(changes: &mut Vec<Change>, place: Place, before: Content, after: Content
         Ok(()) => {}
         Err(_) => unreachable!(),
     }
+}
+
+fn is_same(a: &Content, b: &Content) -> bool
+    ensures { IsTrue result ↔ (a.now ≡ b.now) }
+{
+    a == b
 }

@@ -2,6 +2,7 @@
 
 ghost use Rattle.std.specs.Prelude.{◌≡◌, ◌≤◌, ◌+◌, vec_len, vec_capacity, slice_get};
 ghost use Rattle.std.specs.Option.{option_copied};
+ghost use Rattle.processor.specs.Processors.{is_idle};
 ghost use Rattle.processor.specs.World.{counts_of};
 ghost use Rattle.step_views.specs.Places.{stream_at};
 ghost use Rattle.step_views.specs.StepViews.{pc_of};
@@ -32,12 +33,12 @@ impl Seen {
     pub(crate) fn of<const S: usize>(
         machine: &Machine<'_, S>,
         step: Step,
-        reference: Option<Reference>,
+        reference: &Option<Reference>,
     ) -> Seen
         ensures stream { result.stream ≡ stream_at machine.now.world step.p step.s }
         ensures free { result.free ≡ free_in (slice_get machine.now.world.processors step.p) }
         ensures counts { result.counts ≡ counts_of machine.now.world step.p }
-        ensures word { result.word ≡ word_seen machine.now.world.memory reference }
+        ensures word { result.word ≡ word_seen machine.now.world.memory reference.now }
     {
         let counts = machine.counts(step.p);
         Seen {
@@ -146,7 +147,7 @@ fn note_streams(
     after: Option<&Stream>,
 )
     requires room { vec_len changes.old + 47 ≤ vec_capacity changes.old }
-    ensures kept { AreKept (stream_compared p s before.now (option_copied after)) changes.old.items changes.new.items }
+    ensures kept { AreKept (stream_compared p s before.now (option_copied after.entry)) changes.old.items changes.new.items }
     ensures few { vec_len changes.new ≤ vec_len changes.old + 47 }
     ensures capacity { vec_capacity changes.old ≤ vec_capacity changes.new }
 {
@@ -175,11 +176,14 @@ fn free_stream<const S: usize>(
 /// The word at which a reference ends.
 fn word_at_end<const S: usize>(
     machine: &Machine<'_, S>,
-    reference: Option<Reference>,
+    reference: &Option<Reference>,
 ) -> Option<(u64, Word)>
-    ensures { result ≡ word_seen machine.now.world.memory reference }
+    ensures { result ≡ word_seen machine.now.world.memory reference.now }
 {
-    let address = reference?.address;
+    let Some(reference) = reference else {
+        return None;
+    };
+    let address = reference.address;
     let word = machine.word(address)?;
     Some((address, word))
 }
@@ -189,10 +193,19 @@ fn lowest_idle<const S: usize>(machine: &Machine<'_, S>, p: u8) -> Option<u8>
     ensures { result ≡ idle_in (slice_get machine.now.world.processors p) }
 {
     for s in 0..machine.image().slim() as u8 {
-        let stream = machine.stream(p, s)?;
-        if stream.status() == Status::Idle {
+        let stream = stream_of(machine, p, s)?;
+        if is_idle(stream) {
             return Some(s);
         }
     }
     None
+}
+
+fn is_idle(stream: &Stream) -> bool
+    ensures { result ≡ is_idle stream.now }
+{
+    match stream.status() {
+        Status::Idle => true,
+        Status::Running | Status::Stopped(_) => false,
+    }
 }

@@ -57,7 +57,7 @@ pub fn take_step<const S: usize>(
 {
     let mut changes = Vec::with_capacity(alloc, MOST_CHANGES)?;
     let reference = reference_of(machine, step);
-    let before = Seen::of(machine, step, reference);
+    let before = Seen::of(machine, step, &reference);
     let outcome = machine.step(step.p, step.s);
     serving_laws();
     before.note_changes(&mut changes, machine, step);
