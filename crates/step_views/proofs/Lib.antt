@@ -2,3 +2,8 @@ pub mod Entries
 pub mod Covering
 pub mod Parts
 pub mod Seeing
+pub mod Asking
+pub mod StreamEntries
+pub mod Starting
+pub mod Words
+pub mod Pieces

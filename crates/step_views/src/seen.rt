@@ -2,7 +2,7 @@
 
 ghost use Rattle.std.specs.Prelude.{◌≡◌, ◌≤◌, ◌+◌, vec_len, vec_capacity, slice_get};
 ghost use Rattle.std.specs.Option.{option_copied};
-ghost use Rattle.processor.specs.Processors.{is_idle};
+ghost use Rattle.processor.specs.Processors.{ProcessorValue, IsCounted, is_idle};
 ghost use Rattle.processor.specs.World.{counts_of};
 ghost use Rattle.step_views.specs.Places.{stream_at};
 ghost use Rattle.step_views.specs.StepViews.{pc_of};
@@ -39,6 +39,7 @@ impl Seen {
         ensures free { result.free ≡ free_in (slice_get machine.now.world.processors step.p) }
         ensures counts { result.counts ≡ counts_of machine.now.world step.p }
         ensures word { result.word ≡ word_seen machine.now.world.memory reference.now }
+        ensures counted { (d : ProcessorValue) → slice_get machine.now.world.processors step.p ≡ Some d → IsCounted d }
     {
         let counts = machine.counts(step.p);
         Seen {

@@ -1,0 +1,55 @@
+-- What a step asks, by what its machine says that it needs.
+use Rattle.std.proofs.Common.{◌≡◌, ℕ, refl, sym, ap, ◌∙◌, Option, Some, None, slice_get}
+use Rattle.std.specs.Option.{option_map}
+use Rattle.tag_memory.specs.declared.requests.Request.{Request}
+use Rattle.image_file.specs.ImageValue.{ImageValue}
+use Rattle.stream_core.specs.Streams.{StreamValue}
+use Rattle.stream_core.specs.Effects.{request_of}
+use Rattle.stream_core.specs.declared.steps.Fetch.{Fetch}
+use Rattle.stream_core.specs.declared.steps.Fetch.TheVariants as fetch
+use Rattle.processor.specs.Processors.{ProcessorValue, stream_at}
+use Rattle.processor.specs.Row.{step_fetch_of, request_on_fetch, request, next_asking, next_on_fetch, next_of}
+use Rattle.processor.specs.World.{World}
+use Rattle.processor.specs.declared.steps.Step.{Step}
+use Rattle.processor.specs.declared.steps.Next.{Next}
+use Rattle.processor.specs.declared.steps.Next.TheVariants as next
+use Rattle.processor.proofs.Begun.{request_begun, next_begun}
+use Rattle.machine.specs.MachineValue.{next_at}
+use Rattle.step_views.specs.StepViews.{asked_in, asked_by, reference_to, reference_of}
+use Rattle.step_views.specs.declared.step_views.Reference.{Reference}
+
+-- the request of a step that needs this
+abbrev pub asked_of : Next → Option Request
+asked_of next.Skip = None
+asked_of next.Local = None
+asked_of (next.Ask q) = Some q
+
+asked_if : (o : Option Request) → o ≡ asked_of (next_asking o)
+asked_if None = refl
+asked_if (Some q) = refl
+
+asked_on_fetch : (v : StreamValue) (f : Fetch) → request_on_fetch v f ≡ asked_of (next_on_fetch v f)
+asked_on_fetch v fetch.Rest = refl
+asked_on_fetch v (fetch.Trap k) = refl
+asked_on_fetch v (fetch.Instruction i) = asked_if (request_of v i)
+
+asked_there : (image : ImageValue) (o : Option ProcessorValue) (s : ℕ) → asked_in image o s ≡ asked_of (next_at image o s)
+asked_there image None s = refl
+asked_there image (Some proc) s =
+    let f = step_fetch_of image proc s in
+    request_begun image proc s f refl ∙ asked_on_fetch (stream_at proc.streams s) f ∙ ap asked_of (next_begun image proc s f refl)
+
+-- the reference by what is needed
+pub reference_needed : (image : ImageValue) (w : World) (t : Step) (n : Next)
+    → n ≡ next_at image (slice_get w.processors t.p) t.s
+    → option_map (reference_to w.memory) (asked_of n) ≡ reference_of image w t
+unfolding reference_of
+reference_needed image w t n e =
+    ap (λ x. option_map (reference_to w.memory) (asked_of x)) e
+    ∙ ap (option_map (reference_to w.memory)) (sym (asked_there image (slice_get w.processors t.p) t.s))
+
+-- the reference of this request, with its address and reply
+pub reference_made : (image : ImageValue) (w : World) (t : Step) (q : Request) (r : Reference)
+    → next.Ask q ≡ next_at image (slice_get w.processors t.p) t.s → r ≡ reference_to w.memory q
+    → Some r ≡ reference_of image w t
+reference_made image w t q r e is = ap Some is ∙ reference_needed image w t (next.Ask q) e
