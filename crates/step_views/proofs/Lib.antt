@@ -7,3 +7,7 @@ pub mod StreamEntries
 pub mod Starting
 pub mod Words
 pub mod Pieces
+pub mod Counts
+pub mod Free
+pub mod Stepping
+pub mod Viewing

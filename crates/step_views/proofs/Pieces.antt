@@ -12,7 +12,7 @@ use Rattle.step_views.specs.declared.places.Place.{Place}
 use Rattle.step_views.specs.declared.places.Place.TheVariants as place
 use Rattle.step_views.specs.declared.places.Content.TheVariants as content
 use Rattle.step_views.specs.declared.places.Change.{Change}
-use Rattle.step_views.specs.Places.{part_in, part_content, tags_content, stream_at, content_of}
+use Rattle.step_views.specs.Places.{part_in, part_content, tags_content, used_stream, content_of}
 use Rattle.step_views.specs.Comparing.{entry, stream_entries, stream_compared, count_entries, counts_compared}
 use Rattle.step_views.specs.Comparing.{word_entries, word_compared_to}
 use Rattle.step_views.proofs.Entries.{In, in_either, AreApart, apart_join}
@@ -54,12 +54,12 @@ of_stream_compared p s (Some b) None c h = absurd h
 of_stream_compared p s (Some b) (Some a) c h = let e = of_stream p s b a c h in (e.part, e.at)
 
 -- what stands in a part of a stream
-part_there : (w : World) (p s : ℕ) (x : StreamPart) (o : Option StreamValue) → stream_at w p s ≡ o
+part_there : (w : World) (p s : ℕ) (x : StreamPart) (o : Option StreamValue) → used_stream w p s ≡ o
     → content_of w (place.Stream p s x) ≡ part_in o x
 unfolding content_of
 part_there w p s x o e = ap (λ y. part_in y x) e
 
-pub stream_piece : (w v : World) (p s : ℕ) (o q : Option StreamValue) → stream_at w p s ≡ o → stream_at v p s ≡ q
+pub stream_piece : (w v : World) (p s : ℕ) (o q : Option StreamValue) → used_stream w p s ≡ o → used_stream v p s ≡ q
     → IsPiece w v (stream_compared p s o q)
 stream_piece w v p s None q e f = no_piece w v
 stream_piece w v p s (Some b) None e f = no_piece w v
@@ -80,8 +80,8 @@ AreAlike None (Some a) = ⊥
 AreAlike (Some b) None = ⊥
 AreAlike (Some b) (Some a) = Unit {0}
 
-pub stream_covered : (w v : World) (p s : ℕ) (x : StreamPart) (o q : Option StreamValue) → stream_at w p s ≡ o
-    → stream_at v p s ≡ q → AreAlike o q → IsCovered (stream_compared p s o q) w v (place.Stream p s x)
+pub stream_covered : (w v : World) (p s : ℕ) (x : StreamPart) (o q : Option StreamValue) → used_stream w p s ≡ o
+    → used_stream v p s ≡ q → AreAlike o q → IsCovered (stream_compared p s o q) w v (place.Stream p s x)
 stream_covered w v p s x None None e f h = inr (part_there v p s x None f ∙ sym (part_there w p s x None e))
 stream_covered w v p s x None (Some a) e f h = absurd h
 stream_covered w v p s x (Some b) None e f h = absurd h
@@ -92,7 +92,7 @@ stream_covered w v p s x (Some b) (Some a) e f h =
     ]
 
 -- a stream that stays
-pub stream_stays : (w v : World) (p s : ℕ) (x : StreamPart) → stream_at v p s ≡ stream_at w p s
+pub stream_stays : (w v : World) (p s : ℕ) (x : StreamPart) → used_stream v p s ≡ used_stream w p s
     → content_of v (place.Stream p s x) ≡ content_of w (place.Stream p s x)
 unfolding content_of
 stream_stays w v p s x e = ap (λ y. part_in y x) e

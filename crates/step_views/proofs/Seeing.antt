@@ -8,7 +8,7 @@ use Rattle.std.proofs.lemmas.Option.{slice_get_within, slice_get-get_or, get_or_
 use Rattle.stream_core.specs.Streams.{StreamValue, idle}
 use Rattle.processor.specs.Processors.{ProcessorValue, is_idle}
 use Rattle.machine.specs.MachineValue.{MachineValue, IsMachine}
-use Rattle.step_views.specs.Places.{stream_in}
+use Rattle.step_views.specs.Places.{used_stream_in}
 use Rattle.step_views.specs.Comparing.{idle_in}
 
 -- each processor of a machine has as many streams as the image says
@@ -20,14 +20,14 @@ slim_of size m p proc is there =
 
 -- none of the streams below this one is idle
 abbrev pub NoneIdleBelow : Option ProcessorValue → ℕ → Type 0
-NoneIdleBelow o n = (k : ℕ) → k < n → (v : StreamValue) → stream_in o k ≡ Some v → is_idle v ≡ false
+NoneIdleBelow o n = (k : ℕ) → k < n → (v : StreamValue) → used_stream_in o k ≡ Some v → is_idle v ≡ false
 
 below_none : (proc : ProcessorValue) (n : ℕ) → n ≤ length proc.streams → NoneIdleBelow (Some proc) n
     → (k : ℕ) → k < n → is_idle (get_or proc.streams k idle) ≡ false
 below_none proc n within none k below =
     none k below (get_or proc.streams k idle) (slice_get-get_or proc.streams k idle (omega arith))
 
-pub first_idle : (o : Option ProcessorValue) (n : ℕ) (v : StreamValue) → Some v ≡ stream_in o n → is_idle v ≡ true
+pub first_idle : (o : Option ProcessorValue) (n : ℕ) (v : StreamValue) → Some v ≡ used_stream_in o n → is_idle v ≡ true
     → NoneIdleBelow o n → Some n ≡ idle_in o
 first_idle None n v there rests none = cc
 first_idle (Some proc) n v there rests none =
@@ -43,7 +43,7 @@ first_idle (Some proc) n v there rests none =
 abbrev pub EndsBefore : Option ProcessorValue → ℕ → Type 0
 EndsBefore o n = (proc : ProcessorValue) → o ≡ Some proc → length proc.streams ≤ n
 
-pub ends_at_none : (o : Option ProcessorValue) (n : ℕ) → stream_in o n ≡ None → EndsBefore o n
+pub ends_at_none : (o : Option ProcessorValue) (n : ℕ) → used_stream_in o n ≡ None → EndsBefore o n
 ends_at_none None n none proc e = absurd (let f : ⊥ = cc in f)
 ends_at_none (Some other) n none proc e =
     let same = same_Some _ _ e in

@@ -19,9 +19,9 @@ use Rattle.processor.specs.Row.{lacks_stream, step_fetch_of, grant_of, with_stre
 use Rattle.processor.specs.Row.{row_on_fetch, row, request, memory_reply, row_over_memory}
 use Rattle.processor.proofs.Begun.{rests, awake, free, row_is}
 
--- one stream more is current
+-- more streams are current
 abbrev Grows : ProcessorValue → ProcessorValue → Type 0
-Grows old new = new.scur ≡ old.scur + 1
+Grows old new = old.scur < new.scur
 
 -- a reserved stream was free, and the stream that stepped is not idle
 abbrev pub CanStart : ProcessorValue → ℕ → Type 0
@@ -68,6 +68,6 @@ grows image proc n r counted more =
     grows_by image proc n r (step_fetch_of image proc n) refl counted.within_sres (subst P (row_is image proc n r) more)
 
 pub starts : (image : ImageValue) (proc : ProcessorValue) (n : ℕ) (m : TaggedMemory) → IsCounted proc
-    → (row_over_memory image proc n m).0.0.scur ≡ proc.scur + 1 → CanStart proc n
+    → proc.scur < (row_over_memory image proc n m).0.0.scur → CanStart proc n
 unfolding row_over_memory
 starts image proc n m counted more = grows image proc n (memory_reply m (request image proc n)).1 counted more

@@ -18,7 +18,7 @@ use Rattle.step_views.specs.declared.places.Content.TheVariants as content
 use Rattle.step_views.specs.declared.places.Change.{Change}
 use Rattle.step_views.specs.declared.seen.Seen.{Seen}
 use Rattle.step_views.specs.declared.step_views.Reference.{Reference}
-use Rattle.step_views.specs.Places.{part_content, tags_content, stream_at}
+use Rattle.step_views.specs.Places.{part_content, tags_content, used_stream}
 
 -- the entry of a place
 abbrev pub entry : Place → Content → Content → Change
@@ -116,7 +116,7 @@ has_grown (Some b) (Some a) = nat_lt b.0 a.0
 -- the stream that was free
 abbrev pub free_compared : ℕ → Option ℕ → World → List Change
 free_compared p None w = []
-free_compared p (Some s) w = stream_compared p s (Some idle) (stream_at w p s)
+free_compared p (Some s) w = stream_compared p s (Some idle) (used_stream w p s)
 
 -- the same where it was started
 abbrev pub started_compared : ℕ → Option ℕ → Option (ℕ × ℕ) → World → List Change
@@ -138,7 +138,7 @@ word_compared (Some e) m = word_compared_to e.0 e.1 (cell_at m e.0)
 -- all that a step may change
 unfoldable pub compared : Seen → World → Step → List Change
 compared seen w t =
-    stream_compared t.p t.s seen.stream (stream_at w t.p t.s)
+    stream_compared t.p t.s seen.stream (used_stream w t.p t.s)
     ++ started_compared t.p seen.free seen.counts w
     ++ counts_compared t.p seen.counts (counts_of w t.p)
     ++ word_compared seen.word w.memory

@@ -27,13 +27,13 @@ part_content v (part.Register r) = if nat_lt r 32 then Some (content.Number (reg
 part_content v (part.Target t) = if nat_lt t 8 then Some (content.Target (target_at v.targets t)) else None
 
 -- the stream of this number of a processor, if there are both
-abbrev pub stream_in : Option ProcessorValue → ℕ → Option StreamValue
-stream_in None s = None
-stream_in (Some proc) s = slice_get proc.streams s
+abbrev pub used_stream_in : Option ProcessorValue → ℕ → Option StreamValue
+used_stream_in None s = None
+used_stream_in (Some proc) s = slice_get proc.streams s
 
 -- the stream of these numbers; none where there is no such processor, and none from its last stream on
-abbrev pub stream_at : World → ℕ → ℕ → Option StreamValue
-stream_at w p s = stream_in (slice_get w.processors p) s
+abbrev pub used_stream : World → ℕ → ℕ → Option StreamValue
+used_stream w p s = used_stream_in (slice_get w.processors p) s
 
 abbrev pub part_in : Option StreamValue → StreamPart → Option Content
 part_in None x = None
@@ -45,7 +45,7 @@ tags_content c = content.Tags (record { 0 = tag_number c })
 
 -- what stands in a place; nothing where a world does not have it
 unfoldable pub content_of : World → Place → Option Content
-content_of w (place.Stream p s x) = part_in (stream_at w p s) x
+content_of w (place.Stream p s x) = part_in (used_stream w p s) x
 content_of w (place.Current p) = option_map (λ (proc : ProcessorValue). content.Number proc.scur) (slice_get w.processors p)
 content_of w (place.Reserved p) = option_map (λ (proc : ProcessorValue). content.Number proc.sres) (slice_get w.processors p)
 content_of w (place.Value a) = option_map (λ (c : Cell). content.Number c.value) (cell_at w.memory a)

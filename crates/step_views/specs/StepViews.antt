@@ -13,7 +13,7 @@ use Rattle.processor.specs.World.{World, after, outcome_of}
 use Rattle.processor.specs.declared.steps.Step.{Step}
 use Rattle.step_views.specs.declared.step_views.Reference.{Reference}
 use Rattle.step_views.specs.declared.step_views.StepView.{StepView}
-use Rattle.step_views.specs.Places.{stream_at}
+use Rattle.step_views.specs.Places.{used_stream}
 use Rattle.step_views.specs.Changes.{AreChanges}
 
 -- the pc of a stream; 0 where there is none
@@ -41,7 +41,7 @@ reference_of image w t = option_map (reference_to w.memory) (asked_by image w t)
 -- the view tells what the step did to this world
 pub record IsViewOf (image : ImageValue) (w : World) (t : Step) (view : StepView) : Type 0 where
   pub step : view.step ≡ t
-  pub pc : view.pc ≡ pc_of (stream_at w t.p t.s)
+  pub pc : view.pc ≡ pc_of (used_stream w t.p t.s)
   pub outcome : view.outcome ≡ outcome_of image w t
   pub reference : view.reference ≡ reference_of image w t
   pub changes : AreChanges w (after image w t) view.changes.items

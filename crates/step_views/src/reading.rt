@@ -2,7 +2,7 @@
 
 ghost use Rattle.std.specs.Prelude.{◌≡◌};
 ghost use Rattle.std.specs.Option.{option_copied};
-ghost use Rattle.step_views.specs.Places.{content_of, part_content, stream_at};
+ghost use Rattle.step_views.specs.Places.{content_of, part_content, used_stream};
 
 use crate::places::{Content, Place, StreamPart};
 use machine::Machine;
@@ -61,7 +61,7 @@ pub(crate) fn stream_of<'m, const S: usize>(
     p: u8,
     s: u8,
 ) -> Option<&'m Stream>
-    ensures { option_copied result ≡ stream_at machine.now.world p s }
+    ensures { option_copied result ≡ used_stream machine.now.world p s }
 {
     if u16::from(s) >= machine.image().slim() {
         return None;

@@ -4,7 +4,7 @@ ghost use Rattle.std.specs.Prelude.{◌≡◌, ◌≤◌, ◌+◌, vec_len, vec_
 ghost use Rattle.std.specs.Option.{option_copied};
 ghost use Rattle.processor.specs.Processors.{ProcessorValue, IsCounted, is_idle};
 ghost use Rattle.processor.specs.World.{counts_of};
-ghost use Rattle.step_views.specs.Places.{stream_at};
+ghost use Rattle.step_views.specs.Places.{used_stream};
 ghost use Rattle.step_views.specs.StepViews.{pc_of};
 ghost use Rattle.step_views.specs.Comparing.{AreKept, idle_in, free_in, word_seen, compared};
 ghost use Rattle.step_views.specs.Comparing.{stream_compared, started_compared, counts_compared, word_compared};
@@ -35,7 +35,7 @@ impl Seen {
         step: Step,
         reference: &Option<Reference>,
     ) -> Seen
-        ensures stream { result.stream ≡ stream_at machine.now.world step.p step.s }
+        ensures stream { result.stream ≡ used_stream machine.now.world step.p step.s }
         ensures free { result.free ≡ free_in (slice_get machine.now.world.processors step.p) }
         ensures counts { result.counts ≡ counts_of machine.now.world step.p }
         ensures word { result.word ≡ word_seen machine.now.world.memory reference.now }

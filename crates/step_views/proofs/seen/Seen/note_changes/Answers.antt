@@ -1,6 +1,6 @@
 use Rattle.std.proofs.Common.{◌++◌, ap, subst}
 use Rattle.processor.specs.World.{counts_of}
-use Rattle.step_views.specs.Places.{stream_at}
+use Rattle.step_views.specs.Places.{used_stream}
 use Rattle.step_views.specs.Comparing.{AreKept, stream_compared, started_compared, counts_compared, word_compared, compared}
 use Rattle.step_views.proofs.Entries.{kept_join}
 use Rattle.step_views.proofs.seen.Seen.note_changes.Goals as goal
@@ -11,7 +11,7 @@ returns g c =
     let seen = c.args.self.now in
     let w = c.args.machine.now.world in
     let t = c.args.step in
-    let stepped = stream_compared t.p t.s seen.stream (stream_at w t.p t.s) in
+    let stepped = stream_compared t.p t.s seen.stream (used_stream w t.p t.s) in
     let started = started_compared t.p seen.free seen.counts w in
     let counts = counts_compared t.p seen.counts (counts_of w t.p) in
     let word = word_compared seen.word w.memory in
