@@ -2,10 +2,30 @@
 //! (docs/FORMATS.md).
 #![tactic(auto)]
 
+mod form;
+mod head_notes;
 mod images;
+mod label_notes;
+mod lines;
 mod message;
+mod nearest;
+mod notes;
+mod operand_notes;
+mod operand_words;
+mod operations;
+mod phrases;
+mod reach;
+mod reader;
+mod schedule_notes;
 mod schedules;
 mod sources;
+mod statement_notes;
+mod straight_line;
+mod streams;
+mod text_notes;
+mod token;
+mod warnings;
+mod word_notes;
 
 pub use images::image_fault_words;
 pub use message::{Message, Severity, push_message};

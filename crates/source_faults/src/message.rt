@@ -45,6 +45,25 @@ pub struct Message {
     pub start: usize,
 }
 
+/// A place in a text, as a message has it.
+#[derive(Clone, Copy, Debug)]
+pub(crate) struct Spot {
+    pub(crate) line: usize,
+    pub(crate) start: usize,
+    pub(crate) column: usize,
+    pub(crate) width: usize,
+}
+
+impl Spot {
+    /// The first place of a text.
+    pub(crate) const FIRST: Spot = Spot {
+        line: 1,
+        start: 0,
+        column: 1,
+        width: 1,
+    };
+}
+
 /// Prints a message about a text that stands in a file: `FILE:LINE:COLUMN: error: WORDS`, then the line with its number,
 /// and under it the mark with the help. A line of more than 200 bytes, or with a byte 00, is left out.
 pub fn push_message(

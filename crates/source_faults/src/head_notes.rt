@@ -1,0 +1,146 @@
+//! What is wrong with the head of a statement.
+
+use crate::label_notes::is_name;
+use crate::notes::Notes;
+use crate::operations::{
+    Named, directive_named, nearest_directive, nearest_operation, operation_named,
+};
+use crate::phrases::{listed, shown};
+use crate::reader::Reader;
+use crate::token::Token;
+use std::alloc::{AllocError, Global};
+
+/// How a text asks for what Profile 2 alone has.
+const ASK_FOR_TWO: &str = "write .profile 2 on a line of its own";
+
+/// The suffixes that operations may have.
+const SUFFIXES: [&str; 4] = [".N", ".F", ".S", ".T"];
+
+/// Tells that the head of an operation is none. Behind it stands what would be its operands.
+pub(crate) fn note_unknown_operation(
+    notes: &mut Notes,
+    reader: &Reader,
+    head: Token,
+    operands: Token,
+) -> Result<(), AllocError> {
+    let alloc = notes.alloc();
+    let name = head.cut(b'.').0;
+    match operation_named(name.bytes) {
+        Some(operation) if reader.knows(name.bytes) => {
+            note_suffix(notes, reader, head, operation)
+        }
+        Some(operation) => {
+            let words = format!(in alloc; "{} is an operation of Profile 2", operation.name())?;
+            let help = String::from_str(alloc, ASK_FOR_TWO)?;
+            notes.add(reader.spot(head), words, Some(help))
+        }
+        None => {
+            let text = shown(alloc, head.bytes)?;
+            let words = format!(in alloc; "no operation is called {text}")?;
+            let help = help_for_operation(alloc, reader, head, operands)?;
+            notes.add(reader.spot(head), words, help)
+        }
+    }
+}
+
+/// Tells that the operation has no such suffix.
+fn note_suffix(
+    notes: &mut Notes,
+    reader: &Reader,
+    head: Token,
+    operation: Named,
+) -> Result<(), AllocError> {
+    let alloc = notes.alloc();
+    let name = operation.name();
+    let suffix = shown(alloc, head.behind(name.len()).bytes)?;
+    let words = format!(in alloc; "{name} has no suffix {suffix}")?;
+    let mut known = Vec::new(alloc);
+    for suffix in SUFFIXES {
+        if reader.knows_suffix(alloc, name, suffix)? {
+            known.push(suffix)?;
+        }
+    }
+    let help = match known.len() {
+        0 => String::from_str(alloc, "it has none")?,
+        _ => {
+            let suffixes = listed(alloc, &known)?;
+            format!(in alloc; "it may have {suffixes}")?
+        }
+    };
+    notes.add(reader.spot(head), words, Some(help))
+}
+
+/// How a statement may be mended that begins with no operation.
+fn help_for_operation(
+    alloc: Global,
+    reader: &Reader,
+    head: Token,
+    operands: Token,
+) -> Result<Option<String>, AllocError> {
+    if head.begins(b'#') || head.begins(b'/') {
+        return said(alloc, "a comment begins with ;");
+    }
+    if head.begins(b'.') {
+        return said(alloc, "a directive stands on a line of its own");
+    }
+    let next = operands.split_head().0;
+    if is_name(head.bytes) && operation_named(next.cut(b'.').0.bytes).is_some() {
+        let text = shown(alloc, head.bytes)?;
+        return Ok(Some(format!(in alloc; "a label has a colon: {text}:")?));
+    }
+    let name = head.cut(b'.').0;
+    if let Some(nearest) = nearest_operation(name.bytes) {
+        let mut help = String::from_str(alloc, "did you mean ")?;
+        let suffix = head.behind(name.bytes.len());
+        help.push_str(with_suffix(alloc, reader, nearest, suffix)?.as_str())?;
+        help.push('?')?;
+        return Ok(Some(help));
+    }
+    Ok(None)
+}
+
+/// The name with a suffix in capitals, or the name alone where it has no such suffix.
+fn with_suffix(
+    alloc: Global,
+    reader: &Reader,
+    name: &[u8],
+    suffix: Token,
+) -> Result<String, AllocError> {
+    let mut text = shown(alloc, suffix.bytes)?;
+    text.make_ascii_uppercase();
+    let name = shown(alloc, name)?;
+    if reader.knows_suffix(alloc, name.as_str(), text.as_str())? {
+        format!(in alloc; "{name}{text}")
+    } else {
+        Ok(name)
+    }
+}
+
+/// Tells that the head of a directive is none of the text's profile.
+pub(crate) fn note_unknown_directive(
+    notes: &mut Notes,
+    reader: &Reader,
+    head: Token,
+) -> Result<(), AllocError> {
+    let alloc = notes.alloc();
+    let text = shown(alloc, head.bytes)?;
+    if directive_named(head.bytes).is_some() {
+        let words = format!(in alloc; "{text} is a directive of Profile 2")?;
+        let help = said(alloc, ASK_FOR_TWO)?;
+        return notes.add(reader.spot(head), words, help);
+    }
+    let words = format!(in alloc; "no directive is called {text}")?;
+    let help = match nearest_directive(head.bytes) {
+        Some(name) => {
+            let name = shown(alloc, name)?;
+            Some(format!(in alloc; "did you mean {name}?")?)
+        }
+        None => None,
+    };
+    notes.add(reader.spot(head), words, help)
+}
+
+/// A help of fixed words.
+fn said(alloc: Global, words: &str) -> Result<Option<String>, AllocError> {
+    Ok(Some(String::from_str(alloc, words)?))
+}

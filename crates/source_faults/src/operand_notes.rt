@@ -1,0 +1,117 @@
+//! What is wrong with operands.
+
+use crate::form::Form;
+use crate::notes::Notes;
+use crate::operand_words::{form_help, missing_label_help, range_help, range_words};
+use crate::phrases::{operands_counted, operands_listed, shown};
+use crate::reader::Reader;
+use crate::token::Token;
+use asm_line::Fault;
+use std::alloc::{AllocError, Global};
+
+/// What takes operands: its name, and their forms, of which so many have to stand there.
+#[derive(Clone, Copy)]
+pub(crate) struct Taking<'a> {
+    pub(crate) name: &'a str,
+    pub(crate) forms: &'static [Form],
+    pub(crate) least: usize,
+}
+
+impl Taking<'_> {
+    /// How an operand is named, which stands at a place from 0 on.
+    fn operand_name(&self, alloc: Global, place: usize) -> Result<String, AllocError> {
+        let name = self.name;
+        match self.forms.len() {
+            1 => format!(in alloc; "the operand of {name}"),
+            _ => format!(in alloc; "operand {} of {name}", place.saturating_add(1)),
+        }
+    }
+}
+
+/// Tells what is wrong with the operands that stand behind a head.
+pub(crate) fn note_operands(
+    notes: &mut Notes,
+    reader: &Reader,
+    taking: Taking,
+    head: Token,
+    operands: Token,
+) -> Result<(), AllocError> {
+    let mut pieces = Vec::new(notes.alloc());
+    if !operands.bytes.is_empty() {
+        pieces = operands.pieces(notes.alloc(), b',')?;
+    }
+    if pieces.len() < taking.least || pieces.len() > taking.forms.len() {
+        let marked = if operands.bytes.is_empty() {
+            head
+        } else {
+            operands
+        };
+        return note_count(notes, reader, taking, marked, &pieces);
+    }
+    for (place, (piece, form)) in pieces.iter().zip(taking.forms).enumerate() {
+        note_operand(notes, reader, taking, place, *form, *piece)?;
+    }
+    Ok(())
+}
+
+/// Tells that there are too many operands, or too few.
+fn note_count(
+    notes: &mut Notes,
+    reader: &Reader,
+    taking: Taking,
+    marked: Token,
+    pieces: &[Token],
+) -> Result<(), AllocError> {
+    let alloc = notes.alloc();
+    let name = taking.name;
+    let list = operands_listed(alloc, taking.forms, taking.least)?;
+    let count = operands_counted(alloc, pieces.len())?;
+    let words = format!(in alloc; "{name} takes {list}, and has {count} here")?;
+    let is_apart = pieces.iter().any(|piece| piece.split_head().0.bytes.len() < piece.bytes.len());
+    let help = if is_apart && pieces.len() < taking.least {
+        Some(String::from_str(alloc, "commas stand between operands")?)
+    } else {
+        None
+    };
+    notes.add(reader.spot(marked), words, help)
+}
+
+/// Tells what is wrong with one operand.
+fn note_operand(
+    notes: &mut Notes,
+    reader: &Reader,
+    taking: Taking,
+    place: usize,
+    form: Form,
+    operand: Token,
+) -> Result<(), AllocError> {
+    let alloc = notes.alloc();
+    let Some(fault) = reader.operand_fault(alloc, form, operand.bytes)? else {
+        return Ok(());
+    };
+    let text = shown(alloc, operand.bytes)?;
+    let name = taking.operand_name(alloc, place)?;
+    let (words, help) = match fault {
+        Fault::LabelMissing => {
+            let help = missing_label_help(notes, reader, operand.bytes)?;
+            (format!(in alloc; "no line has the label {text}")?, help)
+        }
+        Fault::Range => {
+            let words = range_words(alloc, reader, form, operand.bytes, name.as_str())?;
+            (words, range_help(alloc, reader, form, operand.bytes)?)
+        }
+        _ if operand.bytes.is_empty() => {
+            let noun = form.noun();
+            (
+                format!(in alloc; "{name} is missing")?,
+                Some(format!(in alloc; "it is {noun}")?),
+            )
+        }
+        _ => {
+            let noun = form.noun();
+            let words = format!(in alloc; "{name} is {noun}, and {text} is none")?;
+            (words, Some(form_help(alloc, reader, form, operand.bytes)?))
+        }
+    };
+    notes.add(reader.spot(operand), words, help)
+}

@@ -1,0 +1,199 @@
+//! The operations and directives by their names, with the operands that they take.
+
+use crate::form::Form;
+use crate::nearest::Nearest;
+use asm_line::{Directive, names};
+use insn_word::{ArithmeticOp, Condition, ControlOp, MemoryOp, WideOp};
+
+/// A part of a word.
+#[derive(Clone, Copy, Debug, PartialEq, Eq)]
+pub(crate) enum Part {
+    Memory,
+    Arithmetic,
+    Control,
+}
+
+impl Part {
+    /// Where in a word it stands, from 0.
+    pub(crate) fn place(self) -> u8 {
+        match self {
+            Part::Memory => 0,
+            Part::Arithmetic => 1,
+            Part::Control => 2,
+        }
+    }
+
+    /// The word for it.
+    pub(crate) fn name(self) -> &'static str {
+        match self {
+            Part::Memory => "memory",
+            Part::Arithmetic => "arithmetic",
+            Part::Control => "control",
+        }
+    }
+}
+
+/// An operation without its suffix.
+#[derive(Clone, Copy, Debug, PartialEq, Eq)]
+pub(crate) enum Named {
+    /// No operation.
+    Nop,
+    /// A wide operation.
+    Wide(WideOp),
+    /// A memory operation.
+    Memory(MemoryOp),
+    /// An arithmetic operation.
+    Arithmetic(ArithmeticOp),
+    /// A control operation.
+    Control(ControlOp),
+}
+
+impl Named {
+    /// Its name.
+    pub(crate) fn name(self) -> &'static str {
+        match self {
+            Named::Nop => names::control(ControlOp::Nop),
+            Named::Wide(op) => names::wide(op),
+            Named::Memory(op) => names::memory(op),
+            Named::Arithmetic(op) => names::arithmetic(op),
+            Named::Control(op) => names::control(op),
+        }
+    }
+
+    /// The part of a word that it stands in; None for what stands alone.
+    pub(crate) fn part(self) -> Option<Part> {
+        match self {
+            Named::Nop | Named::Wide(_) => None,
+            Named::Memory(_) => Some(Part::Memory),
+            Named::Arithmetic(_) => Some(Part::Arithmetic),
+            Named::Control(_) => Some(Part::Control),
+        }
+    }
+
+    /// The operands that it takes.
+    pub(crate) fn operands(self) -> &'static [Form] {
+        match self {
+            Named::Nop => &[],
+            Named::Wide(op) => wide_operands(op),
+            Named::Memory(_) => &[Form::Register, Form::Base, Form::Displacement],
+            Named::Arithmetic(ArithmeticOp::Tally) => &[Form::Register, Form::Register],
+            Named::Arithmetic(_) => &[Form::Register, Form::Register, Form::Source],
+            Named::Control(op) => control_operands(op),
+        }
+    }
+}
+
+fn wide_operands(op: WideOp) -> &'static [Form] {
+    match op {
+        WideOp::Literal | WideOp::LiteralHigh => &[Form::Register, Form::Value],
+        WideOp::TargetLiteral => &[Form::Target, Form::Pc],
+    }
+}
+
+fn control_operands(op: ControlOp) -> &'static [Form] {
+    match op {
+        ControlOp::Nop | ControlOp::Quit | ControlOp::QuitKeep => &[],
+        ControlOp::Jump => &[Form::Condition, Form::Code, Form::Target],
+        ControlOp::Skip => &[Form::Condition, Form::Code, Form::Distance],
+        ControlOp::Call => &[Form::Target, Form::Target],
+        ControlOp::Exchange => &[Form::Target],
+        ControlOp::TargetSet | ControlOp::Create => &[Form::Target, Form::Register],
+        ControlOp::TargetGet => &[Form::Register, Form::Target],
+        ControlOp::TrapGet => &[Form::Register],
+        ControlOp::Reserve => &[Form::Register, Form::Register],
+        ControlOp::Mask => &[Form::Mask],
+    }
+}
+
+/// The operation of a name, in whatever profile.
+pub(crate) fn operation_named(name: &[u8]) -> Option<Named> {
+    if name == Named::Nop.name().as_bytes() {
+        return Some(Named::Nop);
+    }
+    let is_name = |text: &str| text.as_bytes() == name;
+    if let Some(op) = WideOp::ALL.iter().find(|op| is_name(names::wide(**op))) {
+        return Some(Named::Wide(*op));
+    }
+    if let Some(op) = MemoryOp::ALL.iter().find(|op| is_name(names::memory(**op))) {
+        return Some(Named::Memory(*op));
+    }
+    if let Some(op) = ArithmeticOp::ALL
+        .iter()
+        .find(|op| is_name(names::arithmetic(**op)))
+    {
+        return Some(Named::Arithmetic(*op));
+    }
+    let op = ControlOp::ALL
+        .iter()
+        .find(|op| is_name(names::control(**op)))?;
+    Some(Named::Control(*op))
+}
+
+/// The operation whose name is nearest to a text, if one is near enough.
+pub(crate) fn nearest_operation(text: &[u8]) -> Option<&[u8]> {
+    let mut nearest = Nearest::to(text);
+    for op in MemoryOp::ALL {
+        nearest = nearest.of(names::memory(op).as_bytes());
+    }
+    for op in ArithmeticOp::ALL {
+        nearest = nearest.of(names::arithmetic(op).as_bytes());
+    }
+    for op in ControlOp::ALL {
+        nearest = nearest.of(names::control(op).as_bytes());
+    }
+    for op in WideOp::ALL {
+        nearest = nearest.of(names::wide(op).as_bytes());
+    }
+    nearest.name()
+}
+
+/// The condition whose name is nearest to a text, if one is near enough.
+pub(crate) fn nearest_condition(text: &[u8]) -> Option<&[u8]> {
+    let mut nearest = Nearest::to(text);
+    for condition in Condition::ALL {
+        nearest = nearest.of(names::condition(condition).as_bytes());
+    }
+    nearest.name()
+}
+
+/// All directives.
+const DIRECTIVES: [Directive; 9] = [
+    Directive::Profile,
+    Directive::Slim,
+    Directive::Chain,
+    Directive::Retry,
+    Directive::Trap,
+    Directive::Entry,
+    Directive::Word,
+    Directive::Data,
+    Directive::Fill,
+];
+
+/// The directive of a name with its dot, in whatever profile.
+pub(crate) fn directive_named(name: &[u8]) -> Option<Directive> {
+    DIRECTIVES.iter().copied().find(|directive| names::directive(*directive).as_bytes() == name)
+}
+
+/// The directive whose name is nearest to a text, if one is near enough.
+pub(crate) fn nearest_directive(text: &[u8]) -> Option<&[u8]> {
+    let mut nearest = Nearest::to(text);
+    for directive in DIRECTIVES {
+        nearest = nearest.of(names::directive(directive).as_bytes());
+    }
+    nearest.name()
+}
+
+/// The operands that a directive takes at most.
+pub(crate) fn directive_operands(directive: Directive) -> &'static [Form] {
+    match directive {
+        Directive::Profile => &[Form::Profile],
+        Directive::Slim => &[Form::Slim],
+        Directive::Chain => &[Form::Chain],
+        Directive::Retry => &[Form::Retry],
+        Directive::Trap => &[Form::Pc],
+        Directive::Entry => &[Form::Entry],
+        Directive::Word => &[Form::Word],
+        Directive::Data => &[Form::Word, Form::Tags],
+        Directive::Fill => &[Form::Count, Form::Word, Form::Tags],
+    }
+}

@@ -1,0 +1,150 @@
+//! Pieces of a statement, each judged by what a line of its own with it would be answered.
+
+use crate::form::Form;
+use crate::label_notes::is_name;
+use crate::lines::{Line, Lines};
+use crate::message::Spot;
+use crate::token::Token;
+use asm_line::{Fault, Item, Place, SourceLine, read_line};
+use asm_text::{Outline, outline_of};
+use std::alloc::{AllocError, Global};
+
+/// What is known of a text before its lines are read.
+#[derive(Drop)]
+pub(crate) struct Source<'t> {
+    outline: Outline<'t>,
+    names: Vec<&'t [u8]>,
+}
+
+impl<'t> Source<'t> {
+    /// Of this text.
+    pub(crate) fn of(alloc: Global, text: &'t [u8]) -> Result<Source<'t>, AllocError> {
+        let mut names = Vec::new(alloc);
+        for line in Lines::of(text) {
+            match line.source.label {
+                Some(label) if is_name(label) => names.push(label)?,
+                _ => {}
+            }
+        }
+        Ok(Source {
+            outline: outline_of(alloc, text)?,
+            names,
+        })
+    }
+
+    /// Its outline.
+    pub(crate) fn outline(&self) -> &Outline<'t> {
+        &self.outline
+    }
+
+    /// How many program words it has.
+    pub(crate) fn words(&self) -> usize {
+        self.outline.words
+    }
+}
+
+/// Reads statements in the place of a line of a text.
+#[derive(Clone, Copy)]
+pub(crate) struct Reader<'s, 't> {
+    source: &'s Source<'t>,
+    line: Line<'t>,
+}
+
+impl<'s, 't> Reader<'s, 't> {
+    /// In the place of this line.
+    pub(crate) fn at(source: &'s Source<'t>, line: Line<'t>) -> Reader<'s, 't> {
+        Reader { source, line }
+    }
+
+    /// The line.
+    pub(crate) fn line(&self) -> &Line<'t> {
+        &self.line
+    }
+
+    /// The place of a piece of the line in the text.
+    pub(crate) fn spot(&self, token: Token) -> Spot {
+        self.line.spot(token)
+    }
+
+    /// The labels of the text, in the order of their lines.
+    pub(crate) fn names(&self) -> &[&'t [u8]] {
+        &self.source.names
+    }
+
+    /// How many program words the text has.
+    pub(crate) fn words(&self) -> usize {
+        self.source.outline.words
+    }
+
+    /// How many program words stand before the line.
+    pub(crate) fn here(&self) -> usize {
+        self.line.here
+    }
+
+    /// Where a label stands first.
+    pub(crate) fn place_of(&self, label: &[u8]) -> Option<Place> {
+        self.source.outline.labels.find(label)
+    }
+
+    /// What a line with this label and statement adds, or its fault.
+    pub(crate) fn item(&self, label: Option<&[u8]>, statement: &[u8]) -> Result<Item, Fault> {
+        let outline = &self.source.outline;
+        read_line(
+            outline.profile,
+            &outline.labels,
+            outline.words,
+            self.line.number,
+            self.line.here,
+            &SourceLine { label, statement },
+        )
+    }
+
+    /// What the line adds, or its fault.
+    pub(crate) fn own_item(&self) -> Result<Item, Fault> {
+        self.item(self.line.source.label, self.line.source.statement)
+    }
+
+    /// The operations of the line's instruction.
+    pub(crate) fn operations(&self, alloc: Global) -> Result<Vec<Token<'t>>, AllocError> {
+        let statement = self.line.statement();
+        if statement.begins(b'@') {
+            statement.split_head().1.pieces(alloc, b'|')
+        } else {
+            statement.pieces(alloc, b'|')
+        }
+    }
+
+    /// Whether the head of a statement is one of the text's profile.
+    pub(crate) fn knows(&self, head: &[u8]) -> bool {
+        match self.item(None, head) {
+            Err(Fault::Unknown) => false,
+            Ok(_) | Err(_) => true,
+        }
+    }
+
+    /// Whether the operation of a name may have this suffix.
+    pub(crate) fn knows_suffix(
+        &self,
+        alloc: Global,
+        name: &str,
+        suffix: &str,
+    ) -> Result<bool, AllocError> {
+        let mut head = String::from_str(alloc, name)?;
+        head.push_str(suffix)?;
+        Ok(self.knows(head.as_bytes()))
+    }
+
+    /// What is wrong with an operand of this form.
+    pub(crate) fn operand_fault(
+        &self,
+        alloc: Global,
+        form: Form,
+        operand: &[u8],
+    ) -> Result<Option<Fault>, AllocError> {
+        let (before, behind) = form.frame();
+        let mut statement = Vec::from_slice(alloc, before.as_bytes())?;
+        statement.extend_from_slice(operand)?;
+        statement.extend_from_slice(behind.as_bytes())?;
+        Ok(self.item(None, &statement).err())
+    }
+}

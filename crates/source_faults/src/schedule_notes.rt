@@ -1,0 +1,177 @@
+//! What is wrong with a line of a schedule.
+
+use crate::lines::Line;
+use crate::notes::Notes;
+use crate::phrases::shown;
+use crate::token::Token;
+use std::alloc::AllocError;
+use text_parts::{Base, Number, read_digits};
+
+/// What a line of a schedule says: so many steps of a stream of a processor.
+#[derive(Clone, Copy, Debug)]
+pub(crate) struct Fields<'t> {
+    pub(crate) processor: u8,
+    pub(crate) stream: u8,
+    pub(crate) times: u64,
+    /// The whole line.
+    pub(crate) token: Token<'t>,
+}
+
+/// What a number of a line counts, with its least and its greatest value.
+#[derive(Clone, Copy)]
+struct Counted {
+    name: &'static str,
+    least: u64,
+    most: u64,
+}
+
+const PROCESSOR: Counted = Counted {
+    name: "a processor's number",
+    least: 0,
+    most: 255,
+};
+
+const STREAM: Counted = Counted {
+    name: "a stream's number",
+    least: 0,
+    most: 255,
+};
+
+const TIMES: Counted = Counted {
+    name: "how often the step is taken",
+    least: 1,
+    most: 1_000_000,
+};
+
+/// Tells what is wrong with a line, and answers what it says where that is understood.
+pub(crate) fn note_fields<'t>(
+    notes: &mut Notes,
+    line: &Line<'t>,
+) -> Result<Option<Fields<'t>>, AllocError> {
+    let token = Token::of_line(line.bytes);
+    if note_layout(notes, line, token)? {
+        return Ok(None);
+    }
+    let (first, rest) = token.cut(b' ');
+    let Some(rest) = rest else {
+        notes.say(
+            line.spot(token),
+            "the stream's number is missing",
+            "write p s or p s n",
+        )?;
+        return Ok(None);
+    };
+    let (second, rest) = rest.cut(b' ');
+    let processor = note_number(notes, line, first, PROCESSOR)?;
+    let stream = note_number(notes, line, second, STREAM)?;
+    let times = match rest {
+        Some(third) => note_times(notes, line, third)?,
+        None => Some(1),
+    };
+    Ok(match (processor, stream, times) {
+        (Some(processor), Some(stream), Some(times)) => Some(Fields {
+            processor: processor as u8,
+            stream: stream as u8,
+            times,
+            token,
+        }),
+        _ => None,
+    })
+}
+
+/// Tells what is wrong with what stands behind a line's second number, and answers its third number.
+fn note_times(notes: &mut Notes, line: &Line, rest: Token) -> Result<Option<u64>, AllocError> {
+    let (third, behind) = rest.cut(b' ');
+    if let Some(behind) = behind {
+        let help = "write p s or p s n";
+        notes.say(line.spot(behind), "a line has at most three numbers", help)?;
+        return Ok(None);
+    }
+    note_number(notes, line, third, TIMES)
+}
+
+/// Tells that a line has something besides numbers and single spaces, if it has.
+fn note_layout(notes: &mut Notes, line: &Line, token: Token) -> Result<bool, AllocError> {
+    if token.bytes.is_empty() {
+        notes.say(line.spot(token), "the line is empty", "take it out")?;
+        return Ok(true);
+    }
+    let comment = token.bytes.iter().position(|b| *b == b';' || *b == b'#');
+    if let Some(place) = comment {
+        let help = "take the comment out";
+        notes.say(
+            line.spot(token.behind(place)),
+            "a schedule has no comments",
+            help,
+        )?;
+        return Ok(true);
+    }
+    if token.bytes.last() == Some(&b'\r') {
+        let help = "save the file with line feeds alone, and no carriage returns";
+        notes.say(
+            line.spot(token),
+            "the line ends with a carriage return",
+            help,
+        )?;
+        return Ok(true);
+    }
+    if let Some(place) = token.bytes.iter().position(|b| *b == b'\t') {
+        let spot = line.spot(token.behind(place).before(1));
+        notes.say(
+            spot,
+            "a tab stands here",
+            "single spaces stand between numbers",
+        )?;
+        return Ok(true);
+    }
+    if let Some(place) = blank_place(token) {
+        let spot = line.spot(token.behind(place).before(1));
+        notes.say(
+            spot,
+            "one space too many",
+            "single spaces stand between numbers",
+        )?;
+        return Ok(true);
+    }
+    Ok(false)
+}
+
+/// Where a space stands at an end of the line, or behind another one.
+fn blank_place(token: Token) -> Option<usize> {
+    if token.begins(b' ') {
+        return Some(0);
+    }
+    if token.bytes.last() == Some(&b' ') {
+        return Some(token.bytes.len() - 1);
+    }
+    token
+        .bytes
+        .windows(2)
+        .position(|pair| pair == [b' ', b' '].as_slice())
+}
+
+/// Tells what is wrong with a number, and answers it where it is right.
+fn note_number(
+    notes: &mut Notes,
+    line: &Line,
+    token: Token,
+    counted: Counted,
+) -> Result<Option<u64>, AllocError> {
+    let alloc = notes.alloc();
+    let text = shown(alloc, token.bytes)?;
+    let Some(number) = read_digits(Base::Decimal, token.bytes) else {
+        let words = format!(in alloc; "{text} is no number")?;
+        let help = String::from_str(alloc, "write p s or p s n, in decimal digits")?;
+        notes.add(line.spot(token), words, Some(help))?;
+        return Ok(None);
+    };
+    match number {
+        Number::Word(value) if value >= counted.least && value <= counted.most => Ok(Some(value)),
+        Number::Word(_) | Number::TooLarge => {
+            let Counted { name, least, most } = counted;
+            let words = format!(in alloc; "{text} is out of range: {name} is {least} to {most}")?;
+            notes.add(line.spot(token), words, None)?;
+            Ok(None)
+        }
+    }
+}

@@ -1,0 +1,208 @@
+//! What registers hold along a straight line of the program.
+
+use crate::notes::Notes;
+use crate::phrases::shown;
+use crate::reader::Reader;
+use crate::token::Token;
+use crate::warnings::data_address;
+use asm_line::names;
+use insn_word::{APart, Access, CPart, Condition, ControlOp, Insn, MPart, MemoryOp, WideOp};
+use source_places::SourcePlaces;
+use std::alloc::{AllocError, Global};
+
+/// What is known of a register.
+#[derive(Clone, Copy, Debug)]
+struct Known<'t> {
+    /// Its high 32 bits.
+    high: Option<u32>,
+    /// The label whose value it holds.
+    label: Option<&'t [u8]>,
+}
+
+impl Known<'_> {
+    const NOTHING: Known<'static> = Known {
+        high: None,
+        label: None,
+    };
+
+    /// The control that the pointer in the register carries.
+    fn control(self) -> u32 {
+        self.high.map_or(0, |high| (high >> 27) & 3)
+    }
+}
+
+/// What is known of the registers where a stream has come here word by word, without a jump.
+#[derive(Clone, Copy, Debug)]
+pub(crate) struct StraightLine<'t> {
+    registers: [Known<'t>; 32],
+}
+
+impl<'t> StraightLine<'t> {
+    /// Nothing.
+    pub(crate) const NEW: StraightLine<'static> = StraightLine {
+        registers: [Known::NOTHING; 32],
+    };
+
+    /// Takes a word of the program, None for one that spells no instruction, and warns of its reference.
+    pub(crate) fn take(
+        &mut self,
+        notes: &mut Notes,
+        reader: &Reader<'_, 't>,
+        places: &SourcePlaces,
+        insn: Option<Insn>,
+    ) -> Result<(), AllocError> {
+        match insn {
+            None => *self = StraightLine::NEW,
+            Some(Insn::Wide { op, reg, imm, .. }) => self.take_wide(reader, op, reg, imm),
+            Some(Insn::Normal { m, a, c, .. }) => {
+                note_reference(notes, reader, places, m, self.known(m.base))?;
+                self.take_normal(m, a, c);
+            }
+        }
+        Ok(())
+    }
+
+    fn known(&self, register: u8) -> Known<'t> {
+        match self.registers.get(usize::from(register)) {
+            Some(known) => *known,
+            None => Known::NOTHING,
+        }
+    }
+
+    fn set(&mut self, register: u8, known: Known<'t>) {
+        let place = usize::from(register);
+        if place > 0 && place < self.registers.len() {
+            self.registers[place] = known;
+        }
+    }
+
+    fn take_wide(&mut self, reader: &Reader<'_, 't>, op: WideOp, register: u8, immediate: u32) {
+        match op {
+            WideOp::Literal => self.set(
+                register,
+                Known {
+                    high: Some(0),
+                    label: label_operand(reader),
+                },
+            ),
+            WideOp::LiteralHigh => self.set(
+                register,
+                Known {
+                    high: Some(immediate),
+                    label: None,
+                },
+            ),
+            WideOp::TargetLiteral => {}
+        }
+    }
+
+    fn take_normal(&mut self, m: MPart, a: APart, c: CPart) {
+        self.set(m.destination(), Known::NOTHING);
+        self.set(a.destination(), Known::NOTHING);
+        self.set(c.destination(), Known::NOTHING);
+        if leaves(c) {
+            *self = StraightLine::NEW;
+        }
+    }
+}
+
+/// Whether no stream comes to the next word, or only from elsewhere.
+fn leaves(c: CPart) -> bool {
+    match c.op {
+        ControlOp::Jump | ControlOp::Skip => c.cond == Condition::Always,
+        ControlOp::Call | ControlOp::Exchange | ControlOp::Quit | ControlOp::QuitKeep => true,
+        ControlOp::Nop
+        | ControlOp::TargetSet
+        | ControlOp::TargetGet
+        | ControlOp::TrapGet
+        | ControlOp::Reserve
+        | ControlOp::Create
+        | ControlOp::Mask => false,
+    }
+}
+
+/// The label that is the last operand of a wide operation, if it is one.
+fn label_operand<'t>(reader: &Reader<'_, 't>) -> Option<&'t [u8]> {
+    let statement = reader.line().statement();
+    let operand = statement.cut(b',').1?.trim();
+    reader.place_of(operand.bytes)?;
+    Some(operand.bytes)
+}
+
+/// Warns of a reference whose pointer is a label's value, or that leaves its control to the pointer.
+fn note_reference(
+    notes: &mut Notes,
+    reader: &Reader,
+    places: &SourcePlaces,
+    m: MPart,
+    known: Known,
+) -> Result<(), AllocError> {
+    if m.op == MemoryOp::Nop {
+        return Ok(());
+    }
+    if let Some(label) = known.label {
+        return note_label_address(notes, reader, places, m, label);
+    }
+    let obeys = match m.op {
+        MemoryOp::Load | MemoryOp::Store | MemoryOp::FetchAdd => m.acc == Access::FromPointer,
+        MemoryOp::Nop | MemoryOp::TagGet | MemoryOp::TagSet | MemoryOp::Purge => false,
+    };
+    if obeys && known.control() != 0 {
+        return note_control(notes, reader, m, known.control());
+    }
+    Ok(())
+}
+
+/// Warns of a label that is used as an address.
+fn note_label_address(
+    notes: &mut Notes,
+    reader: &Reader,
+    places: &SourcePlaces,
+    m: MPart,
+    label: &[u8],
+) -> Result<(), AllocError> {
+    let alloc = notes.alloc();
+    let name = shown(alloc, label)?;
+    let words = format!(in alloc;
+        "r{} holds the label {name}, which is the number of an instruction line and no address",
+        m.base
+    )?;
+    let line = reader.place_of(label).map(|place| place.line);
+    let help = match line.and_then(|line| data_address(places, line)) {
+        Some(address) => format!(in alloc; "the data on the label's line is at address {address}")?,
+        None => String::from_str(alloc, "data words are at the addresses 0, 8, 16, ..")?,
+    };
+    notes.add(reader.spot(base_operand(alloc, reader)?), words, Some(help))
+}
+
+/// Warns of a reference that obeys what its pointer carries.
+fn note_control(
+    notes: &mut Notes,
+    reader: &Reader,
+    m: MPart,
+    control: u32,
+) -> Result<(), AllocError> {
+    let alloc = notes.alloc();
+    let name = names::memory(m.op);
+    let control = match control {
+        1 => "reserved control, and traps",
+        2 => "future control",
+        _ => "sync control",
+    };
+    let words = format!(in alloc;
+        "the pointer in r{} gives this {name} {control}: its bits 59 and 60 are set so",
+        m.base
+    )?;
+    let help = String::from_str(alloc, "a suffix .N, .F or .S says it in the program")?;
+    notes.add(reader.spot(base_operand(alloc, reader)?), words, Some(help))
+}
+
+/// The base of a line's reference, which stands in its first operation.
+fn base_operand<'t>(alloc: Global, reader: &Reader<'_, 't>) -> Result<Token<'t>, AllocError> {
+    let operations = reader.operations(alloc)?;
+    let Some(first) = operations.first() else {
+        return Ok(reader.line().statement());
+    };
+    let operands = first.split_head().1.pieces(alloc, b',')?;
+    Ok(operands.get(1).copied().unwrap_or(*first))
+}

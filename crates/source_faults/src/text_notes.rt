@@ -1,0 +1,163 @@
+//! What is wrong with a text as a whole.
+
+use crate::lines::Line;
+use crate::message::Spot;
+use crate::notes::Notes;
+use crate::phrases::shown;
+use crate::token::Token;
+use asm_line::{Directive, Item, names};
+use std::alloc::AllocError;
+
+const MAX_ENTRIES: usize = 16;
+
+const MAX_PROGRAM_WORDS: usize = 65_536;
+
+const MAX_CELLS: usize = 262_144;
+
+/// What the first lines of a text have: the lines, from 1, of the directives that may stand once, and how much there is.
+#[derive(Clone, Copy, Debug)]
+pub(crate) struct Totals {
+    profile: Option<usize>,
+    slim: Option<usize>,
+    chain: Option<usize>,
+    retry: Option<usize>,
+    trap: Option<usize>,
+    entries: usize,
+    cells: usize,
+    has_entry: bool,
+    has_data: bool,
+}
+
+impl Totals {
+    pub(crate) const NONE: Totals = Totals {
+        profile: None,
+        slim: None,
+        chain: None,
+        retry: None,
+        trap: None,
+        entries: 0,
+        cells: 0,
+        has_entry: false,
+        has_data: false,
+    };
+
+    /// Takes a line by its form, whatever fault it has.
+    pub(crate) fn see(&mut self, line: &Line) {
+        let statement = line.statement();
+        if statement.begins(b'.') {
+            let head = statement.split_head().0.bytes;
+            let is = |directive: Directive| names::directive(directive).as_bytes() == head;
+            self.has_entry |= is(Directive::Entry);
+            self.has_data |= is(Directive::Data) || is(Directive::Fill);
+        }
+    }
+
+    /// Takes what a line without a fault adds, and tells what the text may not have once more.
+    pub(crate) fn take(
+        &mut self,
+        notes: &mut Notes,
+        line: &Line,
+        item: Item,
+    ) -> Result<(), AllocError> {
+        match item {
+            Item::Nothing => Ok(()),
+            Item::Profile(_) => note_once(notes, line, &mut self.profile),
+            Item::Slim(_) => note_once(notes, line, &mut self.slim),
+            Item::Chain(_) => note_once(notes, line, &mut self.chain),
+            Item::Retry(_) => note_once(notes, line, &mut self.retry),
+            Item::Trap(_) => note_once(notes, line, &mut self.trap),
+            Item::Entry(_) => self.take_entry(notes, line),
+            Item::Instruction(_) | Item::Word(_) => take_word(notes, line),
+            Item::Cells { count, .. } => self.take_cells(notes, line, count as usize),
+        }
+    }
+
+    fn take_entry(&mut self, notes: &mut Notes, line: &Line) -> Result<(), AllocError> {
+        self.entries = self.entries.saturating_add(1);
+        if self.entries == MAX_ENTRIES + 1 {
+            let help = "a machine has at most 16 processors";
+            notes.say(head_spot(line), "this is the 17th .entry", help)?;
+        }
+        Ok(())
+    }
+
+    fn take_cells(
+        &mut self,
+        notes: &mut Notes,
+        line: &Line,
+        count: usize,
+    ) -> Result<(), AllocError> {
+        let before = self.cells;
+        self.cells = before.saturating_add(count);
+        if before <= MAX_CELLS && self.cells > MAX_CELLS {
+            let words = "a memory has at most 262144 words, and this line adds more";
+            notes.say(head_spot(line), words, "take data words out")?;
+        }
+        Ok(())
+    }
+
+    /// Tells what a text lacks that has so many program words and ends at this place.
+    pub(crate) fn note_missing(
+        &self,
+        notes: &mut Notes,
+        words: usize,
+        end: Spot,
+    ) -> Result<(), AllocError> {
+        if !self.has_entry {
+            let help = ".entry and a label say where a processor begins";
+            notes.say(end, "the text has no .entry", help)?;
+        }
+        if words == 0 {
+            notes.say(
+                end,
+                "the text has no instruction",
+                "the shortest program is QUIT",
+            )?;
+        }
+        if !self.has_data {
+            notes.say(end, "the text has no data word", ".data 0 adds one")?;
+        }
+        Ok(())
+    }
+}
+
+/// The place of the head of a line's statement.
+fn head_spot(line: &Line) -> Spot {
+    line.spot(line.statement().split_head().0)
+}
+
+/// Tells that a directive stands a second time, or keeps where it stands first.
+fn note_once(notes: &mut Notes, line: &Line, first: &mut Option<usize>) -> Result<(), AllocError> {
+    let Some(number) = *first else {
+        *first = Some(line.number + 1);
+        return Ok(());
+    };
+    let alloc = notes.alloc();
+    let name = shown(alloc, line.statement().split_head().0.bytes)?;
+    let words = format!(in alloc; "{name} stands on line {number} already")?;
+    let help = String::from_str(alloc, "it may stand once")?;
+    notes.add(head_spot(line), words, Some(help))
+}
+
+fn take_word(notes: &mut Notes, line: &Line) -> Result<(), AllocError> {
+    if line.here == MAX_PROGRAM_WORDS {
+        let words = "a program has at most 65536 words, and this is one more";
+        notes.say(head_spot(line), words, "take instruction lines out")?;
+    }
+    Ok(())
+}
+
+/// Tells that a byte of the line is above 7F.
+pub(crate) fn note_foreign(notes: &mut Notes, line: &Line) -> Result<(), AllocError> {
+    let Some(place) = line.bytes.iter().position(|b| !b.is_ascii()) else {
+        return Ok(());
+    };
+    let rest = Token::of_line(line.bytes).behind(place);
+    let length = rest.bytes.iter().position(|b| b.is_ascii());
+    let marked = rest.before(length.unwrap_or(rest.bytes.len()));
+    let byte = rest.bytes.first().copied().unwrap_or(0);
+    let alloc = notes.alloc();
+    let words = format!(in alloc; "the byte {byte:02X} is above 7F")?;
+    let help = String::from_str(alloc, "a text is ASCII alone, in comments too")?;
+    notes.add(line.spot(marked), words, Some(help))
+}

@@ -1,0 +1,138 @@
+//! What is wrong with the operations of a word together.
+
+use crate::notes::Notes;
+use crate::operations::{Named, Part};
+use crate::reader::Reader;
+use crate::token::Token;
+use asm_line::Item;
+use insn_word::Insn;
+use std::alloc::AllocError;
+
+/// An operation of a word, and what says it.
+#[derive(Clone, Copy)]
+pub(crate) struct Operation<'t> {
+    pub(crate) named: Named,
+    pub(crate) piece: Token<'t>,
+}
+
+/// Tells what is wrong with the order of operations, or where each by itself is right, with the registers that they write.
+pub(crate) fn note_word(
+    notes: &mut Notes,
+    reader: &Reader,
+    operations: &[Operation],
+    are_right: bool,
+) -> Result<(), AllocError> {
+    if operations.len() < 2 {
+        return Ok(());
+    }
+    let is_ordered = note_order(notes, reader, operations)?;
+    if is_ordered && are_right {
+        note_writers(notes, reader, operations)?;
+    }
+    Ok(())
+}
+
+/// Tells what is wrong with the order of two operations or more, and answers whether it is right.
+fn note_order(
+    notes: &mut Notes,
+    reader: &Reader,
+    operations: &[Operation],
+) -> Result<bool, AllocError> {
+    let mut earlier: Option<(Operation, Part)> = None;
+    for operation in operations {
+        let Some(part) = operation.named.part() else {
+            note_alone(notes, reader, *operation)?;
+            return Ok(false);
+        };
+        match earlier {
+            Some((before, of)) if of.place() >= part.place() => {
+                note_pair(notes, reader, before.named, *operation, part)?;
+                return Ok(false);
+            }
+            _ => {}
+        }
+        earlier = Some((*operation, part));
+    }
+    Ok(true)
+}
+
+/// Tells that an operation stands in a word of its own.
+fn note_alone(notes: &mut Notes, reader: &Reader, operation: Operation) -> Result<(), AllocError> {
+    let alloc = notes.alloc();
+    let name = operation.named.name();
+    let words = format!(in alloc; "{name} stands alone in its word")?;
+    let help = String::from_str(alloc, "write it on a line of its own")?;
+    notes.add(reader.spot(operation.piece), words, Some(help))
+}
+
+/// Tells that an operation of this part does not stand behind another.
+fn note_pair(
+    notes: &mut Notes,
+    reader: &Reader,
+    before: Named,
+    operation: Operation,
+    part: Part,
+) -> Result<(), AllocError> {
+    let alloc = notes.alloc();
+    let (first, second) = (before.name(), operation.named.name());
+    let (words, help) = if before.part() == Some(part) {
+        let name = part.name();
+        let words = format!(in alloc; "{first} and {second} are both {name} operations")?;
+        (
+            words,
+            String::from_str(
+                alloc,
+                "a word has one operation of each part: use two words",
+            )?,
+        )
+    } else {
+        let words = "the order in a word is memory, arithmetic, control";
+        let help = format!(in alloc; "write {second} before {first}")?;
+        (String::from_str(alloc, words)?, help)
+    };
+    notes.add(reader.spot(operation.piece), words, Some(help))
+}
+
+/// Tells which two operations write one register.
+fn note_writers(
+    notes: &mut Notes,
+    reader: &Reader,
+    operations: &[Operation],
+) -> Result<(), AllocError> {
+    for (place, operation) in operations.iter().enumerate() {
+        let register = destination(reader, *operation);
+        let earlier = operations.iter().take(place);
+        let mut same = earlier.filter(|before| destination(reader, **before) == register);
+        if let (true, Some(before)) = (register > 0, same.next()) {
+            note_both(notes, reader, *before, *operation, register)?;
+        }
+    }
+    Ok(())
+}
+
+/// The register that an operation writes; 0 for none.
+fn destination(reader: &Reader, operation: Operation) -> u8 {
+    match reader.item(None, operation.piece.bytes) {
+        Ok(Item::Instruction(Insn::Normal { m, a, c, .. })) => {
+            m.destination().max(a.destination()).max(c.destination())
+        }
+        _ => 0,
+    }
+}
+
+/// Tells that two operations write one register.
+fn note_both(
+    notes: &mut Notes,
+    reader: &Reader,
+    before: Operation,
+    operation: Operation,
+    register: u8,
+) -> Result<(), AllocError> {
+    let alloc = notes.alloc();
+    let (first, second) = (before.named.name(), operation.named.name());
+    let words = format!(in alloc; "{first} and {second} both write r{register}")?;
+    let help = String::from_str(alloc, "use two words, or another register")?;
+    let operands = operation.piece.split_head().1;
+    let written = operands.cut(b',').0.trim();
+    notes.add(reader.spot(written), words, Some(help))
+}
