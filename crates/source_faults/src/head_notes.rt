@@ -5,7 +5,7 @@ use crate::notes::Notes;
 use crate::operations::{
     Named, directive_named, nearest_directive, nearest_operation, operation_named,
 };
-use crate::phrases::{listed, shown};
+use crate::phrases::{listed, said, shown};
 use crate::reader::Reader;
 use crate::token::Token;
 use std::alloc::{AllocError, Global};
@@ -89,7 +89,7 @@ fn help_for_operation(
         return Ok(Some(format!(in alloc; "a label has a colon: {text}:")?));
     }
     let name = head.cut(b'.').0;
-    if let Some(nearest) = nearest_operation(name.bytes) {
+    if let Some(nearest) = nearest_operation(alloc, name.bytes)? {
         let mut help = String::from_str(alloc, "did you mean ")?;
         let suffix = head.behind(name.bytes.len());
         help.push_str(with_suffix(alloc, reader, nearest, suffix)?.as_str())?;
@@ -138,9 +138,4 @@ pub(crate) fn note_unknown_directive(
         None => None,
     };
     notes.add(reader.spot(head), words, help)
-}
-
-/// A help of fixed words.
-fn said(alloc: Global, words: &str) -> Result<Option<String>, AllocError> {
-    Ok(Some(String::from_str(alloc, words)?))
 }

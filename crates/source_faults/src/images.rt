@@ -1,5 +1,7 @@
 //! Images.
 
+ghost use Rattle.std.specs.Prelude.{◌<◌, ◌^◌};
+
 use crate::message::{Message, Severity};
 use image_file::{CountField, ImageFault};
 use std::alloc::{AllocError, Global};
@@ -24,7 +26,7 @@ pub fn image_fault_words(
         width,
         words,
         help,
-    } = told(alloc, bytes, fault)?;
+    } = fault_told(alloc, bytes, fault)?;
     Ok(Message {
         severity: Severity::Error,
         line: 1,
@@ -36,7 +38,7 @@ pub fn image_fault_words(
     })
 }
 
-fn told(alloc: Global, bytes: &[u8], fault: ImageFault) -> Result<Told, AllocError> {
+fn fault_told(alloc: Global, bytes: &[u8], fault: ImageFault) -> Result<Told, AllocError> {
     let layout = Layout::of(bytes);
     let length = bytes.len();
     Ok(match fault {
@@ -77,7 +79,7 @@ fn told(alloc: Global, bytes: &[u8], fault: ImageFault) -> Result<Told, AllocErr
 }
 
 /// How much the header of an image says there is ("Image files", docs/FORMATS.md).
-#[derive(Clone, Copy, Debug)]
+#[derive(Clone, Copy)]
 struct Layout {
     header: u8,
     processors: u32,
@@ -98,7 +100,9 @@ impl Layout {
     }
 
     /// Where the data words begin.
-    fn cells_place(self) -> usize {
+    fn cells_place(self) -> usize
+        ensures { result < 2 ^ 36 }
+    {
         usize::from(self.header) + 4 * self.processors as usize + 8 * self.words as usize
     }
 

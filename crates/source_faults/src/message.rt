@@ -46,7 +46,7 @@ pub struct Message {
 }
 
 /// A place in a text, as a message has it.
-#[derive(Clone, Copy, Debug)]
+#[derive(Clone, Copy)]
 pub(crate) struct Spot {
     pub(crate) line: usize,
     pub(crate) start: usize,
@@ -141,7 +141,10 @@ fn push_mark(out: &mut String, line: &[u8], message: &Message) -> Result<(), All
         push_blank(out, *byte)?;
     }
     out.push('^')?;
-    let behind = line.iter().skip(message.column).take(message.width - 1);
+    let behind = line
+        .iter()
+        .skip(message.column)
+        .take(message.width.saturating_sub(1));
     for byte in behind {
         if begins_character(*byte) {
             out.push('^')?;

@@ -1,4 +1,7 @@
-//! Messages as they are found.
+//! What is found in a text.
+
+ghost use Rattle.std.specs.Prelude.{◌≡◌, ◌<◌, ◌&&◌, ◌||◌, ◌==◌, nat_lt, vec_len, OnOk};
+ghost use Rattle.source_faults.specs.Messages.{is_error, has_error};
 
 use crate::message::{Message, Severity, Spot};
 use std::alloc::{AllocError, Global};
@@ -6,57 +9,79 @@ use std::alloc::{AllocError, Global};
 /// How many suggestions of labels are looked for in one text, each among all labels.
 const MOST_SUGGESTIONS: usize = 16;
 
-/// The messages about a text that are found so far.
+/// One thing that is found: where, what it is, and how it may be mended.
 #[derive(Drop)]
-pub(crate) struct Notes {
-    alloc: Global,
-    severity: Severity,
-    suggestions: usize,
-    messages: Vec<Message>,
+struct Found {
+    spot: Spot,
+    words: String,
+    help: Option<String>,
 }
 
-impl Notes {
-    /// No messages; those to come are of this severity.
-    pub(crate) fn new(alloc: Global, severity: Severity) -> Notes {
-        Notes {
-            alloc,
+impl Found {
+    /// The message that tells it.
+    fn message(self, severity: Severity) -> Message
+        ensures { result.severity ≡ severity }
+    {
+        let Found { spot, words, help } = self;
+        Message {
             severity,
-            suggestions: 0,
-            messages: Vec::new(alloc),
-        }
-    }
-
-    /// The allocator of the messages.
-    pub(crate) fn alloc(&self) -> Global {
-        self.alloc
-    }
-
-    /// How many messages there are.
-    pub(crate) fn len(&self) -> usize {
-        self.messages.len()
-    }
-
-    /// Adds a message.
-    pub(crate) fn add(
-        &mut self,
-        spot: Spot,
-        words: String,
-        help: Option<String>,
-    ) -> Result<(), AllocError> {
-        self.messages.push(Message {
-            severity: self.severity,
             line: spot.line,
             column: spot.column,
             width: spot.width,
             words,
             help,
             start: spot.start,
-        })?;
+        }
+    }
+}
+
+/// What is found in a text so far.
+#[derive(Drop)]
+pub(crate) struct Notes {
+    alloc: Global,
+    suggestions: usize,
+    found: Vec<Found>,
+}
+
+impl Notes {
+    /// Nothing.
+    pub(crate) fn new(alloc: Global) -> Notes {
+        Notes {
+            alloc,
+            suggestions: 0,
+            found: Vec::new(alloc),
+        }
+    }
+
+    /// The allocator of what is found.
+    pub(crate) fn alloc(&self) -> Global {
+        self.alloc
+    }
+
+    /// How much is found.
+    pub(crate) fn len(&self) -> usize
+        ensures { result ≡ vec_len self.now.found }
+    {
+        self.found.len()
+    }
+
+    /// Adds what is found at a place.
+    pub(crate) fn add(
+        &mut self,
+        spot: Spot,
+        words: String,
+        help: Option<String>,
+    ) -> Result<(), AllocError>
+        ensures { OnOk result (0 < vec_len self.new.found) }
+    {
+        self.found.push(Found { spot, words, help })?;
         Ok(())
     }
 
-    /// Adds a message of fixed words.
-    pub(crate) fn say(&mut self, spot: Spot, words: &str, help: &str) -> Result<(), AllocError> {
+    /// Adds what is found at a place in fixed words.
+    pub(crate) fn say(&mut self, spot: Spot, words: &str, help: &str) -> Result<(), AllocError>
+        ensures { OnOk result (0 < vec_len self.new.found) }
+    {
         let words = String::from_str(self.alloc, words)?;
         let help = String::from_str(self.alloc, help)?;
         self.add(spot, words, Some(help))
@@ -72,9 +97,19 @@ impl Notes {
         }
     }
 
-    /// The messages.
-    pub(crate) fn into_messages(self) -> Vec<Message> {
-        let Notes { messages, .. } = self;
-        messages
+    /// Tells what is found by messages behind others.
+    pub(crate) fn tell(
+        self,
+        severity: Severity,
+        messages: &mut Vec<Message>,
+    ) -> Result<(), AllocError>
+        ensures { OnOk result (has_error messages.new.items
+            ≡ (has_error messages.old.items || (is_error severity && nat_lt 0 (vec_len self.found)))) }
+    {
+        let Notes { found, .. } = self;
+        for one in found {
+            messages.push(one.message(severity))?;
+        }
+        Ok(())
     }
 }

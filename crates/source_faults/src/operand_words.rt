@@ -1,10 +1,10 @@
 //! The words for an operand that has a fault.
 
 use crate::form::Form;
-use crate::nearest::Nearest;
+use crate::nearest::nearest;
 use crate::notes::Notes;
 use crate::operations::nearest_condition;
-use crate::phrases::shown;
+use crate::phrases::{said, shown};
 use crate::reader::Reader;
 use std::alloc::{AllocError, Global};
 
@@ -80,26 +80,38 @@ pub(crate) fn form_help(
     form: Form,
     operand: &[u8],
 ) -> Result<String, AllocError> {
-    if form == Form::Condition {
-        return condition_help(alloc, operand);
+    match form {
+        Form::Condition => condition_help(alloc, operand),
+        _ if reader.place_of(operand).is_some() => String::from_str(alloc, label_advice(form)),
+        _ => String::from_str(alloc, advice(form, operand)),
     }
-    let advice = match (form, operand) {
-        (Form::Register | Form::Base | Form::Source, [b'R', ..]) => "registers have a small r",
-        (Form::Register | Form::Base, [b't', ..]) => "TGET moves a target register to a register",
-        (Form::Target, [b'r', ..]) => "TSET moves a register to a target register",
-        (Form::Target, [b'T', ..]) => "target registers have a small t",
-        (Form::Register | Form::Base | Form::Source, _) if reader.place_of(operand).is_some() => {
+}
+
+/// What to write where a label stands that may not.
+fn label_advice(form: Form) -> &'static str {
+    match form {
+        Form::Register | Form::Base | Form::Source => {
             "LIT puts the value of a label into a register"
         }
+        _ => form.advice(),
+    }
+}
+
+/// What to write in place of a text that is no label.
+fn advice(form: Form, operand: &[u8]) -> &'static str {
+    match (form, operand) {
+        (Form::Register | Form::Base | Form::Source, [b'R', ..]) => "registers have a small r",
+        (Form::Register | Form::Base, [b't', ..]) => "TGET moves a target register to a register",
         (Form::Register | Form::Base | Form::Source, [b'r', b'0', _, ..]) => {
             "registers have no zeros in front"
         }
+        (Form::Target, [b'r', ..]) => "TSET moves a register to a target register",
+        (Form::Target, [b'T', ..]) => "target registers have a small t",
         (Form::Source | Form::Value | Form::Word, [b'-', ..]) => "no sign may stand here",
         (Form::Value | Form::Pc | Form::Entry | Form::Distance, [b'A'..=b'Z' | b'a'..=b'z', ..]) =>
             { "a label has letters, digits and _, at most 32 of them" }
         _ => form.advice(),
-    };
-    String::from_str(alloc, advice)
+    }
 }
 
 fn condition_help(alloc: Global, operand: &[u8]) -> Result<String, AllocError> {
@@ -128,20 +140,11 @@ pub(crate) fn missing_label_help(
     if !notes.may_suggest() {
         return Ok(None);
     }
-    let mut nearest = Nearest::to(name);
-    for label in reader.names() {
-        nearest = nearest.of(label);
-    }
-    match nearest.name() {
+    match nearest(name, reader.names()) {
         Some(label) => {
             let label = shown(alloc, label)?;
             Ok(Some(format!(in alloc; "did you mean {label}?")?))
         }
         None => Ok(None),
     }
-}
-
-/// A help of fixed words.
-fn said(alloc: Global, words: &str) -> Result<Option<String>, AllocError> {
-    Ok(Some(String::from_str(alloc, words)?))
 }

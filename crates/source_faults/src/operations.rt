@@ -1,12 +1,13 @@
 //! The operations and directives by their names, with the operands that they take.
 
 use crate::form::Form;
-use crate::nearest::Nearest;
+use crate::nearest::nearest;
 use asm_line::{Directive, names};
 use insn_word::{ArithmeticOp, Condition, ControlOp, MemoryOp, WideOp};
+use std::alloc::{AllocError, Global};
 
 /// A part of a word.
-#[derive(Clone, Copy, Debug, PartialEq, Eq)]
+#[derive(Clone, Copy, PartialEq, Eq)]
 pub(crate) enum Part {
     Memory,
     Arithmetic,
@@ -34,7 +35,7 @@ impl Part {
 }
 
 /// An operation without its suffix.
-#[derive(Clone, Copy, Debug, PartialEq, Eq)]
+#[derive(Clone, Copy)]
 pub(crate) enum Named {
     /// No operation.
     Nop,
@@ -130,30 +131,30 @@ pub(crate) fn operation_named(name: &[u8]) -> Option<Named> {
 }
 
 /// The operation whose name is nearest to a text, if one is near enough.
-pub(crate) fn nearest_operation(text: &[u8]) -> Option<&[u8]> {
-    let mut nearest = Nearest::to(text);
+pub(crate) fn nearest_operation(
+    alloc: Global,
+    text: &[u8],
+) -> Result<Option<&'static [u8]>, AllocError> {
+    let mut known = Vec::new(alloc);
     for op in MemoryOp::ALL {
-        nearest = nearest.of(names::memory(op).as_bytes());
+        known.push(names::memory(op).as_bytes())?;
     }
     for op in ArithmeticOp::ALL {
-        nearest = nearest.of(names::arithmetic(op).as_bytes());
+        known.push(names::arithmetic(op).as_bytes())?;
     }
     for op in ControlOp::ALL {
-        nearest = nearest.of(names::control(op).as_bytes());
+        known.push(names::control(op).as_bytes())?;
     }
     for op in WideOp::ALL {
-        nearest = nearest.of(names::wide(op).as_bytes());
+        known.push(names::wide(op).as_bytes())?;
     }
-    nearest.name()
+    Ok(nearest(text, &known))
 }
 
 /// The condition whose name is nearest to a text, if one is near enough.
-pub(crate) fn nearest_condition(text: &[u8]) -> Option<&[u8]> {
-    let mut nearest = Nearest::to(text);
-    for condition in Condition::ALL {
-        nearest = nearest.of(names::condition(condition).as_bytes());
-    }
-    nearest.name()
+pub(crate) fn nearest_condition(text: &[u8]) -> Option<&'static [u8]> {
+    let known = Condition::ALL.map(|condition| names::condition(condition).as_bytes());
+    nearest(text, &known)
 }
 
 /// All directives.
@@ -175,12 +176,9 @@ pub(crate) fn directive_named(name: &[u8]) -> Option<Directive> {
 }
 
 /// The directive whose name is nearest to a text, if one is near enough.
-pub(crate) fn nearest_directive(text: &[u8]) -> Option<&[u8]> {
-    let mut nearest = Nearest::to(text);
-    for directive in DIRECTIVES {
-        nearest = nearest.of(names::directive(directive).as_bytes());
-    }
-    nearest.name()
+pub(crate) fn nearest_directive(text: &[u8]) -> Option<&'static [u8]> {
+    let known = DIRECTIVES.map(|directive| names::directive(directive).as_bytes());
+    nearest(text, &known)
 }
 
 /// The operands that a directive takes at most.

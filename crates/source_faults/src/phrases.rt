@@ -34,7 +34,7 @@ pub(crate) fn listed(alloc: Global, words: &[&str]) -> Result<String, AllocError
 fn separator(place: usize, count: usize) -> &'static str {
     if place == 0 {
         ""
-    } else if place + 1 < count {
+    } else if count.saturating_sub(place) > 1 {
         ", "
     } else if count > 2 {
         ", and "
@@ -69,4 +69,9 @@ pub(crate) fn operands_counted(alloc: Global, count: usize) -> Result<String, Al
         0 => String::from_str(alloc, "none"),
         count => format!(in alloc; "{count}"),
     }
+}
+
+/// A help of fixed words.
+pub(crate) fn said(alloc: Global, words: &str) -> Result<Option<String>, AllocError> {
+    Ok(Some(String::from_str(alloc, words)?))
 }

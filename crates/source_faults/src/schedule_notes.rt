@@ -8,7 +8,7 @@ use std::alloc::AllocError;
 use text_parts::{Base, Number, read_digits};
 
 /// What a line of a schedule says: so many steps of a stream of a processor.
-#[derive(Clone, Copy, Debug)]
+#[derive(Clone, Copy)]
 pub(crate) struct Fields<'t> {
     pub(crate) processor: u8,
     pub(crate) stream: u8,
@@ -62,21 +62,26 @@ pub(crate) fn note_fields<'t>(
         return Ok(None);
     };
     let (second, rest) = rest.cut(b' ');
-    let processor = note_number(notes, line, first, PROCESSOR)?;
-    let stream = note_number(notes, line, second, STREAM)?;
+    let processor = note_number(notes, line, first, PROCESSOR)?.and_then(byte);
+    let stream = note_number(notes, line, second, STREAM)?.and_then(byte);
     let times = match rest {
         Some(third) => note_times(notes, line, third)?,
         None => Some(1),
     };
     Ok(match (processor, stream, times) {
         (Some(processor), Some(stream), Some(times)) => Some(Fields {
-            processor: processor as u8,
-            stream: stream as u8,
+            processor,
+            stream,
             times,
             token,
         }),
         _ => None,
     })
+}
+
+/// A number up to 255 as a byte.
+fn byte(number: u64) -> Option<u8> {
+    u8::try_from(number).ok()
 }
 
 /// Tells what is wrong with what stands behind a line's second number, and answers its third number.

@@ -1,5 +1,9 @@
 //! Schedules.
 
+ghost use Rattle.std.specs.Prelude.{◌≡◌, ◌<◌, ◌||◌, is_err, is_some, vec_len, IfOk, OnOk};
+ghost use Rattle.trace_text.specs.Schedules.{schedule_of};
+ghost use Rattle.source_faults.specs.Messages.{has_error};
+
 use crate::lines::{Line, Lines};
 use crate::message::{Message, Severity, Spot};
 use crate::notes::Notes;
@@ -12,35 +16,89 @@ use trace_text::{ScheduleFault, ScheduleFaultKind, read_schedule};
 /// How many steps a schedule has at most.
 const MAX_STEPS: u64 = 1_000_000;
 
-/// All faults of a schedule's text as errors, in the order of its lines; and where a program's image is given, as warnings
-/// the processors and streams that it names and the program does not have, each where it is named first. Only memory can
-/// be missing.
+/// All faults of a schedule's text as errors; and where a program's image is given, as warnings the processors and streams
+/// that it names and the program does not have, each where it is named first; in the order of lines and columns. There is
+/// an error exactly where the text is no schedule. Only memory can be missing.
 pub fn check_schedule(
     alloc: Global,
     text: &[u8],
     image: Option<&Image>,
-) -> Result<Vec<Message>, AllocError> {
-    let mut faults = Notes::new(alloc, Severity::Error);
-    let mut warnings = Notes::new(alloc, Severity::Warning);
-    let mut streams = Streams::of(alloc, image)?;
+) -> Result<Vec<Message>, AllocError>
+    ensures { IfOk result (λ messages. has_error messages.items ≡ is_err (schedule_of text.now)) }
+{
+    let mut faults = Notes::new(alloc);
+    let mut warnings = Notes::new(alloc);
+    note_lines(&mut faults, &mut warnings, Streams::of(alloc, image)?, text)?;
+    let mut messages = Vec::new(alloc);
+    tell_faults(faults, refusal_of(alloc, text)?, &mut messages)?;
+    warnings.tell(Severity::Warning, &mut messages)?;
+    messages.sort_by_key(|message| (message.line, message.column))?;
+    Ok(messages)
+}
+
+/// Why a text is no schedule; None where it is one.
+fn refusal_of(alloc: Global, text: &[u8]) -> Result<Option<ScheduleFault>, AllocError>
+    ensures { IfOk result (λ refusal. is_some refusal ≡ is_err (schedule_of text.now)) }
+{
+    match read_schedule(alloc, text) {
+        Ok(_) => Ok(None),
+        Err(
+            ScheduleFault {
+                kind: ScheduleFaultKind::NoMemory,
+                ..
+            },
+        ) => Err(AllocError),
+        Err(fault) => Ok(Some(fault)),
+    }
+}
+
+/// Tells the faults of a text that is refused for one.
+fn tell_faults(
+    faults: Notes,
+    refusal: Option<ScheduleFault>,
+    messages: &mut Vec<Message>,
+) -> Result<(), AllocError>
+    ensures { OnOk result (has_error messages.new.items ≡ (has_error messages.old.items || is_some refusal)) }
+{
+    let Some(fault) = refusal else {
+        return Ok(());
+    };
+    let faults = with_fault(faults, fault)?;
+    faults.tell(Severity::Error, messages)
+}
+
+/// The faults that are found, or this one where none is.
+fn with_fault(mut faults: Notes, fault: ScheduleFault) -> Result<Notes, AllocError>
+    ensures { IfOk result (λ notes. 0 < vec_len notes.found) }
+{
+    if faults.len() == 0 {
+        let spot = Spot {
+            line: fault.line.max(1),
+            ..Spot::FIRST
+        };
+        faults.say(spot, "the line is not understood", "write p s or p s n")?;
+    }
+    Ok(faults)
+}
+
+/// Notes what is wrong with the lines, and what they name that is not there.
+fn note_lines(
+    faults: &mut Notes,
+    warnings: &mut Notes,
+    streams: Streams,
+    text: &[u8],
+) -> Result<(), AllocError> {
+    let mut streams = streams;
     let mut steps = 0;
     for line in Lines::of(text) {
         if line.start < text.len() {
-            if let Some(fields) = note_fields(&mut faults, &line)? {
-                steps = note_steps(&mut faults, &line, steps, fields)?;
-                streams.see(&mut warnings, &line, fields)?;
+            if let Some(fields) = note_fields(faults, &line)? {
+                steps = note_steps(faults, &line, steps, fields)?;
+                streams.see(warnings, &line, fields)?;
             }
         }
     }
-    if faults.len() == 0 {
-        note_refusal(&mut faults, text)?;
-    }
-    let mut messages = faults.into_messages();
-    for warning in warnings.into_messages() {
-        messages.push(warning)?;
-    }
-    messages.sort_by_key(|message| (message.line, message.column))?;
-    Ok(messages)
+    Ok(())
 }
 
 /// Tells that a line takes the steps, which are so many before it, past the limit, and answers how many they are then.
@@ -56,24 +114,4 @@ fn note_steps(
         notes.say(line.spot(fields.token), words, "take lines out")?;
     }
     Ok(steps)
-}
-
-/// Tells why a text in which no fault was found is refused, if it is.
-fn note_refusal(notes: &mut Notes, text: &[u8]) -> Result<(), AllocError> {
-    match read_schedule(notes.alloc(), text) {
-        Ok(_) => Ok(()),
-        Err(
-            ScheduleFault {
-                kind: ScheduleFaultKind::NoMemory,
-                ..
-            },
-        ) => Err(AllocError),
-        Err(ScheduleFault { line, .. }) => {
-            let spot = Spot {
-                line: line.max(1),
-                ..Spot::FIRST
-            };
-            notes.say(spot, "the line is not understood", "write p s or p s n")
-        }
-    }
 }

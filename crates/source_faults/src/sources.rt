@@ -1,40 +1,102 @@
 //! Source texts.
 
+ghost use Rattle.std.specs.Prelude.{◌≡◌, ◌<◌, ◌||◌, is_err, is_some, vec_len, IfOk, OnOk};
+ghost use Rattle.asm_text.specs.Sources.{meaning_of};
+ghost use Rattle.source_faults.specs.Messages.{has_error};
+
 use crate::label_notes::note_label;
-use crate::lines::{Line, Lines};
+use crate::lines::Lines;
 use crate::message::{Message, Severity, Spot};
 use crate::notes::Notes;
 use crate::reader::{Reader, Source};
 use crate::statement_notes::note_statement;
 use crate::text_notes::{Totals, note_foreign};
 use crate::token::Token;
-use crate::warnings::note_warnings;
+use crate::warnings::warnings_of;
 use asm_line::Fault;
 use asm_text::{AsmFault, assemble};
 use source_places::line_faults;
 use std::alloc::{AllocError, Global};
 
-/// All faults of a source text as errors, in the order of their lines; and as warnings what is legal in it and likely not
-/// what is meant, where that can be judged. Only memory can be missing.
-pub fn check_source(alloc: Global, text: &[u8]) -> Result<Vec<Message>, AllocError> {
+/// Where the kinds of faults are explained.
+const KINDS: &str = "see the faults of a text in WRITING_PROGRAMS.md";
+
+/// All faults of a source text as errors, and as warnings what is legal in it and likely not what is meant, where that can
+/// be judged; in the order of lines and columns. There is an error exactly where the text means no image. Only memory can
+/// be missing.
+pub fn check_source(alloc: Global, text: &[u8]) -> Result<Vec<Message>, AllocError>
+    ensures { IfOk result (λ messages. has_error messages.items ≡ is_err (meaning_of text.now)) }
+{
     let source = Source::of(alloc, text)?;
-    let mut faults = Notes::new(alloc, Severity::Error);
-    note_faults(&mut faults, &source, text)?;
-    if faults.len() == 0 {
-        note_refusal(&mut faults, text)?;
-    }
-    let mut warnings = Notes::new(alloc, Severity::Warning);
-    note_warnings(&mut warnings, &source, text, faults.len() == 0)?;
-    let mut messages = faults.into_messages();
-    for warning in warnings.into_messages() {
-        messages.push(warning)?;
-    }
+    let refusal = refusal_of(alloc, text)?;
+    let mut messages = Vec::new(alloc);
+    tell_faults(alloc, &source, text, refusal, &mut messages)?;
+    let warnings = warnings_of(alloc, &source, text, refusal.is_none())?;
+    warnings.tell(Severity::Warning, &mut messages)?;
     messages.sort_by_key(|message| (message.line, message.column))?;
     Ok(messages)
 }
 
+/// Why a text means no image; None where it means one.
+fn refusal_of(alloc: Global, text: &[u8]) -> Result<Option<AsmFault>, AllocError>
+    ensures { IfOk result (λ refusal. is_some refusal ≡ is_err (meaning_of text.now)) }
+{
+    match assemble(alloc, text) {
+        Ok(_) => Ok(None),
+        Err(
+            AsmFault {
+                kind: Fault::NoMemory,
+                ..
+            },
+        ) => Err(AllocError),
+        Err(fault) => Ok(Some(fault)),
+    }
+}
+
+/// Tells the faults of a text that is refused for one.
+fn tell_faults<'t>(
+    alloc: Global,
+    source: &Source<'t>,
+    text: &'t [u8],
+    refusal: Option<AsmFault>,
+    messages: &mut Vec<Message>,
+) -> Result<(), AllocError>
+    ensures { OnOk result (has_error messages.new.items ≡ (has_error messages.old.items || is_some refusal)) }
+{
+    let Some(fault) = refusal else {
+        return Ok(());
+    };
+    let faults = faults_of(alloc, source, text, fault)?;
+    faults.tell(Severity::Error, messages)
+}
+
+/// The faults of a text of which this is one.
+fn faults_of<'t>(
+    alloc: Global,
+    source: &Source<'t>,
+    text: &'t [u8],
+    fault: AsmFault,
+) -> Result<Notes, AllocError>
+    ensures { IfOk result (λ notes. 0 < vec_len notes.found) }
+{
+    let mut notes = Notes::new(alloc);
+    note_faults(&mut notes, source, text)?;
+    if notes.len() == 0 {
+        let spot = Spot {
+            line: fault.line.max(1),
+            ..Spot::FIRST
+        };
+        notes.say(spot, kind_words(fault.kind), KINDS)?;
+    }
+    Ok(notes)
+}
+
 /// Tells the faults of all lines, and then those of the text as a whole.
-fn note_faults(notes: &mut Notes, source: &Source, text: &[u8]) -> Result<(), AllocError> {
+fn note_faults<'t>(
+    notes: &mut Notes,
+    source: &Source<'t>,
+    text: &'t [u8],
+) -> Result<(), AllocError> {
     let faults = line_faults(notes.alloc(), text)?;
     let mut place = 0;
     let mut totals = Totals::NONE;
@@ -72,37 +134,9 @@ fn note_line(notes: &mut Notes, reader: &Reader, kind: Fault) -> Result<(), Allo
     }
     if notes.len() == before {
         let spot = reader.spot(reader.line().statement());
-        notes.say(
-            spot,
-            kind_words(kind),
-            "see the faults of a text in WRITING_PROGRAMS.md",
-        )?;
+        notes.say(spot, kind_words(kind), KINDS)?;
     }
     Ok(())
-}
-
-/// Tells why a text in which no fault was found is refused, if it is.
-fn note_refusal(notes: &mut Notes, text: &[u8]) -> Result<(), AllocError> {
-    match assemble(notes.alloc(), text) {
-        Ok(_) => Ok(()),
-        Err(
-            AsmFault {
-                kind: Fault::NoMemory,
-                ..
-            },
-        ) => Err(AllocError),
-        Err(AsmFault { line, kind }) => {
-            let spot = Spot {
-                line: line.max(1),
-                ..Spot::FIRST
-            };
-            notes.say(
-                spot,
-                kind_words(kind),
-                "see the faults of a text in WRITING_PROGRAMS.md",
-            )
-        }
-    }
 }
 
 /// What a fault of this kind is.

@@ -11,7 +11,7 @@ use source_places::SourcePlaces;
 use std::alloc::{AllocError, Global};
 
 /// What is known of a register.
-#[derive(Clone, Copy, Debug)]
+#[derive(Clone, Copy)]
 struct Known<'t> {
     /// Its high 32 bits.
     high: Option<u32>,
@@ -32,7 +32,7 @@ impl Known<'_> {
 }
 
 /// What is known of the registers where a stream has come here word by word, without a jump.
-#[derive(Clone, Copy, Debug)]
+#[derive(Clone, Copy)]
 pub(crate) struct StraightLine<'t> {
     registers: [Known<'t>; 32],
 }

@@ -15,7 +15,7 @@ const MAX_PROGRAM_WORDS: usize = 65_536;
 const MAX_CELLS: usize = 262_144;
 
 /// What the first lines of a text have: the lines, from 1, of the directives that may stand once, and how much there is.
-#[derive(Clone, Copy, Debug)]
+#[derive(Clone, Copy)]
 pub(crate) struct Totals {
     profile: Option<usize>,
     slim: Option<usize>,

@@ -1,11 +1,11 @@
 //! Pieces of a line, with their places.
 
-ghost use Rattle.std.specs.Prelude.{◌+◌, ◌≤◌, ◌^◌, length};
+ghost use Rattle.std.specs.Prelude.{◌≡◌, ◌+◌, ◌-◌, ◌<◌, ◌≤◌, ◌^◌, length, IfSome};
 
 use std::alloc::{AllocError, Global};
 
 /// A piece of a line, and how many bytes of the line stand before it.
-#[derive(Clone, Copy, Debug)]
+#[derive(Clone, Copy)]
 pub(crate) struct Token<'t> {
     pub(crate) start: usize,
     pub(crate) bytes: &'t [u8],
@@ -19,7 +19,9 @@ impl<'t> Token<'t> {
     }
 
     /// What stands from this place of the piece on, or nothing at its end.
-    pub(crate) fn behind(self, place: usize) -> Token<'t> {
+    pub(crate) fn behind(self, place: usize) -> Token<'t>
+        ensures { length result.bytes.now ≡ length self.entry.bytes.now - place }
+    {
         let place = place.min(self.bytes.len());
         Token {
             start: self.start + place,
@@ -37,7 +39,9 @@ impl<'t> Token<'t> {
     }
 
     /// What stands before the first of a byte, and what stands behind it, if it is there.
-    pub(crate) fn cut(self, byte: u8) -> (Token<'t>, Option<Token<'t>>) {
+    pub(crate) fn cut(self, byte: u8) -> (Token<'t>, Option<Token<'t>>)
+        ensures { IfSome result.1 (λ rest. length rest.bytes.now < length self.entry.bytes.now) }
+    {
         match self.bytes.iter().position(|b| *b == byte) {
             Some(place) => (self.before(place), Some(self.behind(place + 1))),
             None => (self, None),

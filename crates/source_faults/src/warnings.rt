@@ -9,18 +9,20 @@ use crate::straight_line::StraightLine;
 use asm_line::Item;
 use insn_word::{Condition, ControlOp, Insn, decode_as};
 use source_places::SourcePlaces;
-use std::alloc::AllocError;
+use std::alloc::{AllocError, Global};
 
-/// Warns of what stands on the lines without a fault; and where the text has none, of words that no way reaches.
-pub(crate) fn note_warnings(
-    notes: &mut Notes,
-    source: &Source,
-    text: &[u8],
+/// What stands on the lines without a fault and is likely not meant; and where the text has no fault, the words that no
+/// way reaches.
+pub(crate) fn warnings_of<'t>(
+    alloc: Global,
+    source: &Source<'t>,
+    text: &'t [u8],
     has_no_fault: bool,
-) -> Result<(), AllocError> {
-    let places = SourcePlaces::of(notes.alloc(), text)?;
+) -> Result<Notes, AllocError> {
+    let mut notes = Notes::new(alloc);
+    let places = SourcePlaces::of(alloc, text)?;
     let mut straight = StraightLine::NEW;
-    let mut program = Program::new(notes.alloc());
+    let mut program = Program::new(alloc);
     for line in Lines::of(text) {
         let reader = Reader::at(source, line);
         let Ok(item) = reader.own_item() else {
@@ -28,26 +30,26 @@ pub(crate) fn note_warnings(
             continue;
         };
         match item {
-            Item::Cells { .. } => note_data_label(notes, &reader, &places)?,
+            Item::Cells { .. } => note_data_label(&mut notes, &reader, &places)?,
             Item::Entry(entry) => program.begin_at(entry)?,
             Item::Trap(entry) => program.begin_at(entry)?,
             Item::Instruction(insn) => {
-                note_code(notes, &reader, insn)?;
-                straight.take(notes, &reader, &places, Some(insn))?;
+                note_code(&mut notes, &reader, insn)?;
+                straight.take(&mut notes, &reader, &places, Some(insn))?;
                 program.add(Some(insn), reader.spot(line.statement()))?;
             }
             Item::Word(word) => {
                 let insn = decode_as(source.outline().profile, word);
-                straight.take(notes, &reader, &places, insn)?;
+                straight.take(&mut notes, &reader, &places, insn)?;
                 program.add(insn, reader.spot(line.statement()))?;
             }
             Item::Nothing | Item::Profile(_) | Item::Slim(_) | Item::Chain(_) | Item::Retry(_) => {}
         }
     }
     if has_no_fault {
-        note_unreached(notes, &program)?;
+        note_unreached(&mut notes, &program)?;
     }
-    Ok(())
+    Ok(notes)
 }
 
 /// Warns of a label on a line of data.

@@ -1,0 +1,3 @@
+; Nothing that makes a program.
+        .slim 4
+; the end
