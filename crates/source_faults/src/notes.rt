@@ -1,10 +1,13 @@
 //! What is found in a text.
 
-ghost use Rattle.std.specs.Prelude.{◌≡◌, ◌<◌, ◌&&◌, ◌||◌, ◌==◌, nat_lt, vec_len, OnOk};
+ghost use Rattle.std.specs.Prelude.{◌≡◌, ◌<◌, ◌&&◌, ◌||◌, ◌==◌, nat_lt, vec_len, IfOk, OnOk};
 ghost use Rattle.source_faults.specs.Messages.{is_error, has_error};
 
 use crate::message::{Message, Severity, Spot};
 use std::alloc::{AllocError, Global};
+
+/// How many faults of a text, or warnings of it, are told at most.
+const MOST_FOUND: usize = 100_000;
 
 /// How many suggestions of labels are looked for in one text, each among all labels.
 const MOST_SUGGESTIONS: usize = 16;
@@ -65,7 +68,7 @@ impl Notes {
         self.found.len()
     }
 
-    /// Adds what is found at a place.
+    /// Adds what is found at a place, unless very much is found already.
     pub(crate) fn add(
         &mut self,
         spot: Spot,
@@ -74,7 +77,9 @@ impl Notes {
     ) -> Result<(), AllocError>
         ensures { OnOk result (0 < vec_len self.new.found) }
     {
-        self.found.push(Found { spot, words, help })?;
+        if self.found.len() < MOST_FOUND {
+            self.found.push(Found { spot, words, help })?;
+        }
         Ok(())
     }
 
@@ -112,4 +117,13 @@ impl Notes {
         }
         Ok(())
     }
+}
+
+/// Messages in the order of their lines and columns.
+#[tactic(auto, using(crate::proofs::Order::errors_kept))]
+pub(crate) fn in_order(mut messages: Vec<Message>) -> Result<Vec<Message>, AllocError>
+    ensures { IfOk result (λ ordered. has_error ordered.items ≡ has_error messages.items) }
+{
+    messages.sort_by_key(|message| (message.line, message.column))?;
+    Ok(messages)
 }

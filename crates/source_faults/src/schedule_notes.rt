@@ -43,12 +43,14 @@ const TIMES: Counted = Counted {
     most: 1_000_000,
 };
 
-/// Tells what is wrong with a line, and answers what it says where that is understood.
+/// Tells what is wrong with a line, and answers what it says where that is understood. Carriage returns are told on the
+/// first line that has one.
 pub(crate) fn note_fields<'t>(
     notes: &mut Notes,
     line: &Line<'t>,
+    has_returns: &mut bool,
 ) -> Result<Option<Fields<'t>>, AllocError> {
-    let token = Token::of_line(line.bytes);
+    let token = note_return(notes, line, has_returns)?;
     if note_layout(notes, line, token)? {
         return Ok(None);
     }
@@ -95,6 +97,28 @@ fn note_times(notes: &mut Notes, line: &Line, rest: Token) -> Result<Option<u64>
     note_number(notes, line, third, TIMES)
 }
 
+/// Tells that a line ends with a carriage return, if no line before it did, and answers the line without it.
+fn note_return<'t>(
+    notes: &mut Notes,
+    line: &Line<'t>,
+    has_returns: &mut bool,
+) -> Result<Token<'t>, AllocError> {
+    let token = Token::of_line(line.bytes);
+    if token.bytes.last() != Some(&b'\r') {
+        return Ok(token);
+    }
+    if !*has_returns {
+        let help = "save the file with line feeds alone, and no carriage returns";
+        notes.say(
+            line.spot(token),
+            "the line ends with a carriage return",
+            help,
+        )?;
+    }
+    *has_returns = true;
+    Ok(token.before(token.bytes.len() - 1))
+}
+
 /// Tells that a line has something besides numbers and single spaces, if it has.
 fn note_layout(notes: &mut Notes, line: &Line, token: Token) -> Result<bool, AllocError> {
     if token.bytes.is_empty() {
@@ -107,15 +131,6 @@ fn note_layout(notes: &mut Notes, line: &Line, token: Token) -> Result<bool, All
         notes.say(
             line.spot(token.behind(place)),
             "a schedule has no comments",
-            help,
-        )?;
-        return Ok(true);
-    }
-    if token.bytes.last() == Some(&b'\r') {
-        let help = "save the file with line feeds alone, and no carriage returns";
-        notes.say(
-            line.spot(token),
-            "the line ends with a carriage return",
             help,
         )?;
         return Ok(true);

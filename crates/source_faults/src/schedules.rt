@@ -6,7 +6,7 @@ ghost use Rattle.source_faults.specs.Messages.{has_error};
 
 use crate::lines::{Line, Lines};
 use crate::message::{Message, Severity, Spot};
-use crate::notes::Notes;
+use crate::notes::{Notes, in_order};
 use crate::schedule_notes::{Fields, note_fields};
 use crate::streams::Streams;
 use image_file::Image;
@@ -17,8 +17,8 @@ use trace_text::{ScheduleFault, ScheduleFaultKind, read_schedule};
 const MAX_STEPS: u64 = 1_000_000;
 
 /// All faults of a schedule's text as errors; and where a program's image is given, as warnings the processors and streams
-/// that it names and the program does not have, each where it is named first; in the order of lines and columns. There is
-/// an error exactly where the text is no schedule. Only memory can be missing.
+/// that it names and the program does not have, each where it is named first; in the order of lines and columns, and of each
+/// at most 100,000. There is an error exactly where the text is no schedule. Only memory can be missing.
 pub fn check_schedule(
     alloc: Global,
     text: &[u8],
@@ -32,8 +32,7 @@ pub fn check_schedule(
     let mut messages = Vec::new(alloc);
     tell_faults(faults, refusal_of(alloc, text)?, &mut messages)?;
     warnings.tell(Severity::Warning, &mut messages)?;
-    messages.sort_by_key(|message| (message.line, message.column))?;
-    Ok(messages)
+    in_order(messages)
 }
 
 /// Why a text is no schedule; None where it is one.
@@ -90,9 +89,10 @@ fn note_lines(
 ) -> Result<(), AllocError> {
     let mut streams = streams;
     let mut steps = 0;
+    let mut has_returns = false;
     for line in Lines::of(text) {
         if line.start < text.len() {
-            if let Some(fields) = note_fields(faults, &line)? {
+            if let Some(fields) = note_fields(faults, &line, &mut has_returns)? {
                 steps = note_steps(faults, &line, steps, fields)?;
                 streams.see(warnings, &line, fields)?;
             }

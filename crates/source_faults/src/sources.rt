@@ -7,7 +7,7 @@ ghost use Rattle.source_faults.specs.Messages.{has_error};
 use crate::label_notes::note_label;
 use crate::lines::Lines;
 use crate::message::{Message, Severity, Spot};
-use crate::notes::Notes;
+use crate::notes::{Notes, in_order};
 use crate::reader::{Reader, Source};
 use crate::statement_notes::note_statement;
 use crate::text_notes::{Totals, note_foreign};
@@ -22,8 +22,8 @@ use std::alloc::{AllocError, Global};
 const KINDS: &str = "see the faults of a text in WRITING_PROGRAMS.md";
 
 /// All faults of a source text as errors, and as warnings what is legal in it and likely not what is meant, where that can
-/// be judged; in the order of lines and columns. There is an error exactly where the text means no image. Only memory can
-/// be missing.
+/// be judged; in the order of lines and columns, and of each at most 100,000. There is an error exactly where the text
+/// means no image. Only memory can be missing.
 pub fn check_source(alloc: Global, text: &[u8]) -> Result<Vec<Message>, AllocError>
     ensures { IfOk result (λ messages. has_error messages.items ≡ is_err (meaning_of text.now)) }
 {
@@ -33,8 +33,7 @@ pub fn check_source(alloc: Global, text: &[u8]) -> Result<Vec<Message>, AllocErr
     tell_faults(alloc, &source, text, refusal, &mut messages)?;
     let warnings = warnings_of(alloc, &source, text, refusal.is_none())?;
     warnings.tell(Severity::Warning, &mut messages)?;
-    messages.sort_by_key(|message| (message.line, message.column))?;
-    Ok(messages)
+    in_order(messages)
 }
 
 /// Why a text means no image; None where it means one.
