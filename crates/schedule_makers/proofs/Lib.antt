@@ -1,0 +1,9 @@
+pub mod Lists
+pub mod Rules
+pub mod LastSteps
+pub mod Randomness
+pub mod Seen
+pub mod Vain
+pub mod SameRun
+pub mod Going
+pub mod SoFar

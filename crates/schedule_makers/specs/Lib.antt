@@ -1,0 +1,7 @@
+-- What public contracts promise: which running stream each rule takes, and what is made by a rule.
+pub mod Rules
+pub mod Randomness
+pub mod Made
+-- Cited by private contracts alone: what a step comes to, and what the fair rule keeps.
+pub mod Advancing
+pub mod Fair

@@ -1,0 +1,46 @@
+-- Which running stream steps next.
+use Rattle.std.specs.Prelude.{◌==◌, ◌&&◌, ◌||◌, ◌-◌, nat_lt, ℕ, Bool, true, List, Option, Some, None, find, filter, length}
+use Rattle.std.specs.Prelude.{slice_get, option_and_then}
+use Rattle.std.specs.Option.{option_or}
+use Rattle.processor.specs.declared.steps.Step.{Step}
+
+-- A rule takes a step by the steps before it and by the steps of all streams that run, in the order of processor and
+-- stream.
+abbrev pub Rule : Type 0
+Rule = List Step → List Step → Option Step
+
+-- the last of these steps
+abbrev pub last_step : List Step → Option Step
+last_step ts = slice_get ts (length ts - 1)
+
+-- whether the second step stands behind the first in the order of processor and stream
+abbrev pub is_behind : Step → Step → Bool
+is_behind t u = nat_lt t.p u.p || ((t.p == u.p) && nat_lt t.s u.s)
+
+-- whether the second step's processor stands behind the first's
+abbrev pub is_of_later : Step → Step → Bool
+is_of_later t u = nat_lt t.p u.p
+
+-- whether a step stands behind the last one in an order; each does where there is no last one
+abbrev pub is_behind_last : (Step → Step → Bool) → Option Step → Step → Bool
+is_behind_last behind None u = true
+is_behind_last behind (Some t) u = behind t u
+
+-- the first of the running streams that stands behind the last step in an order, else the first of them
+abbrev pub next_behind : (Step → Step → Bool) → Option Step → List Step → Option Step
+next_behind behind last runs = option_or (find (is_behind_last behind last) runs) (slice_get runs 0)
+
+-- In rounds: the next one behind the last step in the order of processor and stream, and from the first again.
+abbrev pub next_in_rounds : Rule
+next_in_rounds before runs = next_behind is_behind (last_step before) runs
+
+-- those of a processor
+abbrev pub of_processor : ℕ → List Step → List Step
+of_processor p ts = filter (λ t. t.p == p) ts
+
+-- Fair: the processors in turn, and of each its streams in turn. The next processor with a running stream behind that of
+-- the last step, and from the first again; of it the next one in rounds, as if it were alone.
+abbrev pub next_fair : Rule
+next_fair before runs =
+    option_and_then (λ u. next_in_rounds (of_processor u.p before) (of_processor u.p runs))
+    (next_behind is_of_later (last_step before) runs)

@@ -1,0 +1,15 @@
+//! Schedules that are made step by step of the streams that run: in rounds, fairly or at random
+//! (docs/MACHINE.md, "Schedules").
+#![tactic(auto)]
+
+mod advancing;
+mod chooser;
+mod fair_chooser;
+mod made;
+mod makers;
+mod making;
+mod random_chooser;
+mod rounds_chooser;
+
+pub use made::{MadeEnd, MadeSchedule};
+pub use makers::{fair, random, rounds};

@@ -1,0 +1,59 @@
+//! Schedules by the three rules.
+
+ghost use Rattle.std.specs.Prelude.{IfOk, OnErr};
+ghost use Rattle.schedule_makers.specs.Rules.{next_in_rounds, next_fair};
+ghost use Rattle.schedule_makers.specs.Randomness.{next_at_random};
+ghost use Rattle.schedule_makers.specs.Made.{IsMade, HasStepped};
+
+use crate::fair_chooser::Fair;
+use crate::made::MadeSchedule;
+use crate::making::make;
+use crate::random_chooser::Random;
+use crate::rounds_chooser::Rounds;
+use machine::Machine;
+use std::alloc::{AllocError, Global};
+
+/// Takes the streams in rounds: at each step the next running stream behind the one that stepped last, in the order of
+/// processor and stream, and from the first again. It begins with the first.
+///
+/// It ends when no stream runs, when nobody can go on, or after `most` steps: the machine stands there then. Where
+/// memory is refused, some steps were taken.
+pub fn rounds<const S: usize>(
+    alloc: Global,
+    machine: &mut Machine<'_, S>,
+    most: usize,
+) -> Result<MadeSchedule, AllocError>
+    ensures made { IfOk result (λ m. IsMade next_in_rounds machine.old machine.new most m.steps.items m.end) }
+    ensures err { OnErr result (HasStepped machine.old machine.new) }
+{
+    make(alloc, machine, &mut Rounds, most)
+}
+
+/// The same fairly: the processors in turn, and of each its streams in turn. At each step the next processor that has a
+/// running stream, behind the one that stepped last; of it the next running stream behind the one of it that stepped
+/// last, as a processor that runs on a thread takes its own.
+pub fn fair<const S: usize>(
+    alloc: Global,
+    machine: &mut Machine<'_, S>,
+    most: usize,
+) -> Result<MadeSchedule, AllocError>
+    ensures made { IfOk result (λ m. IsMade next_fair machine.old machine.new most m.steps.items m.end) }
+    ensures err { OnErr result (HasStepped machine.old machine.new) }
+{
+    make(alloc, machine, &mut Fair::new(), most)
+}
+
+/// The same at random: of n running streams, in the order of processor and stream, the one at `word * n / 2^64`, by one
+/// word a step of the generator xoshiro256++ of this seed. The same seed gives the same schedule everywhere.
+pub fn random<const S: usize>(
+    alloc: Global,
+    machine: &mut Machine<'_, S>,
+    seed: u64,
+    most: usize,
+) -> Result<MadeSchedule, AllocError>
+    ensures made { IfOk result
+        (λ m. IsMade (next_at_random seed) machine.old machine.new most m.steps.items m.end) }
+    ensures err { OnErr result (HasStepped machine.old machine.new) }
+{
+    make(alloc, machine, &mut Random::new(seed), most)
+}
