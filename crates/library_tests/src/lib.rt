@@ -23,6 +23,8 @@ mod gathered;
 #[cfg(test)]
 mod limits;
 #[cfg(test)]
+mod makers;
+#[cfg(test)]
 mod processors;
 #[cfg(test)]
 mod records;
