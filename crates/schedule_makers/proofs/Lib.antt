@@ -7,3 +7,4 @@ pub mod Vain
 pub mod SameRun
 pub mod Going
 pub mod SoFar
+pub mod OneMade

@@ -2,6 +2,8 @@
 pub mod Rules
 pub mod Randomness
 pub mod Made
+-- what holds of all that is made
+pub mod Laws
 -- Cited by private contracts alone: what a step comes to, and what the fair rule keeps.
 pub mod Advancing
 pub mod Fair

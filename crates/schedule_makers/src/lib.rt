@@ -5,11 +5,13 @@
 mod advancing;
 mod chooser;
 mod fair_chooser;
+mod laws;
 mod made;
 mod makers;
 mod making;
 mod random_chooser;
 mod rounds_chooser;
 
+pub use laws::made_schedules_are_one;
 pub use made::{MadeEnd, MadeSchedule};
 pub use makers::{fair, random, rounds};
