@@ -4,6 +4,7 @@
 set -eu
 cd "$(dirname "$0")/.."
 tool=$PWD/crates/mta_sim/out/mta_sim
+lab=$PWD/crates/mta_lab/out/mta_lab
 parts=$PWD/crates/library_calls/out/library_calls
 work=$(mktemp -d)
 trap 'rm -rf "$work"' EXIT
@@ -157,6 +158,27 @@ pair() {
     $((all / 1000)) $((all / 100 % 10)) $((one / 1000)) $((one / 100 % 10))
 }
 
+# surveys: 1,000 schedules of 500 random steps each, on one core and on all of them, beside the machine's own steps
+surveys() {
+  local one all few many
+  one=$(best 3 taskset -c 0 "$lab" survey "$work/four.asm" --seeds 1000 --steps 500 || true)
+  all=$(best 3 "$lab" survey "$work/four.asm" --seeds 1000 --steps 500 || true)
+  few=$(instructions "$lab" survey "$work/four.asm" --seeds 4 --steps 500)
+  many=$(instructions "$lab" survey "$work/four.asm" --seeds 14 --steps 500)
+  report "lab: survey of 1000 seeds, 500 steps each, one core" "$one" $((many - few)) 5000 step \
+    "$(peak "$lab" survey "$work/four.asm" --seeds 1000 --steps 500)"
+  printf '%-58s %6d.%d ms\n' "  on all cores" $((all / 1000)) $((all / 100 % 10))
+}
+
+# views: a run of 100,000 steps as lines
+views() {
+  local few many
+  few=$(instructions "$lab" view "$work/four.asm" --fair --steps 1000)
+  many=$(instructions "$lab" view "$work/four.asm" --fair --steps 11000)
+  report "lab: view of 100000 steps" "$(best 3 "$lab" view "$work/four.asm" --fair --steps 100000 || true)" \
+    $((many - few)) 10000 step "$(peak "$lab" view "$work/four.asm" --fair --steps 100000)"
+}
+
 command -v valgrind >/dev/null || echo "valgrind is not installed: no instructions are counted, and 0 is printed for them"
 
 bench/words_input.sh >"$work/words"
@@ -213,3 +235,10 @@ entries=$(grep -c DONE "$work/out")
 printf '%-58s %6d.%d ms, %d MB, at most 260 bytes an entry and 8 a step: %d MB\n' \
   "threads, 1000000 steps, $entries entries, $(wc -c <"$work/out") bytes" $((spent / 1000)) $((spent / 100 % 10)) \
   $(($(peak "$tool" threads "$work/third_image" 62500 "$work/schedule") / 1024)) $(((260 * entries + 8000000) / 1048576))
+
+# four processors that add to one word for ever
+printf ' .entry 0\n .entry 0\n .entry 0\n .entry 0\n LIT r1, 1\nmore: FADD.N r2, r0, 0 | ADD r3, r3, r1\n SKIP ALWAYS, 0, more\n .data 0\n' >"$work/four.asm"
+surveys
+views
+report "lab: check, 65536 lines" "$(best 3 "$lab" check "$work/source" || true)" \
+  "$(instructions "$lab" check "$work/source")" 65536 line "$(peak "$lab" check "$work/source")"

@@ -20,6 +20,7 @@ import calls
 import debugger
 import files
 import images
+import lab
 import limits
 import program
 import texts
@@ -34,6 +35,7 @@ PARTS = {
     "files": files.part,
     "allocations": allocations.part,
     "calls": calls.part,
+    "lab": lab.part,
 }
 # how many of the things that were not as they have to be are printed for a part
 SHOWN = 20

@@ -8,6 +8,7 @@ import tempfile
 import table
 
 PROGRAM = os.path.join(table.ROOT, "crates/mta_sim/out/mta_sim")
+LAB = os.path.join(table.ROOT, "crates/mta_lab/out/mta_lab")
 # after so many seconds a call has failed
 PATIENCE = 60
 
@@ -27,9 +28,9 @@ class Ended:
         return b"status %d, printed %r, complained %r" % (self.status, self.out[:200], self.err[:200])
 
 
-def call(*words, given=b"", folder=None):
-    """Calls the program with these words and this standard input."""
-    ended = subprocess.run([PROGRAM, *words], input=given, capture_output=True, cwd=folder, timeout=PATIENCE,
+def call(*words, given=b"", folder=None, program=PROGRAM):
+    """Calls a program with these words and this standard input."""
+    ended = subprocess.run([program, *words], input=given, capture_output=True, cwd=folder, timeout=PATIENCE,
                            check=False)
     return Ended(ended.returncode, ended.stdout, ended.stderr)
 

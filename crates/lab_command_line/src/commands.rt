@@ -1,0 +1,140 @@
+//! What a command line of `mta_lab` asks for.
+
+/// The kinds of files that `check` judges.
+#[derive(Clone, Copy, Debug, PartialEq, Eq)]
+pub enum FileKind {
+    /// A source text.
+    Source,
+    /// An image's bytes.
+    Image,
+    /// A schedule's text.
+    Schedule,
+}
+
+/// A rule that makes schedules.
+#[derive(Clone, Copy, Debug, PartialEq, Eq)]
+pub enum Maker {
+    /// The running streams in the order of processor and stream, again and again.
+    Rounds,
+    /// The processors in turn, and within each its running streams in turn.
+    Fair,
+    /// One of the running streams at each step, by a generator with this seed.
+    Random { seed: u64 },
+}
+
+/// By which schedule a program runs.
+#[derive(Clone, Copy, Debug)]
+pub enum RunChoice<'a> {
+    /// By that of a file.
+    File(&'a str),
+    /// By a rule, for so many steps at most.
+    Made { maker: Maker, most: usize },
+}
+
+/// How answers are printed.
+#[derive(Clone, Copy, Debug)]
+pub struct Shown {
+    /// Numbers are hexadecimal.
+    pub hexadecimal: bool,
+    /// Answers are JSON, an object a line.
+    pub json: bool,
+}
+
+/// What `check` is asked.
+#[derive(Drop)]
+pub struct CheckRequest<'a> {
+    /// The files, one at least.
+    pub files: Vec<&'a str>,
+    /// The kind of all of them; None where each is told by its beginning and its name.
+    pub kind: Option<FileKind>,
+    /// The program whose schedules these are.
+    pub program: Option<&'a str>,
+    /// Warnings count as errors.
+    pub strict: bool,
+    /// Messages are JSON, an object a line.
+    pub json: bool,
+}
+
+/// What `view` is asked.
+#[derive(Clone, Copy, Debug)]
+pub struct ViewRequest<'a> {
+    /// The program: a source text or an image.
+    pub program: &'a str,
+    /// Its schedule.
+    pub run: RunChoice<'a>,
+    /// The first step that is shown, from 1.
+    pub from: usize,
+    /// The last step that is shown.
+    pub to: usize,
+    /// The only stream that is shown, as it was given.
+    pub only: Option<&'a str>,
+    /// The byte address of the only word whose steps are shown.
+    pub word: Option<u64>,
+    /// A column a stream.
+    pub columns: bool,
+    /// How it is printed.
+    pub shown: Shown,
+}
+
+/// What `survey` is asked.
+#[derive(Clone, Copy, Debug)]
+pub struct SurveyRequest<'a> {
+    /// The program: a source text or an image.
+    pub program: &'a str,
+    /// How many seeds, at least 1.
+    pub seeds: usize,
+    /// The first of them.
+    pub first: u64,
+    /// The most steps of each schedule.
+    pub most: usize,
+    /// The file of what each end has to be.
+    pub expected: Option<&'a str>,
+    /// How it is printed.
+    pub shown: Shown,
+}
+
+/// What `grade` is asked.
+#[derive(Drop)]
+pub struct GradeRequest<'a> {
+    /// The file of what each end has to be.
+    pub expected: &'a str,
+    /// How many seeds, at least 1.
+    pub seeds: usize,
+    /// The most steps of each schedule.
+    pub most: usize,
+    /// The submissions, one at least: source texts or images.
+    pub submissions: Vec<&'a str>,
+    /// How it is printed.
+    pub shown: Shown,
+}
+
+/// What a command line asks for. Files are named by their paths, `-` being standard input.
+#[derive(Drop)]
+pub enum LabCommand<'a> {
+    /// Judges files.
+    Check(CheckRequest<'a>),
+    /// Makes a schedule.
+    Schedule {
+        program: &'a str,
+        maker: Maker,
+        most: usize,
+    },
+    /// Shows a run.
+    View(ViewRequest<'a>),
+    /// Shows where two schedules of a program part.
+    Compare {
+        program: &'a str,
+        one: &'a str,
+        other: &'a str,
+        shown: Shown,
+    },
+    /// Runs many random schedules, and counts their ends.
+    Survey(SurveyRequest<'a>),
+    /// Judges submissions.
+    Grade(GradeRequest<'a>),
+    /// Assembles a source text, beside its place, and renames it to there.
+    Assemble {
+        source: &'a str,
+        image: Option<&'a str>,
+    },
+}

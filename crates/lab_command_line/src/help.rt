@@ -1,0 +1,87 @@
+//! What `--help` says of the commands, beside what the parser of the command line prints by itself.
+
+/// How a command ends: the end of each help text.
+pub(crate) const STATUSES: &str = "\
+Exit status:
+  0  done, and all is as expected
+  1  a fault: what is wrong stands on standard error, or in the table of grade
+  2  the command line asks for no command
+  3  some end is not as expected        4  some end is a deadlock
+  5  some run ended at its bound";
+
+pub(crate) const TOOL: &str = "\
+Shows what programs of the Tera MTA do: what is wrong with a source text, a run step by step,
+where two runs part, and which ends many schedules come to. A PROGRAM is a source text or an
+image, and - is standard input.
+
+Example:
+  mta_lab check lock.asm
+  mta_lab survey lock.asm --seeds 100
+  mta_lab view lock.asm --seed 7";
+
+pub(crate) const CHECK: &str = "\
+Judges source texts, images and schedules. Each message stands on a line
+FILE:LINE:COLUMN: error: WORDS, with the line and a mark under the place below it.
+
+Example:
+  mta_lab check lock.asm";
+
+pub(crate) const SCHEDULE: &str = "\
+Makes a schedule of a program and prints it: rounds takes the running streams in the order of
+processor and stream, fair the processors in turn and within each its streams in turn, random
+one of the running streams at each step. It ends when no stream runs, when nobody can go on,
+or after --steps, and says which on standard error.
+
+Example:
+  mta_lab schedule random lock.asm --seed 7 > found.schedule";
+
+pub(crate) const VIEW: &str = "\
+Shows a run: a line a step with its number, the stream, the place, the instruction, and what
+it changed; then how the run ends, who waits for what, and the words that differ. Without a
+schedule the processors step in turn.
+
+Example:
+  mta_lab view lock.asm lock.lost_update.schedule";
+
+pub(crate) const COMPARE: &str = "\
+Shows the first step at which two schedules of a program part, the first position at which
+the worlds differ, and in what, and both ends.
+
+Example:
+  mta_lab compare lock.asm lock.ends.schedule lock.lost_update.schedule";
+
+pub(crate) const SURVEY: &str = "\
+Runs a program by many random schedules, over all cores, and counts the ends they come to, each
+with a seed that leads there.
+
+Example:
+  mta_lab survey lock.asm --seeds 1000";
+
+pub(crate) const GRADE: &str = "\
+Judges submissions by many random schedules each: a line a submission, which is right, wrong,
+a deadlock, a trap, out of steps, or a faulty source, with the seed that shows it.
+
+Example:
+  mta_lab grade --expect wanted.expect submissions/*.asm";
+
+pub(crate) const ASM: &str = "\
+Assembles a source text, and writes the image. The image is written beside its place and
+renamed to there, so a fault leaves what was there as it was.
+
+Example:
+  mta_lab asm lock.asm --out lock.image";
+
+pub(crate) const PROGRAM: &str = "the program: a source text or an image";
+
+pub(crate) const SCHEDULE_FILE: &str =
+    "its schedule: lines of processor, stream and number of steps";
+
+pub(crate) const STEPS: &str = "the most steps of a made schedule, 1 to 1000000 [10000]";
+
+pub(crate) const SEED: &str = "steps are random, by a generator with this seed";
+
+pub(crate) const JSON: &str = "prints JSON, an object a line";
+
+pub(crate) const HEX: &str = "prints numbers in hexadecimal digits";
+
+pub(crate) const EXPECT: &str = "what each end has to be: word ADDRESS VALUE [full|empty], ..";

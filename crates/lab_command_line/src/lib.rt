@@ -1,0 +1,13 @@
+//! The command line of `mta_lab`: which words are a command, and what it asks for (docs/LAB.md).
+#![tactic(auto)]
+
+mod commands;
+mod help;
+mod options;
+mod reading;
+
+pub use commands::{
+    CheckRequest, FileKind, GradeRequest, LabCommand, Maker, RunChoice, Shown, SurveyRequest,
+    ViewRequest,
+};
+pub use reading::read_lab_command;

@@ -1,0 +1,136 @@
+//! The head of a run: its program and the world at the start.
+
+use crate::VERSION;
+use crate::places::{content_value, digits, place_name};
+use bitflags::Flags;
+use lab_texts::ProgramNames;
+use machine::Machine;
+use serde_json::{Map, Value, json};
+use std::alloc::{AllocError, Global};
+use std::str;
+use step_views::{Content, Place, StreamPart, content_of};
+use stream_core::Status;
+use tag_memory::Word;
+
+/// The head of a run of a program with this text, on a machine that has taken no step.
+pub fn head_value<const S: usize>(
+    alloc: Global,
+    name: &str,
+    schedule: &str,
+    text: &[u8],
+    names: &ProgramNames,
+    machine: &Machine<'_, S>,
+) -> Result<Value, AllocError> {
+    let source = source_value(alloc, text)?;
+    let program = program_value(alloc, names)?;
+    let data = data_value(alloc, names)?;
+    let places = places_value(alloc, machine)?;
+    let memory = memory_value(alloc, machine.image().cells())?;
+    json!(in alloc; {
+        "version": VERSION, "name": name, "schedule": schedule, "source": source, "program": program, "data": data,
+        "start": {"places": places, "memory": memory}
+    })
+}
+
+/// The lines of a text; a line that is no UTF-8 is empty.
+fn source_value(alloc: Global, text: &[u8]) -> Result<Value, AllocError> {
+    let mut lines = Vec::new(alloc);
+    for line in text.split(|byte| *byte == b'\n') {
+        let line = str::from_utf8(line).unwrap_or("");
+        lines.push(Value::String(String::from_str(alloc, line)?))?;
+    }
+    if text.ends_with(b"\n") {
+        lines.pop();
+    }
+    Ok(Value::Array(lines))
+}
+
+/// Of each program word its line, its place and its instruction.
+fn program_value(alloc: Global, names: &ProgramNames) -> Result<Value, AllocError> {
+    let mut words = Vec::new(alloc);
+    for word in 0..names.words() {
+        let mut place = String::new(alloc);
+        names.push_place(&mut place, word)?;
+        let line = names.line(word);
+        let statement = names.statement(word);
+        words.push(json!(in alloc; [line, place, statement])?)?;
+    }
+    Ok(Value::Array(words))
+}
+
+/// Of each line of data the address of its first word, how many it adds, its number, and its comment.
+fn data_value(alloc: Global, names: &ProgramNames) -> Result<Value, AllocError> {
+    let mut lines = Vec::new(alloc);
+    for line in names.data_lines() {
+        let address = line.first as u64 * 8;
+        let count = line.count;
+        let number = line.number as u64 + 1;
+        let comment = names.comment(address);
+        lines.push(json!(in alloc; [address, count, number, comment])?)?;
+    }
+    Ok(Value::Array(lines))
+}
+
+/// What stands in the places of streams and counts, where it is not zero.
+fn places_value<const S: usize>(
+    alloc: Global,
+    machine: &Machine<'_, S>,
+) -> Result<Value, AllocError> {
+    let mut places = Map::new(alloc);
+    for p in 0..machine.image().processors() {
+        let p = p as u8;
+        put_place(alloc, &mut places, machine, Place::Current { p })?;
+        put_place(alloc, &mut places, machine, Place::Reserved { p })?;
+        for part in [StreamPart::Status, StreamPart::Pc] {
+            put_place(alloc, &mut places, machine, Place::Stream { p, s: 0, part })?;
+        }
+        for number in 0..8 {
+            let part = StreamPart::Target(number);
+            put_place(alloc, &mut places, machine, Place::Stream { p, s: 0, part })?;
+        }
+    }
+    Ok(Value::Object(places))
+}
+
+/// Puts what stands in a place, where it is not zero.
+fn put_place<const S: usize>(
+    alloc: Global,
+    places: &mut Map<String, Value>,
+    machine: &Machine<'_, S>,
+    place: Place,
+) -> Result<(), AllocError> {
+    let Some(content) = content_of(machine, place) else {
+        return Ok(());
+    };
+    let is_zero = match content {
+        Content::Number(number) => number == 0,
+        Content::Status(status) => status == Status::Idle,
+        Content::Target(word) => word.bits() == 0,
+        Content::InTrap(is) => !is,
+        Content::Codes(_) | Content::Mask(_) | Content::Tags(_) => true,
+    };
+    if is_zero {
+        return Ok(());
+    }
+    let name = place_name(alloc, place)?;
+    serde_json::put(
+        places,
+        alloc,
+        name.as_str(),
+        content_value(alloc, place, content)?,
+    )
+}
+
+/// The words of a memory as runs: how many, value, tags.
+fn memory_value(alloc: Global, cells: &[Word]) -> Result<Value, AllocError> {
+    let mut runs = Vec::new(alloc);
+    let mut rest = cells;
+    while let Some((first, _)) = rest.split_first() {
+        let count = rest.iter().take_while(|word| **word == *first).count();
+        let value = digits(alloc, first.value())?;
+        let tags = u64::from(first.tags().bits());
+        runs.push(json!(in alloc; [count, value, tags])?)?;
+        rest = rest.get(count.max(1)..).unwrap_or(&[]);
+    }
+    Ok(Value::Array(runs))
+}

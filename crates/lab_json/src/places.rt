@@ -1,0 +1,113 @@
+//! Names of places and what stands in them.
+
+use bitflags::Flags;
+use serde_json::Value;
+use std::alloc::{AllocError, Global};
+use step_views::{Content, Place, StreamPart};
+use stream_core::{Codes, Outcome, Status, StatusWord, TrapMask};
+
+/// The name of a place: `2.0.r5`, `2.0.pc`, `2.scur`, `[8].value`.
+pub fn place_name(alloc: Global, place: Place) -> Result<String, AllocError> {
+    match place {
+        Place::Stream { p, s, part } => stream_place_name(alloc, p, s, part),
+        Place::Current { p } => format!(in alloc; "{p}.scur"),
+        Place::Reserved { p } => format!(in alloc; "{p}.sres"),
+        Place::Value { address } => format!(in alloc; "[{address}].value"),
+        Place::Tags { address } => format!(in alloc; "[{address}].tags"),
+    }
+}
+
+/// The name of a place of a stream.
+fn stream_place_name(alloc: Global, p: u8, s: u8, part: StreamPart) -> Result<String, AllocError> {
+    match part {
+        StreamPart::Pc => format!(in alloc; "{p}.{s}.pc"),
+        StreamPart::Codes => format!(in alloc; "{p}.{s}.codes"),
+        StreamPart::Mask => format!(in alloc; "{p}.{s}.mask"),
+        StreamPart::InTrap => format!(in alloc; "{p}.{s}.trap"),
+        StreamPart::TrapRegister => format!(in alloc; "{p}.{s}.xr"),
+        StreamPart::Retries => format!(in alloc; "{p}.{s}.retries"),
+        StreamPart::Status => format!(in alloc; "{p}.{s}.status"),
+        StreamPart::Register(number) => format!(in alloc; "{p}.{s}.r{number}"),
+        StreamPart::Target(number) => format!(in alloc; "{p}.{s}.t{number}"),
+    }
+}
+
+/// What stands in a place.
+pub fn content_value(alloc: Global, place: Place, content: Content) -> Result<Value, AllocError> {
+    match content {
+        Content::Number(number) if is_small(place) => Ok(Value::from(number)),
+        Content::Number(number) => digits(alloc, number),
+        Content::Codes(codes) => Ok(Value::from(codes_number(codes))),
+        Content::Mask(mask) => Ok(Value::from(mask_number(mask))),
+        Content::InTrap(is) => Ok(Value::from(u64::from(is))),
+        Content::Status(status) => status_value(alloc, status),
+        Content::Target(word) => digits(alloc, word.bits()),
+        Content::Tags(tags) => Ok(Value::from(u64::from(tags.bits()))),
+    }
+}
+
+/// Whether the numbers of a place have fewer than 64 bits.
+fn is_small(place: Place) -> bool {
+    match place {
+        Place::Stream { part, .. } => part == StreamPart::Pc || part == StreamPart::Retries,
+        Place::Current { .. } | Place::Reserved { .. } => true,
+        Place::Value { .. } | Place::Tags { .. } => false,
+    }
+}
+
+/// A 64-bit value, as a string of its decimal digits.
+pub fn digits(alloc: Global, value: u64) -> Result<Value, AllocError> {
+    Ok(Value::String(format!(in alloc; "{value}")?))
+}
+
+/// The 16 bits of condition codes.
+fn codes_number(codes: Codes) -> u64 {
+    let word = StatusWord {
+        pc: 0,
+        codes,
+        mask: TrapMask::NONE,
+        in_trap: false,
+    };
+    word.bits() >> 32
+}
+
+/// The three bits of a trap mask.
+fn mask_number(mask: TrapMask) -> u64 {
+    let word = StatusWord {
+        pc: 0,
+        codes: Codes::NONE,
+        mask,
+        in_trap: false,
+    };
+    word.bits() >> 48
+}
+
+/// A stream's status: `idle`, `running`, or `stopped` and the trap.
+fn status_value(alloc: Global, status: Status) -> Result<Value, AllocError> {
+    let text = match status {
+        Status::Idle => String::from_str(alloc, "idle")?,
+        Status::Running => String::from_str(alloc, "running")?,
+        Status::Stopped(trap) => {
+            let number = trap.number();
+            format!(in alloc; "stopped {number}")?
+        }
+    };
+    Ok(Value::String(text))
+}
+
+/// How a step came out: `done`, `blocked`, `skipped`, `trapped` or `stopped` and the trap.
+pub fn outcome_name(alloc: Global, outcome: Outcome) -> Result<String, AllocError> {
+    match outcome {
+        Outcome::Skipped => String::from_str(alloc, "skipped"),
+        Outcome::Done => String::from_str(alloc, "done"),
+        Outcome::Blocked => String::from_str(alloc, "blocked"),
+        Outcome::Trapped(trap) => {
+            let number = trap.number();
+            format!(in alloc; "trapped {number}")
+        }
+        Outcome::Stopped(trap) => {
+            let number = trap.number();
+            format!(in alloc; "stopped {number}")
+        }
+    }
+}

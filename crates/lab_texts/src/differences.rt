@@ -1,0 +1,208 @@
+//! In what two worlds differ.
+
+use crate::changes::push_part;
+use crate::names::ProgramNames;
+use crate::words::{NumberStyle, push_content, push_stream, push_tags, push_value};
+use machine::Machine;
+use std::alloc::{AllocError, Global};
+use step_views::{Change, Place, StreamPart, content_of};
+use tag_memory::Word;
+
+/// Adds a line for each word of the memory that is not the image's: what it was, what it is, and the comment of its
+/// line.
+pub fn push_differing_words<const S: usize>(
+    out: &mut String,
+    names: &ProgramNames,
+    style: NumberStyle,
+    machine: &Machine<'_, S>,
+) -> Result<(), AllocError> {
+    for (index, cell) in machine.image().cells().iter().enumerate() {
+        let address = index as u64 * 8;
+        if let Some(word) = machine.word(address)
+            && word != *cell
+        {
+            push_word_change(out, style, address, *cell, word)?;
+            push_comment(out, names, address)?;
+            out.push_str("\n")?;
+        }
+    }
+    Ok(())
+}
+
+/// Adds the words of the memory that are not the image's in one line, as `[0] 0 -> 4, [8] 0 -> 2`, and the comment where
+/// there is one word alone.
+pub fn push_changed_words<const S: usize>(
+    out: &mut String,
+    names: &ProgramNames,
+    style: NumberStyle,
+    machine: &Machine<'_, S>,
+) -> Result<(), AllocError> {
+    let mut only = None;
+    let mut count = 0;
+    for (index, cell) in machine.image().cells().iter().enumerate() {
+        let address = index as u64 * 8;
+        if let Some(word) = machine.word(address)
+            && word != *cell
+        {
+            if !out.is_empty() {
+                out.push_str(", ")?;
+            }
+            push_word_change(out, style, address, *cell, word)?;
+            only = Some(address);
+            count += 1;
+        }
+    }
+    match only {
+        Some(address) if count == 1 => push_comment(out, names, address),
+        _ => Ok(()),
+    }
+}
+
+/// Adds the comment of a word, where it has one.
+fn push_comment(out: &mut String, names: &ProgramNames, address: u64) -> Result<(), AllocError> {
+    let comment = names.comment(address);
+    if !comment.is_empty() {
+        out.push_str("   ")?;
+        out.push_str(comment)?;
+    }
+    Ok(())
+}
+
+/// Adds a word that differs: the value and, where they differ, the tags, before and after.
+fn push_word_change(
+    out: &mut String,
+    style: NumberStyle,
+    address: u64,
+    before: Word,
+    after: Word,
+) -> Result<(), AllocError> {
+    write!(out, "[{address}] ")?;
+    let values = before.value() != after.value();
+    let tags = before.tags() != after.tags();
+    if values {
+        push_value(out, style, before.value())?;
+        out.push_str(" -> ")?;
+        push_value(out, style, after.value())?;
+    }
+    if values && tags {
+        out.push_str(", ")?;
+    }
+    if tags {
+        push_tags(out, before.tags())?;
+        out.push_str(" -> ")?;
+        push_tags(out, after.tags())?;
+    }
+    Ok(())
+}
+
+/// The places in which the worlds of two machines over one image differ, with what stands there in the one and in the
+/// other: of streams and counts in the order of processor and stream, then of words.
+pub fn world_differences<const S: usize>(
+    alloc: Global,
+    one: &Machine<'_, S>,
+    other: &Machine<'_, S>,
+) -> Result<Vec<Change>, AllocError> {
+    let mut found = Vec::new(alloc);
+    for p in 0..one.image().processors() {
+        let p = p as u8;
+        note_difference(&mut found, Place::Current { p }, one, other)?;
+        note_difference(&mut found, Place::Reserved { p }, one, other)?;
+        for s in 0..one.image().slim() {
+            note_stream_differences(&mut found, p, s as u8, one, other)?;
+        }
+    }
+    for index in 0..one.image().cells().len() {
+        let address = index as u64 * 8;
+        note_difference(&mut found, Place::Value { address }, one, other)?;
+        note_difference(&mut found, Place::Tags { address }, one, other)?;
+    }
+    Ok(found)
+}
+
+/// The parts of a stream that are no registers.
+const STATE: [StreamPart; 7] = [
+    StreamPart::Pc,
+    StreamPart::Codes,
+    StreamPart::Mask,
+    StreamPart::InTrap,
+    StreamPart::TrapRegister,
+    StreamPart::Retries,
+    StreamPart::Status,
+];
+
+/// Notes in what a stream differs between two worlds.
+fn note_stream_differences<const S: usize>(
+    found: &mut Vec<Change>,
+    p: u8,
+    s: u8,
+    one: &Machine<'_, S>,
+    other: &Machine<'_, S>,
+) -> Result<(), AllocError> {
+    if one.stream(p, s) == other.stream(p, s) {
+        return Ok(());
+    }
+    for part in STATE {
+        note_difference(found, Place::Stream { p, s, part }, one, other)?;
+    }
+    for number in 0..32 {
+        let part = StreamPart::Register(number);
+        note_difference(found, Place::Stream { p, s, part }, one, other)?;
+    }
+    for number in 0..8 {
+        let part = StreamPart::Target(number);
+        note_difference(found, Place::Stream { p, s, part }, one, other)?;
+    }
+    Ok(())
+}
+
+/// Notes what stands in a place in two worlds, where it differs.
+fn note_difference<const S: usize>(
+    found: &mut Vec<Change>,
+    place: Place,
+    one: &Machine<'_, S>,
+    other: &Machine<'_, S>,
+) -> Result<(), AllocError> {
+    let (Some(before), Some(after)) = (content_of(one, place), content_of(other, place)) else {
+        return Ok(());
+    };
+    if before != after {
+        found.push(Change {
+            place,
+            before,
+            after,
+        })?;
+    }
+    Ok(())
+}
+
+/// Adds places in which two worlds differ, as `0.0.pc 1 | 0`.
+pub fn push_differences(
+    out: &mut String,
+    style: NumberStyle,
+    differences: &[Change],
+) -> Result<(), AllocError> {
+    for (index, change) in differences.iter().enumerate() {
+        if index > 0 {
+            out.push_str(", ")?;
+        }
+        push_place_name(out, change.place)?;
+        push_content(out, style, change.before)?;
+        out.push_str(" | ")?;
+        push_content(out, style, change.after)?;
+    }
+    Ok(())
+}
+
+/// Adds the name of a place, as `2.0.r5 ` and `[8] `.
+fn push_place_name(out: &mut String, place: Place) -> Result<(), AllocError> {
+    match place {
+        Place::Stream { p, s, part } => {
+            push_stream(out, p, s)?;
+            out.push_str(".")?;
+            push_part(out, part)
+        }
+        Place::Current { p } => write!(out, "{p} streams "),
+        Place::Reserved { p } => write!(out, "{p} places "),
+        Place::Value { address } | Place::Tags { address } => write!(out, "[{address}] "),
+    }
+}

@@ -1,0 +1,21 @@
+//! What people read of a program and its runs: names of its places, what a step did, who waits for what, and how a run
+//! ended (docs/LAB.md).
+#![tactic(auto)]
+
+mod changes;
+mod differences;
+mod ends;
+mod names;
+mod step_lines;
+mod waits;
+mod words;
+
+pub use changes::{push_changes, push_part_of};
+pub use differences::{
+    push_changed_words, push_differences, push_differing_words, world_differences,
+};
+pub use ends::{EndKind, RunEnd, StoppedStream, end_of, push_end};
+pub use names::ProgramNames;
+pub use step_lines::{Columns, push_lane_head, push_lane_line, push_step_line};
+pub use waits::{LastTurn, StreamWait, circle_of, waits_of};
+pub use words::{NumberStyle, push_stream, push_trap, push_value, push_word};

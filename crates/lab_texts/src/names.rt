@@ -1,0 +1,179 @@
+//! The names that a program's text gives its places.
+
+use source_places::{DataLine, SourceLabel, SourcePlaces, comment_of};
+use std::alloc::{AllocError, Global};
+use std::str;
+
+/// A word of the program, by the text.
+#[derive(Clone, Copy, Debug)]
+struct WordName<'t> {
+    /// Its line, from 1.
+    line: usize,
+    /// The last label at or before it; empty where there is none.
+    label: &'t str,
+    /// How many words it stands behind the label, or behind the program's begin.
+    offset: usize,
+    /// Its instruction.
+    statement: &'t str,
+}
+
+/// The names that a program's text, its source or its listing, gives words of the program and of the memory.
+#[derive(Drop)]
+pub struct ProgramNames<'t> {
+    words: Vec<WordName<'t>>,
+    data: Vec<DataLine<'t>>,
+    place_width: usize,
+    statement_width: usize,
+}
+
+impl<'t> ProgramNames<'t> {
+    /// The names that a text gives. Only memory can be missing.
+    pub fn of(alloc: Global, text: &'t [u8]) -> Result<ProgramNames<'t>, AllocError> {
+        let places = SourcePlaces::of(alloc, text)?;
+        let words = word_names(alloc, &places)?;
+        let place_width = words.iter().map(place_width).max().unwrap_or(0);
+        let statement_width = words
+            .iter()
+            .map(|word| word.statement.len())
+            .max()
+            .unwrap_or(0);
+        Ok(ProgramNames {
+            words,
+            data: Vec::from_slice(alloc, places.data_lines())?,
+            place_width,
+            statement_width,
+        })
+    }
+
+    /// Adds the place of a program word: its label, as `eat+1`, or its number where no label stands before it.
+    pub fn push_place(&self, out: &mut String, word: u32) -> Result<(), AllocError> {
+        match self.words.get(word as usize) {
+            Some(name) if name.offset == 0 && !name.label.is_empty() => out.push_str(name.label),
+            Some(name) if !name.label.is_empty() => {
+                let label = name.label;
+                let offset = name.offset;
+                write!(out, "{label}+{offset}")
+            }
+            _ => write!(out, "{word}"),
+        }
+    }
+
+    /// The instruction of a program word as the text has it; empty where there is none.
+    pub fn statement(&self, word: u32) -> &'t str {
+        match self.words.get(word as usize) {
+            Some(name) => name.statement,
+            None => "",
+        }
+    }
+
+    /// The line of a program word, from 1; 0 where there is none.
+    pub fn line(&self, word: u32) -> usize {
+        match self.words.get(word as usize) {
+            Some(name) => name.line,
+            None => 0,
+        }
+    }
+
+    /// How many words the program has.
+    pub fn words(&self) -> u32 {
+        self.words.len() as u32
+    }
+
+    /// The lines that add words of the memory, in their order.
+    pub fn data_lines(&self) -> &[DataLine<'t>] {
+        &self.data
+    }
+
+    /// The comment of the line that made the word at a byte address; empty where there is none.
+    pub fn comment(&self, address: u64) -> &'t str {
+        let word = (address / 8) as usize;
+        let behind = self.data.partition_point(|line| line.first <= word);
+        let Some(line) = behind.checked_sub(1).and_then(|place| self.data.get(place)) else {
+            return "";
+        };
+        if word - line.first >= line.count {
+            return "";
+        }
+        match comment_of(line.bytes) {
+            Some(comment) => without_number(text_of(comment).trim()),
+            None => "",
+        }
+    }
+
+    /// The length of the longest place.
+    pub fn place_width(&self) -> usize {
+        self.place_width
+    }
+
+    /// The length of the longest instruction.
+    pub fn statement_width(&self) -> usize {
+        self.statement_width
+    }
+}
+
+/// The names of the program's words, in their order.
+fn word_names<'t>(
+    alloc: Global,
+    places: &SourcePlaces<'t>,
+) -> Result<Vec<WordName<'t>>, AllocError> {
+    let mut names = Vec::new(alloc);
+    let mut labels = places.labels();
+    let mut label = "";
+    let mut first = 0;
+    let mut word = 0;
+    while let Some(line) = places.line(word) {
+        while let Some((next, rest)) = next_label(labels, word) {
+            label = text_of(next.name);
+            first = next.place.value;
+            labels = rest;
+        }
+        names.push(WordName {
+            line: line.number.saturating_add(1),
+            label,
+            offset: word.saturating_sub(first),
+            statement: statement_of(line.bytes),
+        })?;
+        word += 1;
+    }
+    Ok(names)
+}
+
+/// The next label, where it stands at or before a word.
+fn next_label<'l, 't>(
+    labels: &'l [SourceLabel<'t>],
+    word: usize,
+) -> Option<(&'l SourceLabel<'t>, &'l [SourceLabel<'t>])> {
+    let (next, rest) = labels.split_first()?;
+    if next.place.value <= word {
+        Some((next, rest))
+    } else {
+        None
+    }
+}
+
+/// What stands on a line between label and comment.
+fn statement_of(line: &[u8]) -> &str {
+    text_of(asm_line::cut_line(line).statement).trim()
+}
+
+/// A comment without the word's number in front of it, as in `word 1: the count`.
+fn without_number(comment: &str) -> &str {
+    let Some(rest) = comment.strip_prefix("word ") else {
+        return comment;
+    };
+    match rest.split_once(": ") {
+        Some((number, words)) if number.bytes().all(|byte| byte.is_ascii_digit()) => words.trim(),
+        _ => comment,
+    }
+}
+
+/// Bytes as text; empty where they are none.
+fn text_of(bytes: &[u8]) -> &str {
+    str::from_utf8(bytes).unwrap_or("")
+}
+
+/// How many bytes a place takes.
+fn place_width(name: &WordName) -> usize {
+    let digits = if name.offset < 10 { 2 } else { 4 };
+    name.label.len().saturating_add(digits)
+}

@@ -1,0 +1,239 @@
+//! Lines that show steps.
+
+use crate::changes::push_changes;
+use crate::names::ProgramNames;
+use crate::waits::wanted_word;
+use crate::words::{NumberStyle, push_stream, push_trap, push_word, trap_words};
+use machine::Machine;
+use processor::Step;
+use std::alloc::AllocError;
+use step_views::{Place, Reference, StepView};
+use stream_core::{Outcome, Status, TrapKind};
+use tag_memory::{MemOp, Reply};
+use waiting::wait_of;
+
+/// The widest column of a step's number.
+const NUMBER_WIDTH: usize = 8;
+
+/// The columns of lines that show steps.
+#[derive(Clone, Copy, Debug)]
+pub struct Columns {
+    /// How many bytes the number of a step takes.
+    pub number: usize,
+    /// How many bytes a place of the program takes.
+    pub place: usize,
+    /// How many bytes an instruction takes.
+    pub statement: usize,
+    /// How many bytes the changes take, before a comment.
+    pub changes: usize,
+}
+
+impl Columns {
+    /// The columns for a run of so many steps of a program with these names.
+    pub fn of(names: &ProgramNames, steps: usize) -> Columns {
+        let mut number = 3;
+        let mut most = 999;
+        while number < NUMBER_WIDTH && steps > most {
+            number += 1;
+            most = most.saturating_mul(10).saturating_add(9);
+        }
+        Columns {
+            number,
+            place: names.place_width().clamp(6, 24),
+            statement: names.statement_width().clamp(12, 40),
+            changes: 24,
+        }
+    }
+}
+
+/// Adds the line of a step of this number, with its end. The machine has just taken it.
+pub fn push_step_line<const S: usize>(
+    out: &mut String,
+    names: &ProgramNames,
+    style: NumberStyle,
+    columns: Columns,
+    number: usize,
+    view: &StepView,
+    machine: &Machine<'_, S>,
+) -> Result<(), AllocError> {
+    let width = columns.number;
+    write!(out, "{number:>width$}  ")?;
+    let begin = out.len();
+    push_stream(out, view.step.p, view.step.s)?;
+    pad(out, begin, 7)?;
+    let begin = out.len();
+    names.push_place(out, view.pc)?;
+    pad(out, begin, columns.place)?;
+    let begin = out.len();
+    out.push_str("  ")?;
+    out.push_str(names.statement(view.pc))?;
+    pad(out, begin, columns.statement + 4)?;
+    let begin = out.len();
+    push_what(out, names, style, view, machine)?;
+    if let Some(address) = met_word(view) {
+        let comment = names.comment(address);
+        if !comment.is_empty() {
+            pad(out, begin, columns.changes)?;
+            out.push_str("  ")?;
+            out.push_str(comment)?;
+        }
+    }
+    end_line(out)
+}
+
+/// Adds the line of a step with a column for each of these streams, in which its instruction stands.
+pub fn push_lane_line<const S: usize>(
+    out: &mut String,
+    names: &ProgramNames,
+    style: NumberStyle,
+    columns: Columns,
+    lanes: &[Step],
+    number: usize,
+    view: &StepView,
+    machine: &Machine<'_, S>,
+) -> Result<(), AllocError> {
+    let width = columns.number;
+    write!(out, "{number:>width$}  ")?;
+    for lane in lanes {
+        let begin = out.len();
+        if *lane == view.step {
+            out.push_str(names.statement(view.pc))?;
+        }
+        pad(out, begin, columns.statement + 2)?;
+    }
+    push_what(out, names, style, view, machine)?;
+    end_line(out)
+}
+
+/// Adds the head of such lines: the name of each stream above its column.
+pub fn push_lane_head(
+    out: &mut String,
+    columns: Columns,
+    lanes: &[Step],
+) -> Result<(), AllocError> {
+    let begin = out.len();
+    pad(out, begin, columns.number + 2)?;
+    for lane in lanes {
+        let begin = out.len();
+        push_stream(out, lane.p, lane.s)?;
+        pad(out, begin, columns.statement + 2)?;
+    }
+    end_line(out)
+}
+
+/// Ends a line, without blanks at its end.
+fn end_line(out: &mut String) -> Result<(), AllocError> {
+    let kept = out.trim_end_matches(' ').len();
+    out.truncate(kept);
+    out.push_str("\n")
+}
+
+/// Adds blanks up to a column behind a place in the text.
+fn pad(out: &mut String, begin: usize, width: usize) -> Result<(), AllocError> {
+    let used = out.len().saturating_sub(begin);
+    for _ in used..width {
+        out.push_str(" ")?;
+    }
+    Ok(())
+}
+
+/// The word that a step met: where its request ended, where that is a word.
+fn met_word(view: &StepView) -> Option<u64> {
+    let reference = view.reference?;
+    match reference.reply {
+        Reply::Done(_) | Reply::Blocked(_) => Some(reference.address),
+        Reply::Trap(_, _) => None,
+    }
+}
+
+/// Adds what a step did.
+fn push_what<const S: usize>(
+    out: &mut String,
+    names: &ProgramNames,
+    style: NumberStyle,
+    view: &StepView,
+    machine: &Machine<'_, S>,
+) -> Result<(), AllocError> {
+    let begin = out.len();
+    match view.outcome {
+        Outcome::Skipped => return push_skipped(out, view, machine),
+        Outcome::Trapped(trap) | Outcome::Stopped(trap) => push_trapped(out, trap, view)?,
+        Outcome::Blocked => push_blocked(out, view, machine)?,
+        Outcome::Done => push_unchanged_word(out, style, view, machine)?,
+    }
+    push_changes(out, names, style, view, begin)
+}
+
+/// Adds why a step was skipped.
+fn push_skipped<const S: usize>(
+    out: &mut String,
+    view: &StepView,
+    machine: &Machine<'_, S>,
+) -> Result<(), AllocError> {
+    let stream = machine.stream(view.step.p, view.step.s);
+    match stream.map(|stream| stream.status()) {
+        None => out.push_str("there is no such stream"),
+        Some(Status::Stopped(_)) => out.push_str("has stopped: nothing happens"),
+        Some(_) => out.push_str("does not run: nothing happens"),
+    }
+}
+
+/// Adds a trap, with the address where the memory refused it.
+fn push_trapped(out: &mut String, trap: TrapKind, view: &StepView) -> Result<(), AllocError> {
+    push_trap(out, trap)?;
+    if let Some(Reference { address, .. }) = view.reference {
+        write!(out, " at [{address}]")?;
+    }
+    out.push_str(": ")?;
+    out.push_str(trap_words(trap))
+}
+
+/// Adds what a blocked step waits for.
+fn push_blocked<const S: usize>(
+    out: &mut String,
+    view: &StepView,
+    machine: &Machine<'_, S>,
+) -> Result<(), AllocError> {
+    match wait_of(machine, view.step.p, view.step.s) {
+        Some(wait) => {
+            let address = wait.address;
+            let wanted = wanted_word(wait.wanted);
+            write!(out, "waits for [{address}] to be {wanted}")
+        }
+        None => out.push_str("is blocked"),
+    }
+}
+
+/// Adds the word that a done reference met, where it left it as it was.
+fn push_unchanged_word<const S: usize>(
+    out: &mut String,
+    style: NumberStyle,
+    view: &StepView,
+    machine: &Machine<'_, S>,
+) -> Result<(), AllocError> {
+    let Some(
+        Reference {
+            address,
+            request,
+            ..
+        },
+    ) = view.reference
+    else {
+        return Ok(());
+    };
+    let changed = view.changes.iter().any(|change| {
+        change.place == Place::Value { address } || change.place == Place::Tags { address }
+    });
+    let Some(word) = machine.word(address) else {
+        return Ok(());
+    };
+    if changed {
+        return Ok(());
+    }
+    let verb = match request.op {
+        MemOp::Load | MemOp::TagGet => "is",
+        MemOp::Store | MemOp::Fadd | MemOp::TagSet | MemOp::Purge => "stays",
+    };
+    write!(out, "[{address}] {verb} ")?;
+    push_word(out, style, word)
+}

@@ -1,0 +1,152 @@
+//! The command `grade`.
+
+use crate::answer::{Answer, Status};
+use crate::inputs::Inputs;
+use crate::json::push_object;
+use crate::lab_fault::LabFault;
+use crate::outcomes::{OutcomeKind, SeedEnd, push_expectation};
+use crate::programs::program_of;
+use crate::surveying::{ends_of, expected_of, status_of};
+use expectations::Expectation;
+use lab_command_line::GradeRequest;
+use lab_json::VERSION;
+use serde_json::json;
+use std::alloc::{AllocError, Global};
+use std::io::Read;
+use std::rt::Files;
+use std::thread::Threads;
+
+/// What is said of a submission.
+#[derive(Drop)]
+struct Verdict {
+    /// The word of the table.
+    word: &'static str,
+    /// Why, and by which seed.
+    why: String,
+    /// What it means for the exit status.
+    status: Status,
+}
+
+/// Judges submissions, each by the same seeds.
+pub(crate) fn grade<X: Threads + Sync, F: Files, R: Read>(
+    rt: &X,
+    alloc: Global,
+    inputs: &mut Inputs<'_, F, R>,
+    request: &GradeRequest,
+) -> Result<Answer, LabFault> {
+    let expected = expected_of(alloc, inputs, request.expected)?;
+    let mut output = String::new(alloc);
+    let mut status = Status::Done;
+    for path in &request.submissions {
+        let verdict = verdict_of(rt, alloc, inputs, request, &expected, path)?;
+        status = status.worse(verdict.status);
+        push_verdict(alloc, &mut output, request.shown.json, path, &verdict)?;
+    }
+    Ok(Answer {
+        output,
+        errors: String::new(alloc),
+        status,
+    })
+}
+
+/// What is said of a submission: the first that holds of any of its runs of a trap, a deadlock, a wrong end, a bound.
+fn verdict_of<X: Threads + Sync, F: Files, R: Read>(
+    rt: &X,
+    alloc: Global,
+    inputs: &mut Inputs<'_, F, R>,
+    request: &GradeRequest,
+    expected: &[Expectation],
+    path: &str,
+) -> Result<Verdict, LabFault> {
+    let program = match inputs
+        .read(alloc, path)
+        .and_then(|bytes| program_of(alloc, path, bytes))
+    {
+        Ok(program) => program,
+        Err(LabFault::Words(why) | LabFault::Lines(why)) => {
+            return Ok(Verdict {
+                word: "source fault",
+                why: first_line(alloc, &why)?,
+                status: Status::Fault,
+            });
+        }
+        Err(other) => return Err(other),
+    };
+    let ends = ends_of(
+        rt,
+        alloc,
+        &program,
+        expected,
+        0,
+        request.seeds,
+        request.most,
+    )?;
+    for (kind, word) in [
+        (OutcomeKind::Stopped, "trap"),
+        (OutcomeKind::Deadlock, "deadlock"),
+        (OutcomeKind::Finished, "wrong"),
+        (OutcomeKind::OutOfSteps, "ran out of steps"),
+    ] {
+        let found = ends.iter().find(|end| end.kind == kind && is_wrong(end));
+        if let Some(end) = found {
+            return Ok(Verdict {
+                word,
+                why: why_of(alloc, expected, end)?,
+                status: status_of(end, true),
+            });
+        }
+    }
+    let total = ends.len();
+    Ok(Verdict {
+        word: "right",
+        why: format!(in alloc; "{total} seeds")?,
+        status: Status::Done,
+    })
+}
+
+/// Whether an end is not as it has to be.
+fn is_wrong(end: &SeedEnd) -> bool {
+    match end.kind {
+        OutcomeKind::Deadlock | OutcomeKind::OutOfSteps => true,
+        OutcomeKind::Finished | OutcomeKind::Stopped => end.missed.is_some(),
+    }
+}
+
+/// Why an end is wrong: the seed, the expectation that it misses, who was stopped, and the words that changed.
+fn why_of(alloc: Global, expected: &[Expectation], end: &SeedEnd) -> Result<String, AllocError> {
+    let seed = end.seed;
+    let mut why = format!(in alloc; "seed {seed}")?;
+    if let Some(expectation) = end.missed.and_then(|place| expected.get(place)) {
+        why.push_str(": not ")?;
+        push_expectation(&mut why, expectation)?;
+    }
+    if !end.text.is_empty() {
+        let text = end.text.as_str();
+        write!(why, ": {text}")?;
+    }
+    Ok(why)
+}
+
+/// The first line of a text.
+fn first_line(alloc: Global, text: &str) -> Result<String, AllocError> {
+    String::from_str(alloc, text.split('\n').next().unwrap_or(""))
+}
+
+/// Adds the line of a submission, or its object.
+fn push_verdict(
+    alloc: Global,
+    out: &mut String,
+    json: bool,
+    path: &str,
+    verdict: &Verdict,
+) -> Result<(), LabFault> {
+    let word = verdict.word;
+    let why = verdict.why.as_str();
+    if json {
+        let value = json!(in alloc; {
+            "version": VERSION, "submission": path, "outcome": word, "words": why
+        })?;
+        return push_object(alloc, out, &value);
+    }
+    Ok(write!(out, "{path}\t{word}\t{why}\n")?)
+}

@@ -1,0 +1,117 @@
+//! The program, from its command line to its status.
+
+use crate::answer::{Answer, Status};
+use crate::assembling::assemble_file;
+use crate::checking::check;
+use crate::comparing::compare;
+use crate::grading::grade;
+use crate::inputs::Inputs;
+use crate::lab_fault::LabFault;
+use crate::scheduling::make_schedule;
+use crate::surveying::survey;
+use crate::viewing::view;
+use lab_command_line::{LabCommand, read_lab_command};
+use std::alloc::Global;
+use std::convert::AsStr;
+use std::io::{ErrorKind, Read, Write};
+use std::rt::Files;
+use std::thread::Threads;
+
+/// The program's version; CHANGELOG.md says what each brought.
+const VERSION: &str = "0.3.0";
+
+/// Runs the command of a command line, whose first word is the program's name, on these files and standard streams,
+/// and gives the exit status ("Exit statuses", docs/LAB.md). All is composed before anything is written.
+pub(crate) fn run_lab<X: Threads + Sync, S: AsStr, F: Files, R: Read, W: Write, E: Write>(
+    rt: &X,
+    alloc: Global,
+    words: &[S],
+    files: &F,
+    input: &mut R,
+    output: &mut W,
+    errors: &mut E,
+) -> u8 {
+    let command = match read_lab_command(alloc, VERSION, words) {
+        Ok(command) => command,
+        Err(error) if error.use_stderr() => {
+            let _ = write!(errors, "{error}");
+            return Status::NoCommand.number();
+        }
+        Err(help) => {
+            let _ = write!(output, "{help}");
+            return Status::Done.number();
+        }
+    };
+    let mut inputs = Inputs { files, input };
+    match answer_to(rt, alloc, &command, &mut inputs) {
+        Ok(answer) => tell(&answer, output, errors),
+        Err(fault) => tell_fault(&fault, errors),
+    }
+}
+
+/// What a command answers.
+fn answer_to<X: Threads + Sync, F: Files, R: Read>(
+    rt: &X,
+    alloc: Global,
+    command: &LabCommand,
+    inputs: &mut Inputs<'_, F, R>,
+) -> Result<Answer, LabFault> {
+    match command {
+        LabCommand::Check(request) => check(alloc, inputs, request),
+        LabCommand::Schedule {
+            program,
+            maker,
+            most,
+        } => make_schedule(alloc, inputs, program, *maker, *most),
+        LabCommand::View(request) => view(alloc, inputs, request),
+        LabCommand::Compare {
+            program,
+            one,
+            other,
+            shown,
+        } => compare(alloc, inputs, program, one, other, *shown),
+        LabCommand::Survey(request) => survey(rt, alloc, inputs, request),
+        LabCommand::Grade(request) => grade(rt, alloc, inputs, request),
+        LabCommand::Assemble { source, image } => assemble_file(alloc, inputs, source, *image),
+    }
+}
+
+/// Writes an answer, and gives its status.
+fn tell<W: Write, E: Write>(answer: &Answer, output: &mut W, errors: &mut E) -> u8 {
+    let status = match write_whole(output, answer.output.as_bytes()) {
+        Ok(()) => answer.status.number(),
+        Err(fault) => return tell_fault(&fault, errors),
+    };
+    let _ = write_whole(errors, answer.errors.as_bytes());
+    status
+}
+
+/// Writes why a command gave up, and gives its status.
+fn tell_fault<E: Write>(fault: &LabFault, errors: &mut E) -> u8 {
+    match fault {
+        LabFault::Words(words) => {
+            let _ = writeln!(errors, "mta_lab: {words}");
+        }
+        LabFault::Lines(lines) => {
+            let _ = write_whole(errors, lines.as_bytes());
+        }
+        LabFault::NoMemory => {
+            let _ = writeln!(errors, "mta_lab: no memory");
+        }
+        LabFault::Write => {
+            let _ = writeln!(errors, "mta_lab: write failed");
+        }
+        LabFault::Closed => return Status::Done.number(),
+    }
+    Status::Fault.number()
+}
+
+/// Writes all the bytes.
+fn write_whole<W: Write>(writer: &mut W, bytes: &[u8]) -> Result<(), LabFault> {
+    let result = writer.write_all(bytes).and_then(|()| writer.flush());
+    match result {
+        Ok(()) => Ok(()),
+        Err(error) if error.kind() == ErrorKind::BrokenPipe => Err(LabFault::Closed),
+        Err(_) => Err(LabFault::Write),
+    }
+}

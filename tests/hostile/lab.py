@@ -1,0 +1,147 @@
+"""The lab under hostile use: each allocation of its commands refused in turn, outputs that are full or that nobody
+reads, large and damaged inputs, bytes above 7F. Each run ends with words and a status of the table, and nothing is
+lost."""
+
+import os
+import random
+import re
+import subprocess
+from functools import partial
+
+from program import EXAMPLES, ROOT, Tally, read, run, write
+from refusing import interposer, refused_allocation
+
+LAB = os.path.join(ROOT, "crates/mta_lab/out/mta_lab")
+GRADED = os.path.join(EXAMPLES, "grading/submissions")
+STATUSES = {0, 1, 3, 4, 5}
+NO_MEMORY = b"mta_lab: no memory\n"
+# how many damaged images and texts are tried
+DAMAGED, TEXTS = 400, 400
+LARGEST = 33_554_432
+
+
+def lab(words, text=b"", **how):
+    return run(words, text, tool=LAB, **how)
+
+
+def example(name):
+    return os.path.join(EXAMPLES, name)
+
+
+def commands(folder):
+    """Command lines whose allocations are refused."""
+    wishes = write(folder, "wanted.expect", b"word 8 2 full # both\nfinished\n")
+    lock, ends, lost = example("lock.asm"), example("lock.ends.schedule"), example("lock.lost_update.schedule")
+    return [
+        ["check", lock, os.path.join(GRADED, "misspelt.asm")],
+        ["check", "--json", os.path.join(GRADED, "misspelt.asm")],
+        ["check", ends, "--program", lock],
+        ["schedule", "random", lock, "--seed", "7"],
+        ["schedule", "rounds", example("fetch_add.asm")],
+        ["view", lock, lost],
+        ["view", lock, lost, "--json"],
+        ["view", example("philosophers.asm"), example("philosophers.deadlock.schedule"), "--columns"],
+        ["compare", lock, ends, lost],
+        ["survey", lock, "--seeds", "5"],
+        ["survey", lock, "--seeds", "5", "--json"],
+        ["grade", "--expect", wishes, "--seeds", "5", *sorted(os.path.join(GRADED, it) for it in os.listdir(GRADED))],
+    ]
+
+
+def refuse_each(library, folder, words):
+    """Refuses each allocation of a command in turn: it ends as with ample memory, or says that memory was refused."""
+    tally = Tally()
+    ample = lab(words)
+    tally.check(f"{words[0]} with ample memory: {ample}", ample.status in STATUSES)
+    variables = refused_allocation(library, folder, 0)
+    lab(words, **variables)
+    count = int(read(variables["COUNT"]))
+    for number in range(1, count + 1):
+        ended = lab(words, **refused_allocation(library, folder, number))
+        tally.runs += 1
+        as_ever = (ended.status, ended.out, ended.err) == (ample.status, ample.out, ample.err)
+        told = ended.status == 1 and ended.out == b"" and ended.err == NO_MEMORY
+        unread = ended.status == 2 and ended.out == b"" and b"out of memory" in ended.err
+        tally.refused += told or unread
+        tally.check(f"{' '.join(words)}: allocation {number} refused: {ended}", as_ever or told or unread)
+    return tally
+
+
+def assembling(tally, library, folder):
+    """`asm` under refused memory and full disks: what was there stays, or the new image is whole."""
+    image = os.path.join(folder, "made.image")
+    words = ["asm", example("lock.asm"), "--out", image]
+    lab(words)
+    whole = read(image)
+    variables = refused_allocation(library, folder, 0)
+    lab(words, **variables)
+    for number in range(1, int(read(variables["COUNT"])) + 1):
+        write(folder, "made.image", b"before")
+        ended = lab(words, **refused_allocation(library, folder, number))
+        tally.runs += 1
+        tally.check(f"asm: allocation {number} refused: {ended}", (ended.status, read(image)) in (
+            (0, whole), (1, b"before"), (2, b"before")))
+        tally.check("asm leaves no file beside", not os.path.exists(image + ".new"))
+    write(folder, "made.image", b"before")
+    small = subprocess.run(["sh", "-c", 'trap "" XFSZ; ulimit -f 0; exec "$@"', "sh", LAB, *words], capture_output=True,
+                           check=False)
+    tally.check("asm on a full disk", (small.returncode, read(image)) == (1, b"before"))
+
+
+def outputs(tally):
+    """An output that is full is told, and one that nobody reads is not."""
+    words = [LAB, "view", example("lock.asm"), "--json"]
+    with open("/dev/full", "wb") as full:
+        ended = subprocess.run(words, stdout=full, stderr=subprocess.PIPE, check=False)
+        tally.check("a full output", (ended.returncode, ended.stderr) == (1, b"mta_lab: write failed\n"))
+    behind, front = os.pipe()
+    os.close(behind)
+    ended = subprocess.run(words, stdout=front, stderr=subprocess.PIPE, check=False)
+    os.close(front)
+    tally.check(f"an output that nobody reads: {ended}", (ended.returncode, ended.stderr) == (0, b""))
+    tally.runs += 2
+
+
+def damaged(tally, folder):
+    """Damaged images and texts: told in words, on each command that takes a program."""
+    image = os.path.join(folder, "whole.image")
+    lab(["asm", example("lock.asm"), "--out", image])
+    whole, source = read(image), read(example("lock.asm"))
+    choose = random.Random(1)
+    for number in range(DAMAGED + TEXTS):
+        data = bytearray(whole if number < DAMAGED else source)
+        for _ in range(choose.randint(1, 3)):
+            data[choose.randrange(len(data))] = choose.randrange(256)
+        path = write(folder, "damaged.asm", bytes(data[: choose.choice([len(data), choose.randrange(len(data))])]))
+        for words in (["check", path], ["view", path, "--steps", "50"], ["survey", path, "--seeds", "2", "--steps", "50"]):
+            ended = lab(words)
+            tally.runs += 1
+            tally.refused += ended.status == 1
+            tally.check(f"{words[0]} of damaged input {number}: {ended}", ended.status in STATUSES)
+            says = re.match(rb"[^\n]*:\d+:\d+: (error|warning): |mta_lab: ", ended.err) is not None
+            tally.check(f"{words[0]} of damaged input {number} says why", ended.status != 1 or says)
+
+
+def large(tally, folder):
+    """Inputs at the limit and above it, of one line or many, and of bytes above 7F."""
+    for name, data in (
+        ("line", b"a" * LARGEST), ("lines", b"\n" * LARGEST), ("above", b"\xC3" * 1_000_000), ("more", b"\n" * (LARGEST + 1)),
+        ("words", b" .entry 0\n" + b" NOP\n" * 65_536 + b" .data 0\n"), ("comment", b"; \xFF\x00\x1B[31m\n" * 1000),
+    ):
+        path = write(folder, name + ".asm", data)
+        ended = lab(["check", path])
+        tally.runs += 1
+        tally.check(f"{name}: {ended}", ended.status in (0, 1))
+        tally.check(f"{name} takes {ended.seconds} s", ended.seconds < 30)
+
+
+def part(pool, folder):
+    """All of it."""
+    tally, library = Tally(), interposer(folder)
+    for one in pool.map(partial(refuse_each, library, folder), commands(folder)):
+        tally.add(one)
+    assembling(tally, library, folder)
+    outputs(tally)
+    damaged(tally, folder)
+    large(tally, folder)
+    return tally
