@@ -36,3 +36,4 @@ mod replays;
 mod sources;
 #[cfg(test)]
 mod waits;
+mod views;

@@ -65,8 +65,7 @@ stream_piece w v p s None q e f = no_piece w v
 stream_piece w v p s (Some b) None e f = no_piece w v
 stream_piece w v p s (Some b) (Some a) e f = record {
   right = λ c h.
-      let is = of_stream p s b a c h in
-      (
+      let is = of_stream p s b a c h in (
         ap (content_of w) is.at ∙ part_there w p s is.part (Some b) e ∙ is.was,
         ap (content_of v) is.at ∙ part_there v p s is.part (Some a) f ∙ is.is,
       );

@@ -55,8 +55,7 @@ grows_by image proc n r (fetch.Instruction i) e within more =
     let v = stream_at proc.streams n in
     let c = control_of v i in
     let grant = grant_of image proc c in
-    let next = row_asking image.retry_limit v i grant r (request_of v i) in
-    (
+    let next = row_asking image.retry_limit v i grant r (request_of v i) in (
       grows_if_done proc n grant next.0 c next.1 (free image proc n i e) within more,
       (awake image proc n (ap rests e)).1,
     )

@@ -199,8 +199,7 @@ parts_have p s b a (y ∷ ys) x k l (inl same) e f =
       found.2,
     )
 parts_have p s b a (y ∷ ys) x k l (inr h) e f =
-    let found = parts_have p s b a ys x k l h e f in
-    (
+    let found = parts_have p s b a ys x k l h e f in (
       found.0,
       in_right (part_entry (place.Stream p s y) (part_content b y) (part_content a y)) (part_entries p s b a ys) found.0 found.1,
       found.2,

@@ -1,5 +1,6 @@
 -- What public contracts promise.
 pub mod Places
+pub mod Numbers
 pub mod Changes
 pub mod StepViews
 pub mod LastChanges

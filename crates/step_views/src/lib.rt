@@ -4,6 +4,7 @@
 
 mod differences;
 mod last_changes;
+mod numbers;
 mod places;
 mod reading;
 mod seen;
