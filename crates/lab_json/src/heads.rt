@@ -2,7 +2,6 @@
 
 use crate::VERSION;
 use crate::places::{content_value, digits, place_name};
-use bitflags::Flags;
 use lab_texts::ProgramNames;
 use machine::Machine;
 use serde_json::{Map, Value, json};
@@ -128,7 +127,7 @@ fn memory_value(alloc: Global, cells: &[Word]) -> Result<Value, AllocError> {
     while let Some((first, _)) = rest.split_first() {
         let count = rest.iter().take_while(|word| **word == *first).count();
         let value = digits(alloc, first.value())?;
-        let tags = u64::from(first.tags().bits());
+        let tags = u64::from(first.tag_number());
         runs.push(json!(in alloc; [count, value, tags])?)?;
         rest = rest.get(count.max(1)..).unwrap_or(&[]);
     }

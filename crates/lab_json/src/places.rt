@@ -1,10 +1,9 @@
 //! Names of places and what stands in them.
 
-use bitflags::Flags;
 use serde_json::Value;
 use std::alloc::{AllocError, Global};
 use step_views::{Content, Place, StreamPart};
-use stream_core::{Codes, Outcome, Status, StatusWord, TrapMask};
+use stream_core::{Outcome, Status};
 
 /// The name of a place: `2.0.r5`, `2.0.pc`, `2.scur`, `[8].value`.
 pub fn place_name(alloc: Global, place: Place) -> Result<String, AllocError> {
@@ -35,14 +34,10 @@ fn stream_place_name(alloc: Global, p: u8, s: u8, part: StreamPart) -> Result<St
 /// What stands in a place.
 pub fn content_value(alloc: Global, place: Place, content: Content) -> Result<Value, AllocError> {
     match content {
-        Content::Number(number) if is_small(place) => Ok(Value::from(number)),
-        Content::Number(number) => digits(alloc, number),
-        Content::Codes(codes) => Ok(Value::from(codes_number(codes))),
-        Content::Mask(mask) => Ok(Value::from(mask_number(mask))),
-        Content::InTrap(is) => Ok(Value::from(u64::from(is))),
         Content::Status(status) => status_value(alloc, status),
+        Content::Number(number) if !is_small(place) => digits(alloc, number),
         Content::Target(word) => digits(alloc, word.bits()),
-        Content::Tags(tags) => Ok(Value::from(u64::from(tags.bits()))),
+        _ => Ok(Value::from(content.number().unwrap_or(0))),
     }
 }
 
@@ -58,28 +53,6 @@ fn is_small(place: Place) -> bool {
 /// A 64-bit value, as a string of its decimal digits.
 pub fn digits(alloc: Global, value: u64) -> Result<Value, AllocError> {
     Ok(Value::String(format!(in alloc; "{value}")?))
-}
-
-/// The 16 bits of condition codes.
-fn codes_number(codes: Codes) -> u64 {
-    let word = StatusWord {
-        pc: 0,
-        codes,
-        mask: TrapMask::NONE,
-        in_trap: false,
-    };
-    word.bits() >> 32
-}
-
-/// The three bits of a trap mask.
-fn mask_number(mask: TrapMask) -> u64 {
-    let word = StatusWord {
-        pc: 0,
-        codes: Codes::NONE,
-        mask,
-        in_trap: false,
-    };
-    word.bits() >> 48
 }
 
 /// A stream's status: `idle`, `running`, or `stopped` and the trap.
