@@ -66,7 +66,7 @@ fn verdict_of<X: Threads + Sync, F: Files, R: Read>(
         Err(LabFault::Words(why) | LabFault::Lines(why)) => {
             return Ok(Verdict {
                 word: "source fault",
-                why: first_line(alloc, &why)?,
+                why: short_fault(alloc, path, &why)?,
                 status: Status::Fault,
             });
         }
@@ -127,9 +127,15 @@ fn why_of(alloc: Global, expected: &[Expectation], end: &SeedEnd) -> Result<Stri
     Ok(why)
 }
 
-/// The first line of a text.
-fn first_line(alloc: Global, text: &str) -> Result<String, AllocError> {
-    String::from_str(alloc, text.split('\n').next().unwrap_or(""))
+/// The first line of what is wrong with a file, without its path: `8:9: no operation is called load.N`.
+fn short_fault(alloc: Global, path: &str, lines: &str) -> Result<String, AllocError> {
+    let line = lines.split('\n').next().unwrap_or("");
+    let line = line.strip_prefix(path).unwrap_or(line);
+    let line = line.strip_prefix(':').unwrap_or(line);
+    match line.split_once(" error: ") {
+        Some((place, words)) => format!(in alloc; "{place} {words}"),
+        None => String::from_str(alloc, line.trim()),
+    }
 }
 
 /// Adds the line of a submission, or its object.
