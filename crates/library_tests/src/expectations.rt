@@ -23,7 +23,12 @@ const ROWS: [Row; 12] = [
     (STOPPING, 3, "word 0 5 full\nword 8 7 full\n", Some(1)),
     (STOPPING, 3, "word 16 0", Some(0)),
     (STOPPING, 3, "word 0 0x5\nword 0 6", Some(1)),
-    (STOPPING, 3, "register 0.0 r01 5\nregister 0.1 r1 0", Some(1)),
+    (
+        STOPPING,
+        3,
+        "register 0.0 r01 5\nregister 0.1 r1 0",
+        Some(1),
+    ),
     (STOPPING, 3, "register 1.0 r1 0", Some(0)),
     (STOPPING, 3, "stopped 0.0 2", Some(0)),
     (STOPPING, 3, "finished", Some(0)),
@@ -54,8 +59,16 @@ const FAULTS: [(&str, usize, ExpectationFaultKind); 18] = [
     ("register 0.128 r1 0", 1, ExpectationFaultKind::Stream),
     ("register 0 r1 0", 1, ExpectationFaultKind::Stream),
     ("register 0.0 r32 0", 1, ExpectationFaultKind::Register),
-    ("word 8 0x10000000000000000", 1, ExpectationFaultKind::Number),
-    ("word 8 -0x8000000000000001", 1, ExpectationFaultKind::Number),
+    (
+        "word 8 0x10000000000000000",
+        1,
+        ExpectationFaultKind::Number,
+    ),
+    (
+        "word 8 -0x8000000000000001",
+        1,
+        ExpectationFaultKind::Number,
+    ),
     ("stopped 0.0 0", 1, ExpectationFaultKind::Trap),
     ("stopped 15.127 11", 1, ExpectationFaultKind::Trap),
 ];

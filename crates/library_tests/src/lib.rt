@@ -34,6 +34,6 @@ mod refused;
 mod replays;
 #[cfg(test)]
 mod sources;
+mod views;
 #[cfg(test)]
 mod waits;
-mod views;

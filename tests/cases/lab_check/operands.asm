@@ -6,7 +6,7 @@
 start:  ADD r1, r1
         ADD r1 r2 r3
         ADD r1, , r3
-        ADD r1, R2, -1
+        ADD r1, R20, -1
         LOAD r1, 8, 0
         LOAD r1, r2, r3
         TSET r1, t1
