@@ -107,11 +107,16 @@ fn pc_after(view: &StepView, p: u8, s: u8) -> u32 {
     };
     match view.changes.iter().find(|change| change.place == place) {
         Some(change) => match change.after {
-            Content::Number(pc) => pc as u32,
+            Content::Number(pc) => word_at(pc),
             _ => 0,
         },
         None => 0,
     }
+}
+
+/// A pc, which has 32 bits, as the number of a program word.
+fn word_at(pc: u64) -> u32 {
+    u32::try_from(pc).unwrap_or(u32::MAX)
 }
 
 /// What is needed to write a change.
@@ -155,7 +160,7 @@ impl ChangeWriter<'_, '_> {
             return Ok(());
         }
         push_part_of(out, self.begin, "to ")?;
-        self.names.push_place(out, after as u32)
+        self.names.push_place(out, word_at(after))
     }
 
     /// Adds a change of a stream that the step started; its pc stands behind its name.

@@ -1,5 +1,6 @@
 //! The names that a program's text gives its places.
 
+use image_file::MAX_PROGRAM_WORDS;
 use source_places::{DataLine, SourceLabel, SourcePlaces, comment_of};
 use std::alloc::{AllocError, Global};
 use std::str;
@@ -76,7 +77,7 @@ impl<'t> ProgramNames<'t> {
 
     /// How many words the program has.
     pub fn words(&self) -> u32 {
-        self.words.len() as u32
+        u32::try_from(self.words.len()).unwrap_or(u32::MAX)
     }
 
     /// The lines that add words of the memory, in their order.
@@ -87,13 +88,9 @@ impl<'t> ProgramNames<'t> {
     /// The comment of the line that made the word at a byte address; empty where there is none.
     pub fn comment(&self, address: u64) -> &'t str {
         let word = (address / 8) as usize;
-        let behind = self.data.partition_point(|line| line.first <= word);
-        let Some(line) = behind.checked_sub(1).and_then(|place| self.data.get(place)) else {
+        let Some(line) = line_of(&self.data, word) else {
             return "";
         };
-        if word - line.first >= line.count {
-            return "";
-        }
         match comment_of(line.bytes) {
             Some(comment) => without_number(text_of(comment).trim()),
             None => "",
@@ -111,21 +108,35 @@ impl<'t> ProgramNames<'t> {
     }
 }
 
+/// The line that made a data word; None where there is none.
+fn line_of<'l, 't>(lines: &'l [DataLine<'t>], word: usize) -> Option<&'l DataLine<'t>> {
+    let behind = lines.partition_point(|line| line.first <= word);
+    let line = lines.get(behind.checked_sub(1)?)?;
+    let place = word.checked_sub(line.first)?;
+    if place < line.count { Some(line) } else { None }
+}
+
 /// The names of the program's words, in their order.
 fn word_names<'t>(
     alloc: Global,
     places: &SourcePlaces<'t>,
 ) -> Result<Vec<WordName<'t>>, AllocError> {
+    let labels = places.labels();
     let mut names = Vec::new(alloc);
-    let mut labels = places.labels();
     let mut label = "";
     let mut first = 0;
-    let mut word = 0;
-    while let Some(line) = places.line(word) {
-        while let Some((next, rest)) = next_label(labels, word) {
-            label = text_of(next.name);
-            first = next.place.value;
-            labels = rest;
+    let mut next = 0;
+    for word in 0..MAX_PROGRAM_WORDS {
+        let Some(line) = places.line(word) else {
+            break;
+        };
+        for _ in 0..labels.len() {
+            let Some(found) = label_by(labels, next, word) else {
+                break;
+            };
+            label = text_of(found.name);
+            first = found.place.value;
+            next = next.saturating_add(1);
         }
         names.push(WordName {
             line: line.number.saturating_add(1),
@@ -133,19 +144,15 @@ fn word_names<'t>(
             offset: word.saturating_sub(first),
             statement: statement_of(line.bytes),
         })?;
-        word += 1;
     }
     Ok(names)
 }
 
-/// The next label, where it stands at or before a word.
-fn next_label<'l, 't>(
-    labels: &'l [SourceLabel<'t>],
-    word: usize,
-) -> Option<(&'l SourceLabel<'t>, &'l [SourceLabel<'t>])> {
-    let (next, rest) = labels.split_first()?;
-    if next.place.value <= word {
-        Some((next, rest))
+/// The label of this place in the list, where it stands at or before a word.
+fn label_by<'t>(labels: &[SourceLabel<'t>], place: usize, word: usize) -> Option<SourceLabel<'t>> {
+    let label = labels.get(place)?;
+    if label.place.value <= word {
+        Some(*label)
     } else {
         None
     }

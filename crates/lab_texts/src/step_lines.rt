@@ -123,8 +123,9 @@ pub fn push_lane_head(
 
 /// Ends a line, without blanks at its end.
 fn end_line(out: &mut String) -> Result<(), AllocError> {
-    let kept = out.trim_end_matches(' ').len();
-    out.truncate(kept);
+    while out.ends_with(' ') {
+        out.pop();
+    }
     out.push_str("\n")
 }
 

@@ -4,12 +4,11 @@ use crate::answer::{Answer, Status};
 use crate::inputs::Inputs;
 use crate::json::push_message_object;
 use crate::lab_fault::LabFault;
+use crate::loose_schedules::check_loose_schedule;
 use crate::programs::{is_image, read_program};
 use image_file::{Image, read_image};
 use lab_command_line::{CheckRequest, FileKind};
-use source_faults::{
-    Message, Severity, check_schedule, check_source, image_fault_words, push_message,
-};
+use source_faults::{Message, Severity, check_source, image_fault_words, push_message};
 use std::alloc::Global;
 use std::io::Read;
 use std::rt::Files;
@@ -84,7 +83,7 @@ fn messages_of(
 ) -> Result<Vec<Message>, LabFault> {
     match kind {
         FileKind::Source => Ok(check_source(alloc, bytes)?),
-        FileKind::Schedule => Ok(check_schedule(alloc, bytes, program)?),
+        FileKind::Schedule => Ok(check_loose_schedule(alloc, bytes, program)?),
         FileKind::Image => {
             let mut messages = Vec::new(alloc);
             if let Err(fault) = read_image(alloc, bytes) {

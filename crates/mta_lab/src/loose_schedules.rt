@@ -4,28 +4,58 @@ use processor::Step;
 use std::alloc::{AllocError, Global};
 use trace_text::{ScheduleFault, read_schedule};
 
-/// The steps that a text says. The fault has the line of this text, counted from 1.
+/// A schedule in the strict form, and of each of its lines the number, from 1, of the line that said it.
+#[derive(Drop)]
+pub(crate) struct StrictSchedule {
+    /// The text.
+    pub text: Vec<u8>,
+    /// The numbers.
+    pub lines: Vec<usize>,
+}
+
+impl StrictSchedule {
+    /// The strict form of a text.
+    pub(crate) fn of(alloc: Global, text: &[u8]) -> Result<StrictSchedule, AllocError> {
+        let mut strict = Vec::new(alloc);
+        let mut lines = Vec::new(alloc);
+        for (index, line) in text.split(|byte| *byte == b'\n').enumerate() {
+            if push_strict(&mut strict, line)? {
+                note_line(&mut lines, index)?;
+            }
+        }
+        Ok(StrictSchedule {
+            text: strict,
+            lines,
+        })
+    }
+
+    /// The number of the line that said a line of the strict form, both from 1.
+    pub(crate) fn line(&self, number: usize) -> usize {
+        let line = number
+            .checked_sub(1)
+            .and_then(|index| self.lines.get(index));
+        line.copied().unwrap_or(number)
+    }
+}
+
+/// The steps that a text says.
 pub(crate) fn read_loose_schedule(alloc: Global, text: &[u8]) -> Result<Vec<Step>, ScheduleFault> {
-    let mut strict = Vec::new(alloc);
-    let mut numbers = Vec::new(alloc);
-    for (index, line) in text.split(|byte| *byte == b'\n').enumerate() {
-        if push_strict(&mut strict, line)? {
-            note_line(&mut numbers, index)?;
-        }
+    let strict = StrictSchedule::of(alloc, text)?;
+    read_schedule(alloc, &strict.text)
+}
+
+/// What is to be said of a schedule, with the lines of its own text.
+pub(crate) fn check_loose_schedule(
+    alloc: Global,
+    text: &[u8],
+    image: Option<&Image>,
+) -> Result<Vec<Message>, AllocError> {
+    let strict = StrictSchedule::of(alloc, text)?;
+    let mut messages = check_schedule(alloc, &strict.text, image)?;
+    for message in messages.iter_mut() {
+        message.line = strict.line(message.line);
     }
-    match read_schedule(alloc, &strict) {
-        Ok(steps) => Ok(steps),
-        Err(fault) => {
-            let line = fault
-                .line
-                .checked_sub(1)
-                .and_then(|index| numbers.get(index));
-            Err(ScheduleFault {
-                line: line.copied().unwrap_or(fault.line),
-                kind: fault.kind,
-            })
-        }
-    }
+    Ok(messages)
 }
 
 /// Notes the number, from 1, of the line of this place.

@@ -4,7 +4,7 @@ use crate::programs::Program;
 use crate::scheduling::loaded;
 use expectations::{Expectation, FullEmpty, first_missed};
 use lab_texts::{
-    NumberStyle, ProgramNames, push_changed_words, push_part_of, push_stream, push_trap,
+    NumberStyle, ProgramNames, push_changed_words, push_part_of, push_stream, push_trap, push_value,
 };
 use machine::Machine;
 use schedule_makers::{MadeEnd, random};
@@ -150,8 +150,8 @@ pub(crate) fn push_expectation(
             value,
             state,
         } => {
-            let value = value as i64;
-            write!(out, "word {address} {value}")?;
+            write!(out, "word {address} ")?;
+            push_value(out, NumberStyle::Decimal, value)?;
             match state {
                 Some(FullEmpty::Full) => out.push_str(" full"),
                 Some(FullEmpty::Empty) => out.push_str(" empty"),
@@ -164,8 +164,8 @@ pub(crate) fn push_expectation(
             number,
             value,
         } => {
-            let value = value as i64;
-            write!(out, "register {p}.{s} r{number} {value}")
+            write!(out, "register {p}.{s} r{number} ")?;
+            push_value(out, NumberStyle::Decimal, value)
         }
         Expectation::Finished => out.push_str("finished"),
         Expectation::Stopped { p, s, trap } => write!(out, "stopped {p}.{s} {trap}"),

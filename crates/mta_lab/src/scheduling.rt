@@ -3,14 +3,14 @@
 use crate::answer::{Answer, Status};
 use crate::inputs::Inputs;
 use crate::lab_fault::LabFault;
-use crate::loose_schedules::read_loose_schedule;
+use crate::loose_schedules::{check_loose_schedule, read_loose_schedule};
 use crate::programs::{Program, read_program};
 use image_file::Image;
 use lab_command_line::{Maker, RunChoice};
 use machine::{LoadFault, Machine};
 use processor::Step;
 use schedule_makers::{MadeEnd, MadeSchedule, fair, random, rounds};
-use source_faults::{check_schedule, push_message};
+use source_faults::push_message;
 use std::alloc::{AllocError, Global};
 use std::io::Read;
 use std::rt::Files;
@@ -105,7 +105,7 @@ pub(crate) fn read_steps<F: Files, R: Read>(
         Ok(steps) => Ok(steps),
         Err(_) => {
             let mut lines = String::new(alloc);
-            for message in &check_schedule(alloc, &text, Some(&program.image))? {
+            for message in &check_loose_schedule(alloc, &text, Some(&program.image))? {
                 push_message(&mut lines, path, &text, message)?;
             }
             Err(LabFault::Lines(lines))
