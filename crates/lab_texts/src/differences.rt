@@ -38,7 +38,7 @@ pub fn push_changed_words<const S: usize>(
     machine: &Machine<'_, S>,
 ) -> Result<(), AllocError> {
     let mut only = None;
-    let mut count = 0;
+    let mut count: usize = 0;
     for (index, cell) in machine.image().cells().iter().enumerate() {
         let address = index as u64 * 8;
         if let Some(word) = machine.word(address)
@@ -49,7 +49,7 @@ pub fn push_changed_words<const S: usize>(
             }
             push_word_change(out, style, address, *cell, word)?;
             only = Some(address);
-            count += 1;
+            count = count.saturating_add(1);
         }
     }
     match only {

@@ -31,11 +31,13 @@ pub struct Columns {
 impl Columns {
     /// The columns for a run of so many steps of a program with these names.
     pub fn of(names: &ProgramNames, steps: usize) -> Columns {
-        let mut number = 3;
-        let mut most = 999;
-        while number < NUMBER_WIDTH && steps > most {
-            number += 1;
-            most = most.saturating_mul(10).saturating_add(9);
+        let mut number: usize = 3;
+        let mut most: usize = 999;
+        for _ in 3..NUMBER_WIDTH {
+            if steps > most {
+                number = number.saturating_add(1);
+                most = most.saturating_mul(10).saturating_add(9);
+            }
         }
         Columns {
             number,
@@ -67,7 +69,7 @@ pub fn push_step_line<const S: usize>(
     let begin = out.len();
     out.push_str("  ")?;
     out.push_str(names.statement(view.pc))?;
-    pad(out, begin, columns.statement + 4)?;
+    pad(out, begin, columns.statement.saturating_add(4))?;
     let begin = out.len();
     push_what(out, names, style, view, machine)?;
     if let Some(address) = met_word(view) {
@@ -99,7 +101,7 @@ pub fn push_lane_line<const S: usize>(
         if *lane == view.step {
             out.push_str(names.statement(view.pc))?;
         }
-        pad(out, begin, columns.statement + 2)?;
+        pad(out, begin, columns.statement.saturating_add(2))?;
     }
     push_what(out, names, style, view, machine)?;
     end_line(out)
@@ -112,18 +114,21 @@ pub fn push_lane_head(
     lanes: &[Step],
 ) -> Result<(), AllocError> {
     let begin = out.len();
-    pad(out, begin, columns.number + 2)?;
+    pad(out, begin, columns.number.saturating_add(2))?;
     for lane in lanes {
         let begin = out.len();
         push_stream(out, lane.p, lane.s)?;
-        pad(out, begin, columns.statement + 2)?;
+        pad(out, begin, columns.statement.saturating_add(2))?;
     }
     end_line(out)
 }
 
 /// Ends a line, without blanks at its end.
 fn end_line(out: &mut String) -> Result<(), AllocError> {
-    while out.ends_with(' ') {
+    for _ in 0..out.len() {
+        if !out.ends_with(' ') {
+            break;
+        }
         out.pop();
     }
     out.push_str("\n")

@@ -1,6 +1,8 @@
 //! Schedules as people write them: with comments behind `#`, blank lines, tabs and CR LF.
 
+use image_file::Image;
 use processor::Step;
+use source_faults::{Message, check_schedule};
 use std::alloc::{AllocError, Global};
 use trace_text::{ScheduleFault, read_schedule};
 

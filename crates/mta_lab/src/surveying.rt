@@ -14,7 +14,7 @@ use serde_json::json;
 use std::alloc::{AllocError, Global};
 use std::io::Read;
 use std::rt::Files;
-use std::thread::Threads;
+use std::thread::{Threads, available_parallelism, for_each_mut};
 
 /// Ends that agree.
 #[derive(Drop)]
@@ -103,7 +103,10 @@ fn expectation_words(
     format!(in alloc; "{path}:{line}:1: error: {words}\n")
 }
 
-/// The ends of the random schedules of so many seeds, in the order of the seeds, made side by side.
+/// The most threads of a survey.
+const MOST_THREADS: usize = 64;
+
+/// The ends of the random schedules of so many seeds, in the order of the seeds, made side by side on all cores.
 pub(crate) fn ends_of<X: Threads + Sync>(
     rt: &X,
     alloc: Global,
@@ -114,12 +117,31 @@ pub(crate) fn ends_of<X: Threads + Sync>(
     most: usize,
 ) -> Result<Vec<SeedEnd>, AllocError> {
     let names = ProgramNames::of(alloc, &program.text)?;
-    let mut ends = Vec::with_capacity(alloc, seeds)?;
-    for index in 0..seeds {
+    let mut places: Vec<Option<SeedEnd>> = Vec::with_capacity(alloc, seeds)?;
+    for _ in 0..seeds {
+        places.push(None)?;
+    }
+    let one = |index: usize, place: &mut Option<SeedEnd>| {
         let seed = first.wrapping_add(index as u64);
-        ends.push(seed_end(alloc, program, &names, expected, seed, most)?)?;
+        *place = seed_end(alloc, program, &names, expected, seed, most).ok();
+    };
+    for_each_mut(rt, &mut places, threads_of(rt), &one);
+    let mut ends = Vec::with_capacity(alloc, seeds)?;
+    for place in places {
+        match place {
+            Some(end) => ends.push(end)?,
+            None => return Err(AllocError),
+        }
     }
     Ok(ends)
+}
+
+/// How many threads are to run at once: as many as there are cores, at least one.
+fn threads_of<X: Threads>(rt: &X) -> usize {
+    match available_parallelism(rt) {
+        Ok(count) => count.get().min(MOST_THREADS),
+        Err(_) => 1,
+    }
 }
 
 /// How an end counts for the exit status.
