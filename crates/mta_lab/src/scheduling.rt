@@ -27,6 +27,7 @@ pub(crate) fn make_schedule<F: Files, R: Read>(
     let program = read_program(alloc, inputs, path)?;
     let made = made_by(alloc, &program.image, maker, most)?;
     let steps = made.steps.len();
+    let plural = if steps == 1 { "" } else { "s" };
     let why = match made.end {
         MadeEnd::NobodyRuns => "nobody runs",
         MadeEnd::Standstill => "deadlock",
@@ -34,7 +35,7 @@ pub(crate) fn make_schedule<F: Files, R: Read>(
     };
     Ok(Answer {
         output: write_schedule(alloc, &made.steps)?,
-        errors: format!(in alloc; "after {steps} steps: {why}\n")?,
+        errors: format!(in alloc; "after {steps} step{plural}: {why}\n")?,
         status: Status::Done,
     })
 }
