@@ -61,9 +61,9 @@ fn program_value(alloc: Global, names: &ProgramNames) -> Result<Value, AllocErro
 fn data_value(alloc: Global, names: &ProgramNames) -> Result<Value, AllocError> {
     let mut lines = Vec::new(alloc);
     for line in names.data_lines() {
-        let address = line.first as u64 * 8;
+        let address = (line.first as u64).saturating_mul(8);
         let count = line.count;
-        let number = line.number as u64 + 1;
+        let number = line.number.saturating_add(1);
         let comment = names.comment(address);
         lines.push(json!(in alloc; [address, count, number, comment])?)?;
     }

@@ -91,6 +91,9 @@ fn debug_image<const S: usize, C: Read, W: Write>(
     ensures fault { IfErr result (IsLaterFault (session_at_start image.now steps.items)
         (C.remaining commands.old) (C.remaining commands.new) (W.contents writer.old) (W.contents writer.new)) }
 {
-    let mut session = begun::<S>(alloc, image, steps)?;
+    let mut session = match begun::<S>(alloc, image, steps) {
+        Ok(session) => session,
+        Err(_) => return Err(ToolFault::NoMemory),
+    };
     answer_lines(alloc, &mut session, commands, writer)
 }
