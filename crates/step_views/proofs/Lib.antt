@@ -11,3 +11,4 @@ pub mod Counts
 pub mod Free
 pub mod Stepping
 pub mod Viewing
+pub mod AllPlaces

@@ -245,14 +245,14 @@ state_has p s b a x k l h e f =
     inl (has_left (states ++ registers) targets at
     (has_left states registers at (parts_have p s b a state_parts x k l h e f)))
 
-register_there : (v : StreamValue) (r : ℕ) → r < 32
+pub register_there : (v : StreamValue) (r : ℕ) → r < 32
     → part_content v (part.Register r) ≡ Some (content.Number (register_at v.registers r))
 register_there v r below = sym (cond_below r 32 (Some (content.Number (register_at v.registers r))) None below)
 
 register_none : (v : StreamValue) (r : ℕ) → 32 ≤ r → part_content v (part.Register r) ≡ None
 register_none v r above = sym (cond_above r 32 (Some (content.Number (register_at v.registers r))) None None above refl)
 
-target_there : (v : StreamValue) (t : ℕ) → t < 8
+pub target_there : (v : StreamValue) (t : ℕ) → t < 8
     → part_content v (part.Target t) ≡ Some (content.Target (target_at v.targets t))
 target_there v t below = sym (cond_below t 8 (Some (content.Target (target_at v.targets t))) None below)
 

@@ -2,6 +2,7 @@
 pub mod Places
 pub mod Numbers
 pub mod Changes
+pub mod Laws
 pub mod StepViews
 pub mod LastChanges
 -- What the functions inside promise.

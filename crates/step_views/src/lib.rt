@@ -4,6 +4,7 @@
 
 mod differences;
 mod last_changes;
+mod laws;
 mod numbers;
 mod places;
 mod reading;
@@ -11,6 +12,7 @@ mod seen;
 mod step_views;
 
 pub use last_changes::last_change;
+pub use laws::worlds_are_their_places;
 pub use places::{Change, Content, Place, StreamPart};
 pub use reading::content_of;
 pub use step_views::{Reference, StepView, take_step};

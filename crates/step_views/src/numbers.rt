@@ -11,6 +11,9 @@ use stream_core::{Codes, StatusWord, TrapMask};
 /// Bits 32 to 47 of a status word: the condition codes.
 const CODES_PLACE: u32 = 32;
 
+/// Bits 48 to 50: the trap mask.
+const MASK_PLACE: u32 = 48;
+
 impl Content {
     /// The content as a number: condition codes as their 16 bits, a trap mask as its three, whether a stream is in a
     /// trap as 0 or 1, a target register as its 64 bits ("Status words", docs/MACHINE.md), tags as their four bits.
@@ -43,8 +46,13 @@ fn codes_number(codes: Codes) -> u64
 }
 
 /// The three bits of a trap mask.
+#[tactic(auto, unfolding(stream_core::specs::StatusWords::status_number, stream_core::specs::StatusWords::codes_number))]
 fn mask_number(mask: TrapMask) -> u64
     ensures { result ≡ mask_number mask }
 {
-    u64::from(mask.trap0) + u64::from(mask.trap1) * 2 + u64::from(mask.blocked) * 4
+    let word = StatusWord {
+        mask,
+        ..StatusWord::at(0)
+    };
+    word.bits() >> MASK_PLACE
 }
