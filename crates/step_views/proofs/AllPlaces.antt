@@ -1,12 +1,11 @@
 -- Worlds that hold the same in all places are the same.
-use Rattle.std.proofs.Common.{◌≡◌, ℕ, zero, suc, ◌+◌, ◌*◌, ◌^◌, ◌/◌, ◌%◌, ◌<◌, ◌==◌, Bool, true, false, refl, sym, ap, ◌∙◌, subst}
+use Rattle.std.proofs.Common.{◌≡◌, ℕ, suc, ◌+◌, ◌<◌, Bool, true, false, refl, sym, ap, ◌∙◌}
 use Rattle.std.proofs.Common.{arith, Option, Some, None, List, [], ◌∷◌, length, get_or, if◌then◌else◌, slice_get}
 use Rattle.std.specs.Option.{option_map}
 use Rattle.std.proofs.lemmas.Option.{same_Some}
-use Rattle.std.proofs.lemmas.List.{get_or_default}
 use Rattle.tag_memory.specs.declared.tag_set.Tags.{Tags}
 use Rattle.tag_memory.specs.Cell.{Cell, has_bit, tag_number}
-use Rattle.tag_memory.specs.Storage.{TaggedMemory, cell_at}
+use Rattle.tag_memory.specs.Storage.{cell_at}
 use Rattle.tag_memory.specs.Answer.{IsDeterminedByWords}
 use Rattle.stream_core.specs.StatusWords.{status_at}
 use Rattle.stream_core.specs.Streams.{StreamValue}
@@ -17,7 +16,6 @@ use Rattle.step_views.specs.declared.places.StreamPart.{StreamPart}
 use Rattle.step_views.specs.declared.places.StreamPart.TheVariants as part
 use Rattle.step_views.specs.declared.places.Place.{Place}
 use Rattle.step_views.specs.declared.places.Place.TheVariants as place
-use Rattle.step_views.specs.declared.places.Content.{Content}
 use Rattle.step_views.specs.declared.places.Content.TheVariants as content
 use Rattle.step_views.specs.Places.{part_content, used_stream_in, used_stream, part_in, tags_content, content_of}
 use Rattle.step_views.specs.Laws.{HasRegisters, AreAllPlaces}
@@ -70,9 +68,11 @@ stream_same a b many others few most e =
     let retries : a.retries ≡ b.retries = number_is _ _ (e part.Retries) in
     let status : a.status ≡ b.status = let h = e part.Status in cc in
     let registers : a.registers ≡ b.registers = below_same 0 a.registers b.registers (many ∙ sym others)
-    (λ k below. number_is _ _ (sym (register_there a k (omega arith)) ∙ e (part.Register k) ∙ register_there b k (omega arith))) in
+    (λ k below. number_is _ _
+    (sym (register_there a k (omega arith)) ∙ e (part.Register k) ∙ register_there b k (omega arith))) in
     let targets : a.targets ≡ b.targets = below_same (status_at 0) a.targets b.targets (few ∙ sym most)
-    (λ k below. target_is _ _ (sym (target_there a k (omega arith)) ∙ e (part.Target k) ∙ target_there b k (omega arith))) in
+    (λ k below. target_is _ _
+    (sym (target_there a k (omega arith)) ∙ e (part.Target k) ∙ target_there b k (omega arith))) in
     λ i. record {
       registers = registers i;
       targets = targets i;
@@ -97,14 +97,17 @@ used_same : (w v : World) → HasRegisters w → HasRegisters v → ((x : Place)
     → (p s : ℕ) → used_stream w p s ≡ used_stream v p s
 unfolding content_of
 used_same w v h k e p s =
-    maybe_stream_same (used_stream w p s) (used_stream v p s) (h.general p s) (k.general p s) (h.target p s) (k.target p s)
+    maybe_stream_same (used_stream w p s) (used_stream v p s) (h.general p s) (k.general p s) (h.target p s)
+    (k.target p s)
     (λ x. e (place.Stream p s x))
 
 -- Processors.
 
 processor_same : (o q : Option ProcessorValue)
-    → option_map (λ (d : ProcessorValue). content.Number d.scur) o ≡ option_map (λ (d : ProcessorValue). content.Number d.scur) q
-    → option_map (λ (d : ProcessorValue). content.Number d.sres) o ≡ option_map (λ (d : ProcessorValue). content.Number d.sres) q
+    → option_map (λ (d : ProcessorValue). content.Number d.scur) o
+    ≡ option_map (λ (d : ProcessorValue). content.Number d.scur) q
+    → option_map (λ (d : ProcessorValue). content.Number d.sres) o
+    ≡ option_map (λ (d : ProcessorValue). content.Number d.sres) q
     → ((s : ℕ) → used_stream_in o s ≡ used_stream_in q s) → o ≡ q
 processor_same None None current reserved used = refl
 processor_same None (Some b) current reserved used = absurd (let f : ⊥ = cc in f)

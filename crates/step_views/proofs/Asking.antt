@@ -8,14 +8,14 @@ use Rattle.stream_core.specs.Effects.{request_of}
 use Rattle.stream_core.specs.declared.steps.Fetch.{Fetch}
 use Rattle.stream_core.specs.declared.steps.Fetch.TheVariants as fetch
 use Rattle.processor.specs.Processors.{ProcessorValue, stream_at}
-use Rattle.processor.specs.Row.{step_fetch_of, request_on_fetch, request, next_asking, next_on_fetch, next_of}
+use Rattle.processor.specs.Row.{step_fetch_of, request_on_fetch, next_asking, next_on_fetch}
 use Rattle.processor.specs.World.{World}
 use Rattle.processor.specs.declared.steps.Step.{Step}
 use Rattle.processor.specs.declared.steps.Next.{Next}
 use Rattle.processor.specs.declared.steps.Next.TheVariants as next
 use Rattle.processor.proofs.Begun.{request_begun, next_begun}
 use Rattle.machine.specs.MachineValue.{next_at}
-use Rattle.step_views.specs.StepViews.{asked_in, asked_by, reference_to, reference_of}
+use Rattle.step_views.specs.StepViews.{asked_in, reference_to, reference_of}
 use Rattle.step_views.specs.declared.step_views.Reference.{Reference}
 
 -- the request of a step that needs this
@@ -33,11 +33,14 @@ asked_on_fetch v fetch.Rest = refl
 asked_on_fetch v (fetch.Trap k) = refl
 asked_on_fetch v (fetch.Instruction i) = asked_if (request_of v i)
 
-asked_there : (image : ImageValue) (o : Option ProcessorValue) (s : ℕ) → asked_in image o s ≡ asked_of (next_at image o s)
+asked_there : (image : ImageValue) (o : Option ProcessorValue) (s : ℕ)
+    → asked_in image o s ≡ asked_of (next_at image o s)
 asked_there image None s = refl
 asked_there image (Some proc) s =
     let f = step_fetch_of image proc s in
-    request_begun image proc s f refl ∙ asked_on_fetch (stream_at proc.streams s) f ∙ ap asked_of (next_begun image proc s f refl)
+    request_begun image proc s f refl
+    ∙ asked_on_fetch (stream_at proc.streams s) f
+    ∙ ap asked_of (next_begun image proc s f refl)
 
 -- the reference by what is needed
 pub reference_needed : (image : ImageValue) (w : World) (t : Step) (n : Next)

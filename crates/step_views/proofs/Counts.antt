@@ -1,17 +1,15 @@
 -- The entries of counts and of a word.
-use Rattle.std.proofs.Common.{◌≡◌, ◌≢◌, ℕ, ◌⊎◌, inl, inr, refl, sym, ap, ◌∙◌, List, [], ◌∷◌, Option, Some, None, slice_get}
+use Rattle.std.proofs.Common.{◌≡◌, ◌≢◌, ℕ, inl, inr, refl, sym, ap, ◌∙◌, List, [], ◌∷◌, Option, Some, None, slice_get}
 use Rattle.std.specs.Option.{option_map}
 use Rattle.tag_memory.specs.Cell.{Cell}
 use Rattle.tag_memory.specs.Storage.{TaggedMemory, cell_at}
 use Rattle.processor.specs.Processors.{ProcessorValue}
 use Rattle.processor.specs.World.{World, counts_at}
-use Rattle.step_views.specs.declared.places.Place.{Place}
 use Rattle.step_views.specs.declared.places.Place.TheVariants as place
 use Rattle.step_views.specs.declared.places.Content.TheVariants as content
 use Rattle.step_views.specs.declared.places.Change.{Change}
 use Rattle.step_views.specs.Places.{tags_content, content_of}
 use Rattle.step_views.specs.Comparing.{entry, counts_compared, word_compared_to, word_compared}
-use Rattle.step_views.proofs.Entries.{In}
 use Rattle.step_views.proofs.Covering.{IsRight, IsCovered}
 use Rattle.step_views.proofs.Pieces.{IsPiece, no_piece, AreAlike}
 

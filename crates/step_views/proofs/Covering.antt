@@ -1,5 +1,5 @@
 -- Entries that cover all places of two worlds: what is kept of them are the changes.
-use Rattle.std.proofs.Common.{◌≡◌, ◌≢◌, ◌⊎◌, inl, inr, refl, sym, ap, ◌∙◌, subst, List, [], Some}
+use Rattle.std.proofs.Common.{◌≡◌, ◌≢◌, ◌⊎◌, inl, inr, sym, ap, ◌∙◌, subst, List, [], Some}
 use Rattle.std.proofs.lemmas.Option.{same_Some}
 use Rattle.processor.specs.World.{World}
 use Rattle.step_views.specs.declared.places.Place.{Place}

@@ -1,11 +1,11 @@
 -- The stream that a CREATE would start.
-use Rattle.std.proofs.Common.{◌≡◌, ◌≢◌, ℕ, ◌+◌, ◌<◌, ◌≤◌, Bool, true, false, refl, sym, ap, ◌∙◌, subst, arith}
-use Rattle.std.proofs.Common.{Option, Some, None, List, [], ◌∷◌, length, get_or, nat_lt, if◌then◌else◌, slice_get}
+use Rattle.std.proofs.Common.{◌≡◌, ℕ, ◌<◌, Bool, true, false, refl, sym, ap, ◌∙◌, subst, arith}
+use Rattle.std.proofs.Common.{Option, Some, None, length, get_or, nat_lt, if◌then◌else◌, slice_get}
 use Rattle.std.specs.List.{position, position_or_len}
 use Rattle.std.proofs.lemmas.Bool.{ltb-true, cond_below}
 use Rattle.std.proofs.lemmas.List.Sums.{passes_at_first}
 use Rattle.std.proofs.lemmas.Option.{slice_get-get_or, same_Some}
-use Rattle.stream_core.specs.Streams.{StreamValue, idle}
+use Rattle.stream_core.specs.Streams.{idle}
 use Rattle.processor.specs.Processors.{ProcessorValue, is_idle, IsCounted}
 use Rattle.processor.specs.Row.{lowest_idle}
 use Rattle.processor.proofs.Counting.{idle_there}

@@ -1,23 +1,17 @@
 -- Entries in pieces: of a stream, of a stream that is started, of counts, of a word.
-use Rattle.std.proofs.Common.{◌≡◌, ◌≢◌, ℕ, ◌⊎◌, inl, inr, refl, sym, ap, ◌∙◌, subst, arith, Bool, true, false}
-use Rattle.std.proofs.Common.{List, [], ◌∷◌, ◌++◌, Option, Some, None, slice_get}
-use Rattle.std.specs.Option.{option_map}
-use Rattle.tag_memory.specs.Cell.{Cell}
-use Rattle.tag_memory.specs.Storage.{TaggedMemory, cell_at}
-use Rattle.stream_core.specs.Streams.{StreamValue, idle}
-use Rattle.processor.specs.Processors.{ProcessorValue}
-use Rattle.processor.specs.World.{World, counts_of}
+use Rattle.std.proofs.Common.{◌≡◌, ◌≢◌, ℕ, inl, inr, sym, ap, ◌∙◌}
+use Rattle.std.proofs.Common.{List, [], ◌++◌, Option, Some, None}
+use Rattle.stream_core.specs.Streams.{StreamValue}
+use Rattle.processor.specs.World.{World}
 use Rattle.step_views.specs.declared.places.StreamPart.{StreamPart}
 use Rattle.step_views.specs.declared.places.Place.{Place}
 use Rattle.step_views.specs.declared.places.Place.TheVariants as place
-use Rattle.step_views.specs.declared.places.Content.TheVariants as content
 use Rattle.step_views.specs.declared.places.Change.{Change}
-use Rattle.step_views.specs.Places.{part_in, part_content, tags_content, used_stream, content_of}
-use Rattle.step_views.specs.Comparing.{entry, stream_entries, stream_compared, count_entries, counts_compared}
-use Rattle.step_views.specs.Comparing.{word_entries, word_compared_to}
+use Rattle.step_views.specs.Places.{part_in, used_stream, content_of}
+use Rattle.step_views.specs.Comparing.{stream_compared}
 use Rattle.step_views.proofs.Entries.{In, in_either, AreApart, apart_join}
 use Rattle.step_views.proofs.Covering.{IsRight, IsCovered}
-use Rattle.step_views.proofs.StreamEntries.{HasEntry, has_left, has_right, of_stream, stream_apart, part_covered}
+use Rattle.step_views.proofs.StreamEntries.{has_left, has_right, of_stream, stream_apart, part_covered}
 
 -- entries that are right, no two of one place
 pub record IsPiece (w v : World) (es : List Change) : Type 0 where

@@ -1,7 +1,8 @@
 -- What is seen before a step.
-use Rattle.std.proofs.Common.{◌≡◌, ℕ, ◌<◌, ◌≤◌, true, false, inl, inr, refl, sym, ap, ◌∙◌, subst, arith, Option, Some, None}
-use Rattle.std.proofs.Common.{List, length, get_or, nat_lt, if◌then◌else◌, slice_get}
-use Rattle.std.specs.List.{position, position_or_len}
+use Rattle.std.proofs.Common.{◌≡◌, ℕ, ◌<◌, ◌≤◌, true, false, inl, inr, refl, sym, ap, ◌∙◌, subst, arith}
+use Rattle.std.proofs.Common.{Option, Some, None}
+use Rattle.std.proofs.Common.{length, get_or, nat_lt, if◌then◌else◌, slice_get}
+use Rattle.std.specs.List.{position_or_len}
 use Rattle.std.proofs.lemmas.List.Sums.{position_or_len_is}
 use Rattle.std.proofs.lemmas.Bool.{cases_lt, cond_below, cond_above}
 use Rattle.std.proofs.lemmas.Option.{slice_get_within, slice_get-get_or, get_or_from_slice_get, same_Some}
@@ -60,6 +61,8 @@ none_idle (Some proc) n ends none =
     let within = ends proc refl in
     let last : position_or_len is_idle proc.streams ≡ length proc.streams =
     position_or_len_is is_idle proc.streams (length proc.streams) idle (omega arith)
-    (below_none proc (length proc.streams) (omega arith) (λ k below. none k (omega arith))) (λ more. absurd (omega arith)) in
+    (below_none proc (length proc.streams) (omega arith) (λ k below. none k (omega arith)))
+    (λ more. absurd (omega arith)) in
     let Q : ℕ → Type 0 = λ k. None ≡ (if nat_lt k (length proc.streams) then Some k else None) in
-    subst Q (sym last) (cond_above (length proc.streams) (length proc.streams) (Some (length proc.streams)) None None (omega arith) refl)
+    let count = length proc.streams in
+    subst Q (sym last) (cond_above count count (Some count) None None (omega arith) refl)

@@ -1,11 +1,10 @@
 -- What a step that starts a stream says of its processor.
-use Rattle.std.proofs.Common.{◌≡◌, ◌≢◌, ℕ, ◌+◌, ◌-◌, ◌<◌, ◌≤◌, ◌==◌, true, false, refl, sym, ap, ◌∙◌, subst, arith, Option, Some}
+use Rattle.std.proofs.Common.{◌≡◌, ℕ, ◌<◌, ◌≤◌, false, refl, ap, subst, arith, Option}
 use Rattle.std.proofs.lemmas.Bool.{eqb-false}
-use Rattle.insn_word.specs.declared.insn.Insn.{Insn}
 use Rattle.tag_memory.specs.declared.requests.Reply.{Reply}
 use Rattle.tag_memory.specs.Storage.{TaggedMemory}
 use Rattle.image_file.specs.ImageValue.{ImageValue}
-use Rattle.stream_core.specs.Streams.{StreamValue, after_trap}
+use Rattle.stream_core.specs.Streams.{StreamValue}
 use Rattle.stream_core.specs.Effects.{request_of}
 use Rattle.stream_core.specs.StreamRow.{control_of, row_asking}
 use Rattle.stream_core.specs.declared.steps.Outcome.{Outcome}
@@ -15,7 +14,8 @@ use Rattle.stream_core.specs.declared.steps.Fetch.TheVariants as fetch
 use Rattle.stream_core.specs.declared.steps.Control.{Control}
 use Rattle.stream_core.specs.declared.steps.Control.TheVariants as asks
 use Rattle.processor.specs.Processors.{ProcessorValue, is_idle, stream_at, IsCounted}
-use Rattle.processor.specs.Row.{lacks_stream, step_fetch_of, grant_of, with_stream, after_control, after_control_if_done}
+use Rattle.processor.specs.Row.{lacks_stream, step_fetch_of, grant_of, with_stream, after_control}
+use Rattle.processor.specs.Row.{after_control_if_done}
 use Rattle.processor.specs.Row.{row_on_fetch, row, request, memory_reply, row_over_memory}
 use Rattle.processor.proofs.Begun.{rests, awake, free, row_is}
 

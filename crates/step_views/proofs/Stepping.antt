@@ -1,12 +1,12 @@
 -- A step of a processor that is there: the entries cover all places.
-use Rattle.std.proofs.Common.{◌≡◌, ◌≢◌, ℕ, zero, suc, ◌+◌, ◌<◌, ◌≤◌, ◌⊎◌, Bool, true, false, inl, inr, refl, sym, ap, ◌∙◌}
-use Rattle.std.proofs.Common.{subst, arith, Option, Some, None, List, [], ◌∷◌, ◌++◌, length, get_or, nat_lt}
+use Rattle.std.proofs.Common.{◌≡◌, ◌≢◌, ℕ, zero, suc, ◌<◌, Bool, true, false, inl, inr, refl, sym, ap, ◌∙◌}
+use Rattle.std.proofs.Common.{subst, arith, Option, Some, None, List, [], ◌∷◌, ◌++◌, length, nat_lt}
 use Rattle.std.proofs.Common.{if◌then◌else◌, is_some, slice_get}
 use Rattle.std.proofs.lemmas.Bool.{cases_eq, ltb-true, lt-ltb}
-use Rattle.std.proofs.lemmas.Option.{slice_get-get_or, slice_get_past, same_Some}
+use Rattle.std.proofs.lemmas.Option.{slice_get-get_or, slice_get_past}
 use Rattle.std.proofs.lemmas.Bool.{cases_lt}
 use Rattle.tag_memory.specs.Cell.{Cell}
-use Rattle.tag_memory.specs.Storage.{TaggedMemory, cell_at}
+use Rattle.tag_memory.specs.Storage.{cell_at}
 use Rattle.stream_core.specs.Streams.{StreamValue, idle}
 use Rattle.processor.specs.Processors.{ProcessorValue, is_idle, stream_at, IsCounted}
 use Rattle.processor.specs.OtherStreams.{IsStarted, KeepsOthers}
@@ -19,14 +19,15 @@ use Rattle.step_views.specs.declared.step_views.Reference.{Reference}
 use Rattle.step_views.specs.Places.{used_stream_in, used_stream, content_of}
 use Rattle.step_views.specs.Comparing.{free_in, word_seen, stream_compared, has_grown, free_compared, started_compared}
 use Rattle.step_views.specs.Comparing.{counts_compared, word_compared}
-use Rattle.step_views.proofs.Entries.{In, in_either, AreApart}
+use Rattle.step_views.proofs.Entries.{In, in_either}
 use Rattle.step_views.proofs.Covering.{IsCovered, AreEntries}
 use Rattle.step_views.proofs.Starting.{CanStart}
-use Rattle.step_views.proofs.Words.{IsElsewhere, KeepsWords}
-use Rattle.step_views.proofs.Pieces.{IsPiece, no_piece, piece_join, covered_left, covered_right, AreOfStream}
+use Rattle.step_views.proofs.Words.{KeepsWords}
+use Rattle.step_views.proofs.Pieces.{IsPiece, no_piece, piece_join, covered_left, covered_right}
 use Rattle.step_views.proofs.Pieces.{of_stream_compared, stream_piece, AreAlike, stream_covered, stream_stays}
 use Rattle.step_views.proofs.Counts.{counts_piece, current_covered, reserved_covered, current_stays, reserved_stays}
-use Rattle.step_views.proofs.Counts.{word_pair, word_paired, word_piece, value_covered, tags_covered, value_stays, tags_stay}
+use Rattle.step_views.proofs.Counts.{word_pair, word_paired, word_piece, value_covered, tags_covered}
+use Rattle.step_views.proofs.Counts.{value_stays, tags_stay}
 use Rattle.step_views.proofs.Free.{free_is_idle, lowest_is_free}
 
 -- What a step leaves, in what of it is used here.
@@ -41,7 +42,8 @@ pub record IsStepped (w v : World) (p s : ℕ) (r : Option Reference) (proc next
 
 -- Alike.
 
-alike_by_length : (xs ys : List StreamValue) (k : ℕ) → length xs ≡ length ys → AreAlike (slice_get xs k) (slice_get ys k)
+alike_by_length : (xs ys : List StreamValue) (k : ℕ) → length xs ≡ length ys
+    → AreAlike (slice_get xs k) (slice_get ys k)
 alike_by_length [] [] k e = tt
 alike_by_length [] (y ∷ ys) k e = absurd (omega arith)
 alike_by_length (x ∷ xs) [] k e = absurd (omega arith)
@@ -71,7 +73,8 @@ processors_alike w v p s r proc next h =
 -- The stream that is started.
 
 free_piece : (w v : World) (p s : ℕ) (r : Option Reference) (proc next : ProcessorValue)
-    → IsStepped w v p s r proc next → (free : Option ℕ) → free_in (Some proc) ≡ free → IsPiece w v (free_compared p free v)
+    → IsStepped w v p s r proc next → (free : Option ℕ) → free_in (Some proc) ≡ free
+    → IsPiece w v (free_compared p free v)
 free_piece w v p s r proc next h None e = no_piece w v
 free_piece w v p s r proc next h (Some j) e =
     let there = ap (λ o. used_stream_in o j) h.before ∙ (free_is_idle proc j h.counted e).1 in
@@ -80,7 +83,8 @@ free_piece w v p s r proc next h (Some j) e =
 -- all entries are of streams of the processor that were idle
 abbrev AreOfIdle : ProcessorValue → ℕ → List Change → Type 0
 AreOfIdle proc p es =
-    (c : Change) → In es c → (j : ℕ) × (x : StreamPart) × (is_idle (stream_at proc.streams j) ≡ true) × (c.place ≡ place.Stream p j x)
+    (c : Change) → In es c
+    → (j : ℕ) × (x : StreamPart) × (is_idle (stream_at proc.streams j) ≡ true) × (c.place ≡ place.Stream p j x)
 
 of_free : (v : World) (p : ℕ) (proc : ProcessorValue) (free : Option ℕ) → IsCounted proc → free_in (Some proc) ≡ free
     → AreOfIdle proc p (free_compared p free v)
@@ -162,7 +166,8 @@ kind_of_free : (p : ℕ) (free : Option ℕ) (v : World) → AreOfKind 0 (free_c
 kind_of_free p None v c h = absurd h
 kind_of_free p (Some j) v c h = kind_of_stream p j (Some idle) (used_stream v p j) c h
 
-kind_of_started : (p : ℕ) (b : Bool) (free : Option ℕ) (v : World) → AreOfKind 0 (if b then free_compared p free v else [])
+kind_of_started : (p : ℕ) (b : Bool) (free : Option ℕ) (v : World)
+    → AreOfKind 0 (if b then free_compared p free v else [])
 kind_of_started p true free v c h = kind_of_free p free v c h
 kind_of_started p false free v c h = absurd h
 
@@ -262,8 +267,9 @@ started_covered w v p s r proc next h k x is =
     let there : used_stream w p k ≡ Some idle =
     ap (λ o. used_stream_in o k) h.before ∙ (free_is_idle proc k h.counted free).1 in
     let alike = subst (λ o. AreAlike o (used_stream v p k)) there (streams_alike w v p s r proc next h k) in
+    let lowest = free_in (slice_get w.processors p) in
     let P : Bool → Type 0 =
-    λ b. IsCovered (if b then free_compared p (free_in (slice_get w.processors p)) v else []) w v (place.Stream p k x) in
+    λ b. IsCovered (if b then free_compared p lowest v else []) w v (place.Stream p k x) in
     let Q : Option ℕ → Type 0 = λ o. IsCovered (free_compared p o v) w v (place.Stream p k x) in
     subst P (sym grown) (subst Q (sym seen)
     (stream_covered w v p k x (Some idle) (used_stream v p k) there refl alike))
@@ -328,7 +334,8 @@ covered w v p s r proc next h (place.Current q) =
       | inl same ↦
           let P : ℕ → Type 0 = λ j. IsCovered (compared_worlds w v p s r) w v (place.Current j) in
           let at = place.Current p in
-          subst P same (covered_left w v (streams ++ counts) (word_part_of w v r) at (covered_right w v streams counts at
+          subst P same (covered_left w v (streams ++ counts) (word_part_of w v r) at
+          (covered_right w v streams counts at
           (current_covered w v p (slice_get w.processors p) (slice_get v.processors p) refl refl
           (processors_alike w v p s r proc next h))))
       | inr differ ↦ inr (current_stays w v q (h.elsewhere q (λ e. differ (sym e))))
@@ -340,7 +347,8 @@ covered w v p s r proc next h (place.Reserved q) =
       | inl same ↦
           let P : ℕ → Type 0 = λ j. IsCovered (compared_worlds w v p s r) w v (place.Reserved j) in
           let at = place.Reserved p in
-          subst P same (covered_left w v (streams ++ counts) (word_part_of w v r) at (covered_right w v streams counts at
+          subst P same (covered_left w v (streams ++ counts) (word_part_of w v r) at
+          (covered_right w v streams counts at
           (reserved_covered w v p (slice_get w.processors p) (slice_get v.processors p) refl refl
           (processors_alike w v p s r proc next h))))
       | inr differ ↦ inr (reserved_stays w v q (h.elsewhere q (λ e. differ (sym e))))

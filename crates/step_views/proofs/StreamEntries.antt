@@ -13,7 +13,8 @@ use Rattle.step_views.specs.declared.places.Content.{Content}
 use Rattle.step_views.specs.declared.places.Content.TheVariants as content
 use Rattle.step_views.specs.declared.places.Change.{Change}
 use Rattle.step_views.specs.Places.{part_content}
-use Rattle.step_views.specs.Comparing.{entry, part_entry, part_entries, state_parts, register_parts, target_parts, stream_entries}
+use Rattle.step_views.specs.Comparing.{entry, part_entry, part_entries, state_parts, register_parts}
+use Rattle.step_views.specs.Comparing.{target_parts, stream_entries}
 use Rattle.step_views.proofs.Entries.{In, in_left, in_right, in_either, AreApart, apart_join}
 
 -- Each is right.
@@ -42,7 +43,8 @@ of_parts : (p s : ℕ) (b a : StreamValue) (xs : List StreamPart) (c : Change) �
     → IsOfStream p s b a c
 of_parts p s b a [] c h = absurd h
 of_parts p s b a (x ∷ xs) c h =
-    elim (in_either (part_entry (place.Stream p s x) (part_content b x) (part_content a x)) (part_entries p s b a xs) c h) [
+    let first = part_entry (place.Stream p s x) (part_content b x) (part_content a x) in
+    elim (in_either first (part_entries p s b a xs) c h) [
       | inl k ↦ of_part p s b a x (part_content b x) (part_content a x) c refl refl k
       | inr k ↦ of_parts p s b a xs c k
     ]
@@ -106,7 +108,8 @@ parts_within : (p s : ℕ) (b a : StreamValue) (xs : List StreamPart) (k : ℕ) 
     → In (part_entries p s b a xs) c → IsWithin k (k + length xs) c
 parts_within p s b a [] k c n h = absurd h
 parts_within p s b a (x ∷ xs) k c n h =
-    elim (in_either (part_entry (place.Stream p s x) (part_content b x) (part_content a x)) (part_entries p s b a xs) c h) [
+    let first = part_entry (place.Stream p s x) (part_content b x) (part_content a x) in
+    elim (in_either first (part_entries p s b a xs) c h) [
       | inl m ↦
           let e = part_within p s x (part_content b x) (part_content a x) k c n.0 m in
           (omega (arith, e), omega (arith, e))
@@ -195,13 +198,15 @@ parts_have p s b a (y ∷ ys) x k l (inl same) e f =
     let found = part_has p s x k l (part_content b x) (part_content a x) e f in
     subst P (sym same) (
       found.0,
-      in_left (part_entry (place.Stream p s x) (part_content b x) (part_content a x)) (part_entries p s b a ys) found.0 found.1,
+      in_left (part_entry (place.Stream p s x) (part_content b x) (part_content a x)) (part_entries p s b a ys)
+          found.0 found.1,
       found.2,
     )
 parts_have p s b a (y ∷ ys) x k l (inr h) e f =
     let found = parts_have p s b a ys x k l h e f in (
       found.0,
-      in_right (part_entry (place.Stream p s y) (part_content b y) (part_content a y)) (part_entries p s b a ys) found.0 found.1,
+      in_right (part_entry (place.Stream p s y) (part_content b y) (part_content a y)) (part_entries p s b a ys)
+          found.0 found.1,
       found.2,
     )
 

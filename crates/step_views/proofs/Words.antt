@@ -1,5 +1,6 @@
 -- The words of a memory over a step.
-use Rattle.std.proofs.Common.{◌≡◌, ◌≢◌, ℕ, zero, suc, ◌/◌, ◌%◌, ◌==◌, ◌&&◌, not, Bool, true, false, inl, inr, refl, sym, ap, ◌∙◌, arith}
+use Rattle.std.proofs.Common.{◌≡◌, ◌≢◌, ℕ, zero, suc, ◌/◌, ◌%◌, ◌==◌, ◌&&◌, not}
+use Rattle.std.proofs.Common.{Bool, true, false, inl, inr, refl, arith}
 use Rattle.std.proofs.Common.{List, [], ◌∷◌, length, Option, Some, None, is_some, slice_get, if◌then◌else◌}
 use Rattle.std.specs.Option.{option_map}
 use Rattle.std.proofs.lemmas.List.{length-set}
@@ -8,8 +9,8 @@ use Rattle.tag_memory.specs.Cell.{Cell, has_bit}
 use Rattle.tag_memory.specs.Address.{address_of, is_reserved}
 use Rattle.tag_memory.specs.Storage.{TaggedMemory, cell_at}
 use Rattle.tag_memory.specs.Access.{access_control, effect}
-use Rattle.tag_memory.specs.Chain.{is_tag_operation, probe_cell, end_by_probe, end_from, end_of}
-use Rattle.tag_memory.specs.Answer.{answer_by_effect, at_end, answer, address_at, OthersStay}
+use Rattle.tag_memory.specs.Chain.{is_tag_operation, probe_cell, end_by_probe, end_from}
+use Rattle.tag_memory.specs.Answer.{answer_by_effect, at_end, answer, OthersStay}
 use Rattle.tag_memory.specs.declared.requests.Request.{Request}
 use Rattle.processor.specs.Row.{memory_reply}
 use Rattle.step_views.specs.declared.step_views.Reference.{Reference}
@@ -62,7 +63,8 @@ many_from m q (suc left) p =
       ])
     ]
 
-there_as_many : (xs ys : List Cell) (i : ℕ) → length xs ≡ length ys → is_some (slice_get xs i) ≡ is_some (slice_get ys i)
+there_as_many : (xs ys : List Cell) (i : ℕ) → length xs ≡ length ys
+    → is_some (slice_get xs i) ≡ is_some (slice_get ys i)
 there_as_many [] [] i e = refl
 there_as_many [] (y ∷ ys) i e = absurd (omega arith)
 there_as_many (x ∷ xs) [] i e = absurd (omega arith)
@@ -77,7 +79,8 @@ there_if false o p e = refl
 there_of_many : (m n : TaggedMemory) (a : ℕ) → length n.cells ≡ length m.cells
     → is_some (cell_at n a) ≡ is_some (cell_at m a)
 there_of_many m n a e =
-    there_if (a % 8 == 0) (slice_get n.cells (a / 8)) (slice_get m.cells (a / 8)) (there_as_many n.cells m.cells (a / 8) e)
+    there_if (a % 8 == 0) (slice_get n.cells (a / 8)) (slice_get m.cells (a / 8))
+    (there_as_many n.cells m.cells (a / 8) e)
 
 -- Over what a step asks.
 

@@ -1,5 +1,5 @@
 -- The changes from one world to another.
-use Rattle.std.specs.Prelude.{◌≡◌, ◌≢◌, ◌↔◌, ℕ, List, Some}
+use Rattle.std.specs.Prelude.{◌≡◌, ◌≢◌, ◌↔◌, List, Some}
 use Rattle.std.specs.List.{Contains, AllPairs}
 use Rattle.processor.specs.World.{World}
 use Rattle.step_views.specs.declared.places.Place.{Place}

@@ -46,7 +46,7 @@ tags_content c = content.Tags (record { 0 = tag_number c })
 -- what stands in a place; nothing where a world does not have it
 unfoldable pub content_of : World → Place → Option Content
 content_of w (place.Stream p s x) = part_in (used_stream w p s) x
-content_of w (place.Current p) = option_map (λ (proc : ProcessorValue). content.Number proc.scur) (slice_get w.processors p)
-content_of w (place.Reserved p) = option_map (λ (proc : ProcessorValue). content.Number proc.sres) (slice_get w.processors p)
+content_of w (place.Current p) = option_map (λ (d : ProcessorValue). content.Number d.scur) (slice_get w.processors p)
+content_of w (place.Reserved p) = option_map (λ (d : ProcessorValue). content.Number d.sres) (slice_get w.processors p)
 content_of w (place.Value a) = option_map (λ (c : Cell). content.Number c.value) (cell_at w.memory a)
 content_of w (place.Tags a) = option_map tags_content (cell_at w.memory a)

@@ -46,7 +46,7 @@ fn codes_number(codes: Codes) -> u64
 }
 
 /// The three bits of a trap mask.
-#[tactic(auto, unfolding(stream_core::specs::StatusWords::status_number, stream_core::specs::StatusWords::codes_number))]
+#[tactic(auto, unfolding(stream_core::specs::StatusWords::status_number))]
 fn mask_number(mask: TrapMask) -> u64
     ensures { result ≡ mask_number mask }
 {

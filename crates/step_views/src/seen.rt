@@ -148,7 +148,8 @@ fn note_streams(
     after: Option<&Stream>,
 )
     requires room { vec_len changes.old + 47 ≤ vec_capacity changes.old }
-    ensures kept { AreKept (stream_compared p s before.now (option_copied after.entry)) changes.old.items changes.new.items }
+    ensures kept { AreKept (stream_compared p s before.now (option_copied after.entry))
+        changes.old.items changes.new.items }
     ensures few { vec_len changes.new ≤ vec_len changes.old + 47 }
     ensures capacity { vec_capacity changes.old ≤ vec_capacity changes.new }
 {

@@ -1,4 +1,3 @@
-use Rattle.stream_core.specs.Streams.{StreamValue}
 use Rattle.std.proofs.Common.{◌++◌}
 use Rattle.step_views.specs.Comparing.{part_entries, state_parts, register_parts, target_parts, stream_entries}
 use Rattle.step_views.proofs.Entries.{kept_join}

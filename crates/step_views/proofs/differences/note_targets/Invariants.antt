@@ -7,7 +7,8 @@ use Rattle.step_views.proofs.differences.note_targets.Given as goal
 
 abbrev pub invariant-loop-number : goal.invariant-loop-number
 invariant-loop-number l = record {
-  left : (new : List Change) → ArePartsKept l.p l.s l.before l.after (target_parts (8 - l.number) l.number) l.changes.items new
+  left : (new : List Change)
+      → ArePartsKept l.p l.s l.before l.after (target_parts (8 - l.number) l.number) l.changes.items new
       → ArePartsKept l.p l.s l.before l.after (target_parts 8 0) l.fn.changes.items new;
   few : vec_len l.changes ≤ vec_len l.fn.changes + l.number;
   capacity : vec_capacity l.fn.changes ≤ vec_capacity l.changes;

@@ -9,10 +9,11 @@ pub returns-then-changes : goal.returns-then-changes
 returns-then-changes c =
     let place = c.args.place.now in
     let last = c.loop-number.number - 1 in
+    let view = c.index-views-number in
     let P : StepView → Type 0 = λ x. Changes x place in
     record {
       within = omega arith;
-      changes = λ d. subst P (get_or_read c.args.views.now last c.index-views-number.result (omega arith) c.index-views-number.is d)
+      changes = λ d. subst P (get_or_read c.args.views.now last view.result (omega arith) view.is d)
           (c.changes.ensures.0 c.if-changes.true);
       later = λ j d less below. c.loop-number.invariant j d (omega arith) below;
     }
@@ -25,7 +26,8 @@ loop-number-preserved c = λ j d above below has.
       | inl more ↦ c.loop-number.invariant j d (omega arith) below has
       | inr most ↦
           let same : j ≡ last = omega arith in
-          let read = get_or_read c.args.views.now last c.index-views-number.result (omega arith) c.index-views-number.is d in
+          let view = c.index-views-number in
+          let read = get_or_read c.args.views.now last view.result (omega arith) view.is d in
           let P : StepView → Type 0 = λ x. Changes x place in
           let here = subst P (ap (λ (k : ℕ). get_or c.args.views.now k d) same ∙ sym read) has in
           let f : false ≡ true = sym c.if-changes.false ∙ c.changes.ensures.1 here in

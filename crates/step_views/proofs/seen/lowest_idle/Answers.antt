@@ -1,4 +1,4 @@
-use Rattle.std.proofs.Common.{◌≡◌, ◌∙◌, ap, sym, arith, slice_get, Some}
+use Rattle.std.proofs.Common.{◌∙◌, ap, sym, arith, slice_get}
 use Rattle.image_file.specs.ImageValue.{ImageValue}
 use Rattle.step_views.proofs.Seeing.{slim_of, first_idle, none_idle}
 use Rattle.step_views.proofs.seen.lowest_idle.Goals as goal

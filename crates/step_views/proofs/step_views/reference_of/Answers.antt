@@ -16,4 +16,8 @@ pub returns-in-Ask : goal.returns-in-Ask
 returns-in-Ask g c =
     let w = c.args.machine.now.world in
     reference_made c.args.machine.now.image w c.args.step c.in-Ask.request _ c.in-Ask.ensures
-    (λ i. record { request = c.in-Ask.request; address = c.ending-ending.ensures.address i; reply = c.ending-ending.ensures.reply i })
+    (λ i. record {
+      request = c.in-Ask.request;
+      address = c.ending-ending.ensures.address i;
+      reply = c.ending-ending.ensures.reply i;
+    })

@@ -1,5 +1,4 @@
-use Rattle.std.proofs.Common.{◌≡◌, ◌∙◌, ap, sym, refl, Option}
-use Rattle.stream_core.specs.Streams.{StreamValue}
+use Rattle.std.proofs.Common.{◌∙◌, ap, refl}
 use Rattle.stream_core.specs.declared.steps.Outcome.{Outcome}
 use Rattle.processor.specs.World.{World}
 use Rattle.step_views.specs.StepViews.{pc_of}

@@ -1,7 +1,8 @@
-use Rattle.std.proofs.Common.{◌++◌, ap, subst}
+use Rattle.std.proofs.Common.{◌++◌, subst}
 use Rattle.processor.specs.World.{counts_of}
 use Rattle.step_views.specs.Places.{used_stream}
-use Rattle.step_views.specs.Comparing.{AreKept, stream_compared, started_compared, counts_compared, word_compared, compared}
+use Rattle.step_views.specs.Comparing.{AreKept, stream_compared, started_compared, counts_compared}
+use Rattle.step_views.specs.Comparing.{word_compared, compared}
 use Rattle.step_views.proofs.Entries.{kept_join}
 use Rattle.step_views.proofs.seen.Seen.note_changes.Goals as goal
 
@@ -19,8 +20,9 @@ returns g c =
     let one = c.note_streams.new.changes.items in
     let two = c.note_started.new.changes.items in
     let three = c.note_counts.new.changes.items in
-    let first = subst (λ o. AreKept (stream_compared t.p t.s seen.stream o) old one) c.stream_of-now.ensures c.note_streams.ensures.kept in
+    let first = subst (λ o. AreKept (stream_compared t.p t.s seen.stream o) old one) c.stream_of-now.ensures
+    c.note_streams.ensures.kept in
+    let streams = kept_join stepped started old one two first c.note_started.ensures.kept in
     kept_join ((stepped ++ started) ++ counts) word old three c.note_word.new.changes.items
-    (kept_join (stepped ++ started) counts old two three (kept_join stepped started old one two first c.note_started.ensures.kept)
-    c.note_counts.ensures.kept)
+    (kept_join (stepped ++ started) counts old two three streams c.note_counts.ensures.kept)
     c.note_word.ensures.kept
