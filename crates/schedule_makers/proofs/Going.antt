@@ -1,5 +1,5 @@
 -- What a step comes to.
-use Rattle.std.proofs.Common.{◌≡◌, ℕ, Bool, true, false, refl, sym, ap, ◌∙◌, subst, ◌==◌, ◌&&◌}
+use Rattle.std.proofs.Common.{◌≡◌, ℕ, List, Bool, true, false, refl, sym, ap, ◌∙◌, subst, ◌==◌, ◌&&◌}
 use Rattle.std.specs.Prelude.{IsTrue}
 use Rattle.image_file.specs.ImageValue.{ImageValue}
 use Rattle.stream_core.specs.declared.steps.Outcome.{Outcome}
@@ -7,10 +7,10 @@ use Rattle.processor.specs.World.{World, world_step}
 use Rattle.processor.specs.declared.steps.Step.{Step}
 use Rattle.machine.specs.MachineValue.{MachineValue, IsMachine}
 use Rattle.waiting.specs.Running.{runs_in, running_steps}
-use Rattle.waiting.specs.Stuck.{IsStandstill}
+use Rattle.waiting.specs.Stuck.{SomeRuns, IsStandstill}
 use Rattle.schedule_makers.specs.Advancing.{HasGone, seen_of, is_in_vain, is_same_run}
 use Rattle.schedule_makers.specs.declared.advancing.Went.{Went}
-use Rattle.schedule_makers.specs.declared.advancing.Seen.{Seen}
+use Rattle.schedule_makers.specs.declared.looking.Seen.{Seen}
 use Rattle.schedule_makers.proofs.Vain.{vain_same, not_still}
 use Rattle.schedule_makers.proofs.SameRun.{same_run}
 
@@ -83,3 +83,14 @@ pub none_went : (size : ℕ) (old new : MachineValue) (t : Step) (o : Outcome) �
 none_went size old new t o step vain still =
     let same = as_before size old new t o step vain in
     (subst (λ (m : MachineValue). IsStandstill m.image m.world) same still, same)
+
+pub listed_after : (size : ℕ) (old new : MachineValue) (t : Step) (o : Outcome) (running : List Step)
+    → IsSeenStep size old new t o → vain_seen size old new t o ≡ true → running ≡ running_steps old.world
+    → running ≡ running_steps new.world
+listed_after size old new t o running step vain is =
+    is ∙ sym (ap (λ (m : MachineValue). running_steps m.world) (as_before size old new t o step vain))
+
+pub some_after : (size : ℕ) (old new : MachineValue) (t : Step) (o : Outcome) → IsSeenStep size old new t o
+    → vain_seen size old new t o ≡ true → SomeRuns new.world
+some_after size old new t o step vain =
+    subst (λ (m : MachineValue). SomeRuns m.world) (sym (as_before size old new t o step vain)) (t, step.runs)

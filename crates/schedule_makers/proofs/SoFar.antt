@@ -20,6 +20,7 @@ use Rattle.schedule_makers.specs.declared.advancing.Went.{Went}
 use Rattle.schedule_makers.specs.declared.made.MadeEnd.{MadeEnd}
 use Rattle.schedule_makers.specs.declared.made.MadeEnd.TheVariants as reason
 use Rattle.schedule_makers.proofs.Lists.{get-push, get-before}
+use Rattle.schedule_makers.proofs.AllStuck.{listed_runs}
 
 -- Steps so far.
 
@@ -73,12 +74,6 @@ begun rule old running is = record {
   running_is = is;
   known = λ able. absurd (let e : ⊥ = cc in e);
 }
-
--- a stream of the list runs
-pub listed_runs : (w : World) (running : List Step) (t : Step) → running ≡ running_steps w → Contains running t
-    → IsTrue (runs_in w t)
-listed_runs w running t is has =
-    let there : Contains (running_steps w) t = subst (λ ts. Contains ts t) is has in (all_running w t).0 there
 
 -- the step that the rule takes
 taken_now : (rule : Rule) (old now : MachineValue) (ts running : List Step) (able : Bool) (t : Step)

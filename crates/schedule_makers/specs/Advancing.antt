@@ -8,7 +8,7 @@ use Rattle.processor.specs.declared.steps.Step.{Step}
 use Rattle.machine.specs.MachineValue.{MachineValue}
 use Rattle.waiting.specs.Running.{runs_at, running_steps}
 use Rattle.waiting.specs.Stuck.{IsStandstill}
-use Rattle.schedule_makers.specs.declared.advancing.Seen.{Seen}
+use Rattle.schedule_makers.specs.declared.looking.Seen.{Seen}
 use Rattle.schedule_makers.specs.declared.advancing.Went.{Went}
 
 -- whether a step left the world as it was: it was blocked, and no retry was counted

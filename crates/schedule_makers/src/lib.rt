@@ -6,11 +6,13 @@ mod advancing;
 mod chooser;
 mod fair_chooser;
 mod laws;
+mod looking;
 mod made;
 mod makers;
 mod making;
 mod random_chooser;
 mod rounds_chooser;
+mod standstills;
 
 pub use laws::made_schedules_are_one;
 pub use made::{MadeEnd, MadeSchedule};

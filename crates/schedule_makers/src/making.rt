@@ -5,9 +5,10 @@ ghost use Rattle.waiting.specs.Running.{running_steps};
 ghost use Rattle.waiting.specs.Stuck.{IsStandstill};
 ghost use Rattle.schedule_makers.specs.Made.{IsEnd, IsMade, HasStepped};
 
-use crate::advancing::{advance, can_go_on};
+use crate::advancing::advance;
 use crate::chooser::Chooser;
 use crate::made::{MadeEnd, MadeSchedule};
+use crate::standstills::can_go_on;
 use machine::Machine;
 use processor::Step;
 use std::alloc::{AllocError, Global};
@@ -32,7 +33,7 @@ pub(crate) fn make<C: Chooser, const S: usize>(
             let end = MadeEnd::NobodyRuns;
             return Ok(MadeSchedule { steps, end });
         };
-        let Some(went) = advance(machine, step, is_able) else {
+        let Some(went) = advance(machine, &running, step, is_able) else {
             let end = MadeEnd::Standstill;
             return Ok(MadeSchedule { steps, end });
         };
@@ -54,7 +55,7 @@ fn last_end<const S: usize>(machine: &Machine<'_, S>, running: &[Step], is_able:
 {
     if running.is_empty() {
         MadeEnd::NobodyRuns
-    } else if can_go_on(machine, is_able) {
+    } else if can_go_on(machine, running, is_able) {
         MadeEnd::OutOfSteps
     } else {
         MadeEnd::Standstill

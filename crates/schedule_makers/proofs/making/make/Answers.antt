@@ -4,7 +4,7 @@ use Rattle.std.proofs.lemmas.List.{length_push}
 use Rattle.processor.specs.declared.steps.Step.{Step}
 use Rattle.waiting.specs.Running.{running_steps}
 use Rattle.schedule_makers.specs.declared.made.MadeEnd.TheVariants.{NobodyRuns}
-use Rattle.schedule_makers.proofs.SoFar.{IsMaking, made_more, same_listed, listed_runs, ruled_now, on_err}
+use Rattle.schedule_makers.proofs.SoFar.{IsMaking, made_more, same_listed, ruled_now, on_err}
 use Rattle.schedule_makers.proofs.SoFar.{stepped_once_more, none_run, ended}
 use Rattle.schedule_makers.proofs.making.make.Goals as goal
 use Rattle.schedule_makers.proofs.making.make.Goals.{then-not-went+in_ok-running-2, else-not-went}
@@ -30,8 +30,9 @@ advance-requires g c =
     let running = c.loop.running.items in
     let making = c.loop.invariant.making in
     let t = c.in-Some.step in
-    let has = subst (λ (l : List Step). Contains l t) c.deref-in-loop.ensures.value c.in-Some.ensures.some in
-    (lit< tt, (listed_runs c.loop.machine.world running t making.running_is has, making.known))
+    let same = c.deref-in-loop.ensures.value ∙ sym c.deref-in-loop-2.ensures.value in
+    let has = subst (λ (l : List Step). Contains l t) same c.in-Some.ensures.some in
+    (lit< tt, (c.deref-in-loop-2.ensures.value ∙ making.running_is, (has, making.known)))
 
 pub returns-in_err-push-clause-err : goal.returns-in_err-push-clause-err
 returns-in_err-push-clause-err g c =
