@@ -123,13 +123,17 @@ fn put_place<const S: usize>(
 /// The words of a memory as runs: how many, value, tags.
 fn memory_value(alloc: Global, cells: &[Word]) -> Result<Value, AllocError> {
     let mut runs = Vec::new(alloc);
-    let mut rest = cells;
-    while let Some((first, _)) = rest.split_first() {
+    let mut at: usize = 0;
+    for _ in 0..cells.len() {
+        let Some(first) = cells.get(at) else {
+            break;
+        };
+        let rest = cells.get(at..).unwrap_or(&[]);
         let count = rest.iter().take_while(|word| **word == *first).count();
         let value = digits(alloc, first.value())?;
         let tags = u64::from(first.tag_number());
         runs.push(json!(in alloc; [count, value, tags])?)?;
-        rest = rest.get(count.max(1)..).unwrap_or(&[]);
+        at = at.saturating_add(count.max(1));
     }
     Ok(Value::Array(runs))
 }
