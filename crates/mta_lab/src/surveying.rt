@@ -103,6 +103,9 @@ fn expectation_words(
     format!(in alloc; "{path}:{line}:1: error: {words}\n")
 }
 
+/// The most decimal digits of a count.
+const MOST_DIGITS: usize = 20;
+
 /// The most threads of a survey.
 const MOST_THREADS: usize = 64;
 
@@ -162,7 +165,7 @@ fn counts_of<'e>(alloc: Global, ends: &'e [SeedEnd]) -> Result<Vec<EndCount<'e>>
         let known = counts.iter_mut().find(|count| count.first.kind == end.kind
             && count.first.text == end.text);
         match known {
-            Some(count) => count.count += 1,
+            Some(count) => count.count = count.count.saturating_add(1),
             None => counts.push(EndCount {
                 first: end,
                 count: 1,
@@ -175,11 +178,13 @@ fn counts_of<'e>(alloc: Global, ends: &'e [SeedEnd]) -> Result<Vec<EndCount<'e>>
 
 /// How many digits a number has.
 fn digits_of(number: usize) -> usize {
-    let mut digits = 1;
+    let mut digits: usize = 1;
     let mut rest = number / 10;
-    while rest > 0 {
-        digits += 1;
-        rest /= 10;
+    for _ in 0..MOST_DIGITS {
+        if rest > 0 {
+            digits = digits.saturating_add(1);
+            rest /= 10;
+        }
     }
     digits
 }
