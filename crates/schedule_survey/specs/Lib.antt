@@ -1,0 +1,4 @@
+-- What public contracts promise: what the random schedule of a seed ends in.
+pub mod Ends
+-- what holds of all ends
+pub mod Laws
