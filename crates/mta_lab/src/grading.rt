@@ -4,9 +4,9 @@ use crate::answer::{Answer, Status};
 use crate::inputs::Inputs;
 use crate::json::push_object;
 use crate::lab_fault::LabFault;
-use crate::outcomes::{OutcomeKind, SeedEnd, push_expectation};
+use crate::outcomes::{Outcome, OutcomeKind, Seeds, outcomes_of, push_expectation};
 use crate::programs::program_of;
-use crate::surveying::{ends_of, expected_of, status_of};
+use crate::surveying::{expected_of, status_of};
 use expectations::Expectation;
 use lab_command_line::GradeRequest;
 use lab_json::VERSION;
@@ -72,56 +72,68 @@ fn verdict_of<X: Threads + Sync, F: Files, R: Read>(
         }
         Err(other) => return Err(other),
     };
-    let ends = ends_of(
-        rt,
-        alloc,
-        &program,
-        expected,
-        0,
-        request.seeds,
-        request.most,
-    )?;
+    let seeds = Seeds {
+        first: 0,
+        count: request.seeds,
+        most: request.most,
+    };
+    let outcomes = outcomes_of(rt, alloc, &program, expected, seeds)?;
+    verdict_of_outcomes(alloc, expected, &outcomes, request.seeds)
+}
+
+/// What is said of a submission with these outcomes.
+fn verdict_of_outcomes(
+    alloc: Global,
+    expected: &[Expectation],
+    outcomes: &[Outcome],
+    seeds: usize,
+) -> Result<Verdict, LabFault> {
     for (kind, word) in [
         (OutcomeKind::Stopped, "trap"),
         (OutcomeKind::Deadlock, "deadlock"),
         (OutcomeKind::Finished, "wrong"),
         (OutcomeKind::OutOfSteps, "ran out of steps"),
     ] {
-        let found = ends.iter().find(|end| end.kind == kind && is_wrong(end));
-        if let Some(end) = found {
+        let found = outcomes
+            .iter()
+            .find(|outcome| outcome.kind == kind && is_wrong(outcome));
+        if let Some(outcome) = found {
             return Ok(Verdict {
                 word,
-                why: why_of(alloc, expected, end)?,
-                status: status_of(end, true),
+                why: why_of(alloc, expected, outcome)?,
+                status: status_of(outcome, true),
             });
         }
     }
-    let total = ends.len();
     Ok(Verdict {
         word: "right",
-        why: format!(in alloc; "{total} seeds")?,
+        why: format!(in alloc; "{seeds} seeds")?,
         status: Status::Done,
     })
 }
 
-/// Whether an end is not as it has to be.
-fn is_wrong(end: &SeedEnd) -> bool {
-    match end.kind {
+/// Whether an outcome is not as it has to be.
+fn is_wrong(outcome: &Outcome) -> bool {
+    match outcome.kind {
         OutcomeKind::Deadlock | OutcomeKind::OutOfSteps => true,
-        OutcomeKind::Finished | OutcomeKind::Stopped => end.missed.is_some(),
+        OutcomeKind::Finished | OutcomeKind::Stopped => outcome.missed.is_some(),
     }
 }
 
-/// Why an end is wrong: the seed, the expectation that it misses, who was stopped, and the words that changed.
-fn why_of(alloc: Global, expected: &[Expectation], end: &SeedEnd) -> Result<String, AllocError> {
-    let seed = end.seed;
+/// Why an outcome is wrong: the seed, the expectation that it misses, who was stopped, and the words that changed.
+fn why_of(
+    alloc: Global,
+    expected: &[Expectation],
+    outcome: &Outcome,
+) -> Result<String, AllocError> {
+    let seed = outcome.seed;
     let mut why = format!(in alloc; "seed {seed}")?;
-    if let Some(expectation) = end.missed.and_then(|place| expected.get(place)) {
+    if let Some(expectation) = outcome.missed.and_then(|place| expected.get(place)) {
         why.push_str(": not ")?;
         push_expectation(&mut why, expectation)?;
     }
-    if !end.text.is_empty() {
-        let text = end.text.as_str();
+    if !outcome.text.is_empty() {
+        let text = outcome.text.as_str();
         write!(why, ": {text}")?;
     }
     Ok(why)
