@@ -15,7 +15,7 @@ mod debugging;
 #[cfg(test)]
 mod devices;
 #[cfg(test)]
-mod expectations;
+mod expected_ends;
 #[cfg(test)]
 mod faults;
 #[cfg(test)]
