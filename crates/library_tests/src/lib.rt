@@ -34,6 +34,7 @@ mod refused;
 mod replays;
 #[cfg(test)]
 mod sources;
+#[cfg(test)]
 mod views;
 #[cfg(test)]
 mod waits;
