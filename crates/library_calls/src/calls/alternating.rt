@@ -92,11 +92,19 @@ fn threaded_ended<'i>(
     match run {
         Ok(woven) => woven_ended(alloc, image, &woven, gave_up),
         Err(ThreadsFault::Build(fault)) => Ended::refused(matches!(fault, PartsFault::NoMemory)),
-        Err(ThreadsFault::Gather(parts, GatherFault::NoMemory)) => {
-            Ended::refused(matches!(gathered(alloc, parts), Some(woven) if is_alternating(&woven)))
-        }
-        Err(ThreadsFault::Gather(parts, GatherFault::Short(0))) => Ended::refused(is_new(&parts)),
-        Err(_) => Ended::Wrong,
+        Err(ThreadsFault::Gather(parts, fault)) => refused_ended(alloc, parts, fault),
+    }
+}
+
+/// A run whose gathering was refused.
+fn refused_ended(alloc: Global, parts: Parts<2>, fault: GatherFault) -> Ended {
+    match fault {
+        GatherFault::NoMemory => match gathered(alloc, parts) {
+            Some(woven) => Ended::refused(is_alternating(&woven)),
+            None => Ended::Wrong,
+        },
+        GatherFault::Short(0) => Ended::refused(is_new(&parts)),
+        _ => Ended::Wrong,
     }
 }
 
