@@ -1,0 +1,79 @@
+-- The last step before another.
+use Rattle.std.proofs.Common.{◌≡◌, ℕ, zero, suc, ◌+◌, ◌-◌, ◌<◌, ◌≤◌, Bool, true, false, not, cond, ltb, List, length, get_or}
+use Rattle.std.proofs.Common.{Option, Some, None, refl, sym, ap, ◌∙◌, subst, arith, le-ltb, lt-ltb, ◌&&◌}
+use Rattle.std.specs.List.{slice_get}
+use Rattle.std.proofs.lemmas.Option.{slice_get-get_or}
+use Rattle.processor.specs.declared.steps.Step.{Step}
+use Rattle.run_findings.specs.Actions.{writes, is_by}
+use Rattle.run_findings.specs.Places.{passes, last_before}
+use Rattle.run_findings.specs.TornReads.{is_newer}
+use Rattle.run_findings.specs.declared.actions.Action.{Action}
+
+-- by whether the step in place m passes
+last-by : (test : Action → Bool) (ds : List Action) (m : ℕ) (d : Action) (t : Bool) → slice_get ds m ≡ Some d
+    → test d ≡ t → last_before test ds (suc m) ≡ cond t (Some m) (last_before test ds m)
+last-by test ds m d t stands is = ap (λ b. cond b (Some m) (last_before test ds m)) (ap (passes test) stands ∙ is)
+
+last-failed : (test : Action → Bool) (ds : List Action) (m : ℕ) (d : Action) → m < length ds
+    → test (get_or ds m d) ≡ false → last_before test ds m ≡ last_before test ds (suc m)
+last-failed test ds m d within fails =
+    sym (last-by test ds m (get_or ds m d) false (slice_get-get_or ds m d within) fails)
+
+last-passed : (test : Action → Bool) (ds : List Action) (m : ℕ) (d : Action) → m < length ds
+    → test (get_or ds m d) ≡ true → last_before test ds (suc m) ≡ Some m
+last-passed test ds m d within passed =
+    last-by test ds m (get_or ds m d) true (slice_get-get_or ds m d within) passed
+
+-- the step before n does not pass
+pub last-before : (test : Action → Bool) (ds : List Action) (n : ℕ) (d : Action) → 0 < n → n ≤ length ds
+    → test (get_or ds (n - 1) d) ≡ false → last_before test ds (n - 1) ≡ last_before test ds n
+last-before test ds zero d some within fails = absurd (omega arith)
+last-before test ds (suc m) d some within fails =
+    let same : m ≡ suc m - 1 = omega arith in
+    let P : ℕ → Type 0 =
+    λ k. test (get_or ds k d) ≡ false → last_before test ds k ≡ last_before test ds (suc m) in
+    subst P same (last-failed test ds m d (omega arith)) fails
+
+-- the step before n passes
+pub last-is : (test : Action → Bool) (ds : List Action) (n : ℕ) (d : Action) → 0 < n → n ≤ length ds
+    → test (get_or ds (n - 1) d) ≡ true → last_before test ds n ≡ Some (n - 1)
+last-is test ds zero d some within passed = absurd (omega arith)
+last-is test ds (suc m) d some within passed =
+    let same : m ≡ suc m - 1 = omega arith in
+    let P : ℕ → Type 0 = λ k. test (get_or ds k d) ≡ true → last_before test ds (suc m) ≡ Some k in
+    subst P same (last-passed test ds m d (omega arith)) passed
+
+-- What is newer than a step.
+
+-- a step is not newer than a later one
+newer-at : (ds : List Action) (t : Step) (lo : ℕ) (o : Option ℕ) → ((u : ℕ) → o ≡ Some u → u ≤ lo)
+    → is_newer ds t lo o ≡ false
+newer-at ds t lo None old = refl
+newer-at ds t lo (Some u) old =
+    ap (λ b. b && not (passes (is_by t) (slice_get ds u))) (le-ltb lo u (old u refl))
+
+older : (test : Action → Bool) (ds : List Action) (m u : ℕ) (t : Bool) → ((v : ℕ) → last_before test ds m ≡ Some v → v < m)
+    → cond t (Some m) (last_before test ds m) ≡ Some u → u < suc m
+older test ds m u true below e = let same : m ≡ u = cc in omega arith
+older test ds m u false below e = let low = below u e in omega arith
+
+last-below : (test : Action → Bool) (ds : List Action) (n u : ℕ) → last_before test ds n ≡ Some u → u < n
+last-below test ds zero u e = absurd cc
+last-below test ds (suc m) u e =
+    older test ds m u (passes test (slice_get ds m)) (λ v. last-below test ds m v) e
+
+-- nor is what stands before it
+pub newer-old : (ds : List Action) (t : Step) (lo : ℕ) (test : Action → Bool) (n : ℕ) → n ≤ lo + 1
+    → is_newer ds t lo (last_before test ds n) ≡ false
+newer-old ds t lo test n old =
+    newer-at ds t lo (last_before test ds n) (λ u e. let low = last-below test ds n u e in omega arith)
+
+-- a step behind it is where it is another stream's
+pub newer-is : (ds : List Action) (t : Step) (lo : ℕ) (test : Action → Bool) (n : ℕ) (d : Action) → lo < n - 1
+    → n ≤ length ds → test (get_or ds (n - 1) d) ≡ true
+    → is_newer ds t lo (last_before test ds n) ≡ not (is_by t (get_or ds (n - 1) d))
+newer-is ds t lo test n d newer within passed =
+    let some : 0 < n = omega arith in
+    ap (is_newer ds t lo) (last-is test ds n d some within passed)
+    ∙ ap (λ b. b && not (passes (is_by t) (slice_get ds (n - 1)))) (lt-ltb lo (n - 1) newer)
+    ∙ ap (λ o. not (passes (is_by t) o)) (slice_get-get_or ds (n - 1) d (omega arith))

@@ -1,0 +1,7 @@
+mod Before
+mod Between
+mod Finding
+mod Glimpses
+mod LostUpdates
+mod TornReads
+mod UnreadStores

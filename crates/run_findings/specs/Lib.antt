@@ -1,0 +1,10 @@
+-- The promises, in the order of reading: clauses of public functions cite them.
+pub mod Actions
+pub mod Places
+pub mod Found
+pub mod Marks
+pub mod LostUpdates
+pub mod UnreadStores
+pub mod TornReads
+-- The aid: what the code looks for.
+pub mod Sought

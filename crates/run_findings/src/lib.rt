@@ -1,0 +1,16 @@
+//! What went wrong in a run, told from what each step read and wrote: lost updates, unread stores and torn reads
+//! (docs/FINDINGS.md).
+#![tactic(auto)]
+
+mod actions;
+mod lost;
+mod marks;
+mod parting;
+mod searching;
+mod torn;
+mod unread;
+
+pub use actions::{Access, Action, Deed};
+pub use lost::{LostUpdate, lost_updates};
+pub use torn::{TornRead, torn_reads};
+pub use unread::{UnreadStore, unread_stores};

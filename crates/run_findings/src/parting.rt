@@ -1,0 +1,149 @@
+//! What parts two steps of a stream that else belong together.
+
+ghost use Rattle.std.specs.Prelude.{◌≡◌, ◌≤◌, ◌<◌, length};
+ghost use Rattle.run_findings.specs.Actions.{writes};
+ghost use Rattle.run_findings.specs.Places.{last_before};
+ghost use Rattle.run_findings.specs.TornReads.{word_read, word_changed, meets, are_parted, is_newer, brings_news};
+ghost use Rattle.run_findings.specs.TornReads.{any_between, parts_at};
+
+use crate::actions::{Access, Action, op_reads, op_writes};
+use processor::Step;
+
+/// How the steps that may be parted meet their words.
+#[derive(Clone, Copy)]
+pub(crate) enum Meeting {
+    /// They read them.
+    Reads,
+    /// They write them.
+    Writes,
+}
+
+impl Meeting {
+    /// Whether a step meets the word at this address so.
+    fn meets(self, address: u64, action: &Action) -> bool
+        ensures { result ≡ meets self address action.now }
+    {
+        match self {
+            Meeting::Reads => action.reads(address),
+            Meeting::Writes => action.writes(address),
+        }
+    }
+}
+
+/// Two words, and a stream that meets both of them.
+#[derive(Clone, Copy)]
+pub(crate) struct Pair {
+    /// How it meets them.
+    pub(crate) way: Meeting,
+    /// The stream.
+    pub(crate) stream: Step,
+    /// The address of one word.
+    pub(crate) one: u64,
+    /// The address of the other.
+    pub(crate) other: u64,
+}
+
+impl Pair {
+    /// Whether two steps, in which the stream meets the words, are parted by one between them.
+    pub(crate) fn is_parted(&self, actions: &[Action], m: usize, n: usize) -> bool
+        requires m_in { m ≤ length actions.now }
+        requires n_in { n ≤ length actions.now }
+        ensures { result ≡ are_parted actions.now self.now.way self.now.stream self.now.one self.now.other m n }
+    {
+        if m < n {
+            self.is_parted_between(actions, m, n)
+        } else {
+            self.is_parted_between(actions, n, m)
+        }
+    }
+
+    /// The same of steps in this order.
+    fn is_parted_between(&self, actions: &[Action], first: usize, last: usize) -> bool
+        requires order { first ≤ last }
+        requires last_in { last ≤ length actions.now }
+        ensures { result ≡ any_between
+            (parts_at actions.now self.now.way self.now.stream self.now.one self.now.other first) first last }
+    {
+        for place in first + 1..last {
+            if self.is_parted_by(actions, first, place) {
+                return true;
+            }
+        }
+        false
+    }
+
+    /// Whether a step parts them, of which the first is in step `first`.
+    fn is_parted_by(&self, actions: &[Action], first: usize, place: usize) -> bool
+        requires { place < length actions.now }
+        ensures { result ≡ parts_at actions.now self.now.way self.now.stream self.now.one self.now.other first place }
+    {
+        let action = &actions[place];
+        action.is_by(self.stream)
+            && (self.way.meets(self.one, action)
+                || self.way.meets(self.other, action)
+                || brings_news(
+                    actions,
+                    self.stream,
+                    first,
+                    place,
+                    word_read(&action.access),
+                ))
+    }
+}
+
+/// Whether step `place`, which reads this word, reads what another stream wrote after step `first`.
+fn brings_news(
+    actions: &[Action],
+    stream: Step,
+    first: usize,
+    place: usize,
+    word: Option<u64>,
+) -> bool
+    requires { place ≤ length actions.now }
+    ensures { result ≡ brings_news actions.now stream first place word }
+{
+    match word {
+        Some(address) => is_newer(actions, stream, first, place, address),
+        None => false,
+    }
+}
+
+/// Whether the last write of a word before step `place` comes after step `first` and is another stream's.
+fn is_newer(actions: &[Action], stream: Step, first: usize, place: usize, address: u64) -> bool
+    requires { place ≤ length actions.now }
+    ensures { result ≡ is_newer actions.now stream first (last_before (writes address) actions.now place) }
+{
+    let mut write = place;
+    while write > 0 {
+        write -= 1;
+        if write <= first {
+            return false;
+        }
+        if actions[write].writes(address) {
+            return !actions[write].is_by(stream);
+        }
+    }
+    false
+}
+
+/// The word whose value an access read, if it did.
+pub(crate) fn word_read(access: &Option<Access>) -> Option<u64>
+    ensures { result ≡ word_read access.now }
+{
+    match access {
+        Some(access) if op_reads(access.op) => Some(access.address),
+        _ => None,
+    }
+}
+
+/// The word whose value an access changed, if it did.
+pub(crate) fn word_changed(access: &Option<Access>) -> Option<u64>
+    ensures { result ≡ word_changed access.now }
+{
+    match access {
+        Some(access) if op_writes(access.op) && access.before != access.after => Some(
+            access.address,
+        ),
+        _ => None,
+    }
+}

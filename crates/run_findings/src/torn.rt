@@ -1,0 +1,225 @@
+//! Torn reads.
+
+ghost use Rattle.std.specs.Prelude.{◌≡◌, ◌↔◌, ◌<◌, ◌++◌, length, Contains, IfOk, IfSome, OnOk};
+ghost use Rattle.run_findings.specs.TornReads.{IsTornRead, torn_reads, torn_by_write, torn_by_read};
+ghost use Rattle.run_findings.specs.TornReads.{other_half, is_other_half, is_change_of, glimpse_at, word_changed};
+ghost use Rattle.run_findings.specs.Found.{found_to, lists_to};
+
+use crate::actions::Action;
+use crate::parting::{Meeting, Pair, word_changed, word_read};
+use crate::searching::{Sought, last_before};
+use processor::Step;
+use std::alloc::{AllocError, Global};
+
+/// That a stream read two words on both sides of another stream's change of both: the first before it was written, the
+/// second after ("Torn reads", docs/FINDINGS.md). Steps count from 0.
+#[derive(Clone, Copy, Debug, PartialEq, Eq)]
+pub struct TornRead {
+    /// The byte address of the word that was read before it was written.
+    pub stale: u64,
+    /// The byte address of the word that was read after it was written.
+    pub fresh: u64,
+    /// The step in which the first was read.
+    pub stale_read: usize,
+    /// The step in which the second was read.
+    pub fresh_read: usize,
+    /// The step in which the other stream wrote the first.
+    pub stale_write: usize,
+    /// The step in which it wrote the second.
+    pub fresh_write: usize,
+}
+
+/// That a step reads the value of a word that another stream changed.
+#[derive(Clone, Copy)]
+pub(crate) struct Glimpse {
+    reader: Step,
+    writer: Step,
+    fresh: u64,
+    fresh_read: usize,
+    fresh_write: usize,
+}
+
+/// The torn reads of a run with these steps, each once, in the order of the steps `fresh_read`, then `stale_write`, then
+/// `stale_read`.
+pub fn torn_reads(alloc: Global, actions: &[Action]) -> Result<Vec<TornRead>, AllocError>
+    ensures is { IfOk result (λ found. found.items ≡ torn_reads actions.now) }
+    ensures exact { IfOk result (λ found. (f : TornRead) → Contains found.items f ↔ IsTornRead actions.now f) }
+{
+    let mut found = Vec::new(alloc);
+    for read in 0..actions.len() {
+        if let Some(glimpse) = glimpse_at(actions, read) {
+            push_torn(&mut found, actions, &glimpse)?;
+        }
+    }
+    Ok(found)
+}
+
+/// What a step sees of another stream's change, if it does.
+#[tactic(auto, unfolding(crate::specs::TornReads::glimpse_at))]
+fn glimpse_at(actions: &[Action], read: usize) -> Option<Glimpse>
+    requires { read < length actions.now }
+    ensures is { result ≡ glimpse_at actions.now read }
+    ensures read_in { IfSome result (λ g. g.fresh_read < length actions.now) }
+    ensures write_in { IfSome result (λ g. g.fresh_write < length actions.now) }
+{
+    let reader = &actions[read];
+    let fresh = word_read(&reader.access)?;
+    let write = last_before(actions, read, fresh, Sought::Written)?;
+    let writer = &actions[write];
+    if is_change_of(fresh, writer) && !writer.is_by(reader.stream) {
+        Some(Glimpse {
+            reader: reader.stream,
+            writer: writer.stream,
+            fresh,
+            fresh_read: read,
+            fresh_write: write,
+        })
+    } else {
+        None
+    }
+}
+
+/// Whether a step changed the value of a word.
+fn is_change_of(word: u64, action: &Action) -> bool
+    ensures { result ≡ is_change_of word (word_changed action.now.access) }
+{
+    match word_changed(&action.access) {
+        Some(changed) => changed == word,
+        None => false,
+    }
+}
+
+/// Appends the torn reads of which this is the second.
+fn push_torn(
+    found: &mut Vec<TornRead>,
+    actions: &[Action],
+    glimpse: &Glimpse,
+) -> Result<(), AllocError>
+    requires read_in { glimpse.now.fresh_read < length actions.now }
+    requires write_in { glimpse.now.fresh_write < length actions.now }
+    ensures { OnOk result (found.new.items
+        ≡ found.old.items ++ lists_to (torn_by_write actions.now glimpse.now) (length actions.now)) }
+{
+    for write in 0..actions.len() {
+        push_torn_by_write(found, actions, glimpse, write)?;
+    }
+    Ok(())
+}
+
+/// Appends those that a write tears.
+#[tactic(auto, unfolding(crate::specs::TornReads::torn_by_write))]
+fn push_torn_by_write(
+    found: &mut Vec<TornRead>,
+    actions: &[Action],
+    glimpse: &Glimpse,
+    write: usize,
+) -> Result<(), AllocError>
+    requires read_in { glimpse.now.fresh_read < length actions.now }
+    requires fresh_in { glimpse.now.fresh_write < length actions.now }
+    requires write_in { write < length actions.now }
+    ensures { OnOk result (found.new.items ≡ found.old.items ++ torn_by_write actions.now glimpse.now write) }
+{
+    match other_half(actions, glimpse, write) {
+        Some(stale) => push_torn_by_reads(found, actions, glimpse, stale, write),
+        None => Ok(()),
+    }
+}
+
+/// The word that a step changed, where that belongs to the change that is seen.
+#[tactic(auto, unfolding(crate::specs::TornReads::other_half))]
+fn other_half(actions: &[Action], glimpse: &Glimpse, write: usize) -> Option<u64>
+    requires fresh_in { glimpse.now.fresh_write < length actions.now }
+    requires write_in { write < length actions.now }
+    ensures { result ≡ other_half actions.now glimpse.now write }
+{
+    let action = &actions[write];
+    let stale = word_changed(&action.access)?;
+    if is_other_half(actions, glimpse, stale, action.stream, write) {
+        Some(stale)
+    } else {
+        None
+    }
+}
+
+/// Whether a write of this word by a stream belongs to the change that is seen.
+fn is_other_half(
+    actions: &[Action],
+    glimpse: &Glimpse,
+    stale: u64,
+    stream: Step,
+    write: usize,
+) -> bool
+    requires fresh_in { glimpse.now.fresh_write < length actions.now }
+    requires write_in { write < length actions.now }
+    ensures { result ≡ is_other_half actions.now glimpse.now stale stream write }
+{
+    let writes = Pair {
+        way: Meeting::Writes,
+        stream: glimpse.writer,
+        one: stale,
+        other: glimpse.fresh,
+    };
+    stream.p == glimpse.writer.p
+        && stream.s == glimpse.writer.s
+        && stale != glimpse.fresh
+        && !writes.is_parted(actions, write, glimpse.fresh_write)
+}
+
+/// Appends those that this write of a word tears.
+fn push_torn_by_reads(
+    found: &mut Vec<TornRead>,
+    actions: &[Action],
+    glimpse: &Glimpse,
+    stale: u64,
+    write: usize,
+) -> Result<(), AllocError>
+    requires { glimpse.now.fresh_read < length actions.now }
+    ensures { OnOk result (found.new.items
+        ≡ found.old.items ++ found_to (torn_by_read actions.now glimpse.now stale write) (length actions.now)) }
+{
+    for read in 0..actions.len() {
+        if let Some(torn) = torn_by_read(actions, glimpse, stale, write, read) {
+            found.push(torn)?;
+        }
+    }
+    Ok(())
+}
+
+/// This read of a word with this write of it, if it is torn.
+#[tactic(auto, unfolding(crate::specs::TornReads::torn_by_read))]
+fn torn_by_read(
+    actions: &[Action],
+    glimpse: &Glimpse,
+    stale: u64,
+    write: usize,
+    read: usize,
+) -> Option<TornRead>
+    requires glimpse_in { glimpse.now.fresh_read < length actions.now }
+    requires read_in { read < length actions.now }
+    ensures { result ≡ torn_by_read actions.now glimpse.now stale write read }
+{
+    let action = &actions[read];
+    if !(action.is_by(glimpse.reader) && action.reads(stale)) {
+        return None;
+    }
+    if read >= write {
+        return None;
+    }
+    let reads = Pair {
+        way: Meeting::Reads,
+        stream: glimpse.reader,
+        one: stale,
+        other: glimpse.fresh,
+    };
+    if reads.is_parted(actions, read, glimpse.fresh_read) {
+        return None;
+    }
+    Some(TornRead {
+        stale,
+        fresh: glimpse.fresh,
+        stale_read: read,
+        fresh_read: glimpse.fresh_read,
+        stale_write: write,
+        fresh_write: glimpse.fresh_write,
+    })
+}

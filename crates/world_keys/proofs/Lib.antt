@@ -1,0 +1,7 @@
+pub mod Places
+pub mod Digits
+pub mod Streams
+pub mod Memories
+pub mod Marks
+pub mod Readings
+pub mod Worlds

@@ -1,0 +1,5 @@
+-- What public contracts promise: the numbers by which worlds are told apart.
+pub mod Tables
+pub mod StreamNumbers
+pub mod MemoryNumbers
+pub mod WorldKeys

@@ -1,0 +1,14 @@
+//! Keys of worlds: few numbers for a world of an image, the same for the same world and others for any other
+//! (docs/MACHINE.md, "Machines").
+#![tactic(auto)]
+
+mod halves;
+mod keys;
+mod laws;
+mod memory_numbers;
+mod stream_numbers;
+mod tables;
+
+pub use keys::world_key;
+pub use laws::keys_tell_worlds_apart;
+pub use tables::Table;
