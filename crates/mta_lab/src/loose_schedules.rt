@@ -6,24 +6,36 @@ use source_faults::{Message, check_schedule};
 use std::alloc::{AllocError, Global};
 use trace_text::{ScheduleFault, read_schedule};
 
-/// A schedule in the strict form, and of each of its lines the number, from 1, of the line that said it.
+/// Where a line stands in its text.
+#[derive(Clone, Copy, Debug)]
+struct LinePlace {
+    /// Its number, from 1.
+    number: usize,
+    /// How many bytes stand before it.
+    start: usize,
+}
+
+/// A schedule in the strict form, and of each of its lines the place of the line that said it.
 #[derive(Drop)]
-pub(crate) struct StrictSchedule {
-    /// The text.
-    pub text: Vec<u8>,
-    /// The numbers.
-    pub lines: Vec<usize>,
+struct StrictSchedule {
+    text: Vec<u8>,
+    lines: Vec<LinePlace>,
 }
 
 impl StrictSchedule {
     /// The strict form of a text.
-    pub(crate) fn of(alloc: Global, text: &[u8]) -> Result<StrictSchedule, AllocError> {
+    fn of(alloc: Global, text: &[u8]) -> Result<StrictSchedule, AllocError> {
         let mut strict = Vec::new(alloc);
         let mut lines = Vec::new(alloc);
-        for (index, line) in text.split(|byte| *byte == b'\n').enumerate() {
+        let mut place = LinePlace {
+            number: 1,
+            start: 0,
+        };
+        for line in text.split(|byte| *byte == b'\n') {
             if push_strict(&mut strict, line)? {
-                note_line(&mut lines, index)?;
+                note_line(&mut lines, place)?;
             }
+            place = behind(place, line);
         }
         Ok(StrictSchedule {
             text: strict,
@@ -31,12 +43,18 @@ impl StrictSchedule {
         })
     }
 
-    /// The number of the line that said a line of the strict form, both from 1.
-    pub(crate) fn line(&self, number: usize) -> usize {
-        let line = number
-            .checked_sub(1)
-            .and_then(|index| self.lines.get(index));
-        line.copied().unwrap_or(number)
+    /// The place of the line that said a line of the strict form, which is numbered from 1.
+    fn place(&self, number: usize) -> Option<LinePlace> {
+        let line = self.lines.get(number.checked_sub(1)?)?;
+        Some(*line)
+    }
+}
+
+/// The place of the line behind this one.
+fn behind(place: LinePlace, line: &[u8]) -> LinePlace {
+    LinePlace {
+        number: place.number.saturating_add(1),
+        start: place.start.saturating_add(line.len()).saturating_add(1),
     }
 }
 
@@ -55,14 +73,17 @@ pub(crate) fn check_loose_schedule(
     let strict = StrictSchedule::of(alloc, text)?;
     let mut messages = check_schedule(alloc, &strict.text, image)?;
     for message in messages.iter_mut() {
-        message.line = strict.line(message.line);
+        if let Some(place) = strict.place(message.line) {
+            message.line = place.number;
+            message.start = place.start;
+        }
     }
     Ok(messages)
 }
 
-/// Notes the number, from 1, of the line of this place.
-fn note_line(numbers: &mut Vec<usize>, index: usize) -> Result<(), AllocError> {
-    Ok(numbers.push(index.saturating_add(1))?)
+/// Notes the place of a line.
+fn note_line(lines: &mut Vec<LinePlace>, place: LinePlace) -> Result<(), AllocError> {
+    Ok(lines.push(place)?)
 }
 
 /// Adds what a line says in the strict form; whether it says anything.
