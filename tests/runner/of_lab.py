@@ -16,8 +16,8 @@ from table import unescaped
 EXAMPLES = os.path.join(table.ROOT, "examples")
 CASES = os.path.join(table.CASES, "lab")
 SEEDS = (1, 2, 3)
-# programs whose races a survey has to find within 200 seeds: the word, and a wrong value of it
-RACES = {"lock": (8, "1"), "fetch_add": (8, "1"), "bounded_buffer": None, "barrier": None, "readers_writer": None}
+# programs whose races a survey has to find within 200 seeds
+RACES = ("lock", "fetch_add", "bounded_buffer", "barrier", "readers_writer")
 
 
 def lab(*words, given=b"", folder=EXAMPLES):
@@ -106,7 +106,8 @@ def chosen(rule, steps, ready, words):
 
 @checks.others("lab/surveys")
 def surveys():
-    """Of each example with a race 200 seeds find more than one end, and each end is that of its seed's schedule."""
+    """Of each example with a race 200 seeds find more than one end, or one that never comes; and each end is that of its
+    seed's schedule."""
     for name in RACES:
         yield name, lambda name=name: (True, finds_race(name))
 
@@ -116,7 +117,7 @@ def finds_race(name):
     found = [json.loads(line) for line in lab("survey", source, "--seeds", "200", "--json").out.decode().splitlines()]
     if sum(end["runs"] for end in found) != 200:
         return "the counts do not add up"
-    if len(found) < 2:
+    if len(found) < 2 and found[0]["end"] == "finished":
         return "one end alone"
     image = tool.asm(tool.read(source))
     for end in found:
