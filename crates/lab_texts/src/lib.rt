@@ -1,10 +1,11 @@
-//! What people read of a program and its runs: names of its places, what a step did, who waits for what, and how a run
-//! ended (docs/LAB.md).
+//! What people read of a program and its runs: names of its places, what a step did, who waits for what, how a run
+//! ended, and its findings (docs/LAB.md).
 #![tactic(auto)]
 
 mod changes;
 mod differences;
 mod ends;
+mod findings;
 mod names;
 mod step_lines;
 mod waits;
@@ -15,6 +16,7 @@ pub use differences::{
     push_changed_words, push_differences, push_differing_words, world_differences,
 };
 pub use ends::{EndKind, RunEnd, StoppedStream, end_of, push_end};
+pub use findings::{FindingsOfRun, Telling, push_findings, push_first_finding};
 pub use names::ProgramNames;
 pub use step_lines::{Columns, push_lane_head, push_lane_line, push_step_line};
 pub use waits::{LastTurn, StreamWait, circle_of, waits_of};

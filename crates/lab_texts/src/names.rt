@@ -59,6 +59,27 @@ impl<'t> ProgramNames<'t> {
         }
     }
 
+    /// The program word of a place, which is written as [`ProgramNames::push_place`] does or by its number; None where
+    /// there is none.
+    pub fn word_at(&self, alloc: Global, place: &str) -> Result<Option<u32>, AllocError> {
+        if let Ok(word) = place.parse::<u32>() {
+            return Ok(if word < self.words() {
+                Some(word)
+            } else {
+                None
+            });
+        }
+        let mut name = String::new(alloc);
+        for word in 0..self.words() {
+            name.clear();
+            self.push_place(&mut name, word)?;
+            if name.as_str() == place {
+                return Ok(Some(word));
+            }
+        }
+        Ok(None)
+    }
+
     /// The instruction of a program word as the text has it; empty where there is none.
     pub fn statement(&self, word: u32) -> &'t str {
         match self.words.get(word as usize) {

@@ -9,3 +9,5 @@ pub mod Replaying
 pub mod Finding
 pub mod WordsInTurn
 pub mod Keeping
+pub mod OtherSchedule
+pub mod PointEntries

@@ -6,6 +6,11 @@ pub mod Sessions
 pub mod Stops
 -- what each command answers, and where it is refused
 pub mod Table
+-- what a session tells of its schedule and its points, and its moves of so many steps at most
+pub mod StreamSteps
+pub mod PointLists
+pub mod BoundedMoves
+pub mod ScheduleChanges
 -- What only private contracts cite: a machine at a position, machines that are kept at some, and what a run to a stop
 -- looks at.
 pub mod Places

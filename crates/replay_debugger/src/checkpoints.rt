@@ -1,5 +1,8 @@
 //! A schedule, and machines that are kept at some of its positions.
 
+mod kept_clones;
+mod other_schedule;
+
 ghost use Rattle.std.specs.Prelude.{◌≡◌, ◌<◌, ◌≤◌, ℕ, ◌%◌, length, IfOk, IfSome, IfNone, slice_index_or};
 ghost use Rattle.std.specs.List.{All};
 ghost use Rattle.replay_debugger.specs.declared.replay.Replay.{Replay};

@@ -1,8 +1,16 @@
 //! A session of the debugger.
 
+mod bounded_back;
+mod bounded_moves;
 mod moving;
+mod point_list;
 mod pointing;
+mod schedule_change;
+mod schedule_steps;
+mod session_clone;
 mod showing;
+mod stopping_points;
+mod stream_steps;
 
 ghost use Rattle.std.specs.Prelude.{◌≡◌, ◌<◌, ◌↔◌, IfOk, IfErr, IsErrAnd};
 ghost use Rattle.replay_debugger.specs.Sessions.{session_at_start, session_world};

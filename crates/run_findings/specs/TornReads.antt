@@ -17,10 +17,10 @@ abbrev pub word_read : Option Access → Option ℕ
 word_read None = None
 word_read (Some x) = if op_reads x.op then Some x.address else None
 
--- the word of which an access changed the value, if it did
+-- the full word of which an access changed the value, if it did: what stands in an empty word nobody may read
 abbrev pub word_changed : Option Access → Option ℕ
 word_changed None = None
-word_changed (Some x) = if op_writes x.op && not (x.before == x.after) then Some x.address else None
+word_changed (Some x) = if op_writes x.op && not (x.before == x.after) && x.full then Some x.address else None
 
 -- What lies between two steps of a stream that belong together.
 

@@ -136,14 +136,14 @@ pub(crate) fn word_read(access: &Option<Access>) -> Option<u64>
     }
 }
 
-/// The word whose value an access changed, if it did.
+/// The full word whose value an access changed, if it did: what stands in an empty word nobody may read.
 pub(crate) fn word_changed(access: &Option<Access>) -> Option<u64>
     ensures { result ≡ word_changed access.now }
 {
     match access {
-        Some(access) if op_writes(access.op) && access.before != access.after => Some(
-            access.address,
-        ),
+        Some(access) if op_writes(access.op) && access.before != access.after && access.full => {
+            Some(access.address)
+        }
         _ => None,
     }
 }

@@ -2,3 +2,5 @@
 pub mod Ends
 -- what holds of all ends
 pub mod Laws
+-- groups of ends
+pub mod Groups

@@ -74,7 +74,7 @@ impl<'i, const S: usize> Session<'i, S> {
     }
 
     /// Goes to a position, from the nearest one that is kept at or below it, the present one included.
-    fn move_to(&mut self, goal: usize) -> Result<(), AllocError>
+    pub(super) fn move_to(&mut self, goal: usize) -> Result<(), AllocError>
         requires { goal ≤ length self.old.schedule }
         ensures goes { OnOk result (self.new ≡ record self.old { position = goal }) }
         ensures kept { OnErr result (self.new ≡ self.old) }

@@ -1,0 +1,233 @@
+//! Findings of a run in words.
+
+use crate::names::ProgramNames;
+use crate::words::{NumberStyle, push_stream, push_value};
+use run_findings::{
+    Access, Action, LostUpdate, TornRead, UnreadStore, lost_updates, torn_reads, unread_stores,
+};
+use std::alloc::{AllocError, Global};
+
+/// Of each kind of findings so many are told, and how many more there are.
+const MOST_OF_A_KIND: usize = 10;
+
+/// The findings of a run (docs/FINDINGS.md).
+#[derive(Drop)]
+pub struct FindingsOfRun {
+    /// Its lost updates.
+    pub lost: Vec<LostUpdate>,
+    /// Its torn reads.
+    pub torn: Vec<TornRead>,
+    /// Its unread stores, without those that are the last step of a lost update.
+    pub unread: Vec<UnreadStore>,
+}
+
+impl FindingsOfRun {
+    /// The findings of a run with these steps.
+    pub fn of(alloc: Global, actions: &[Action]) -> Result<FindingsOfRun, AllocError> {
+        let lost = lost_updates(alloc, actions)?;
+        let mut unread = Vec::new(alloc);
+        for store in &unread_stores(alloc, actions)? {
+            if !lost.iter().any(|update| update.stored == store.stored) {
+                unread.push(*store)?;
+            }
+        }
+        Ok(FindingsOfRun {
+            lost,
+            torn: torn_reads(alloc, actions)?,
+            unread,
+        })
+    }
+
+    /// How many there are.
+    pub fn count(&self) -> usize {
+        self.lost
+            .len()
+            .saturating_add(self.torn.len())
+            .saturating_add(self.unread.len())
+    }
+}
+
+/// How findings are told: by which names, in which numbers, of a run with which steps.
+#[derive(Clone, Copy)]
+pub struct Telling<'a, 't> {
+    /// The names of the program.
+    pub names: &'a ProgramNames<'t>,
+    /// How numbers are shown.
+    pub style: NumberStyle,
+    /// What the steps of the run did.
+    pub actions: &'a [Action],
+}
+
+/// Adds the findings of a run, a line each, the first ten of each kind.
+pub fn push_findings(
+    out: &mut String,
+    telling: &Telling<'_, '_>,
+    found: &FindingsOfRun,
+) -> Result<(), AllocError> {
+    for update in found.lost.iter().take(MOST_OF_A_KIND) {
+        telling.push_lost(out, update)?;
+        telling.end_line(out, update.word)?;
+    }
+    push_more(out, found.lost.len(), "lost updates")?;
+    for read in found.torn.iter().take(MOST_OF_A_KIND) {
+        telling.push_torn(out, read)?;
+        out.push_str("\n")?;
+    }
+    push_more(out, found.torn.len(), "torn reads")?;
+    for store in found.unread.iter().take(MOST_OF_A_KIND) {
+        telling.push_unread(out, store)?;
+        telling.end_line(out, store.word)?;
+    }
+    push_more(out, found.unread.len(), "unread stores")
+}
+
+/// Adds the first finding of a run without an end of the line, and how many more there are; nothing where there is none.
+pub fn push_first_finding(
+    out: &mut String,
+    telling: &Telling<'_, '_>,
+    found: &FindingsOfRun,
+) -> Result<(), AllocError> {
+    match (found.lost.first(), found.torn.first(), found.unread.first()) {
+        (Some(update), _, _) => telling.push_lost(out, update)?,
+        (None, Some(read), _) => telling.push_torn(out, read)?,
+        (None, None, Some(store)) => telling.push_unread(out, store)?,
+        (None, None, None) => return Ok(()),
+    }
+    match found.count() {
+        0 | 1 => Ok(()),
+        2 => out.push_str("; 1 more finding"),
+        count => {
+            let more = count.saturating_sub(1);
+            write!(out, "; {more} more findings")
+        }
+    }
+}
+
+impl Telling<'_, '_> {
+    /// Adds a lost update.
+    fn push_lost(&self, out: &mut String, update: &LostUpdate) -> Result<(), AllocError> {
+        let word = update.word;
+        write!(out, "lost update of [{word}]: ")?;
+        self.push_read(out, update.read)?;
+        out.push_str(", ")?;
+        self.push_write(out, update.over, "wrote", "")?;
+        out.push_str(", ")?;
+        self.push_write(out, update.stored, "stored", " over it")
+    }
+
+    /// Adds an unread store.
+    fn push_unread(&self, out: &mut String, store: &UnreadStore) -> Result<(), AllocError> {
+        let word = store.word;
+        write!(out, "unread store to [{word}]: ")?;
+        self.push_write(out, store.over, "stored", "")?;
+        out.push_str(", ")?;
+        self.push_write(out, store.stored, "stored", " over it")
+    }
+
+    /// Adds a torn read.
+    fn push_torn(&self, out: &mut String, torn: &TornRead) -> Result<(), AllocError> {
+        let stale = torn.stale;
+        let fresh = torn.fresh;
+        write!(out, "torn read of [{stale}] and [{fresh}]: ")?;
+        self.push_pair(
+            out,
+            "read",
+            (stale, torn.stale_read),
+            (fresh, torn.fresh_read),
+        )?;
+        out.push_str(", ")?;
+        self.push_pair(
+            out,
+            "changed",
+            (stale, torn.stale_write),
+            (fresh, torn.fresh_write),
+        )
+    }
+
+    /// Adds what a step read, as `3.0 read 0 in step 2`.
+    fn push_read(&self, out: &mut String, step: usize) -> Result<(), AllocError> {
+        self.push_stream_of(out, step)?;
+        out.push_str(" read ")?;
+        if let Some(access) = self.access(step) {
+            push_value(out, self.style, access.before)?;
+        }
+        push_step(out, step)
+    }
+
+    /// Adds what a step wrote, and over what, as `3.0 stored 1 over it in step 7`.
+    fn push_write(
+        &self,
+        out: &mut String,
+        step: usize,
+        deed: &str,
+        over: &str,
+    ) -> Result<(), AllocError> {
+        self.push_stream_of(out, step)?;
+        write!(out, " {deed} ")?;
+        if let Some(access) = self.access(step) {
+            push_value(out, self.style, access.after)?;
+        }
+        out.push_str(over)?;
+        push_step(out, step)
+    }
+
+    /// Adds what a stream did to two words, each with the step, as `1.0 read [0] in step 1 and [8] in step 4`.
+    fn push_pair(
+        &self,
+        out: &mut String,
+        deed: &str,
+        one: (u64, usize),
+        other: (u64, usize),
+    ) -> Result<(), AllocError> {
+        let (first, second) = if one.1 <= other.1 {
+            (one, other)
+        } else {
+            (other, one)
+        };
+        self.push_stream_of(out, first.1)?;
+        let address = first.0;
+        write!(out, " {deed} [{address}]")?;
+        push_step(out, first.1)?;
+        let address = second.0;
+        write!(out, " and [{address}]")?;
+        push_step(out, second.1)
+    }
+
+    /// Adds whose step one is.
+    fn push_stream_of(&self, out: &mut String, step: usize) -> Result<(), AllocError> {
+        match self.actions.get(step) {
+            Some(action) => push_stream(out, action.stream.p, action.stream.s),
+            None => Ok(()),
+        }
+    }
+
+    /// What a step did to its word.
+    fn access(&self, step: usize) -> Option<Access> {
+        let action = self.actions.get(step)?;
+        action.access
+    }
+
+    /// Adds the comment of a word, and ends the line.
+    fn end_line(&self, out: &mut String, word: u64) -> Result<(), AllocError> {
+        let comment = self.names.comment(word);
+        if !comment.is_empty() {
+            write!(out, "   {comment}")?;
+        }
+        out.push_str("\n")
+    }
+}
+
+/// Adds the number of a step, which counts from 1 in texts.
+fn push_step(out: &mut String, step: usize) -> Result<(), AllocError> {
+    let number = step.saturating_add(1);
+    write!(out, " in step {number}")
+}
+
+/// Adds how many findings of a kind are not told, where there are any.
+fn push_more(out: &mut String, count: usize, kind: &str) -> Result<(), AllocError> {
+    if count <= MOST_OF_A_KIND {
+        return Ok(());
+    }
+    let more = count.saturating_sub(MOST_OF_A_KIND);
+    write!(out, "and {more} more {kind}\n")
+}

@@ -1,0 +1,2 @@
+pub mod LastOnes
+pub mod FirstPosition

@@ -1,0 +1,12 @@
+//! A session of the debugger with the names of its program's text.
+#![tactic(auto)]
+
+mod code_places;
+mod named_session;
+mod named_words;
+mod reasons;
+mod user_names;
+
+pub use code_places::label_before;
+pub use named_session::NamedSession;
+pub use user_names::{UserName, read_name};

@@ -1,0 +1,10 @@
+pub mod Schedules
+pub mod Memories
+pub mod Resting
+pub mod Growing
+pub mod Parts
+pub mod Keys
+pub mod Breadth
+pub mod Taking
+pub mod Reading
+pub mod Marking

@@ -1,0 +1,3 @@
+pub mod ViewLists
+pub mod ActionLists
+pub mod Acting

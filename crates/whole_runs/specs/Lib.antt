@@ -1,0 +1,3 @@
+-- What public contracts promise.
+pub mod RunViews
+pub mod RunActions
