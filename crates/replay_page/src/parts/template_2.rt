@@ -1,4 +1,0 @@
-//! A text of the page: page/page.html.template. Made by page/embed.py.
-
-pub(crate) const TEXT: &str = r#"</title>
-<style>"#;
