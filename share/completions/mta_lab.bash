@@ -8,9 +8,7 @@ _mta_lab_options() {
     view) echo '--fair --seed --steps --from --to --only --word --columns --hex --json' ;;
     compare) echo '--hex --json' ;;
     survey) echo '--seeds --from --steps --expect --hex --json' ;;
-    explore) echo '--expect --states --keep --hex --json' ;;
-    grade) echo '--expect --seeds --steps --explore --states --hex --json' ;;
-    page | picture) echo '--fair --rounds --seed --steps --title --out' ;;
+    grade) echo '--expect --seeds --steps --hex --json' ;;
     asm) echo '--out' ;;
   esac
 }
@@ -18,14 +16,14 @@ _mta_lab_options() {
 _mta_lab() {
   local current=${COMP_WORDS[COMP_CWORD]} before=${COMP_WORDS[COMP_CWORD - 1]} command=${COMP_WORDS[1]} words
   if [ "$COMP_CWORD" -eq 1 ]; then
-    words='check schedule view compare survey explore grade page picture asm --help --version'
+    words='check schedule view compare survey grade asm --help --version'
   elif [ "$before" = --as ]; then
     words='source image schedule'
   elif [ "$command $COMP_CWORD" = 'schedule 2' ]; then
     words='rounds fair random'
   elif [[ $current = -* ]]; then
     words="$(_mta_lab_options "$command") --help"
-  elif [[ $before = --@(seed|seeds|steps|states|from|to|only|word|title) ]]; then
+  elif [[ $before = --@(seed|seeds|steps|from|to|only|word) ]]; then
     words=''
   else
     # a folder gets a slash and no blank, and a name with blanks is quoted

@@ -76,19 +76,6 @@ pub struct ViewRequest<'a> {
     pub shown: Shown,
 }
 
-/// What `page` or `picture` is asked.
-#[derive(Clone, Copy, Debug)]
-pub struct PageRequest<'a> {
-    /// The program: a source text or an image.
-    pub program: &'a str,
-    /// Its schedule.
-    pub run: RunChoice<'a>,
-    /// What the program is called; None where its file's name says it.
-    pub title: Option<&'a str>,
-    /// The file that is written.
-    pub out: &'a str,
-}
-
 /// What `survey` is asked.
 #[derive(Clone, Copy, Debug)]
 pub struct SurveyRequest<'a> {
@@ -106,21 +93,6 @@ pub struct SurveyRequest<'a> {
     pub shown: Shown,
 }
 
-/// What `explore` is asked.
-#[derive(Clone, Copy, Debug)]
-pub struct ExploreRequest<'a> {
-    /// The program: a source text or an image.
-    pub program: &'a str,
-    /// The file of what each end has to be.
-    pub expected: Option<&'a str>,
-    /// The most worlds that are looked for, at least 1.
-    pub most: usize,
-    /// The folder for the shortest schedules.
-    pub keep: Option<&'a str>,
-    /// How it is printed.
-    pub shown: Shown,
-}
-
 /// What `grade` is asked.
 #[derive(Drop)]
 pub struct GradeRequest<'a> {
@@ -130,8 +102,6 @@ pub struct GradeRequest<'a> {
     pub seeds: usize,
     /// The most steps of each schedule.
     pub most: usize,
-    /// All schedules in place of seeds: the most worlds that are looked for.
-    pub explored: Option<usize>,
     /// The submissions, one at least: source texts or images.
     pub submissions: Vec<&'a str>,
     /// How it is printed.
@@ -160,14 +130,8 @@ pub enum LabCommand<'a> {
     },
     /// Runs many random schedules, and counts their ends.
     Survey(SurveyRequest<'a>),
-    /// Shows every end that schedules of a program come to.
-    Explore(ExploreRequest<'a>),
     /// Judges submissions.
     Grade(GradeRequest<'a>),
-    /// Writes a page that shows a run.
-    Page(PageRequest<'a>),
-    /// Writes a picture of a run's lanes.
-    Picture(PageRequest<'a>),
     /// Assembles a source text, beside its place, and renames it to there.
     Assemble {
         source: &'a str,

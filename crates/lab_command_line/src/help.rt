@@ -57,14 +57,6 @@ with a seed that leads there.
 Example:
   mta_lab survey lock.asm --seeds 1000";
 
-pub(crate) const EXPLORE: &str = "\
-Looks for all worlds that schedules of a program lead to, and shows their ends: how many worlds,
-a shortest schedule to them, who waits or was stopped, and the words that changed. Where it says
-complete, no schedule of any length comes to another end.
-
-Example:
-  mta_lab explore lock.asm";
-
 pub(crate) const GRADE: &str = "\
 Judges submissions by many random schedules each: a line a submission, which is right, wrong,
 a deadlock, a trap, out of steps, or a faulty source, with the seed that shows it.
@@ -79,21 +71,6 @@ renamed to there, so a fault leaves what was there as it was.
 Example:
   mta_lab asm lock.asm --out lock.image";
 
-pub(crate) const PAGE: &str = "\
-Writes a page that shows a run, for a browser: the lanes of streams and words over time, the
-source, each step forwards and backwards, who waits for whom, what was lost. The page is one
-file, which needs no network. A run has up to 100000 steps there.
-
-Example:
-  mta_lab page lock.asm lock.lost_update.schedule --out lock.html";
-
-pub(crate) const PICTURE: &str = "\
-Writes the lanes of a run as a picture, an SVG file: a lane a stream and a lane a word over
-time, with a legend. A run has up to 500 steps there.
-
-Example:
-  mta_lab picture lock.asm lock.lost_update.schedule --out lock.svg";
-
 pub(crate) const PROGRAM: &str = "the program: a source text or an image";
 
 pub(crate) const SCHEDULE_FILE: &str =
@@ -103,12 +80,8 @@ pub(crate) const STEPS: &str = "the most steps of a made schedule, 1 to 1000000 
 
 pub(crate) const SEED: &str = "steps are random, by a generator with this seed";
 
-pub(crate) const STATES: &str = "the most worlds that are looked for [20000000]";
-
 pub(crate) const JSON: &str = "prints JSON, an object a line";
 
 pub(crate) const HEX: &str = "prints numbers in hexadecimal digits";
 
 pub(crate) const EXPECT: &str = "what each end has to be: word ADDRESS VALUE [full|empty], ..";
-
-pub(crate) const TITLE: &str = "what the program is called [the name of its file]";

@@ -1,13 +1,13 @@
 //! The command line, read.
 
 use crate::commands::{
-    CheckRequest, ExploreRequest, FileKind, GradeRequest, LabCommand, Maker, PageRequest,
-    RunChoice, Shown, SurveyRequest, ViewRequest,
+    CheckRequest, FileKind, GradeRequest, LabCommand, Maker, RunChoice, Shown, SurveyRequest,
+    ViewRequest,
 };
 use crate::help;
 use crate::options::{
-    MOST_SEEDS, MOST_STEPS, MOST_WORLDS, USUAL_SEEDS, USUAL_STEPS, USUAL_WORLDS, count, files,
-    flag, needed, number, number_option, option, optional, text, word, words,
+    MOST_SEEDS, MOST_STEPS, USUAL_SEEDS, USUAL_STEPS, count, files, flag, needed, number,
+    number_option, option, optional, text, word, words,
 };
 use clap::{Arg, ArgMatches, Command, Error};
 use std::alloc::{AllocError, Global};
@@ -41,10 +41,7 @@ fn command_of<'a>(alloc: Global, matches: &ArgMatches<'a>) -> Result<LabCommand<
             shown: shown_of(found),
         }),
         Some(("survey", found)) => Ok(LabCommand::Survey(survey_of(found))),
-        Some(("explore", found)) => Ok(LabCommand::Explore(explore_of(found))),
         Some(("grade", found)) => Ok(LabCommand::Grade(grade_of(alloc, found)?)),
-        Some(("page", found)) => Ok(LabCommand::Page(page_of(found))),
-        Some(("picture", found)) => Ok(LabCommand::Picture(page_of(found))),
         Some(("asm", found)) => Ok(LabCommand::Assemble {
             source: word(found, "SOURCE"),
             image: text(found, "out"),
@@ -114,24 +111,6 @@ fn run_of<'a>(found: &ArgMatches<'a>) -> RunChoice<'a> {
     }
 }
 
-/// What `page` or `picture` is asked.
-fn page_of<'a>(found: &ArgMatches<'a>) -> PageRequest<'a> {
-    let run = if found.get_flag("rounds") {
-        RunChoice::Made {
-            maker: Maker::Rounds,
-            most: count(found, "steps", USUAL_STEPS),
-        }
-    } else {
-        run_of(found)
-    };
-    PageRequest {
-        program: word(found, "PROGRAM"),
-        run,
-        title: text(found, "title"),
-        out: word(found, "out"),
-    }
-}
-
 /// What `survey` is asked.
 fn survey_of<'a>(found: &ArgMatches<'a>) -> SurveyRequest<'a> {
     SurveyRequest {
@@ -144,36 +123,15 @@ fn survey_of<'a>(found: &ArgMatches<'a>) -> SurveyRequest<'a> {
     }
 }
 
-/// What `explore` is asked.
-fn explore_of<'a>(found: &ArgMatches<'a>) -> ExploreRequest<'a> {
-    ExploreRequest {
-        program: word(found, "PROGRAM"),
-        expected: text(found, "expect"),
-        most: count(found, "states", USUAL_WORLDS),
-        keep: text(found, "keep"),
-        shown: shown_of(found),
-    }
-}
-
 /// What `grade` is asked.
 fn grade_of<'a>(alloc: Global, found: &ArgMatches<'a>) -> Result<GradeRequest<'a>, AllocError> {
     Ok(GradeRequest {
         expected: word(found, "expect"),
         seeds: count(found, "seeds", USUAL_SEEDS),
         most: count(found, "steps", USUAL_STEPS),
-        explored: explored_of(found),
         submissions: words(alloc, found, "SUBMISSION")?,
         shown: shown_of(found),
     })
-}
-
-/// Where all schedules are asked for, the most worlds that are looked for.
-fn explored_of(found: &ArgMatches) -> Option<usize> {
-    if found.get_flag("explore") {
-        Some(count(found, "states", USUAL_WORLDS))
-    } else {
-        None
-    }
 }
 
 /// How answers are printed.
@@ -197,10 +155,7 @@ fn lab_parser<'a>(alloc: Global, version: &'a str) -> Result<Command<'a>, AllocE
         .subcommand(view_parser(alloc)?)?
         .subcommand(compare_parser(alloc)?)?
         .subcommand(survey_parser(alloc)?)?
-        .subcommand(explore_parser(alloc)?)?
         .subcommand(grade_parser(alloc)?)?
-        .subcommand(page_parser(alloc)?)?
-        .subcommand(picture_parser(alloc)?)?
         .subcommand(asm_parser(alloc)?)
 }
 
@@ -305,19 +260,6 @@ fn survey_parser<'a>(alloc: Global) -> Result<Command<'a>, AllocError> {
         .arg(flag(alloc, "json", help::JSON))
 }
 
-/// The parser of `explore`.
-fn explore_parser<'a>(alloc: Global) -> Result<Command<'a>, AllocError> {
-    let about = "Shows every end that schedules of a program come to";
-    let folder = "writes a shortest schedule to each end into this folder";
-    described(alloc, "explore", about, help::EXPLORE)
-        .arg(needed(alloc, "PROGRAM", help::PROGRAM))?
-        .arg(option(alloc, "expect", "FILE", help::EXPECT))?
-        .arg(states_option(alloc))?
-        .arg(option(alloc, "keep", "FOLDER", folder))?
-        .arg(flag(alloc, "hex", help::HEX))?
-        .arg(flag(alloc, "json", help::JSON))
-}
-
 /// The parser of `grade`.
 fn grade_parser<'a>(alloc: Global) -> Result<Command<'a>, AllocError> {
     let about = "Judges submissions by many random schedules each";
@@ -325,54 +267,9 @@ fn grade_parser<'a>(alloc: Global) -> Result<Command<'a>, AllocError> {
         .arg(option(alloc, "expect", "FILE", help::EXPECT).required(true))?
         .arg(seeds_option(alloc))?
         .arg(steps_option(alloc))?
-        .arg(flag(alloc, "explore", "every schedule in place of random ones"))?
-        .arg(states_option(alloc))?
         .arg(files(alloc, "SUBMISSION", "programs: source texts or images"))?
         .arg(flag(alloc, "hex", help::HEX))?
         .arg(flag(alloc, "json", help::JSON))
-}
-
-/// The parser of `page`.
-fn page_parser<'a>(alloc: Global) -> Result<Command<'a>, AllocError> {
-    let about = "Writes a page that shows a run, for a browser";
-    run_file_parser(alloc, "page", about, help::PAGE, "the page, FILE.html")
-}
-
-/// The parser of `picture`.
-fn picture_parser<'a>(alloc: Global) -> Result<Command<'a>, AllocError> {
-    let about = "Writes a picture of a run's lanes";
-    run_file_parser(
-        alloc,
-        "picture",
-        about,
-        help::PICTURE,
-        "the picture, FILE.svg",
-    )
-}
-
-/// The parser of a command that writes a file of a run.
-fn run_file_parser<'a>(
-    alloc: Global,
-    name: &'a str,
-    about: &'a str,
-    long: &'a str,
-    file: &'a str,
-) -> Result<Command<'a>, AllocError> {
-    described(alloc, name, about, long)
-        .arg(needed(alloc, "PROGRAM", help::PROGRAM))?
-        .arg(schedule_argument(alloc)?.conflicts_with("rounds")?)?
-        .arg(fair_flag(alloc)?.conflicts_with("rounds")?)?
-        .arg(rounds_flag(alloc)?)?
-        .arg(seed_option(alloc))?
-        .arg(steps_option(alloc))?
-        .arg(option(alloc, "title", "TEXT", help::TITLE))?
-        .arg(option(alloc, "out", "FILE", file).required(true))
-}
-
-/// `--rounds`.
-fn rounds_flag<'a>(alloc: Global) -> Result<Arg<'a>, AllocError> {
-    let about = "the running streams step in the order of processor and stream";
-    flag(alloc, "rounds", about).conflicts_with("seed")
 }
 
 /// The parser of `asm`.
@@ -386,11 +283,6 @@ fn asm_parser<'a>(alloc: Global) -> Result<Command<'a>, AllocError> {
             "IMAGE",
             "the image file [the source's name, with .image]",
         ))
-}
-
-/// `--states N`.
-fn states_option<'a>(alloc: Global) -> Arg<'a> {
-    number_option(alloc, "states", "N", help::STATES, 1, MOST_WORLDS)
 }
 
 /// `--seed N`.

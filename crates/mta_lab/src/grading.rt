@@ -1,26 +1,20 @@
 //! The command `grade`.
 
 use crate::answer::{Answer, Status};
-use crate::exploring::{Explored, explore_program, status_of_end};
 use crate::inputs::Inputs;
 use crate::json::push_object;
 use crate::lab_fault::LabFault;
 use crate::outcomes::{Outcome, OutcomeKind, Seeds, outcomes_of, push_expectation};
-use crate::programs::{Program, program_of};
-use crate::space_ends::{SpaceEnd, SpaceEndKind};
-use crate::surveying::{expectations_of, status_of};
-use crate::viewing::style_of;
-use crate::wishes::Wishes;
+use crate::programs::program_of;
+use crate::surveying::{expected_of, status_of};
 use expectations::Expectation;
 use lab_command_line::GradeRequest;
 use lab_json::VERSION;
-use lab_texts::ProgramNames;
 use serde_json::json;
 use std::alloc::{AllocError, Global};
 use std::io::Read;
 use std::rt::Files;
 use std::thread::Threads;
-use trace_text::write_schedule;
 
 /// What is said of a submission.
 #[derive(Drop)]
@@ -40,27 +34,11 @@ pub(crate) fn grade<X: Threads + Sync, F: Files, R: Read>(
     inputs: &mut Inputs<'_, F, R>,
     request: &GradeRequest,
 ) -> Result<Answer, LabFault> {
-    let wishes = inputs.read(alloc, request.expected)?;
-    let expected = if request.explored.is_some() {
-        Vec::new(alloc)
-    } else {
-        expectations_of(alloc, request.expected, &wishes)?
-    };
+    let expected = expected_of(alloc, inputs, request.expected)?;
     let mut output = String::new(alloc);
     let mut status = Status::Done;
     for path in &request.submissions {
-        let program = match submission(alloc, inputs, path)? {
-            Ok(program) => program,
-            Err(verdict) => {
-                status = status.worse(verdict.status);
-                push_verdict(alloc, &mut output, request.shown.json, path, &verdict)?;
-                continue;
-            }
-        };
-        let verdict = match request.explored {
-            Some(most) => explored_verdict(alloc, request, &wishes, &program, most)?,
-            None => sampled_verdict(rt, alloc, request, &expected, &program)?,
-        };
+        let verdict = verdict_of(rt, alloc, inputs, request, &expected, path)?;
         status = status.worse(verdict.status);
         push_verdict(alloc, &mut output, request.shown.json, path, &verdict)?;
     }
@@ -71,56 +49,35 @@ pub(crate) fn grade<X: Threads + Sync, F: Files, R: Read>(
     })
 }
 
-/// The program of a submission, or what is said where it is none.
-fn submission<F: Files, R: Read>(
+/// What is said of a submission: the first that holds of any of its runs of a trap, a deadlock, a wrong end, a bound.
+fn verdict_of<X: Threads + Sync, F: Files, R: Read>(
+    rt: &X,
     alloc: Global,
     inputs: &mut Inputs<'_, F, R>,
+    request: &GradeRequest,
+    expected: &[Expectation],
     path: &str,
-) -> Result<Result<Program, Verdict>, LabFault> {
-    match inputs
+) -> Result<Verdict, LabFault> {
+    let program = match inputs
         .read(alloc, path)
         .and_then(|bytes| program_of(alloc, path, bytes))
     {
-        Ok(program) => Ok(Ok(program)),
-        Err(LabFault::Words(why) | LabFault::Lines(why)) => Ok(Err(Verdict {
-            word: "source fault",
-            why: short_fault(alloc, path, &why)?,
-            status: Status::Fault,
-        })),
-        Err(other) => Err(other),
-    }
-}
-
-/// What every schedule says of a submission.
-fn explored_verdict(
-    alloc: Global,
-    request: &GradeRequest,
-    wishes: &[u8],
-    program: &Program,
-    most: usize,
-) -> Result<Verdict, LabFault> {
-    let names = ProgramNames::of(alloc, &program.text)?;
-    let wishes = Wishes::of(alloc, request.expected, wishes, &names)?;
-    let found = explore_program(alloc, program, &names, &wishes, most)?;
-    verdict_of_ends(alloc, &wishes.ends, &found)
-}
-
-/// What random schedules say of a submission: the first that holds of any of its runs of a trap, a deadlock, a wrong
-/// end, a bound.
-fn sampled_verdict<X: Threads + Sync>(
-    rt: &X,
-    alloc: Global,
-    request: &GradeRequest,
-    expected: &[Expectation],
-    program: &Program,
-) -> Result<Verdict, LabFault> {
+        Ok(program) => program,
+        Err(LabFault::Words(why) | LabFault::Lines(why)) => {
+            return Ok(Verdict {
+                word: "source fault",
+                why: short_fault(alloc, path, &why)?,
+                status: Status::Fault,
+            });
+        }
+        Err(other) => return Err(other),
+    };
     let seeds = Seeds {
         first: 0,
         count: request.seeds,
         most: request.most,
-        style: style_of(request.shown),
     };
-    let outcomes = outcomes_of(rt, alloc, program, expected, seeds)?;
+    let outcomes = outcomes_of(rt, alloc, &program, expected, seeds)?;
     verdict_of_outcomes(alloc, expected, &outcomes, request.seeds)
 }
 
@@ -131,113 +88,35 @@ fn verdict_of_outcomes(
     outcomes: &[Outcome],
     seeds: usize,
 ) -> Result<Verdict, LabFault> {
-    let mut status = Status::Done;
-    for outcome in outcomes {
-        status = status.worse(status_of(outcome));
-    }
-    for flaw in [Flaw::Trap, Flaw::Deadlock, Flaw::Wrong, Flaw::OutOfSteps] {
-        if let Some(outcome) = outcomes.iter().find(|outcome| flaw.is_of(outcome)) {
+    for (kind, word) in [
+        (OutcomeKind::Stopped, "trap"),
+        (OutcomeKind::Deadlock, "deadlock"),
+        (OutcomeKind::Finished, "wrong"),
+        (OutcomeKind::OutOfSteps, "ran out of steps"),
+    ] {
+        let found = outcomes
+            .iter()
+            .find(|outcome| outcome.kind == kind && is_wrong(outcome));
+        if let Some(outcome) = found {
             return Ok(Verdict {
-                word: flaw.word(),
+                word,
                 why: why_of(alloc, expected, outcome)?,
-                status,
+                status: status_of(outcome, true),
             });
         }
     }
     Ok(Verdict {
         word: "right",
         why: format!(in alloc; "{seeds} seeds")?,
-        status,
-    })
-}
-
-/// What is said of a submission with these ends of all schedules.
-fn verdict_of_ends(
-    alloc: Global,
-    expected: &[Expectation],
-    found: &Explored,
-) -> Result<Verdict, LabFault> {
-    for (kind, word) in [
-        (SpaceEndKind::Stopped, "trap"),
-        (SpaceEndKind::Deadlock, "deadlock"),
-        (SpaceEndKind::Finished, "wrong"),
-        (SpaceEndKind::Broken, "wrong"),
-        (SpaceEndKind::Spinning, "ran out of steps"),
-    ] {
-        let wrong = found.ends.iter().find(|end| end.kind == kind
-            && status_of_end(end, true) != Status::Done);
-        if let Some(end) = wrong {
-            return Ok(Verdict {
-                word,
-                why: why_of_end(alloc, expected, end)?,
-                status: status_of_end(end, true),
-            });
-        }
-    }
-    let worlds = found.worlds;
-    if !found.is_complete {
-        return Ok(Verdict {
-            word: "ran out of steps",
-            why: format!(in alloc; "more than {worlds} worlds")?,
-            status: Status::OutOfSteps,
-        });
-    }
-    Ok(Verdict {
-        word: "right",
-        why: format!(in alloc; "every schedule, {worlds} worlds")?,
         status: Status::Done,
     })
 }
 
-/// Why an end is wrong: a shortest schedule to it, and what is told of it.
-fn why_of_end(
-    alloc: Global,
-    expected: &[Expectation],
-    end: &SpaceEnd,
-) -> Result<String, AllocError> {
-    let mut why = String::from_str(alloc, "schedule ")?;
-    let schedule = write_schedule(alloc, &end.schedule)?;
-    for (index, line) in schedule.trim().split('\n').enumerate() {
-        why.push_str(if index == 0 { "" } else { ", " })?;
-        why.push_str(line)?;
-    }
-    push_why(&mut why, expected, end.missed, &end.text, &end.finding)?;
-    Ok(why)
-}
-
-/// What a run of a submission can show against it.
-#[derive(Clone, Copy, Debug)]
-enum Flaw {
-    /// A trap that nobody expected stopped a stream.
-    Trap,
-    /// The end is a deadlock.
-    Deadlock,
-    /// The end is not as expected.
-    Wrong,
-    /// The bound came first.
-    OutOfSteps,
-}
-
-impl Flaw {
-    /// The word of the table.
-    fn word(self) -> &'static str {
-        match self {
-            Flaw::Trap => "trap",
-            Flaw::Deadlock => "deadlock",
-            Flaw::Wrong => "wrong",
-            Flaw::OutOfSteps => "ran out of steps",
-        }
-    }
-
-    /// Whether an outcome shows it.
-    fn is_of(self, outcome: &Outcome) -> bool {
-        match (self, outcome.kind) {
-            (Flaw::Trap, _) => outcome.is_trapped,
-            (Flaw::Wrong, OutcomeKind::Finished | OutcomeKind::Stopped) => outcome.missed.is_some(),
-            (Flaw::Deadlock, kind) => kind == OutcomeKind::Deadlock,
-            (Flaw::OutOfSteps, kind) => kind == OutcomeKind::OutOfSteps,
-            (Flaw::Wrong, OutcomeKind::Deadlock | OutcomeKind::OutOfSteps) => false,
-        }
+/// Whether an outcome is not as it has to be.
+fn is_wrong(outcome: &Outcome) -> bool {
+    match outcome.kind {
+        OutcomeKind::Deadlock | OutcomeKind::OutOfSteps => true,
+        OutcomeKind::Finished | OutcomeKind::Stopped => outcome.missed.is_some(),
     }
 }
 
@@ -249,35 +128,15 @@ fn why_of(
 ) -> Result<String, AllocError> {
     let seed = outcome.seed;
     let mut why = format!(in alloc; "seed {seed}")?;
-    push_why(
-        &mut why,
-        expected,
-        outcome.missed,
-        &outcome.text,
-        &outcome.finding,
-    )?;
-    Ok(why)
-}
-
-/// Adds the expectation that an end misses, what is told of it, and the first finding on the way to it.
-fn push_why(
-    why: &mut String,
-    expected: &[Expectation],
-    missed: Option<usize>,
-    text: &str,
-    finding: &str,
-) -> Result<(), AllocError> {
-    if let Some(expectation) = missed.and_then(|place| expected.get(place)) {
+    if let Some(expectation) = outcome.missed.and_then(|place| expected.get(place)) {
         why.push_str(": not ")?;
-        push_expectation(why, expectation)?;
+        push_expectation(&mut why, expectation)?;
     }
-    if !text.is_empty() {
+    if !outcome.text.is_empty() {
+        let text = outcome.text.as_str();
         write!(why, ": {text}")?;
     }
-    if !finding.is_empty() {
-        write!(why, "; {finding}")?;
-    }
-    Ok(())
+    Ok(why)
 }
 
 /// The first line of what is wrong with a file, without its path: `8:9: no operation is called load.N`.
@@ -303,7 +162,7 @@ fn push_verdict(
     let why = verdict.why.as_str();
     if json {
         let value = json!(in alloc; {
-            "version": VERSION, "submission": path, "verdict": word, "why": why
+            "version": VERSION, "submission": path, "outcome": word, "words": why
         })?;
         return push_object(alloc, out, &value);
     }

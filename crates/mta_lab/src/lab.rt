@@ -4,19 +4,16 @@ use crate::answer::{Answer, Status};
 use crate::assembling::assemble_file;
 use crate::checking::check;
 use crate::comparing::compare;
-use crate::exploring::explore;
 use crate::grading::grade;
 use crate::inputs::Inputs;
 use crate::lab_fault::LabFault;
-use crate::paging::write_page;
-use crate::picturing::write_picture;
 use crate::scheduling::make_schedule;
 use crate::surveying::survey;
 use crate::viewing::view;
 use lab_command_line::{LabCommand, read_lab_command};
 use std::alloc::Global;
 use std::convert::AsStr;
-use std::io::{Error, ErrorKind, Read, Write};
+use std::io::{ErrorKind, Read, Write};
 use std::rt::Files;
 use std::thread::Threads;
 
@@ -41,11 +38,8 @@ pub(crate) fn run_lab<X: Threads + Sync, S: AsStr, F: Files, R: Read, W: Write, 
             return Status::NoCommand.number();
         }
         Err(help) => {
-            let wrote = write!(output, "{help}").and_then(|()| output.flush());
-            return match written(wrote) {
-                Ok(()) => Status::Done.number(),
-                Err(fault) => tell_fault(&fault, errors),
-            };
+            let _ = write!(output, "{help}");
+            return Status::Done.number();
         }
     };
     let mut inputs = Inputs { files, input };
@@ -77,10 +71,7 @@ fn answer_to<X: Threads + Sync, F: Files, R: Read>(
             shown,
         } => compare(alloc, inputs, program, one, other, *shown),
         LabCommand::Survey(request) => survey(rt, alloc, inputs, request),
-        LabCommand::Explore(request) => explore(alloc, inputs, request),
         LabCommand::Grade(request) => grade(rt, alloc, inputs, request),
-        LabCommand::Page(request) => write_page(alloc, inputs, request),
-        LabCommand::Picture(request) => write_picture(alloc, inputs, request),
         LabCommand::Assemble { source, image } => assemble_file(alloc, inputs, source, *image),
     }
 }
@@ -117,12 +108,8 @@ fn tell_fault<E: Write>(fault: &LabFault, errors: &mut E) -> u8 {
 
 /// Writes all the bytes.
 fn write_whole<W: Write>(writer: &mut W, bytes: &[u8]) -> Result<(), LabFault> {
-    written(writer.write_all(bytes).and_then(|()| writer.flush()))
-}
-
-/// What it means that something was written, or was not.
-fn written(wrote: Result<(), Error>) -> Result<(), LabFault> {
-    match wrote {
+    let result = writer.write_all(bytes).and_then(|()| writer.flush());
+    match result {
         Ok(()) => Ok(()),
         Err(error) if error.kind() == ErrorKind::BrokenPipe => Err(LabFault::Closed),
         Err(_) => Err(LabFault::Write),

@@ -4,12 +4,7 @@
 mod answer;
 mod assembling;
 mod checking;
-mod claim_words;
-mod claims;
 mod comparing;
-mod end_words;
-mod exploring;
-mod findings;
 mod grading;
 mod inputs;
 mod json;
@@ -17,14 +12,10 @@ mod lab;
 mod lab_fault;
 mod loose_schedules;
 mod outcomes;
-mod paging;
-mod picturing;
 mod programs;
 mod scheduling;
-mod space_ends;
 mod surveying;
 mod viewing;
-mod wishes;
 
 use lab::run_lab;
 use std::env;
