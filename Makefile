@@ -12,7 +12,7 @@ CRATES ?=
 # how many of them are tried side by side
 JOBS ?= $(shell nproc)
 
-.PHONY: help run try test cases checks trust edits refuse hostile documents bench build dist check-dist install uninstall clean
+.PHONY: help run try test cases checks trust edits refuse hostile pages documents bench build dist check-dist install uninstall clean
 
 # the targets, each with what it does and how long it takes
 help:
@@ -28,6 +28,7 @@ help:
 	@echo "make check-dist unpacks them where nothing but the C library is, and runs the examples there (seconds)"
 	@echo "make hostile    hostile use of the built program; needs Python 3 and a C compiler (4 minutes on four idle cores)"
 	@echo "make refuse     the part of it that refuses each allocation of the commands in turn (some minutes)"
+	@echo "make pages      the replay page in a browser; needs chromium, its driver and Python's selenium, and says what is missing (5 minutes beside other work)"
 	@echo "make bench      time, instructions and peak memory on the longest inputs (some minutes; valgrind counts instructions)"
 	@echo "make install    puts the built programs, their examples and documents under PREFIX, $(PREFIX) (a second)"
 	@echo "make uninstall  takes away what make install has put there (a second)"
@@ -94,6 +95,10 @@ hostile: build
 	@test -x $(CALLS) || (cd crates/library_calls && rt run -- calls < /dev/null > /dev/null)
 	@python3 tests/hostile
 
+# the replay page in headless Chromium: its states, controls, texts, sizes and widths; installs nothing
+pages:
+	@python3 tests/pages
+
 # the commands that stand in README.md and docs, run on the examples; what they print is compared with what stands there
 documents: build
 	@tests/documents.sh README.md CONTRIBUTING.md CHANGELOG.md docs/*.md
@@ -113,6 +118,8 @@ install:
 	cp -r examples editors $(SHARE)/doc/mta_sim
 	install -m 644 README.md CONTRIBUTING.md CHANGELOG.md $(SHARE)/doc/mta_sim
 	install -m 644 docs/*.md $(SHARE)/doc/mta_sim/docs
+	install -d $(SHARE)/doc/mta_sim/docs/images
+	install -m 644 docs/images/*.png docs/images/*.svg $(SHARE)/doc/mta_sim/docs/images
 
 uninstall:
 	rm -f $(DESTDIR)$(PREFIX)/bin/mta_sim $(SHARE)/man/man1/mta_sim.1 $(SHARE)/bash-completion/completions/mta_sim

@@ -62,6 +62,16 @@ strip_symbols() {
   cmp "$room/loaded" "$room/packed"
 }
 
+# pages FOLDER: a page of each example there by each of its schedules, in its folder pages
+pages() {
+  local schedule name
+  mkdir "$1/pages"
+  for schedule in "$1"/examples/*.schedule; do
+    name=$(basename "$schedule" .schedule)
+    "$(built mta_lab)" page "$1/examples/${name%%.*}.asm" "$schedule" --out "$1/pages/$name.html"
+  done
+}
+
 # the tree of the archive: the programs in bin/, and the rest as it lies in the repository
 lay_out_archive() {
   local name
@@ -70,6 +80,7 @@ lay_out_archive() {
   for name in $programs; do
     strip_symbols "$(built "$name")" "$1/bin/$name"
   done
+  pages "$1"
   packaging/build_facts.sh "$version" "$1/bin" $programs >"$1/BUILD"
   copyright >"$1/COPYRIGHT"
   settle "$1"
@@ -89,7 +100,7 @@ lay_out_debian() {
   install -D -m 644 "$from/share/completions/mta_sim.fish" "$share/fish/vendor_completions.d/mta_sim.fish"
   # Debian has the changes packed, under a name of its own
   sed 's/CHANGELOG\.md/changelog.gz/' "$from/README.md" >"$doc/README.md"
-  cp -r "$from/CONTRIBUTING.md" "$from/docs" "$from/examples" "$from/editors" "$from/BUILD" "$doc"
+  cp -r "$from/CONTRIBUTING.md" "$from/docs" "$from/examples" "$from/pages" "$from/editors" "$from/BUILD" "$doc"
   cp "$from/COPYRIGHT" "$doc/copyright"
   gzip -9nc "$from/CHANGELOG.md" >"$doc/changelog.gz"
   debian_changelog | gzip -9nc >"$doc/changelog.Debian.gz"

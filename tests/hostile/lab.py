@@ -90,16 +90,16 @@ def assembling(tally, library, folder):
 
 def outputs(tally):
     """An output that is full is told, and one that nobody reads is not."""
-    words = [LAB, "view", example("lock.asm"), "--json"]
-    with open("/dev/full", "wb") as full:
-        ended = subprocess.run(words, stdout=full, stderr=subprocess.PIPE, check=False)
-        tally.check("a full output", (ended.returncode, ended.stderr) == (1, b"mta_lab: write failed\n"))
-    behind, front = os.pipe()
-    os.close(behind)
-    ended = subprocess.run(words, stdout=front, stderr=subprocess.PIPE, check=False)
-    os.close(front)
-    tally.check(f"an output that nobody reads: {ended}", (ended.returncode, ended.stderr) == (0, b""))
-    tally.runs += 2
+    for words in ([LAB, "view", example("lock.asm"), "--json"], [LAB, "--help"]):
+        with open("/dev/full", "wb") as full:
+            ended = subprocess.run(words, stdout=full, stderr=subprocess.PIPE, check=False)
+            tally.check("a full output", (ended.returncode, ended.stderr) == (1, b"mta_lab: write failed\n"))
+        behind, front = os.pipe()
+        os.close(behind)
+        ended = subprocess.run(words, stdout=front, stderr=subprocess.PIPE, check=False)
+        os.close(front)
+        tally.check(f"an output that nobody reads: {ended}", (ended.returncode, ended.stderr) == (0, b""))
+        tally.runs += 2
 
 
 def damaged(tally, folder):

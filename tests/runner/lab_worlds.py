@@ -4,6 +4,8 @@ as the end of a trace of mta_sim tells them."""
 import json
 import re
 
+# how many steps a made schedule has at most
+MOST_STEPS = 10_000
 # behind these bits stand the parts of a status word: place, width
 WIDTHS = {"pc": (0, 32), "codes": (32, 16), "mask": (48, 3), "trap": (56, 1)}
 
@@ -76,3 +78,38 @@ def trace_line(number, step):
     """The trace line of a step."""
     outcome = re.sub(r"(\d+)$", lambda found: found.group(1).zfill(2), step["o"].upper())
     return f"{number:7d} {step['p']:3d} {step['s']:3d} {step['pc']:08X} {outcome}"
+
+
+def traced_end(trace):
+    """The end of a trace of mta_sim, as a survey tells it: its kind, how many steps it has, and the addresses of the
+    words that changed, with their values."""
+    lines = trace.decode().splitlines()
+    steps = [line for line in lines if re.match(r" *\d+ +\d+ +\d+ [0-9A-F]{8} ", line)]
+    statuses = [line.split(" ")[0] for line in lines if " ssw " in line]
+    cells = [line.split(" ")[1:] for line in lines if line.startswith("cell ")]
+    words = {int(address, 16): int(value, 16) for address, value, _ in cells}
+    if "Running" not in statuses:
+        return "stopped" if "Stopped" in statuses else "finished", len(steps), words
+    return "steps" if len(steps) == MOST_STEPS else "deadlock", len(steps), words
+
+
+def told_words(text, start):
+    """The addresses of the words that a survey tells to have changed, with their values; `start` has those of the
+    image, which stay where the tags alone changed."""
+    found = re.findall(r"\[(\d+)\] (?:-?\d+ -> (-?\d+))?", re.sub(r"waits for \[\d+\]", "", text))
+    return {int(address): int(after or start[f"[{address}].value"]) % 2**64 for address, after in found}
+
+
+def missed_register(trace, wishes):
+    """The first line of wishes about registers that the end of a trace of mta_sim does not meet."""
+    held, stream = {}, None
+    for line in trace.decode().splitlines():
+        if line.startswith("stream "):
+            stream = ".".join(line.split()[1:])
+        elif line.startswith("r"):
+            held[stream, int(line[1:3])] = int(line[4:], 16)
+    for wish in filter(None, (line.partition("#")[0].strip() for line in (wishes or b"").decode().splitlines())):
+        _, stream, register, value = wish.split()
+        if held.get((stream, int(register[1:])), 0) != int(value):
+            return wish
+    return None

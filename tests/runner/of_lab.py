@@ -16,8 +16,22 @@ from table import unescaped
 EXAMPLES = os.path.join(table.ROOT, "examples")
 CASES = os.path.join(table.CASES, "lab")
 SEEDS = (1, 2, 3)
-# programs whose races a survey has to find within 200 seeds
-RACES = ("lock", "fetch_add", "bounded_buffer", "barrier", "readers_writer")
+# the names of the object of an end
+END = "able circle fresh kind quit stopped version waiting"
+# programs whose races a survey has to find within 200 seeds, and what it is to look at where they don't show in words
+RACES = {
+    "lock": None, "fetch_add": None, "bounded_buffer": None, "barrier": None,
+    "readers_writer": b"register 4.0 r5 1  # the old word\nregister 4.0 r6 1  # with a new one the read is torn\n",
+}
+
+
+# examples with the streams that go wrong, which are left out of their right halves
+CARELESS = {
+    "lock": ("bare",), "barrier": ("one_gate",), "bounded_buffer": ("seven", "nine"),
+    "readers_writer": ("careless_write", "careless_read"), "philosophers": ("fifth",), "producer_consumer": (), "future": (),
+}
+# how many random schedules each right half runs by, and the longest of them
+SCHEDULES, LONGEST = 1000, "1500"
 
 
 def lab(*words, given=b"", folder=EXAMPLES):
@@ -104,32 +118,96 @@ def chosen(rule, steps, ready, words):
     return turn, next((s for s in own if s > last), own[0])
 
 
+@checks.others("lab/right_halves")
+def right_halves():
+    """Where all words are guarded nothing is found, whatever the schedule."""
+    for name, careless in CARELESS.items():
+        yield name, lambda name=name, careless=careless: ([], findings_of(name, careless))
+
+
+def findings_of(name, careless):
+    """The findings that are told of runs of an example without some of its streams, by random schedules."""
+    source = tool.read(os.path.join(EXAMPLES, name + ".asm"))
+    for entry in careless:
+        source = source.replace(f"        .entry {entry}\n".encode(), b"")
+    found = []
+    with tool.made_files(source=source) as paths:
+        for seed in range(SCHEDULES):
+            run = lab("view", paths["source"], "--seed", str(seed), "--steps", LONGEST).out
+            found += [line for line in run.split(b"\n") if line.startswith((b"lost ", b"torn ", b"unread "))]
+    return found
+
+
+@checks.each("lab/seeds.tsv")
+def seeded(fields):
+    """The schedule of an example by a seed, as it is kept here: it stays what it was."""
+    name, seed, steps = fields
+    return unescaped(steps), lab("schedule", "random", name, "--seed", seed).out
+
+
 @checks.others("lab/surveys")
 def surveys():
-    """Of each example with a race 200 seeds find more than one end, or one that never comes; and each end is that of its
-    seed's schedule."""
-    for name in RACES:
-        yield name, lambda name=name: (True, finds_race(name))
+    """Of each example with a race 200 seeds find more than one end, and mta_sim comes to each of them by its seed's
+    schedule."""
+    for name, wishes in RACES.items():
+        yield name, lambda name=name, wishes=wishes: (True, finds_race(name, wishes))
 
 
-def finds_race(name):
+def finds_race(name, wishes):
     source = os.path.join(EXAMPLES, name + ".asm")
-    found = [json.loads(line) for line in lab("survey", source, "--seeds", "200", "--json").out.decode().splitlines()]
+    with tool.made_files(wishes=wishes) as paths:
+        judged = ("--expect", paths["wishes"]) if wishes else ()
+        printed = lab("survey", source, "--seeds", "200", "--json", *judged).out
+    found = [json.loads(line) for line in printed.decode().splitlines()]
     if sum(end["runs"] for end in found) != 200:
         return "the counts do not add up"
-    if len(found) < 2 and found[0]["end"] == "finished":
+    if len(found) < 2:
         return "one end alone"
     image = tool.asm(tool.read(source))
+    start = lab_worlds.Run(lab("view", source, "--to", "1", "--json").out).start()
     for end in found:
-        made = lab("schedule", "random", source, "--seed", str(end["seed"]))
-        trace = tool.trace(image, made.out)
-        if trace.startswith(b"!"):
-            return f"seed {end['seed']}: {trace!r}"
-        changed = [line.split()[1:] for line in trace.decode().splitlines() if line.startswith("cell ")]
-        for address, value, _ in changed:
-            if f"[{int(address, 16)}]" not in end["words"]:
-                return f"seed {end['seed']}: the word {int(address, 16)} is not told"
+        trace = tool.trace(image, lab("schedule", "random", source, "--seed", end["seed"]).out)
+        replayed = *lab_worlds.traced_end(trace), lab_worlds.missed_register(trace, wishes)
+        told = end["end"], end["steps"], lab_worlds.told_words(end["words"], start), end["missed"]
+        if replayed != told:
+            return f"seed {end['seed']}: mta_sim comes to {replayed}, and the survey tells {told}"
     return True
+
+
+# commands that print objects, and the names that their lines have, the last of them the lines' from there on
+OBJECTS = {
+    "check --json grading/submissions/misspelt.asm count.asm": ["column file help line severity version width words"],
+    "view lock.asm lock.ends.schedule --json": [
+        "data name program schedule source start version", "ch o p pc ref s version|ch o p pc s version"],
+    "compare lock.asm lock.ends.schedule lock.lost_update.schedule --json": [
+        "one other step version", "differ position version", END, END],
+    "survey lock.asm --seeds 5 --json": ["end expected finding missed runs seed steps version words"],
+    "grade --json --expect wishes --seeds 5 lock.asm": ["submission verdict version why"],
+}
+
+
+@checks.others("lab/objects")
+def objects():
+    """What is printed as JSON: an object a line, of the names in docs/LAB.md, with a version; in it numbers of more than
+    32 bits are strings."""
+    for line, names in OBJECTS.items():
+        yield line.split()[0], lambda line=line, names=names: (True, are_objects(line, names))
+
+
+def are_objects(line, names):
+    with tempfile.TemporaryDirectory(prefix="mta-case-") as folder:
+        for path in glob.glob(os.path.join(EXAMPLES, "*")):
+            os.symlink(path, os.path.join(folder, os.path.basename(path)))
+        tool.write(os.path.join(folder, "wishes"), b"word 8 4\n")
+        printed = lab(*line.split(), folder=folder).out.decode().splitlines()
+    if line.startswith("view"):
+        names = names[:1] + names[1:] * (len(printed) - 2) + [END]
+    for number, text in enumerate(printed):
+        found = json.loads(text, parse_int=lambda digits: digits if int(digits) < 2**32 else text)
+        wanted = names[min(number, len(names) - 1)].split("|")
+        if found.get("version") != "1" or " ".join(sorted(found)) not in wanted or text in str(found):
+            return f"line {number + 1}: {text[:300]}"
+    return len(printed) >= len(names) or "too few lines"
 
 
 @checks.others("lab/messages")
@@ -143,6 +221,34 @@ def said_of(wanted):
     name = os.path.basename(wanted).removesuffix(".txt")
     ended = lab("check", name, folder=os.path.join(table.CASES, "lab_check"))
     return tool.read(wanted), ended.err
+
+
+@checks.others("lab/help")
+def helps():
+    """The help of each command is no fault."""
+    for command in ("check", "schedule", "view", "compare", "survey", "grade", "asm", ""):
+        ended = lab(*command.split(), "--help")
+        yield f"help {command}", (0, b"", True), (ended.status, ended.err, b"Exit status:" in ended.out)
+
+
+@checks.each("lab_check/sentences.tsv")
+def sentences(fields):
+    """A wrong text: the first line that is said of it."""
+    name, text, said = fields
+    with tempfile.TemporaryDirectory(prefix="mta-case-") as folder:
+        tool.write(os.path.join(folder, name), unescaped(text))
+        ended = lab("check", name, folder=folder)
+    return (1, f"{name}:{said}"), (ended.status, ended.err.decode().split("\n", 1)[0])
+
+
+@checks.others("lab/counts")
+def counts():
+    """At least ten wrong sources and ten wrong schedules are tried, and a command for each status."""
+    names = [row.fields[0] for row in table.rows("lab_check/sentences.tsv")]
+    for name in ("wrong.asm", "wrong.schedule"):
+        yield name, True, names.count(name) >= 10
+    statuses = {row.fields[2] for row in table.rows("lab/commands.tsv")}
+    yield "statuses", set("012345"), statuses
 
 
 @checks.each("lab/commands.tsv")

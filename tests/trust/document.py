@@ -6,8 +6,8 @@ import layout
 import reach
 import sources
 
-# the headline's first half, its second half, and what stands below and above them
-ROOTS = ("Machine::run", "one_machine", "threaded", "run_tool")
+# the headline's first half, its second half, what stands below and above them, and every schedule
+ROOTS = ("Machine::run", "one_machine", "threaded", "run_tool", "explore")
 HEADLINE = ("one_machine", "threaded")
 
 INTRODUCTION = """\

@@ -76,6 +76,19 @@ pub struct ViewRequest<'a> {
     pub shown: Shown,
 }
 
+/// What `page` or `picture` is asked.
+#[derive(Clone, Copy, Debug)]
+pub struct PageRequest<'a> {
+    /// The program: a source text or an image.
+    pub program: &'a str,
+    /// Its schedule.
+    pub run: RunChoice<'a>,
+    /// What the program is called; None where its file's name says it.
+    pub title: Option<&'a str>,
+    /// The file that is written.
+    pub out: &'a str,
+}
+
 /// What `survey` is asked.
 #[derive(Clone, Copy, Debug)]
 pub struct SurveyRequest<'a> {
@@ -121,6 +134,11 @@ pub enum LabCommand<'a> {
     },
     /// Shows a run.
     View(ViewRequest<'a>),
+    /// Goes to and fro in a run, by the lines of standard input.
+    Debug {
+        program: &'a str,
+        run: RunChoice<'a>,
+    },
     /// Shows where two schedules of a program part.
     Compare {
         program: &'a str,
@@ -132,6 +150,10 @@ pub enum LabCommand<'a> {
     Survey(SurveyRequest<'a>),
     /// Judges submissions.
     Grade(GradeRequest<'a>),
+    /// Writes a page that shows a run.
+    Page(PageRequest<'a>),
+    /// Writes a picture of a run's lanes.
+    Picture(PageRequest<'a>),
     /// Assembles a source text, beside its place, and renames it to there.
     Assemble {
         source: &'a str,

@@ -43,6 +43,14 @@ schedule the processors step in turn.
 Example:
   mta_lab view lock.asm lock.lost_update.schedule";
 
+pub(crate) const DEBUG: &str = "\
+Goes to and fro in a run: each line of standard input is a word, as step, next, back, continue,
+reverse-continue, until, break, watch, delete, info, print, list, why, try or save, and is
+answered before the next is read. An empty line repeats the last. The word help tells all.
+
+Example:
+  mta_lab debug lock.asm --seed 7";
+
 pub(crate) const COMPARE: &str = "\
 Shows the first step at which two schedules of a program part, the first position at which
 the worlds differ, and in what, and both ends.
@@ -71,6 +79,21 @@ renamed to there, so a fault leaves what was there as it was.
 Example:
   mta_lab asm lock.asm --out lock.image";
 
+pub(crate) const PAGE: &str = "\
+Writes a page that shows a run, for a browser: the lanes of streams and words over time, the
+source, each step forwards and backwards, who waits for whom, what was lost. The page is one
+file, which needs no network. A run has up to 100000 steps there.
+
+Example:
+  mta_lab page lock.asm lock.lost_update.schedule --out lock.html";
+
+pub(crate) const PICTURE: &str = "\
+Writes the lanes of a run as a picture, an SVG file: a lane a stream and a lane a word over
+time, with a legend. A run has up to 500 steps there.
+
+Example:
+  mta_lab picture lock.asm lock.lost_update.schedule --out lock.svg";
+
 pub(crate) const PROGRAM: &str = "the program: a source text or an image";
 
 pub(crate) const SCHEDULE_FILE: &str =
@@ -85,3 +108,5 @@ pub(crate) const JSON: &str = "prints JSON, an object a line";
 pub(crate) const HEX: &str = "prints numbers in hexadecimal digits";
 
 pub(crate) const EXPECT: &str = "what each end has to be: word ADDRESS VALUE [full|empty], ..";
+
+pub(crate) const TITLE: &str = "what the program is called [the name of its file]";

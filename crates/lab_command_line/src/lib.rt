@@ -7,7 +7,7 @@ mod options;
 mod reading;
 
 pub use commands::{
-    CheckRequest, FileKind, GradeRequest, LabCommand, Maker, RunChoice, Shown, SurveyRequest,
-    ViewRequest,
+    CheckRequest, FileKind, GradeRequest, LabCommand, Maker, PageRequest, RunChoice, Shown,
+    SurveyRequest, ViewRequest,
 };
 pub use reading::read_lab_command;

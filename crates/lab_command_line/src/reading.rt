@@ -1,8 +1,8 @@
 //! The command line, read.
 
 use crate::commands::{
-    CheckRequest, FileKind, GradeRequest, LabCommand, Maker, RunChoice, Shown, SurveyRequest,
-    ViewRequest,
+    CheckRequest, FileKind, GradeRequest, LabCommand, Maker, PageRequest, RunChoice, Shown,
+    SurveyRequest, ViewRequest,
 };
 use crate::help;
 use crate::options::{
@@ -34,6 +34,10 @@ fn command_of<'a>(alloc: Global, matches: &ArgMatches<'a>) -> Result<LabCommand<
             most: count(found, "steps", USUAL_STEPS),
         }),
         Some(("view", found)) => Ok(LabCommand::View(view_of(found))),
+        Some(("debug", found)) => Ok(LabCommand::Debug {
+            program: word(found, "PROGRAM"),
+            run: run_of(found),
+        }),
         Some(("compare", found)) => Ok(LabCommand::Compare {
             program: word(found, "PROGRAM"),
             one: word(found, "ONE"),
@@ -42,6 +46,8 @@ fn command_of<'a>(alloc: Global, matches: &ArgMatches<'a>) -> Result<LabCommand<
         }),
         Some(("survey", found)) => Ok(LabCommand::Survey(survey_of(found))),
         Some(("grade", found)) => Ok(LabCommand::Grade(grade_of(alloc, found)?)),
+        Some(("page", found)) => Ok(LabCommand::Page(page_of(found))),
+        Some(("picture", found)) => Ok(LabCommand::Picture(page_of(found))),
         Some(("asm", found)) => Ok(LabCommand::Assemble {
             source: word(found, "SOURCE"),
             image: text(found, "out"),
@@ -111,6 +117,24 @@ fn run_of<'a>(found: &ArgMatches<'a>) -> RunChoice<'a> {
     }
 }
 
+/// What `page` or `picture` is asked.
+fn page_of<'a>(found: &ArgMatches<'a>) -> PageRequest<'a> {
+    let run = if found.get_flag("rounds") {
+        RunChoice::Made {
+            maker: Maker::Rounds,
+            most: count(found, "steps", USUAL_STEPS),
+        }
+    } else {
+        run_of(found)
+    };
+    PageRequest {
+        program: word(found, "PROGRAM"),
+        run,
+        title: text(found, "title"),
+        out: word(found, "out"),
+    }
+}
+
 /// What `survey` is asked.
 fn survey_of<'a>(found: &ArgMatches<'a>) -> SurveyRequest<'a> {
     SurveyRequest {
@@ -153,9 +177,12 @@ fn lab_parser<'a>(alloc: Global, version: &'a str) -> Result<Command<'a>, AllocE
         .subcommand(check_parser(alloc)?)?
         .subcommand(schedule_parser(alloc)?)?
         .subcommand(view_parser(alloc)?)?
+        .subcommand(debug_parser(alloc)?)?
         .subcommand(compare_parser(alloc)?)?
         .subcommand(survey_parser(alloc)?)?
         .subcommand(grade_parser(alloc)?)?
+        .subcommand(page_parser(alloc)?)?
+        .subcommand(picture_parser(alloc)?)?
         .subcommand(asm_parser(alloc)?)
 }
 
@@ -213,7 +240,18 @@ fn view_parser<'a>(alloc: Global) -> Result<Command<'a>, AllocError> {
         .arg(flag(alloc, "json", help::JSON))
 }
 
-/// The schedule of `view`, which may be left out.
+/// The parser of `debug`.
+fn debug_parser<'a>(alloc: Global) -> Result<Command<'a>, AllocError> {
+    let about = "Goes to and fro in a run, by the lines of standard input";
+    described(alloc, "debug", about, help::DEBUG)
+        .arg(needed(alloc, "PROGRAM", help::PROGRAM))?
+        .arg(schedule_argument(alloc)?)?
+        .arg(fair_flag(alloc)?)?
+        .arg(seed_option(alloc))?
+        .arg(steps_option(alloc))
+}
+
+/// The schedule of `view` and `debug`, which may be left out.
 fn schedule_argument<'a>(alloc: Global) -> Result<Arg<'a>, AllocError> {
     optional(alloc, "SCHEDULE", help::SCHEDULE_FILE)
         .conflicts_with("fair")?
@@ -270,6 +308,49 @@ fn grade_parser<'a>(alloc: Global) -> Result<Command<'a>, AllocError> {
         .arg(files(alloc, "SUBMISSION", "programs: source texts or images"))?
         .arg(flag(alloc, "hex", help::HEX))?
         .arg(flag(alloc, "json", help::JSON))
+}
+
+/// The parser of `page`.
+fn page_parser<'a>(alloc: Global) -> Result<Command<'a>, AllocError> {
+    let about = "Writes a page that shows a run, for a browser";
+    run_file_parser(alloc, "page", about, help::PAGE, "the page, FILE.html")
+}
+
+/// The parser of `picture`.
+fn picture_parser<'a>(alloc: Global) -> Result<Command<'a>, AllocError> {
+    let about = "Writes a picture of a run's lanes";
+    run_file_parser(
+        alloc,
+        "picture",
+        about,
+        help::PICTURE,
+        "the picture, FILE.svg",
+    )
+}
+
+/// The parser of a command that writes a file of a run.
+fn run_file_parser<'a>(
+    alloc: Global,
+    name: &'a str,
+    about: &'a str,
+    long: &'a str,
+    file: &'a str,
+) -> Result<Command<'a>, AllocError> {
+    described(alloc, name, about, long)
+        .arg(needed(alloc, "PROGRAM", help::PROGRAM))?
+        .arg(schedule_argument(alloc)?.conflicts_with("rounds")?)?
+        .arg(fair_flag(alloc)?.conflicts_with("rounds")?)?
+        .arg(rounds_flag(alloc)?)?
+        .arg(seed_option(alloc))?
+        .arg(steps_option(alloc))?
+        .arg(option(alloc, "title", "TEXT", help::TITLE))?
+        .arg(option(alloc, "out", "FILE", file).required(true))
+}
+
+/// `--rounds`.
+fn rounds_flag<'a>(alloc: Global) -> Result<Arg<'a>, AllocError> {
+    let about = "the running streams step in the order of processor and stream";
+    flag(alloc, "rounds", about).conflicts_with("seed")
 }
 
 /// The parser of `asm`.

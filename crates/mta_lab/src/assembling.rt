@@ -50,7 +50,7 @@ fn image_path(alloc: Global, source: &str) -> Result<String, LabFault> {
 }
 
 /// Writes a file beside its place, and renames it to there.
-fn replace_file<F: Files>(
+pub(crate) fn replace_file<F: Files>(
     alloc: Global,
     files: &F,
     path: &str,

@@ -6,7 +6,7 @@ use crate::json::push_message_object;
 use crate::lab_fault::LabFault;
 use crate::loose_schedules::check_loose_schedule;
 use crate::programs::{is_image, read_program};
-use image_file::{Image, read_image};
+use image_file::{Image, ImageFault, read_image};
 use lab_command_line::{CheckRequest, FileKind};
 use source_faults::{Message, Severity, check_source, image_fault_words, push_message};
 use std::alloc::Global;
@@ -86,8 +86,10 @@ fn messages_of(
         FileKind::Schedule => Ok(check_loose_schedule(alloc, bytes, program)?),
         FileKind::Image => {
             let mut messages = Vec::new(alloc);
-            if let Err(fault) = read_image(alloc, bytes) {
-                messages.push(image_fault_words(alloc, bytes, fault)?)?;
+            match read_image(alloc, bytes) {
+                Ok(_) => {}
+                Err(ImageFault::NoMemory) => return Err(LabFault::NoMemory),
+                Err(fault) => messages.push(image_fault_words(alloc, bytes, fault)?)?,
             }
             Ok(messages)
         }

@@ -1,6 +1,7 @@
 //! The command `compare`.
 
 use crate::answer::{Answer, Status};
+use crate::findings::push_findings_of_run;
 use crate::inputs::Inputs;
 use crate::json::push_object;
 use crate::lab_fault::LabFault;
@@ -98,6 +99,15 @@ fn compare_on<const S: usize>(
 /// The step of this place, as a schedule; none past the end.
 fn step_at(steps: &[Step], index: usize) -> &[Step] {
     steps.get(index..index.saturating_add(1)).unwrap_or(&[])
+}
+
+/// The steps of a run, by what they did.
+fn steps_taken(alloc: Global, views: &[StepView]) -> Result<Vec<Step>, LabFault> {
+    let mut steps = Vec::with_capacity(alloc, views.len())?;
+    for view in views {
+        steps.push(view.step)?;
+    }
+    Ok(steps)
 }
 
 /// A run, and what its steps did.
@@ -218,7 +228,11 @@ impl<const S: usize> Pair<'_, '_, '_, S> {
             } else {
                 write!(out, "{name}: ")?;
                 push_end(out, self.names, run.views.len(), &end)?;
-                push_differing_words(out, self.names, style_of(self.shown), &run.machine)?;
+                let style = style_of(self.shown);
+                push_differing_words(out, self.names, style, &run.machine)?;
+                let steps = steps_taken(alloc, &run.views)?;
+                let image = run.machine.image();
+                push_findings_of_run::<S>(alloc, out, self.names, style, image, &steps)?;
             }
         }
         Ok(())

@@ -5,8 +5,9 @@ use crate::inputs::Inputs;
 use crate::json::push_object;
 use crate::lab_fault::LabFault;
 use crate::outcomes::{Outcome, OutcomeKind, Seeds, outcomes_of, push_expectation};
-use crate::programs::program_of;
+use crate::programs::{Program, program_of};
 use crate::surveying::{expected_of, status_of};
+use crate::viewing::style_of;
 use expectations::Expectation;
 use lab_command_line::GradeRequest;
 use lab_json::VERSION;
@@ -38,7 +39,15 @@ pub(crate) fn grade<X: Threads + Sync, F: Files, R: Read>(
     let mut output = String::new(alloc);
     let mut status = Status::Done;
     for path in &request.submissions {
-        let verdict = verdict_of(rt, alloc, inputs, request, &expected, path)?;
+        let program = match submission(alloc, inputs, path)? {
+            Ok(program) => program,
+            Err(verdict) => {
+                status = status.worse(verdict.status);
+                push_verdict(alloc, &mut output, request.shown.json, path, &verdict)?;
+                continue;
+            }
+        };
+        let verdict = sampled_verdict(rt, alloc, request, &expected, &program)?;
         status = status.worse(verdict.status);
         push_verdict(alloc, &mut output, request.shown.json, path, &verdict)?;
     }
@@ -49,35 +58,42 @@ pub(crate) fn grade<X: Threads + Sync, F: Files, R: Read>(
     })
 }
 
-/// What is said of a submission: the first that holds of any of its runs of a trap, a deadlock, a wrong end, a bound.
-fn verdict_of<X: Threads + Sync, F: Files, R: Read>(
-    rt: &X,
+/// The program of a submission, or what is said where it is none.
+fn submission<F: Files, R: Read>(
     alloc: Global,
     inputs: &mut Inputs<'_, F, R>,
-    request: &GradeRequest,
-    expected: &[Expectation],
     path: &str,
-) -> Result<Verdict, LabFault> {
-    let program = match inputs
+) -> Result<Result<Program, Verdict>, LabFault> {
+    match inputs
         .read(alloc, path)
         .and_then(|bytes| program_of(alloc, path, bytes))
     {
-        Ok(program) => program,
-        Err(LabFault::Words(why) | LabFault::Lines(why)) => {
-            return Ok(Verdict {
-                word: "source fault",
-                why: short_fault(alloc, path, &why)?,
-                status: Status::Fault,
-            });
-        }
-        Err(other) => return Err(other),
-    };
+        Ok(program) => Ok(Ok(program)),
+        Err(LabFault::Words(why) | LabFault::Lines(why)) => Ok(Err(Verdict {
+            word: "source fault",
+            why: short_fault(alloc, path, &why)?,
+            status: Status::Fault,
+        })),
+        Err(other) => Err(other),
+    }
+}
+
+/// What random schedules say of a submission: the first that holds of any of its runs of a trap, a deadlock, a wrong
+/// end, a bound.
+fn sampled_verdict<X: Threads + Sync>(
+    rt: &X,
+    alloc: Global,
+    request: &GradeRequest,
+    expected: &[Expectation],
+    program: &Program,
+) -> Result<Verdict, LabFault> {
     let seeds = Seeds {
         first: 0,
         count: request.seeds,
         most: request.most,
+        style: style_of(request.shown),
     };
-    let outcomes = outcomes_of(rt, alloc, &program, expected, seeds)?;
+    let outcomes = outcomes_of(rt, alloc, program, expected, seeds)?;
     verdict_of_outcomes(alloc, expected, &outcomes, request.seeds)
 }
 
@@ -88,35 +104,59 @@ fn verdict_of_outcomes(
     outcomes: &[Outcome],
     seeds: usize,
 ) -> Result<Verdict, LabFault> {
-    for (kind, word) in [
-        (OutcomeKind::Stopped, "trap"),
-        (OutcomeKind::Deadlock, "deadlock"),
-        (OutcomeKind::Finished, "wrong"),
-        (OutcomeKind::OutOfSteps, "ran out of steps"),
-    ] {
-        let found = outcomes
-            .iter()
-            .find(|outcome| outcome.kind == kind && is_wrong(outcome));
-        if let Some(outcome) = found {
+    let mut status = Status::Done;
+    for outcome in outcomes {
+        status = status.worse(status_of(outcome));
+    }
+    for flaw in [Flaw::Trap, Flaw::Deadlock, Flaw::Wrong, Flaw::OutOfSteps] {
+        if let Some(outcome) = outcomes.iter().find(|outcome| flaw.is_of(outcome)) {
             return Ok(Verdict {
-                word,
+                word: flaw.word(),
                 why: why_of(alloc, expected, outcome)?,
-                status: status_of(outcome, true),
+                status,
             });
         }
     }
     Ok(Verdict {
         word: "right",
         why: format!(in alloc; "{seeds} seeds")?,
-        status: Status::Done,
+        status,
     })
 }
 
-/// Whether an outcome is not as it has to be.
-fn is_wrong(outcome: &Outcome) -> bool {
-    match outcome.kind {
-        OutcomeKind::Deadlock | OutcomeKind::OutOfSteps => true,
-        OutcomeKind::Finished | OutcomeKind::Stopped => outcome.missed.is_some(),
+/// What a run of a submission can show against it.
+#[derive(Clone, Copy, Debug)]
+enum Flaw {
+    /// A trap that nobody expected stopped a stream.
+    Trap,
+    /// The end is a deadlock.
+    Deadlock,
+    /// The end is not as expected.
+    Wrong,
+    /// The bound came first.
+    OutOfSteps,
+}
+
+impl Flaw {
+    /// The word of the table.
+    fn word(self) -> &'static str {
+        match self {
+            Flaw::Trap => "trap",
+            Flaw::Deadlock => "deadlock",
+            Flaw::Wrong => "wrong",
+            Flaw::OutOfSteps => "ran out of steps",
+        }
+    }
+
+    /// Whether an outcome shows it.
+    fn is_of(self, outcome: &Outcome) -> bool {
+        match (self, outcome.kind) {
+            (Flaw::Trap, _) => outcome.is_trapped,
+            (Flaw::Wrong, OutcomeKind::Finished | OutcomeKind::Stopped) => outcome.missed.is_some(),
+            (Flaw::Deadlock, kind) => kind == OutcomeKind::Deadlock,
+            (Flaw::OutOfSteps, kind) => kind == OutcomeKind::OutOfSteps,
+            (Flaw::Wrong, OutcomeKind::Deadlock | OutcomeKind::OutOfSteps) => false,
+        }
     }
 }
 
@@ -128,15 +168,35 @@ fn why_of(
 ) -> Result<String, AllocError> {
     let seed = outcome.seed;
     let mut why = format!(in alloc; "seed {seed}")?;
-    if let Some(expectation) = outcome.missed.and_then(|place| expected.get(place)) {
+    push_why(
+        &mut why,
+        expected,
+        outcome.missed,
+        &outcome.text,
+        &outcome.finding,
+    )?;
+    Ok(why)
+}
+
+/// Adds the expectation that an end misses, what is told of it, and the first finding on the way to it.
+fn push_why(
+    why: &mut String,
+    expected: &[Expectation],
+    missed: Option<usize>,
+    text: &str,
+    finding: &str,
+) -> Result<(), AllocError> {
+    if let Some(expectation) = missed.and_then(|place| expected.get(place)) {
         why.push_str(": not ")?;
-        push_expectation(&mut why, expectation)?;
+        push_expectation(why, expectation)?;
     }
-    if !outcome.text.is_empty() {
-        let text = outcome.text.as_str();
+    if !text.is_empty() {
         write!(why, ": {text}")?;
     }
-    Ok(why)
+    if !finding.is_empty() {
+        write!(why, "; {finding}")?;
+    }
+    Ok(())
 }
 
 /// The first line of what is wrong with a file, without its path: `8:9: no operation is called load.N`.
@@ -162,7 +222,7 @@ fn push_verdict(
     let why = verdict.why.as_str();
     if json {
         let value = json!(in alloc; {
-            "version": VERSION, "submission": path, "outcome": word, "words": why
+            "version": VERSION, "submission": path, "verdict": word, "why": why
         })?;
         return push_object(alloc, out, &value);
     }

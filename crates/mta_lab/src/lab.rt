@@ -4,16 +4,19 @@ use crate::answer::{Answer, Status};
 use crate::assembling::assemble_file;
 use crate::checking::check;
 use crate::comparing::compare;
+use crate::debugging::{Screen, debug};
 use crate::grading::grade;
 use crate::inputs::Inputs;
 use crate::lab_fault::LabFault;
+use crate::paging::write_page;
+use crate::picturing::write_picture;
 use crate::scheduling::make_schedule;
 use crate::surveying::survey;
 use crate::viewing::view;
 use lab_command_line::{LabCommand, read_lab_command};
 use std::alloc::Global;
 use std::convert::AsStr;
-use std::io::{ErrorKind, Read, Write};
+use std::io::{Error, ErrorKind, Read, Write};
 use std::rt::Files;
 use std::thread::Threads;
 
@@ -21,7 +24,8 @@ use std::thread::Threads;
 const VERSION: &str = "0.3.0";
 
 /// Runs the command of a command line, whose first word is the program's name, on these files and standard streams,
-/// and gives the exit status ("Exit statuses", docs/LAB.md). All is composed before anything is written.
+/// and gives the exit status ("Exit statuses", docs/LAB.md). All is composed before anything is written. `is_terminal`:
+/// standard input is one, so `debug` prompts.
 pub(crate) fn run_lab<X: Threads + Sync, S: AsStr, F: Files, R: Read, W: Write, E: Write>(
     rt: &X,
     alloc: Global,
@@ -30,6 +34,7 @@ pub(crate) fn run_lab<X: Threads + Sync, S: AsStr, F: Files, R: Read, W: Write, 
     input: &mut R,
     output: &mut W,
     errors: &mut E,
+    is_terminal: bool,
 ) -> u8 {
     let command = match read_lab_command(alloc, VERSION, words) {
         Ok(command) => command,
@@ -38,11 +43,25 @@ pub(crate) fn run_lab<X: Threads + Sync, S: AsStr, F: Files, R: Read, W: Write, 
             return Status::NoCommand.number();
         }
         Err(help) => {
-            let _ = write!(output, "{help}");
-            return Status::Done.number();
+            let wrote = write!(output, "{help}").and_then(|()| output.flush());
+            return match written(wrote) {
+                Ok(()) => Status::Done.number(),
+                Err(fault) => tell_fault(&fault, errors),
+            };
         }
     };
     let mut inputs = Inputs { files, input };
+    if let LabCommand::Debug { program, run } = &command {
+        let mut screen = Screen {
+            output,
+            errors,
+            is_prompted: is_terminal,
+        };
+        return match debug(alloc, &mut inputs, program, *run, &mut screen) {
+            Ok(status) => status.number(),
+            Err(fault) => tell_fault(&fault, errors),
+        };
+    }
     match answer_to(rt, alloc, &command, &mut inputs) {
         Ok(answer) => tell(&answer, output, errors),
         Err(fault) => tell_fault(&fault, errors),
@@ -70,8 +89,12 @@ fn answer_to<X: Threads + Sync, F: Files, R: Read>(
             other,
             shown,
         } => compare(alloc, inputs, program, one, other, *shown),
+        // (it has its own way of writing)
+        LabCommand::Debug { .. } => Err(LabFault::Closed),
         LabCommand::Survey(request) => survey(rt, alloc, inputs, request),
         LabCommand::Grade(request) => grade(rt, alloc, inputs, request),
+        LabCommand::Page(request) => write_page(alloc, inputs, request),
+        LabCommand::Picture(request) => write_picture(alloc, inputs, request),
         LabCommand::Assemble { source, image } => assemble_file(alloc, inputs, source, *image),
     }
 }
@@ -108,8 +131,12 @@ fn tell_fault<E: Write>(fault: &LabFault, errors: &mut E) -> u8 {
 
 /// Writes all the bytes.
 fn write_whole<W: Write>(writer: &mut W, bytes: &[u8]) -> Result<(), LabFault> {
-    let result = writer.write_all(bytes).and_then(|()| writer.flush());
-    match result {
+    written(writer.write_all(bytes).and_then(|()| writer.flush()))
+}
+
+/// What it means that something was written, or was not.
+fn written(wrote: Result<(), Error>) -> Result<(), LabFault> {
+    match wrote {
         Ok(()) => Ok(()),
         Err(error) if error.kind() == ErrorKind::BrokenPipe => Err(LabFault::Closed),
         Err(_) => Err(LabFault::Write),

@@ -27,12 +27,13 @@ impl StrictSchedule {
     fn of(alloc: Global, text: &[u8]) -> Result<StrictSchedule, AllocError> {
         let mut strict = Vec::new(alloc);
         let mut lines = Vec::new(alloc);
+        let mut kept = Vec::new(alloc);
         let mut place = LinePlace {
             number: 1,
             start: 0,
         };
         for line in text.split(|byte| *byte == b'\n') {
-            if push_strict(&mut strict, line)? {
+            if push_strict(&mut strict, &mut kept, line)? {
                 note_line(&mut lines, place)?;
             }
             place = behind(place, line);
@@ -64,7 +65,7 @@ pub(crate) fn read_loose_schedule(alloc: Global, text: &[u8]) -> Result<Vec<Step
     read_schedule(alloc, &strict.text)
 }
 
-/// What is to be said of a schedule, with the lines of its own text.
+/// What is to be said of a schedule, with the places of its own text.
 pub(crate) fn check_loose_schedule(
     alloc: Global,
     text: &[u8],
@@ -72,13 +73,40 @@ pub(crate) fn check_loose_schedule(
 ) -> Result<Vec<Message>, AllocError> {
     let strict = StrictSchedule::of(alloc, text)?;
     let mut messages = check_schedule(alloc, &strict.text, image)?;
+    let mut kept = Vec::new(alloc);
     for message in messages.iter_mut() {
         if let Some(place) = strict.place(message.line) {
             message.line = place.number;
             message.start = place.start;
+            keep_bytes(&mut kept, line_at(text, place.start))?;
+            point_at(message, &kept);
         }
     }
     Ok(messages)
+}
+
+/// The line that begins behind so many bytes of a text.
+fn line_at(text: &[u8], start: usize) -> &[u8] {
+    let rest = text.get(start..).unwrap_or(&[]);
+    rest.split(|byte| *byte == b'\n').next().unwrap_or(&[])
+}
+
+/// Takes a message from the columns of a line's strict form to those of the line itself.
+fn point_at(message: &mut Message, kept: &[Kept]) {
+    let first = message.column.saturating_sub(1);
+    let last = first.saturating_add(message.width.saturating_sub(1));
+    let begin = place_of(kept, first);
+    message.column = begin.saturating_add(1);
+    message.width = place_of(kept, last).saturating_sub(begin).saturating_add(1);
+}
+
+/// Where a byte of the strict form stands on its line; behind the last of them where it has fewer.
+fn place_of(kept: &[Kept], index: usize) -> usize {
+    match (kept.get(index), kept.last()) {
+        (Some(byte), _) => byte.place,
+        (None, Some(last)) => last.place.saturating_add(1),
+        (None, None) => 0,
+    }
 }
 
 /// Notes the place of a line.
@@ -86,26 +114,52 @@ fn note_line(lines: &mut Vec<LinePlace>, place: LinePlace) -> Result<(), AllocEr
     Ok(lines.push(place)?)
 }
 
-/// Adds what a line says in the strict form; whether it says anything.
-fn push_strict(strict: &mut Vec<u8>, line: &[u8]) -> Result<bool, AllocError> {
-    let mut any = false;
-    let mut apart = false;
-    for byte in line {
+/// A byte of a line's strict form.
+#[derive(Clone, Copy, Debug)]
+struct Kept {
+    /// The byte.
+    byte: u8,
+    /// How many bytes of the line stand before it.
+    place: usize,
+}
+
+/// Leaves in `kept` what a line says: its bytes before a comment, with one space for the blanks between two of them.
+fn keep_bytes(kept: &mut Vec<Kept>, line: &[u8]) -> Result<(), AllocError> {
+    kept.clear();
+    let mut blank = None;
+    for (place, byte) in line.iter().enumerate() {
         match *byte {
-            b'#' => break,
-            b' ' | b'\t' | b'\r' => apart = true,
+            b'#' => return Ok(()),
+            b' ' | b'\t' | b'\r' => blank = blank.or(Some(place)),
             other => {
-                if any && apart {
-                    strict.push(b' ')?;
+                if let Some(before) = blank
+                    && !kept.is_empty()
+                {
+                    kept.push(Kept {
+                        byte: b' ',
+                        place: before,
+                    })?;
                 }
-                strict.push(other)?;
-                any = true;
-                apart = false;
+                kept.push(Kept { byte: other, place })?;
+                blank = None;
             }
         }
     }
-    if any {
+    Ok(())
+}
+
+/// Adds what a line says in the strict form; whether it says anything.
+fn push_strict(
+    strict: &mut Vec<u8>,
+    kept: &mut Vec<Kept>,
+    line: &[u8],
+) -> Result<bool, AllocError> {
+    keep_bytes(kept, line)?;
+    for byte in kept.iter() {
+        strict.push(byte.byte)?;
+    }
+    if !kept.is_empty() {
         strict.push(b'\n')?;
     }
-    Ok(any)
+    Ok(!kept.is_empty())
 }

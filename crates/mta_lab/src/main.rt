@@ -5,6 +5,14 @@ mod answer;
 mod assembling;
 mod checking;
 mod comparing;
+mod debug_desk;
+mod debug_lines;
+mod debug_points;
+mod debug_shows;
+mod debug_words;
+mod debugging;
+mod end_words;
+mod findings;
 mod grading;
 mod inputs;
 mod json;
@@ -12,6 +20,8 @@ mod lab;
 mod lab_fault;
 mod loose_schedules;
 mod outcomes;
+mod paging;
+mod picturing;
 mod programs;
 mod scheduling;
 mod surveying;
@@ -19,6 +29,7 @@ mod viewing;
 
 use lab::run_lab;
 use std::env;
+use std::io::IsTerminal;
 use std::process::ExitCode;
 
 fn main(rt: HostRuntime) -> ExitCode {
@@ -33,6 +44,7 @@ fn main(rt: HostRuntime) -> ExitCode {
             &mut rt.stdin(),
             &mut rt.stdout(),
             &mut rt.stderr(),
+            rt.stdin().is_terminal(),
         ),
         Err(error) => {
             let _ = eprintln!(rt; "mta_lab: {error}");

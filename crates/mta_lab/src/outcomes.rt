@@ -1,23 +1,22 @@
 //! Ends of random schedules, and what they are counted by.
 
+use crate::end_words::{StoppedBy, end_words_of};
+use crate::findings::first_finding;
 use crate::programs::Program;
 use crate::scheduling::loaded;
 use expectations::{Expectation, FullEmpty, first_missed};
-use lab_texts::{
-    NumberStyle, ProgramNames, push_changed_words, push_part_of, push_stream, push_trap, push_value,
-};
-use machine::{LoadFault, Machine};
+use lab_texts::{NumberStyle, ProgramNames, push_value};
+use machine::LoadFault;
+use rayon::prelude::*;
 use schedule_makers::{MadeEnd, random};
-use schedule_survey::{SeedEnd, survey};
+use schedule_survey::{SeedEnd, grouped, survey};
 use std::alloc::{AllocError, Global};
 use std::thread::Threads;
-use stream_core::Status;
-use waiting::{running_streams, wait_of};
 
 /// How many seeds are run before their ends are counted: so the memory of a survey is bounded.
-const AT_ONCE: usize = 4096;
+const AT_ONCE: usize = 1024;
 
-/// Which seeds are run, and for how many steps at most.
+/// Which seeds are run, for how many steps at most, and how their ends are told.
 #[derive(Clone, Copy, Debug)]
 pub(crate) struct Seeds {
     /// The first seed.
@@ -26,6 +25,8 @@ pub(crate) struct Seeds {
     pub count: usize,
     /// The most steps of each schedule.
     pub most: usize,
+    /// How the numbers of their ends are told.
+    pub style: NumberStyle,
 }
 
 /// How a run ended, as it is counted.
@@ -51,6 +52,14 @@ impl OutcomeKind {
             OutcomeKind::OutOfSteps => "out of steps",
         }
     }
+
+    /// Its name in JSON, which is that of the end of a run.
+    pub(crate) fn short_name(self) -> &'static str {
+        match self {
+            OutcomeKind::OutOfSteps => "steps",
+            _ => self.name(),
+        }
+    }
 }
 
 /// Ends that agree in their kind, in the words that changed, in who waits or was stopped, and in what is not as
@@ -63,21 +72,23 @@ pub(crate) struct Outcome {
     pub text: String,
     /// The place of the first expectation that is not met.
     pub missed: Option<usize>,
+    /// Whether a trap that nobody expected stopped a stream.
+    pub is_trapped: bool,
     /// The first seed that leads there.
     pub seed: u64,
     /// How many steps its schedule has.
     pub steps: usize,
     /// How many seeds lead there.
     pub runs: usize,
+    /// The first finding of that run, and how many more there are; empty where there is none.
+    pub finding: String,
 }
 
-/// Seeds whose ends are the same world.
-#[derive(Drop)]
-struct SameEnds {
-    /// The end of the first of them.
-    end: SeedEnd,
-    /// How many there are.
-    runs: usize,
+impl Outcome {
+    /// Whether all expectations are met, and nobody was stopped of whom that is not expected.
+    pub(crate) fn is_as_expected(&self) -> bool {
+        self.missed.is_none() && !self.is_trapped
+    }
 }
 
 /// The outcomes of the random schedules of these seeds, in the order of their first seeds.
@@ -104,72 +115,79 @@ fn outcomes_on<X: Threads + Sync, const S: usize>(
     seeds: Seeds,
 ) -> Result<Vec<Outcome>, AllocError> {
     let names = ProgramNames::of(alloc, &program.text)?;
-    let mut groups = Vec::new(alloc);
+    let mut outcomes = Vec::new(alloc);
     for begin in (0..seeds.count).step_by(AT_ONCE) {
         let first = seeds.first.wrapping_add(begin as u64);
         let count = AT_ONCE.min(seeds.count.saturating_sub(begin));
-        match survey::<X, S>(rt, alloc, &program.image, first, count, seeds.most) {
-            Ok(ends) => count_ends(&mut groups, ends)?,
+        let ends = match survey::<X, S>(rt, alloc, &program.image, first, count, seeds.most) {
+            Ok(ends) => ends,
             Err(LoadFault::NoMemory | LoadFault::Streams) => return Err(AllocError),
+        };
+        for outcome in told::<X, S>(rt, alloc, program, &names, expected, &ends, seeds)? {
+            add_outcome(&mut outcomes, outcome)?;
         }
-    }
-    let mut outcomes = Vec::new(alloc);
-    for group in &groups {
-        let outcome = outcome_of::<S>(alloc, program, &names, expected, group, seeds.most)?;
-        add_outcome(&mut outcomes, outcome)?;
     }
     Ok(outcomes)
 }
 
-/// Counts ends, those of the same world as one.
-fn count_ends(groups: &mut Vec<SameEnds>, ends: Vec<SeedEnd>) -> Result<(), AllocError> {
-    for end in ends {
-        match groups
-            .iter_mut()
-            .find(|group| is_same_end(&group.end, &end))
-        {
-            Some(group) => group.runs = group.runs.saturating_add(1),
-            None => groups.push(SameEnds { end, runs: 1 })?,
-        }
+/// The outcomes of ends, of those that are the same world one, over all cores.
+fn told<X: Threads + Sync, const S: usize>(
+    rt: &X,
+    alloc: Global,
+    program: &Program,
+    names: &ProgramNames,
+    expected: &[Expectation],
+    ends: &[SeedEnd],
+    seeds: Seeds,
+) -> Result<Vec<Outcome>, AllocError> {
+    let groups = grouped(alloc, ends)?;
+    let told = (0..groups.len())
+        .into_par_iter()
+        .map(|place: usize| -> Result<Outcome, AllocError> {
+            let group = groups.get(place).ok_or(AllocError)?;
+            let end = ends.get(group.first).ok_or(AllocError)?;
+            outcome_of::<S>(alloc, program, names, expected, end.seed, group.runs, seeds)
+        })
+        .with_min_len(1)
+        .collect::<Result<Vec<Outcome>, AllocError>>(rt, alloc);
+    match told {
+        Ok(Ok(told)) => Ok(told),
+        Ok(Err(_)) | Err(_) => Err(AllocError),
     }
-    Ok(())
 }
 
-/// Whether two ends are the same world.
-fn is_same_end(one: &SeedEnd, other: &SeedEnd) -> bool {
-    one.end == other.end
-        && one.words.as_slice() == other.words.as_slice()
-        && one.streams.as_slice() == other.streams.as_slice()
-}
-
-/// The outcome of ends that are the same world: its first seed's schedule is run again.
+/// The outcome of so many ends that are the same world: the schedule of a seed that leads there is run again.
 fn outcome_of<const S: usize>(
     alloc: Global,
     program: &Program,
     names: &ProgramNames,
     expected: &[Expectation],
-    group: &SameEnds,
-    most: usize,
+    seed: u64,
+    runs: usize,
+    seeds: Seeds,
 ) -> Result<Outcome, AllocError> {
     let mut machine = loaded::<S>(alloc, &program.image)?;
-    let made = random(alloc, &mut machine, group.end.seed, most)?;
-    let mut text = String::new(alloc);
-    let any_stopped = push_stopped(&mut text, &machine)?;
-    push_waiting(alloc, &mut text, &machine)?;
-    push_changed_words(&mut text, names, NumberStyle::Decimal, &machine)?;
+    let made = random(alloc, &mut machine, seed, seeds.most)?;
+    let words = end_words_of(alloc, &machine, names, seeds.style)?;
+    let is_trapped = words
+        .stopped
+        .iter()
+        .any(|stream| !is_expected(expected, stream));
     let kind = match made.end {
-        MadeEnd::NobodyRuns if any_stopped => OutcomeKind::Stopped,
+        MadeEnd::NobodyRuns if !words.stopped.is_empty() => OutcomeKind::Stopped,
         MadeEnd::NobodyRuns => OutcomeKind::Finished,
         MadeEnd::Standstill => OutcomeKind::Deadlock,
         MadeEnd::OutOfSteps => OutcomeKind::OutOfSteps,
     };
     Ok(Outcome {
         kind,
-        text,
+        text: words.text,
         missed: first_missed(&machine, expected),
-        seed: group.end.seed,
+        is_trapped,
+        seed,
         steps: made.steps.len(),
-        runs: group.runs,
+        runs,
+        finding: first_finding::<S>(alloc, names, &program.image, &made.steps)?,
     })
 }
 
@@ -189,45 +207,15 @@ fn add_outcome(outcomes: &mut Vec<Outcome>, outcome: Outcome) -> Result<(), Allo
 fn is_same_outcome(one: &Outcome, other: &Outcome) -> bool {
     one.kind == other.kind && one.missed == other.missed && one.text == other.text
 }
-/// Adds who was stopped by which trap, and says whether anybody was.
-fn push_stopped<const S: usize>(
-    text: &mut String,
-    machine: &Machine<'_, S>,
-) -> Result<bool, AllocError> {
-    let mut any = false;
-    for p in 0..machine.image().processors() {
-        for s in 0..machine.image().slim() {
-            let status = match machine.stream(p as u8, s as u8) {
-                Some(stream) => stream.status(),
-                None => Status::Idle,
-            };
-            if let Status::Stopped(trap) = status {
-                any = true;
-                push_part_of(text, 0, "")?;
-                push_stream(text, p as u8, s as u8)?;
-                text.push_str(" by ")?;
-                push_trap(text, trap)?;
-            }
-        }
-    }
-    Ok(any)
-}
 
-/// Adds who waits for which word.
-fn push_waiting<const S: usize>(
-    alloc: Global,
-    text: &mut String,
-    machine: &Machine<'_, S>,
-) -> Result<(), AllocError> {
-    for stream in &running_streams(alloc, machine)? {
-        if let Some(wait) = wait_of(machine, stream.p, stream.s) {
-            push_part_of(text, 0, "")?;
-            push_stream(text, stream.p, stream.s)?;
-            let address = wait.address;
-            write!(text, " waits for [{address}]")?;
+/// Whether it is expected that this trap stops this stream.
+pub(crate) fn is_expected(expected: &[Expectation], stopped: &StoppedBy) -> bool {
+    expected.iter().any(|expectation| match *expectation {
+        Expectation::Stopped { p, s, trap } => {
+            p == stopped.p && s == stopped.s && trap == stopped.trap.number()
         }
-    }
-    Ok(())
+        Expectation::Word { .. } | Expectation::Register { .. } | Expectation::Finished => false,
+    })
 }
 
 /// Adds an expectation, as it is written.

@@ -2,8 +2,8 @@
 
 use crate::inputs::Inputs;
 use crate::lab_fault::LabFault;
-use asm_text::{assemble, listing};
-use image_file::{Image, read_image};
+use asm_text::{AsmFault, Fault, assemble, listing};
+use image_file::{Image, ImageFault, read_image};
 use source_faults::{check_source, image_fault_words, push_message};
 use std::alloc::Global;
 use std::io::Read;
@@ -43,6 +43,12 @@ pub(crate) fn program_of(alloc: Global, path: &str, bytes: Vec<u8>) -> Result<Pr
     }
     match assemble(alloc, &bytes) {
         Ok(image) => Ok(Program { text: bytes, image }),
+        Err(
+            AsmFault {
+                kind: Fault::NoMemory,
+                ..
+            },
+        ) => Err(LabFault::NoMemory),
         Err(_) => Err(LabFault::Lines(source_messages(alloc, path, &bytes)?)),
     }
 }
@@ -57,6 +63,7 @@ fn program_of_image(alloc: Global, path: &str, bytes: &[u8]) -> Result<Program, 
                 image,
             })
         }
+        Err(ImageFault::NoMemory) => Err(LabFault::NoMemory),
         Err(fault) => {
             let message = image_fault_words(alloc, bytes, fault)?;
             let mut lines = String::new(alloc);

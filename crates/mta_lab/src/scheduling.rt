@@ -14,7 +14,7 @@ use source_faults::push_message;
 use std::alloc::{AllocError, Global};
 use std::io::Read;
 use std::rt::Files;
-use trace_text::write_schedule;
+use trace_text::{ScheduleFault, ScheduleFaultKind, write_schedule};
 
 /// Makes a schedule of a program. Why it ends stands in the answer's errors.
 pub(crate) fn make_schedule<F: Files, R: Read>(
@@ -104,6 +104,12 @@ pub(crate) fn read_steps<F: Files, R: Read>(
     let text = inputs.read(alloc, path)?;
     match read_loose_schedule(alloc, &text) {
         Ok(steps) => Ok(steps),
+        Err(
+            ScheduleFault {
+                kind: ScheduleFaultKind::NoMemory,
+                ..
+            },
+        ) => Err(LabFault::NoMemory),
         Err(_) => {
             let mut lines = String::new(alloc);
             for message in &check_loose_schedule(alloc, &text, Some(&program.image))? {

@@ -4,12 +4,13 @@ use crate::answer::{Answer, Status};
 use crate::inputs::Inputs;
 use crate::json::push_object;
 use crate::lab_fault::LabFault;
-use crate::outcomes::{Outcome, OutcomeKind, Seeds, outcomes_of};
+use crate::outcomes::{Outcome, OutcomeKind, Seeds, outcomes_of, push_expectation};
 use crate::programs::read_program;
+use crate::viewing::style_of;
 use expectations::{Expectation, ExpectationFault, ExpectationFaultKind, read_expectations};
 use lab_command_line::SurveyRequest;
 use lab_json::{VERSION, digits};
-use serde_json::json;
+use serde_json::{Value, json};
 use std::alloc::{AllocError, Global};
 use std::io::Read;
 use std::rt::Files;
@@ -34,6 +35,7 @@ pub(crate) fn survey<X: Threads + Sync, F: Files, R: Read>(
         first: request.first,
         count: request.seeds,
         most: request.most,
+        style: style_of(request.shown),
     };
     let mut outcomes = outcomes_of(rt, alloc, &program, &expected, seeds)?;
     outcomes.sort_by_key(|outcome: &Outcome| usize::MAX - outcome.runs)?;
@@ -47,11 +49,11 @@ pub(crate) fn survey<X: Threads + Sync, F: Files, R: Read>(
             .unwrap_or(0),
     );
     for outcome in &outcomes {
-        status = status.worse(status_of(outcome, request.expected.is_some()));
+        status = status.worse(status_of(outcome));
         if request.shown.json {
-            push_outcome_object(alloc, &mut output, outcome)?;
+            push_outcome_object(alloc, &mut output, &expected, outcome)?;
         } else {
-            push_outcome(&mut output, width, outcome)?;
+            push_outcome(&mut output, width, &expected, outcome)?;
         }
     }
     Ok(Answer {
@@ -70,6 +72,12 @@ pub(crate) fn expected_of<F: Files, R: Read>(
     let text = inputs.read(alloc, path)?;
     match read_expectations(alloc, &text) {
         Ok(expected) => Ok(expected),
+        Err(
+            ExpectationFault {
+                kind: ExpectationFaultKind::NoMemory,
+                ..
+            },
+        ) => Err(LabFault::NoMemory),
         Err(fault) => Err(LabFault::Lines(expectation_words(alloc, path, fault)?)),
     }
 }
@@ -98,11 +106,11 @@ fn expectation_words(
 }
 
 /// How an outcome counts for the exit status.
-pub(crate) fn status_of(outcome: &Outcome, is_judged: bool) -> Status {
+pub(crate) fn status_of(outcome: &Outcome) -> Status {
     match outcome.kind {
         OutcomeKind::Deadlock => Status::Deadlock,
+        _ if outcome.is_trapped => Status::Unexpected,
         OutcomeKind::OutOfSteps => Status::OutOfSteps,
-        OutcomeKind::Stopped if !is_judged => Status::Unexpected,
         OutcomeKind::Stopped | OutcomeKind::Finished if outcome.missed.is_some() => {
             Status::Unexpected
         }
@@ -123,34 +131,66 @@ fn digits_of(number: usize) -> usize {
     digits
 }
 
-/// Adds the line of an outcome.
-fn push_outcome(out: &mut String, width: usize, outcome: &Outcome) -> Result<(), AllocError> {
+/// Adds the line of an outcome, which is judged where something is expected.
+fn push_outcome(
+    out: &mut String,
+    width: usize,
+    expected: &[Expectation],
+    outcome: &Outcome,
+) -> Result<(), AllocError> {
     let runs = outcome.runs;
     let kind = outcome.kind.name();
     let text = outcome.text.as_str();
     let seed = outcome.seed;
-    let missed = if outcome.missed.is_some() {
-        "   NOT as expected"
-    } else {
-        ""
-    };
-    write!(
-        out,
-        "{runs:>width$}  {kind}  seed {seed}   {text}{missed}\n"
-    )
+    write!(out, "{runs:>width$}  {kind}  seed {seed}")?;
+    if !text.is_empty() {
+        write!(out, "   {text}")?;
+    }
+    if !expected.is_empty() && !outcome.is_as_expected() {
+        out.push_str("   NOT as expected")?;
+    }
+    if let Some(expectation) = missed_of(expected, outcome) {
+        out.push_str(": ")?;
+        push_expectation(out, expectation)?;
+    }
+    out.push_str("\n")?;
+    if outcome.finding.is_empty() {
+        return Ok(());
+    }
+    let finding = outcome.finding.as_str();
+    write!(out, "{:>width$}  {finding}\n", "")
+}
+
+/// The first expectation that an outcome does not meet.
+fn missed_of<'e>(expected: &'e [Expectation], outcome: &Outcome) -> Option<&'e Expectation> {
+    outcome.missed.and_then(|place| expected.get(place))
 }
 
 /// Adds the object of an outcome.
-fn push_outcome_object(alloc: Global, out: &mut String, outcome: &Outcome) -> Result<(), LabFault> {
+fn push_outcome_object(
+    alloc: Global,
+    out: &mut String,
+    expected: &[Expectation],
+    outcome: &Outcome,
+) -> Result<(), LabFault> {
     let runs = outcome.runs;
-    let kind = outcome.kind.name();
+    let kind = outcome.kind.short_name();
     let text = outcome.text.as_str();
     let seed = digits(alloc, outcome.seed)?;
     let steps = outcome.steps;
-    let expected = outcome.missed.is_none();
+    let finding = outcome.finding.as_str();
+    let is_as_expected = outcome.is_as_expected();
+    let missed = match missed_of(expected, outcome) {
+        Some(expectation) => {
+            let mut words = String::new(alloc);
+            push_expectation(&mut words, expectation)?;
+            Value::String(words)
+        }
+        None => Value::Null,
+    };
     let value = json!(in alloc; {
         "version": VERSION, "runs": runs, "end": kind, "words": text, "seed": seed, "steps": steps,
-        "expected": expected
+        "expected": is_as_expected, "missed": missed, "finding": finding
     })?;
     push_object(alloc, out, &value)
 }

@@ -1,6 +1,7 @@
 //! The command `view`.
 
 use crate::answer::{Answer, Status};
+use crate::findings::push_findings_of_run;
 use crate::inputs::Inputs;
 use crate::json::push_object;
 use crate::lab_fault::LabFault;
@@ -31,7 +32,7 @@ pub(crate) fn view<F: Files, R: Read>(
     };
     let program = read_program(alloc, inputs, request.program)?;
     let steps = steps_of(alloc, inputs, &program, request.run)?;
-    let (output, kind) = if program.image.slim() <= 8 {
+    let (output, status) = if program.image.slim() <= 8 {
         view_on::<8>(alloc, &program, &steps, request, only)?
     } else {
         view_on::<128>(alloc, &program, &steps, request, only)?
@@ -39,17 +40,17 @@ pub(crate) fn view<F: Files, R: Read>(
     Ok(Answer {
         output,
         errors: String::new(alloc),
-        status: status_of_end(kind),
+        status,
     })
 }
 
 /// What an end means for the exit status.
-pub(crate) fn status_of_end(kind: EndKind) -> Status {
-    match kind {
-        EndKind::Finished => Status::Done,
-        EndKind::Stopped => Status::Unexpected,
+pub(crate) fn status_of_end(end: &RunEnd) -> Status {
+    match end.kind {
         EndKind::Deadlock => Status::Deadlock,
+        _ if !end.stopped.is_empty() => Status::Unexpected,
         EndKind::OutOfSteps => Status::OutOfSteps,
+        EndKind::Finished | EndKind::Stopped => Status::Done,
     }
 }
 
@@ -81,7 +82,7 @@ fn view_on<const S: usize>(
     steps: &[Step],
     request: &ViewRequest,
     only: Option<Step>,
-) -> Result<(String, EndKind), LabFault> {
+) -> Result<(String, Status), LabFault> {
     let names = ProgramNames::of(alloc, &program.text)?;
     let mut machine = loaded::<S>(alloc, &program.image)?;
     let layout = Layout {
@@ -116,7 +117,11 @@ fn view_on<const S: usize>(
     }
     let end = end_of(alloc, &machine, &views)?;
     layout.push_run_end(alloc, &mut out, &machine, views.len(), &end)?;
-    Ok((out, end.kind))
+    if !request.shown.json {
+        let style = style_of(request.shown);
+        push_findings_of_run::<S>(alloc, &mut out, &names, style, &program.image, steps)?;
+    }
+    Ok((out, status_of_end(&end)))
 }
 
 /// The streams of a schedule in the order of processor and stream, where each is to have a column.

@@ -1,0 +1,164 @@
+//! The words of `debug`.
+
+use std::alloc::AllocError;
+
+/// What a line of `debug` asks for.
+#[derive(Clone, Copy, Debug, PartialEq, Eq)]
+pub(crate) enum DebugWord {
+    /// So many steps of the schedule.
+    Step,
+    /// On until the stream that is looked at has stepped.
+    Next,
+    /// So many steps back.
+    Back,
+    /// On to the next stop.
+    Continue,
+    /// Back to the last stop.
+    ReverseContinue,
+    /// On to a label or a line.
+    Until,
+    /// A breakpoint.
+    Break,
+    /// A watched word.
+    Watch,
+    /// A point less.
+    Delete,
+    /// Streams, points, or who waits.
+    Info,
+    /// What stands in a place.
+    Print,
+    /// The program around a stream.
+    List,
+    /// Why a stream waits.
+    Why,
+    /// A step of a stream in place of the schedule's.
+    Try,
+    /// The schedule into a file.
+    Save,
+    /// What the words are.
+    Help,
+    /// The end.
+    Quit,
+}
+
+/// The words, in the order in which `help` tells them.
+const WORDS: [DebugWord; 17] = [
+    DebugWord::Step,
+    DebugWord::Next,
+    DebugWord::Back,
+    DebugWord::Continue,
+    DebugWord::ReverseContinue,
+    DebugWord::Until,
+    DebugWord::Break,
+    DebugWord::Watch,
+    DebugWord::Delete,
+    DebugWord::Info,
+    DebugWord::Print,
+    DebugWord::List,
+    DebugWord::Why,
+    DebugWord::Try,
+    DebugWord::Save,
+    DebugWord::Help,
+    DebugWord::Quit,
+];
+
+/// What `help` says: a line a word, which begins with it.
+const HELP: &str = "\
+step [N]            the next step of the schedule, or N of them
+next                on until the stream of the next step has stepped
+back [N]            a step back, or N of them
+continue            on to the next stop, or to the end
+reverse-continue    back to the last stop, or to the start
+until PLACE         on until a stream is to step at a label or a line
+break [P] PLACE     a stop where a stream, or one of processor P, is to step at a label or a line
+watch [A]           a stop where the word at this byte address has changed; watch [A] tags: its full/empty bit or other tags
+delete N            takes the point of this number away
+info WHAT           streams: who runs and where; points: the stops; waiting: who waits for what
+print WHAT          r1 of the stream that comes next, 2.0.r1 of another, [A] a word, 2.0 where a stream stands
+list [P.S]          the program around a stream
+why [P.S]           what a stream waits for, and which step changed the word last
+try P.S             a step of this stream now; the schedule from here on is yours
+save FILE           writes the schedule, as it is now, into a file
+help [WORD]         what the words do; a word may be cut where its beginning is clear, and s is step, b is break
+quit                ends the session, as the end of the input does
+";
+
+impl DebugWord {
+    /// How it is written.
+    fn name(self) -> &'static str {
+        match self {
+            DebugWord::Step => "step",
+            DebugWord::Next => "next",
+            DebugWord::Back => "back",
+            DebugWord::Continue => "continue",
+            DebugWord::ReverseContinue => "reverse-continue",
+            DebugWord::Until => "until",
+            DebugWord::Break => "break",
+            DebugWord::Watch => "watch",
+            DebugWord::Delete => "delete",
+            DebugWord::Info => "info",
+            DebugWord::Print => "print",
+            DebugWord::List => "list",
+            DebugWord::Why => "why",
+            DebugWord::Try => "try",
+            DebugWord::Save => "save",
+            DebugWord::Help => "help",
+            DebugWord::Quit => "quit",
+        }
+    }
+}
+
+/// The word that a text is, or is short for: a word itself, `s` or `b`, or the beginning of one word alone.
+pub(crate) fn debug_word(text: &str) -> Option<DebugWord> {
+    match text {
+        "s" => return Some(DebugWord::Step),
+        "b" => return Some(DebugWord::Break),
+        _ => {}
+    }
+    let mut found = None;
+    for word in WORDS.iter() {
+        if word.name() == text {
+            return Some(*word);
+        }
+        if word.name().starts_with(text) {
+            if found.is_some() {
+                return None;
+            }
+            found = Some(*word);
+        }
+    }
+    found
+}
+
+/// Adds why a text is no word: which words begin so, or that none does.
+pub(crate) fn push_no_word(out: &mut String, text: &str) -> Result<(), AllocError> {
+    write!(out, "{text}: ")?;
+    let mut count: usize = 0;
+    for word in WORDS.iter() {
+        if word.name().starts_with(text) {
+            out.push_str(if count == 0 { "" } else { " or " })?;
+            out.push_str(word.name())?;
+            count = count.saturating_add(1);
+        }
+    }
+    if count == 0 {
+        out.push_str("no such word; help tells them")?;
+    } else {
+        out.push_str("?")?;
+    }
+    out.push_str("\n")
+}
+
+/// Adds what a word does, or what all do where none is meant.
+pub(crate) fn push_help(out: &mut String, text: &str) -> Result<(), AllocError> {
+    let Some(word) = debug_word(text) else {
+        return out.push_str(HELP);
+    };
+    for line in HELP.lines() {
+        if line.split(' ').next() == Some(word.name()) {
+            out.push_str(line)?;
+            out.push_str("\n")?;
+        }
+    }
+    Ok(())
+}

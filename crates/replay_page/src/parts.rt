@@ -1,0 +1,58 @@
+//! The texts of a page. Made by page/embed.py of the files in page/.
+
+mod chart_script;
+mod circle_script;
+mod columns_script;
+mod end_script;
+mod lanes_script;
+mod page_script;
+mod page_style;
+mod panels_script;
+mod papers_script;
+mod picture_script;
+mod picture_words_script;
+mod run_script;
+mod source_script;
+mod tables_script;
+mod telling_script;
+mod template_1;
+mod template_2;
+mod template_3;
+mod template_4;
+mod template_5;
+mod world_script;
+
+use std::alloc::AllocError;
+
+/// Adds what stands before the title.
+pub(crate) fn push_head(page: &mut String) -> Result<(), AllocError> {
+    page.push_str(template_1::TEXT)
+}
+
+/// Adds what stands between the title and the run.
+pub(crate) fn push_middle(page: &mut String) -> Result<(), AllocError> {
+    page.push_str(template_2::TEXT)?;
+    page.push_str(page_style::TEXT)?;
+    page.push_str(template_3::TEXT)
+}
+
+/// Adds what stands behind the run.
+pub(crate) fn push_tail(page: &mut String) -> Result<(), AllocError> {
+    page.push_str(template_4::TEXT)?;
+    page.push_str(run_script::TEXT)?;
+    page.push_str(world_script::TEXT)?;
+    page.push_str(columns_script::TEXT)?;
+    page.push_str(lanes_script::TEXT)?;
+    page.push_str(picture_script::TEXT)?;
+    page.push_str(picture_words_script::TEXT)?;
+    page.push_str(telling_script::TEXT)?;
+    page.push_str(panels_script::TEXT)?;
+    page.push_str(source_script::TEXT)?;
+    page.push_str(end_script::TEXT)?;
+    page.push_str(circle_script::TEXT)?;
+    page.push_str(tables_script::TEXT)?;
+    page.push_str(chart_script::TEXT)?;
+    page.push_str(papers_script::TEXT)?;
+    page.push_str(page_script::TEXT)?;
+    page.push_str(template_5::TEXT)
+}

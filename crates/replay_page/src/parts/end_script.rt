@@ -1,0 +1,120 @@
+//! A text of the page: page/end.js. Made by page/embed.py.
+
+pub(crate) const TEXT: &str =
+    r#"// ---------------------------------------------------------------- the end in words
+
+const FINDINGS_SHOWN = 5;
+const WAITS_SHOWN = 8;
+const GROUP_LEAST = 4; // of streams at one word that are told together
+const CIRCLE_LEAST = 2;
+const CIRCLE_MOST = 12;
+const ROWS_MOST = 6; // of waits that are drawn without a circle
+
+/** Who can't go on unless another one does. */
+const stuckAtEnd = () => run.end.waiting.map((wait) => wait.stream).filter((id) => !atEnd.able.has(id));
+const begunAtEnd = () => run.end.able.filter((id) => !run.end.fresh.includes(id));
+const isStandstill = () => stuckAtEnd().length > 0 && begunAtEnd().length === 0;
+
+/** `", with a lost update and a torn read"`, or nothing. */
+function foundText() {
+  const texts = ["lost", "torn"].flatMap((kind) => {
+    const count = run.findings.filter((finding) => finding.kind === kind).length;
+    return count ? [times(count, FINDINGS[kind].one, FINDINGS[kind].many)] : [];
+  });
+  return texts.length ? `, with ${and(texts)}` : "";
+}
+
+/** Who waits for whom, in the fewest words. */
+function standstillTitle() {
+  const { kind, circle } = run.end;
+  const stuck = stuckAtEnd();
+  const rest = stuck.length > circle.length && circle.length >= CIRCLE_LEAST ? ", and others for them" : "";
+  const start = kind === "deadlock" ? "Deadlock: " : "";
+  if (circle.length >= CIRCLE_LEAST) return `${start}${andMore(circle)} wait for each other in a circle${rest}`;
+  const waits = `${andMore(stuck)} wait${stuck.length > 1 ? "" : "s"}`;
+  return kind === "deadlock" ? `${start}${waits} for ever` : `${waits}, and nobody who has begun can go on`;
+}
+
+/** The end in a line: its sign, and why the run ended so. */
+function endTitle() {
+  const { kind, stopped, quit } = run.end;
+  const n = times(steps.length, "1 step", "steps");
+  const found = foundText();
+  if (isStandstill()) return ["deadlock", standstillTitle() + found];
+  if (stopped.length && (kind === "stopped" || begunAtEnd().length === 0)) {
+    return ["bad", `Stopped by a trap: ${andMore(stopped.map((one) => one.stream))}${found}`];
+  }
+  if (kind === "finished") return [found ? "bad" : "finished", `Finished after ${n}${found}`];
+  if (begunAtEnd().length === 0 && quit.length) {
+    return [found ? "bad" : "finished", `All who began have quit after ${n}${found}`];
+  }
+  return [found ? "bad" : "steps", `The schedule ends after ${n}, before the program does${found}`];
+}
+
+const has = (names) => (names.length > 1 ? "have" : "has");
+
+/** Who has quit, could go on, or has not begun. */
+function restText() {
+  const { quit, fresh, able } = run.end;
+  const begun = begunAtEnd();
+  const parts = [];
+  if (quit.length) parts.push(`${andMore(quit)} ${has(quit)} quit`);
+  if (begun.length) parts.push(`${andMore(begun)} can go on`);
+  if (fresh.length) parts.push(`${andMore(fresh)} ${has(fresh)} not begun`);
+  if (!parts.length) return [];
+  const only = isStandstill() && able.length;
+  const who = able.length > 1 ? "theirs" : able[0];
+  return [[`${parts.join("; ")}.${only ? ` Only a step of ${who} could still free one that waits.` : ""}`]];
+}
+
+function stoppedText({ stream, trap, address }) {
+  const n = stepsOf.get(stream)?.find((one) => sign(steps[one - 1]) === "stopped");
+  const where = n ? [` at ${placeOf(steps[n - 1].pc)} in `, stepLink(n)] : [];
+  return [html("b", {}, stream), " stopped", ...where, `, address ${number(address)}: ${TRAPS[trap]}.`];
+}
+
+/** Who waits for what: one by one, but for many at one word. */
+function waitItems(waiting) {
+  const groups = new Map();
+  for (const wait of waiting) listIn(groups, `${wait.word} ${wait.for} ${wait.made}`).push(wait);
+  return [...groups.values()].flatMap((group) => {
+    const [first] = group;
+    const told = (wait) => [html("b", {}, wait.stream), " ", ...waitText(wait, steps.length, wait.since), "."];
+    if (group.length < GROUP_LEAST) return group.map(told);
+    const [, ...rest] = waitText({ ...first, stream: null }, steps.length);
+    return [[html("b", {}, andMore(group.map((wait) => wait.stream))), " wait ", ...rest, "."]];
+  });
+}
+
+function endItems() {
+  const { waiting, stopped } = run.end;
+  const items = run.findings.slice(0, FINDINGS_SHOWN).map((finding) => findingText(finding, false));
+  const more = run.findings.length - FINDINGS_SHOWN;
+  if (more > 0) items.push([`.. and ${times(more, "one more finding", "more findings")}.`]);
+  const waits = waitItems(waiting);
+  items.push(...waits.slice(0, WAITS_SHOWN));
+  const others = waits.length - WAITS_SHOWN;
+  if (others > 0) items.push([`.. and ${times(others, "one more waits", "more wait")}.`]);
+  return [...items, ...stopped.map(stoppedText), ...restText()];
+}
+
+/** The picture of who waits for whom: a circle where there is one, else a row each. */
+function endPicture() {
+  if (!isStandstill()) return [];
+  const { circle, waiting } = run.end;
+  if (circle.length >= CIRCLE_LEAST) return circle.length <= CIRCLE_MOST ? [drawCircle(circle, waiting)] : [];
+  const rows = waiting.filter((wait) => stuckAtEnd().includes(wait.stream));
+  return rows.length <= ROWS_MOST ? [drawWaitRows(rows)] : [];
+}
+
+function showEnd() {
+  const [kind, title] = endTitle();
+  byId("end").replaceChildren(
+    html("div", { class: "words" },
+      html("p", { class: "name" }, html("b", {}, run.name), ` by ${run.schedule}`),
+      html("h1", { class: kind }, title),
+      html("ul", {}, ...endItems().map((item) => html("li", {}, ...item)))),
+    ...endPicture(),
+  );
+}
+"#;

@@ -1,0 +1,184 @@
+//! The lanes of streams, and the arrows between them.
+
+use crate::lanes::Lanes;
+use crate::marks::push_outcome;
+use crate::waits::RunWait;
+use crate::whole_run::WholeRun;
+use lab_texts::ProgramNames;
+use processor::Step;
+use std::alloc::AllocError;
+use stream_core::Outcome;
+use waiting::Wanted;
+
+/// Adds the lanes of all streams.
+pub(crate) fn push_streams(
+    out: &mut String,
+    lanes: &Lanes,
+    run: &WholeRun,
+    places: &ProgramNames,
+) -> Result<(), AllocError> {
+    for stream in lanes.streams() {
+        push_life(out, lanes, run, *stream)?;
+    }
+    for wait in &run.waits {
+        push_wait(out, lanes, run, wait)?;
+    }
+    for (index, view) in run.views.iter().enumerate() {
+        let Some(y) = lanes.stream_y(view.step) else {
+            continue;
+        };
+        let x = lanes.x(index.saturating_add(1));
+        let width = lanes.column().saturating_sub(4);
+        push_outcome(out, x, y, width, view.outcome)?;
+        if view.outcome == Outcome::Done {
+            let name = name_that_fits(places.statement(view.pc), width);
+            write!(
+                out,
+                "<text class=\"in\" x=\"{x}\" y=\"{y}\" dy=\"4\">{name}</text>\n"
+            )?;
+        }
+    }
+    Ok(())
+}
+
+/// An instruction's name where it has room, else its first letter, else nothing.
+fn name_that_fits(statement: &str, width: usize) -> &str {
+    let name = statement.split_whitespace().next().unwrap_or("");
+    if !name
+        .bytes()
+        .all(|byte| byte.is_ascii_alphanumeric() || byte == b'.')
+    {
+        return "";
+    }
+    if name.len().saturating_mul(7) <= width {
+        name
+    } else if width >= 20 {
+        name.get(..1).unwrap_or("")
+    } else {
+        ""
+    }
+}
+
+/// Adds a stream's name, its line, and what is to be said of its end.
+fn push_life(
+    out: &mut String,
+    lanes: &Lanes,
+    run: &WholeRun,
+    stream: Step,
+) -> Result<(), AllocError> {
+    let Some(y) = lanes.stream_y(stream) else {
+        return Ok(());
+    };
+    let p = stream.p;
+    let s = stream.s;
+    let begin = lanes.x(0);
+    let end = lanes.end();
+    let note = end.saturating_add(6);
+    write!(
+        out,
+        "<text class=\"name\" x=\"4\" y=\"{y}\" dy=\"4\">{p}.{s}</text>"
+    )?;
+    write!(out, "<path class=\"life\" d=\"M{begin} {y}H{end}\"/>")?;
+    write!(out, "<text class=\"note\" x=\"{note}\" y=\"{y}\" dy=\"4\">")?;
+    push_note(out, run, stream)?;
+    out.push_str("</text>\n")
+}
+
+/// Adds what is to be said of a stream's end.
+fn push_note(out: &mut String, run: &WholeRun, stream: Step) -> Result<(), AllocError> {
+    if let Some(wait) = run.end.waits.iter().find(|wait| wait.stream == stream) {
+        let address = wait.wait.address;
+        let wanted = match wait.wait.wanted {
+            Wanted::Full => "full",
+            Wanted::Empty => "empty",
+        };
+        return write!(out, "waits for [{address}] {wanted}");
+    }
+    if let Some(stopped) = run
+        .end
+        .stopped
+        .iter()
+        .find(|stopped| stopped.stream == stream)
+    {
+        let number = stopped.trap.number();
+        return write!(out, "stopped by trap {number}");
+    }
+    if run.end.quit.contains(&stream) {
+        out.push_str("has quit")
+    } else {
+        out.push_str("can go on")
+    }
+}
+
+/// Adds a wait: a band, and the arrow from the step that ended it, or, where it never ends, from the one that made it.
+fn push_wait(
+    out: &mut String,
+    lanes: &Lanes,
+    run: &WholeRun,
+    wait: &RunWait,
+) -> Result<(), AllocError> {
+    let Some(y) = lanes.stream_y(wait.stream) else {
+        return Ok(());
+    };
+    let from = lanes.x(wait.from);
+    let to = match wait.to {
+        Some(to) => lanes.x(to),
+        None => lanes.end(),
+    };
+    let top = y.saturating_sub(8);
+    let width = to.saturating_sub(from);
+    write!(
+        out,
+        "<rect class=\"wait\" x=\"{from}\" y=\"{top}\" width=\"{width}\" height=\"16\"/>\n"
+    )?;
+    match wait.to {
+        Some(to) => push_arrow(
+            out,
+            lanes,
+            run,
+            wait.met,
+            to,
+            "frees\" marker-end=\"url(#f)",
+        ),
+        None => push_arrow(
+            out,
+            lanes,
+            run,
+            wait.made,
+            wait.from,
+            "causes\" marker-end=\"url(#c)",
+        ),
+    }
+}
+
+/// Adds an arrow of a kind from one step to another, where both have lanes.
+fn push_arrow(
+    out: &mut String,
+    lanes: &Lanes,
+    run: &WholeRun,
+    from: usize,
+    to: usize,
+    kind: &str,
+) -> Result<(), AllocError> {
+    let (Some(y1), Some(y2)) = (step_y(lanes, run, from), step_y(lanes, run, to)) else {
+        return Ok(());
+    };
+    let x1 = lanes.x(from);
+    let x2 = lanes.x(to);
+    let (s, t) = if y2 < y1 {
+        (y1.saturating_sub(11), y2.saturating_add(11))
+    } else {
+        (y1.saturating_add(11), y2.saturating_sub(11))
+    };
+    let middle = s.saturating_add(t) / 2;
+    write!(
+        out,
+        "<path class=\"{kind}\" d=\"M{x1} {s}C{x1} {middle} {x2} {middle} {x2} {t}\"/>\n"
+    )
+}
+
+/// The middle of the lane of the stream that took the step of this number.
+fn step_y(lanes: &Lanes, run: &WholeRun, number: usize) -> Option<usize> {
+    let view = run.views.get(number.checked_sub(1)?)?;
+    lanes.stream_y(view.step)
+}

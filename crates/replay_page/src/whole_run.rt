@@ -1,0 +1,46 @@
+//! All that is told of a run.
+
+use crate::waits::{RunWait, run_waits};
+use lab_texts::{RunEnd, end_of};
+use machine::Machine;
+use processor::Step;
+use run_findings::Action;
+use std::alloc::{AllocError, Global};
+use step_views::StepView;
+use whole_runs::{run_actions, run_views};
+
+/// A run: what its steps did, who waited in it, and how it ended.
+#[derive(Drop)]
+pub(crate) struct WholeRun {
+    /// The views of its steps.
+    pub views: Vec<StepView>,
+    /// What the steps did, for findings.
+    pub actions: Vec<Action>,
+    /// The waits.
+    pub waits: Vec<RunWait>,
+    /// The end.
+    pub end: RunEnd,
+}
+
+impl WholeRun {
+    /// The run of a machine, which has taken no step, by a schedule.
+    pub(crate) fn of<const S: usize>(
+        alloc: Global,
+        start: &Machine<'_, S>,
+        schedule: &[Step],
+    ) -> Result<WholeRun, AllocError> {
+        let mut machine = start.try_clone()?;
+        let views = run_views(alloc, &mut machine, schedule)?;
+        let end = end_of(alloc, &machine, &views)?;
+        let mut machine = start.try_clone()?;
+        let waits = run_waits(alloc, &mut machine, &views)?;
+        let mut machine = start.try_clone()?;
+        let actions = run_actions(alloc, &mut machine, schedule)?;
+        Ok(WholeRun {
+            views,
+            actions,
+            waits,
+            end,
+        })
+    }
+}

@@ -1,0 +1,106 @@
+-- Spaces that grow keep what was known of them.
+use Rattle.std.proofs.Common.{◌≡◌, ℕ, ◌+◌, ◌<◌, ◌≤◌, refl, sym, ap, ◌∙◌, subst, arith, [], ◌∷◌, ◌++◌}
+use Rattle.std.proofs.Common.{inl, inr, length, get_or, length-append}
+use Rattle.std.proofs.lemmas.List.{get_or_append_left}
+use Rattle.std.proofs.lemmas.List.Elements.{Contains-append_left}
+use Rattle.std.proofs.Math.Seq.{get_or-append_seam}
+use Rattle.processor.specs.World.{after, run}
+use Rattle.processor.specs.declared.steps.Step.{Step}
+use Rattle.schedule_space.specs.declared.links.Link.{Link}
+use Rattle.schedule_space.specs.declared.links.Edge.{Edge}
+use Rattle.schedule_space.specs.Spaces.{schedules, SpaceValue, count, schedule_of, world_of, IsEdge}
+use Rattle.schedule_space.specs.Finding.{with_link, with_edge, IsGrown, IsTaken, IsExpanded}
+use Rattle.schedule_space.proofs.Schedules.{one_more, schedules-push, length-schedules, run-push}
+
+pub grown_refl : (v : SpaceValue) → IsGrown v v
+grown_refl v = record { image = refl; more = omega arith; same = λ k below. refl; edges = λ e has. has }
+
+pub grown_to : (v w : SpaceValue) → w ≡ v → IsGrown v w
+grown_to v w is = subst (λ (x : SpaceValue). IsGrown v x) (sym is) (grown_refl v)
+
+pub grown_trans : (u v w : SpaceValue) → IsGrown u v → IsGrown v w → IsGrown u w
+grown_trans u v w g h = record {
+  image = h.image ∙ g.image;
+  more = omega (arith, g.more, h.more);
+  same = λ k below. h.same k (omega (arith, g.more, below)) ∙ g.same k below;
+  edges = λ e has. h.edges e (g.edges e has);
+}
+
+pub world_grown : (v w : SpaceValue) (k : ℕ) → IsGrown v w → k < count v → world_of w k ≡ world_of v k
+world_grown v w k g below = λ i. run (g.image i) (g.same k below i)
+
+-- One world more.
+
+-- the schedule of the new place
+pub last_schedule : (v : SpaceValue) (l : Link)
+    → schedule_of (with_link v l) (count v) ≡ schedule_of v l.from ++ l.step ∷ []
+last_schedule v l =
+    ap (λ xs. get_or xs (count v) []) (schedules-push v.links l)
+    ∙ ap (λ n. get_or (schedules v.links ++ one_more (schedules v.links) l ∷ []) n [])
+    (sym (length-schedules v.links))
+    ∙ get_or-append_seam (schedules v.links) (one_more (schedules v.links) l) [] []
+
+-- those of the others stay
+pub other_schedule : (v : SpaceValue) (l : Link) (k : ℕ) → k < count v
+    → schedule_of (with_link v l) k ≡ schedule_of v k
+other_schedule v l k below =
+    ap (λ xs. get_or xs k []) (schedules-push v.links l)
+    ∙ get_or_append_left (schedules v.links) (one_more (schedules v.links) l ∷ []) [] k
+    (omega (arith, length-schedules v.links, below))
+
+pub count-link : (v : SpaceValue) (l : Link) → count (with_link v l) ≡ count v + 1
+count-link v l = omega (arith, length-append v.links (l ∷ []))
+
+pub last_world : (v : SpaceValue) (l : Link)
+    → world_of (with_link v l) (count v) ≡ after v.image (world_of v l.from) l.step
+last_world v l = ap (run v.image) (last_schedule v l) ∙ run-push v.image (schedule_of v l.from) l.step
+
+pub with_link_grown : (v : SpaceValue) (l : Link) → IsGrown v (with_link v l)
+with_link_grown v l = record {
+  image = refl;
+  more = omega (arith, length-append v.links (l ∷ []));
+  same = λ k below. other_schedule v l k below;
+  edges = λ e has. has;
+}
+
+pub with_edge_grown : (v : SpaceValue) (e : Edge) → IsGrown v (with_edge v e)
+with_edge_grown v e = record {
+  image = refl;
+  more = omega arith;
+  same = λ k below. refl;
+  edges = λ d has. Contains-append_left v.edges (e ∷ []) d has;
+}
+
+-- What stays.
+
+pub edge_grown : (v w : SpaceValue) (e : Edge) → IsGrown v w → IsEdge v e → IsEdge w e
+edge_grown v w e g is = record {
+  from = omega (arith, g.more, is.from);
+  to = omega (arith, g.more, is.to);
+  apart = is.apart;
+  leads =
+      world_grown v w e.to g is.to
+      ∙ is.leads
+      ∙ (λ i. after (sym g.image i) (sym (world_grown v w e.from g is.from) i) e.step);
+}
+
+pub taken_grown : (v w : SpaceValue) (k : ℕ) (t : Step) → IsGrown v w → k < count v → IsTaken v k t → IsTaken w k t
+taken_grown v w k t g below is = record {
+  to = is.to;
+  within = omega (arith, g.more, is.within);
+  leads =
+      world_grown v w is.to g is.within
+      ∙ is.leads
+      ∙ (λ i. after (sym g.image i) (sym (world_grown v w k g below) i) t);
+  near =
+      subst (λ (n : ℕ). n ≤ length (schedule_of w k) + 1) (sym (ap length (g.same is.to is.within)))
+      (subst (λ (n : ℕ). length (schedule_of v is.to) ≤ n + 1) (sym (ap length (g.same k below))) is.near);
+  edge =
+      elim is.edge [
+        | inl same ↦ inl same
+        | inr has ↦ inr (g.edges (record { from = k; step = t; to = is.to }) has)
+      ];
+}
+
+pub expanded_grown : (v w : SpaceValue) (k : ℕ) → IsGrown v w → k < count v → IsExpanded v k → IsExpanded w k
+expanded_grown v w k g below all t = taken_grown v w k t g below (all t)

@@ -1,0 +1,12 @@
+pub mod Schedules
+pub mod Memories
+pub mod Resting
+pub mod Growing
+pub mod Parts
+pub mod Keys
+pub mod Breadth
+pub mod Placing
+pub mod Taking
+pub mod Exploring
+pub mod Reading
+pub mod Marking

@@ -1,0 +1,234 @@
+-- Keys, fates and frontiers of a space that gets one world more.
+use Rattle.std.proofs.Common.{◌≡◌, ℕ, zero, suc, ◌+◌, ◌<◌, ◌≤◌, refl, sym, ap, ◌∙◌, subst, arith, List, [], ◌∷◌, ◌++◌}
+use Rattle.std.proofs.Common.{◌⊎◌, inl, inr, length, get_or, map, drop, length-append, length-drop}
+use Rattle.std.specs.List.{Contains}
+use Rattle.std.proofs.lemmas.Bool.{cases_lt}
+use Rattle.std.proofs.lemmas.List.{map-append, get_or_append_left, get_or-map, length-map, drop-append-le, get_or_read}
+use Rattle.std.proofs.lemmas.List.Elements.{Contains-push_cases}
+use Rattle.std.proofs.Math.Seq.{get_or-append_seam}
+use Rattle.image_file.specs.ImageValue.{ImageValue}
+use Rattle.processor.specs.World.{World, after, run}
+use Rattle.processor.specs.declared.steps.Step.{Step}
+use Rattle.machine.specs.MachineValue.{MachineValue}
+use Rattle.world_keys.specs.Tables.{Extends}
+use Rattle.world_keys.specs.WorldKeys.{key_of, IsKnown}
+use Rattle.world_keys.proofs.Worlds.{key_kept, known_kept}
+use Rattle.schedule_space.specs.declared.links.Link.{Link}
+use Rattle.schedule_space.specs.declared.links.Edge.{Edge}
+use Rattle.schedule_space.specs.declared.fates.Fate.{Fate}
+use Rattle.schedule_space.specs.declared.fates.Fate.TheVariants as fate
+use Rattle.schedule_space.specs.Spaces.{schedules, SpaceValue, count, schedule_of, world_of, machine_after, IsEdge}
+use Rattle.schedule_space.specs.Fates.{IsFate}
+use Rattle.schedule_space.specs.Finding.{space_of, with_link, with_edge, IsSpace, IsKeyed, IsFrontier}
+use Rattle.schedule_space.proofs.Schedules.{one_more, schedules-push, length-schedules, run-push, one_schedule}
+use Rattle.schedule_space.proofs.Growing.{world_grown, count-link}
+use Rattle.schedule_space.proofs.Growing.{last_world, with_link_grown, with_edge_grown, edge_grown}
+
+-- a number below the count with one more is below the count, or it
+pub below_next : (v : SpaceValue) (l : Link) (k : ℕ) → k < count (with_link v l) → (k < count v) ⊎ (count v ≡ k)
+below_next v l k below = by_case (cases_lt k (count v)) where
+  by_case : (k < count v) ⊎ (count v ≤ k) → (k < count v) ⊎ (count v ≡ k)
+  by_case (inl less) = inl less
+  by_case (inr past) = inr (omega (arith, past, below, count-link v l))
+
+-- The parts of a space.
+
+pub begun : (image : ImageValue) (f : Fate) (fates : List Fate) → fates ≡ f ∷ []
+    → IsFate image (world_of (space_of image [] []) 0) f → IsSpace (space_of image [] []) fates
+begun image f fates one is = record {
+  earlier = λ k l below. absurd (omega (arith, below));
+  edges = λ e has. absurd (omega (arith, has.1));
+  each = omega (arith, ap length one);
+  fates = λ k below. by_place k below;
+} where
+  by_place : (k : ℕ) → k < count (space_of image [] []) → IsFate image (world_of (space_of image [] []) k) (get_or fates k fate.GoesOn)
+  by_place zero below =
+      subst (λ (xs : List Fate). IsFate image (world_of (space_of image [] []) 0) (get_or xs 0 fate.GoesOn)) (sym one)
+      is
+  by_place (suc k) below = absurd (omega (arith, below))
+
+pub linked : (v : SpaceValue) (fates more : List Fate) (l : Link) (f : Fate) → IsSpace v fates → l.from < count v
+    → IsFate v.image (after v.image (world_of v l.from) l.step) f → more ≡ fates ++ f ∷ []
+    → IsSpace (with_link v l) more
+linked v fates more l f is from has one = record {
+  earlier = earlier;
+  edges = λ e edge. edge_grown v (with_link v l) e (with_link_grown v l) (is.edges e edge);
+  each = omega (arith, ap length one, length-append fates (f ∷ []), is.each, count-link v l);
+  fates = λ k below. by_place k (below_next v l k below);
+} where
+  earlier : (k : ℕ) (d : Link) → k < length (v.links ++ l ∷ []) → (get_or (v.links ++ l ∷ []) k d).from ≤ k
+  earlier k d below =
+      elim (cases_lt k (length v.links)) [
+        | inl less ↦
+            subst (λ (x : Link). x.from ≤ k) (sym (get_or_append_left v.links (l ∷ []) d k less)) (is.earlier k d less)
+        | inr past ↦
+            let same : length v.links ≡ k = omega (arith, past, below, length-append v.links (l ∷ [])) in
+            let at : get_or (v.links ++ l ∷ []) k d ≡ l =
+            ap (λ n. get_or (v.links ++ l ∷ []) n d) (sym same) ∙ get_or-append_seam v.links l [] d in
+            subst (λ (x : Link). x.from ≤ k) (sym at) (omega (arith, from, same))
+      ]
+
+  by_place : (k : ℕ) → (k < count v) ⊎ (count v ≡ k)
+      → IsFate v.image (world_of (with_link v l) k) (get_or more k fate.GoesOn)
+  by_place k (inl less) =
+      let at : get_or more k fate.GoesOn ≡ get_or fates k fate.GoesOn =
+      ap (λ xs. get_or xs k fate.GoesOn) one
+      ∙ get_or_append_left fates (f ∷ []) fate.GoesOn k (omega (arith, less, is.each)) in
+      subst (λ (g : Fate). IsFate v.image (world_of (with_link v l) k) g) (sym at)
+      (subst (λ (w : World). IsFate v.image w (get_or fates k fate.GoesOn))
+      (sym (world_grown v (with_link v l) k (with_link_grown v l) less)) (is.fates k less))
+  by_place k (inr same) =
+      let at : get_or more (count v) fate.GoesOn ≡ f =
+      ap (λ xs. get_or xs (count v) fate.GoesOn) one
+      ∙ ap (λ n. get_or (fates ++ f ∷ []) n fate.GoesOn) (sym is.each)
+      ∙ get_or-append_seam fates f [] fate.GoesOn in
+      subst (λ (n : ℕ). IsFate v.image (world_of (with_link v l) n) (get_or more n fate.GoesOn)) same
+      (subst (λ (g : Fate). IsFate v.image (world_of (with_link v l) (count v)) g) (sym at)
+      (subst (λ (w : World). IsFate v.image w f) (sym (last_world v l)) has))
+
+pub edged : (v : SpaceValue) (fates : List Fate) (e : Edge) → IsSpace v fates → IsEdge v e
+    → IsSpace (with_edge v e) fates
+edged v fates e is edge = record {
+  earlier = is.earlier;
+  edges = λ d has. by_case d (Contains-push_cases v.edges e d has);
+  each = is.each;
+  fates = is.fates;
+} where
+  by_case : (d : Edge) → Contains v.edges d ⊎ (e ≡ d) → IsEdge (with_edge v e) d
+  by_case d (inl has) = edge_grown v (with_edge v e) d (with_edge_grown v e) (is.edges d has)
+  by_case d (inr same) = edge_grown v (with_edge v e) d (with_edge_grown v e) (subst (IsEdge v) same edge)
+
+-- the fate at a place is that of its world
+pub fate_at : (v w : SpaceValue) (fs : List Fate) (k : ℕ) (f : Fate) → IsSpace v fs → v ≡ w → k < count w
+    → f ≡ get_or fs k f → IsFate w.image (world_of w k) f
+fate_at v w fs k f is view below read =
+    let there : k < count v = omega (arith, below, ap count view) in
+    let at : f ≡ get_or fs k fate.GoesOn = get_or_read fs k f (omega (arith, there, is.each)) read fate.GoesOn in
+    subst (λ (x : SpaceValue). IsFate x.image (world_of x k) f) view
+    (subst (λ (g : Fate). IsFate v.image (world_of v k) g) (sym at) (is.fates k there))
+
+-- Keys.
+
+-- the keys of the worlds
+abbrev pub keys_of : List (List ℕ) → SpaceValue → List (List ℕ)
+keys_of table v = map (λ ts. key_of table v.image (run v.image ts)) (schedules v.links)
+
+pub first_key : (v : SpaceValue) (table keys : List (List ℕ)) (key : List ℕ) → v.links ≡ []
+    → key ≡ key_of table v.image (run v.image []) → IsKnown table v.image (run v.image []) → keys ≡ key ∷ []
+    → IsKeyed v table keys
+first_key v table keys key none is known one = record {
+  keys =
+      one
+      ∙ ap (λ x. x ∷ []) is
+      ∙ sym (ap (map (λ ts. key_of table v.image (run v.image ts))) (ap schedules none ∙ one_schedule));
+  known = λ k below. by_place k below;
+  distinct = λ k j kb jb same. omega (arith, kb, jb, ap length none);
+} where
+  by_place : (k : ℕ) → k < count v → IsKnown table v.image (world_of v k)
+  by_place k below =
+      let at : zero ≡ k = omega (arith, below, ap length none) in
+      let first : schedule_of v 0 ≡ [] = ap (λ ls. get_or (schedules ls) 0 []) none ∙ ap (λ xs. get_or xs 0 []) one_schedule in
+      subst (λ (n : ℕ). IsKnown table v.image (world_of v n)) at
+      (subst (λ (ts : List Step). IsKnown table v.image (run v.image ts)) (sym first) known)
+
+keys_kept : (image : ImageValue) (old new : List (List ℕ)) (tss : List (List Step)) → Extends old new
+    → ((k : ℕ) → k < length tss → IsKnown old image (run image (get_or tss k [])))
+    → map (λ ts. key_of new image (run image ts)) tss ≡ map (λ ts. key_of old image (run image ts)) tss
+keys_kept image old new [] grown known = refl
+keys_kept image old new (ts ∷ tss) grown known =
+    let here = key_kept old new image (run image ts) grown (known 0 (omega arith)) in
+    let rest = keys_kept image old new tss grown (λ k below. known (suc k) (omega (arith, below))) in
+    λ i. here i ∷ rest i
+
+-- the table may be extended
+pub keyed_later : (v : SpaceValue) (old new keys : List (List ℕ)) → Extends old new → IsKeyed v old keys
+    → IsKeyed v new keys
+keyed_later v old new keys grown is = record {
+  keys =
+      is.keys
+      ∙ sym (keys_kept v.image old new (schedules v.links) grown
+      (λ k below. is.known k (omega (arith, below, length-schedules v.links))));
+  known = λ k below. known_kept old new v.image (world_of v k) grown (is.known k below);
+  distinct = is.distinct;
+}
+
+-- the edges don't matter
+pub keyed_edge : (v w : SpaceValue) (table keys : List (List ℕ)) → w.image ≡ v.image → w.links ≡ v.links
+    → IsKeyed v table keys → IsKeyed w table keys
+keyed_edge v w table keys image links is = record {
+  keys = is.keys ∙ (λ i. map (λ ts. key_of table (sym image i) (run (sym image i) ts)) (schedules (sym links i)));
+  known = λ k below.
+      subst (λ (x : World). IsKnown table w.image x) (λ i. run (sym image i) (get_or (schedules (sym links i)) k []))
+      (subst (λ (x : ImageValue). IsKnown table x (world_of v k)) (sym image)
+      (is.known k (omega (arith, below, ap length links))));
+  distinct = λ k j kb jb same.
+      is.distinct k j (omega (arith, kb, ap length links)) (omega (arith, jb, ap length links))
+      ((λ i. run (sym image i) (get_or (schedules (sym links i)) k [])) ∙ same
+      ∙ (λ i. run (image i) (get_or (schedules (links i)) j [])));
+}
+
+-- the key at a place
+pub key_at : (v : SpaceValue) (table keys : List (List ℕ)) (k : ℕ) → IsKeyed v table keys → k < count v
+    → get_or keys k [] ≡ key_of table v.image (world_of v k)
+key_at v table keys k is below =
+    ap (λ xs. get_or xs k []) is.keys
+    ∙ get_or-map (λ ts. key_of table v.image (run v.image ts)) (schedules v.links) k [] []
+    (omega (arith, below, length-schedules v.links))
+
+pub keys_many : (v : SpaceValue) (table keys : List (List ℕ)) → IsKeyed v table keys → length keys ≡ count v
+keys_many v table keys is =
+    ap length is.keys
+    ∙ length-map (schedules v.links) (λ ts. key_of table v.image (run v.image ts))
+    ∙ length-schedules v.links
+
+-- Frontiers.
+
+pub frontier_stays : (v w : SpaceValue) (ms : List MachineValue) (n : ℕ) → w.image ≡ v.image → w.links ≡ v.links
+    → IsFrontier v ms n → IsFrontier w ms n
+frontier_stays v w ms n image links is =
+    is ∙ (λ i. map (machine_after (sym image i)) (drop n (schedules (sym links i))))
+
+pub frontier_more : (v : SpaceValue) (ms more : List MachineValue) (n : ℕ) (m : MachineValue) (l : Link)
+    → IsFrontier v ms n → n ≤ count v → m.image ≡ v.image → m.world ≡ after v.image (world_of v l.from) l.step
+    → more ≡ ms ++ m ∷ [] → IsFrontier (with_link v l) more n
+frontier_more v ms more n m l is below image world pushed =
+    let last : m ≡ machine_after v.image (one_more (schedules v.links) l) =
+    λ i. record { image = image i; world = (world ∙ sym (run-push v.image (schedule_of v l.from) l.step)) i } in
+    pushed
+    ∙ (λ i. is i ++ last i ∷ [])
+    ∙ sym (map-append (machine_after v.image) (drop n (schedules v.links)) (one_more (schedules v.links) l ∷ []))
+    ∙ ap (map (machine_after v.image))
+    (sym (drop-append-le n (schedules v.links) (one_more (schedules v.links) l ∷ [])
+    (omega (arith, below, length-schedules v.links))))
+    ∙ ap (λ xs. map (machine_after v.image) (drop n xs)) (sym (schedules-push v.links l))
+
+drop_first : (image : ImageValue) (xs : List (List Step)) (k : ℕ) (m : MachineValue) (rest : List MachineValue)
+    → m ∷ rest ≡ map (machine_after image) (drop k xs)
+    → (k < length xs)
+    × ((m ≡ machine_after image (get_or xs k [])) × (rest ≡ map (machine_after image) (drop (k + 1) xs)))
+drop_first image [] zero m rest same = absurd cc
+drop_first image [] (suc k) m rest same = absurd cc
+drop_first image (x ∷ xs) zero m rest same =
+    (omega arith, (ap (λ zs. get_or zs 0 m) same, ap (drop 1) same))
+drop_first image (x ∷ xs) (suc k) m rest same =
+    let there = drop_first image xs k m rest same in
+    let at : suc k + 1 ≡ suc (k + 1) = omega arith in (
+      omega (arith, there.0),
+      (there.1.0, there.1.1 ∙ ap (λ n. map (machine_after image) (drop n (x ∷ xs))) (sym at)),
+    )
+
+-- the first machine of the frontier is at the world of its place, and the others are the frontier of the next
+pub frontier_front : (v : SpaceValue) (ms rest : List MachineValue) (m : MachineValue) (n : ℕ) → IsFrontier v ms n
+    → ms ≡ m ∷ rest
+    → (n < count v) × ((m ≡ machine_after v.image (schedule_of v n)) × IsFrontier v rest (n + 1))
+frontier_front v ms rest m n is split =
+    let all = drop_first v.image (schedules v.links) n m rest (sym split ∙ is) in
+    (omega (arith, all.0, length-schedules v.links), all.1)
+
+-- where the frontier is empty no place is left
+pub frontier_empty : (v : SpaceValue) (ms : List MachineValue) (n : ℕ) → IsFrontier v ms n → ms ≡ []
+    → count v ≤ n
+frontier_empty v ms n is none =
+    let few : length (drop n (schedules v.links)) ≡ 0 =
+    sym (length-map (drop n (schedules v.links)) (machine_after v.image)) ∙ sym (ap length is) ∙ ap length none in
+    omega (arith, few, length-drop n (schedules v.links), length-schedules v.links)

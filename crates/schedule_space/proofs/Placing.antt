@@ -1,0 +1,142 @@
+-- What is known of a space in the making that gets the world of a machine, or has it.
+use Rattle.std.proofs.Common.{◌≡◌, ℕ, ◌<◌, ◌≤◌, refl, sym, ap, ◌∙◌, subst, arith, List, [], ◌∷◌, ◌++◌}
+use Rattle.image_file.specs.ImageValue.{ImageValue}
+use Rattle.machine.specs.MachineValue.{MachineValue}
+use Rattle.processor.specs.World.{World, after}
+use Rattle.world_keys.specs.Tables.{place_in, Has, Extends}
+use Rattle.world_keys.specs.WorldKeys.{key_of, IsKnown, IsMemoryOf}
+use Rattle.schedule_space.specs.declared.links.Link.{Link}
+use Rattle.schedule_space.specs.declared.links.Edge.{Edge}
+use Rattle.schedule_space.specs.declared.fates.Fate.{Fate}
+use Rattle.schedule_space.specs.Spaces.{SpaceValue, count, schedule_of, world_of, IsEdge}
+use Rattle.schedule_space.specs.Fates.{IsFate}
+use Rattle.schedule_space.specs.Finding.{space_of, with_link, with_edge, IsFound, IsGrown, IsFrontier, IsBreadthFirst}
+use Rattle.schedule_space.proofs.Memories.{memory_of_run, memory_after}
+use Rattle.schedule_space.proofs.Growing.{last_world, with_link_grown, count-link}
+use Rattle.schedule_space.proofs.Parts.{keyed_later, frontier_more, frontier_stays}
+use Rattle.schedule_space.proofs.Keys.{found_world, found_later, found_more, found_edge}
+use Rattle.schedule_space.proofs.Breadth.{breadth_more, breadth_stays}
+
+-- the memory of the machine is one of the image
+pub memory_next : (v : SpaceValue) (l : Link) (m : MachineValue) → m.image ≡ v.image
+    → m.world ≡ after v.image (world_of v l.from) l.step → IsMemoryOf m.image m.world.memory
+memory_next v l m image world =
+    subst (λ (x : World). IsMemoryOf m.image x.memory) (sym world)
+    (subst (λ (i : ImageValue). IsMemoryOf i (after v.image (world_of v l.from) l.step).memory) (sym image)
+    (memory_after v.image (world_of v l.from) l.step (memory_of_run v.image (schedule_of v l.from))))
+
+-- the world of the machine is at the place of its key
+pub found_at : (v w : SpaceValue) (fates : List Fate) (old table keys : List (List ℕ)) (key : List ℕ)
+    (m : MachineValue) (k : ℕ) → IsFound v fates old keys → v ≡ w → Extends old table
+    → IsKnown table m.image m.world → key ≡ key_of table m.image m.world → m.image ≡ w.image → k ≡ place_in keys key
+    → Has keys key → (k < count w) × (world_of w k ≡ m.world)
+found_at v w fates old table keys key m k is view grown known key_is image at has =
+    let same : m.image ≡ v.image = image ∙ ap (λ (x : SpaceValue). x.image) (sym view) in
+    let here =
+    found_world v table keys key m.world (keyed_later v old table keys grown is.keyed)
+    (subst (λ (i : ImageValue). IsKnown table i m.world) same known)
+    (key_is ∙ ap (λ (i : ImageValue). key_of table i m.world) same) has in
+    subst (λ (x : SpaceValue). (k < count x) × (world_of x k ≡ m.world)) view
+    (subst (λ (n : ℕ). (n < count v) × (world_of v n ≡ m.world)) (sym at) here)
+
+-- the parts with one world more
+pub placed : (image : ImageValue) (links more : List Link) (edges : List Edge) (v : SpaceValue)
+    (fates fates_more : List Fate) (old table keys keys_more : List (List ℕ)) (key : List ℕ) (l : Link) (f : Fate)
+    (m : MachineValue) → IsFound (space_of image links edges) fates old keys → space_of image links edges ≡ v
+    → Extends old table → l.from < count v → m.image ≡ v.image
+    → m.world ≡ after v.image (world_of v l.from) l.step → IsFate m.image m.world f → IsKnown table m.image m.world
+    → key ≡ key_of table m.image m.world → (Has keys key → ⊥) → more ≡ links ++ l ∷ []
+    → fates_more ≡ fates ++ f ∷ [] → keys_more ≡ keys ++ key ∷ []
+    → IsFound (space_of image more edges) fates_more table keys_more
+placed image links more edges v fates fates_more old table keys keys_more key l f m is view grown from same world fate
+    known key_is none linked fated keyed =
+    let w : SpaceValue = space_of image links edges in
+    let from_here : l.from < count w = subst (λ (x : SpaceValue). l.from < count x) (sym view) from in
+    let image_is : m.image ≡ w.image = same ∙ ap (λ (x : SpaceValue). x.image) (sym view) in
+    let world_is : m.world ≡ after w.image (world_of w l.from) l.step =
+    world ∙ ap (λ (x : SpaceValue). after x.image (world_of x l.from) l.step) (sym view) in
+    subst (λ (ls : List Link). IsFound (space_of image ls edges) fates_more table keys_more) (sym linked)
+    (found_more w fates fates_more table keys keys_more key l f m (found_later w fates old table keys grown is)
+    from_here image_is world_is fate fated known key_is none keyed)
+
+-- what contracts see of them
+pub placed_view : (image : ImageValue) (links more : List Link) (edges : List Edge) (v : SpaceValue) (l : Link)
+    → space_of image links edges ≡ v → more ≡ links ++ l ∷ [] → space_of image more edges ≡ with_link v l
+placed_view image links more edges v l view linked =
+    ap (λ (ls : List Link). space_of image ls edges) linked ∙ ap (λ (x : SpaceValue). with_link x l) view
+
+-- What contracts say of a space with one world more.
+
+pub placed_grown : (v w : SpaceValue) (l : Link) → w ≡ with_link v l → IsGrown v w
+placed_grown v w l is = subst (λ (x : SpaceValue). IsGrown v x) (sym is) (with_link_grown v l)
+
+pub placed_there : (v w : SpaceValue) (l : Link) (k : ℕ) → w ≡ with_link v l → k ≡ count v → k < count w
+placed_there v w l k is at = omega (arith, ap count is, count-link v l, at)
+
+pub placed_is : (v w : SpaceValue) (l : Link) (m : MachineValue) (k : ℕ) → w ≡ with_link v l → k ≡ count v
+    → m.world ≡ after v.image (world_of v l.from) l.step → world_of w k ≡ m.world
+placed_is v w l m k is at world =
+    ap (λ (x : SpaceValue). world_of x k) is ∙ ap (world_of (with_link v l)) at ∙ last_world v l ∙ sym world
+
+pub placed_frontier : (v w : SpaceValue) (ms more : List MachineValue) (n : ℕ) (m : MachineValue) (l : Link)
+    → w ≡ with_link v l → IsFrontier v ms n → n ≤ count v → m.image ≡ v.image
+    → m.world ≡ after v.image (world_of v l.from) l.step → more ≡ ms ++ m ∷ [] → IsFrontier w more n
+placed_frontier v w ms more n m l is front below image world pushed =
+    subst (λ (x : SpaceValue). IsFrontier x more n) (sym is) (frontier_more v ms more n m l front below image world pushed)
+
+pub placed_breadth : (v w : SpaceValue) (l : Link) → w ≡ with_link v l → l.from < count v → IsBreadthFirst v l.from
+    → IsBreadthFirst w l.from
+placed_breadth v w l is from breadth =
+    subst (λ (x : SpaceValue). IsBreadthFirst x l.from) (sym is) (breadth_more v l from breadth)
+
+-- A space with one edge more.
+
+pub edge_view : (image : ImageValue) (links : List Link) (edges more : List Edge) (v : SpaceValue) (e : Edge)
+    → space_of image links edges ≡ v → more ≡ edges ++ e ∷ [] → space_of image links more ≡ with_edge v e
+edge_view image links edges more v e view pushed =
+    ap (λ (es : List Edge). space_of image links es) pushed ∙ ap (λ (x : SpaceValue). with_edge x e) view
+
+pub edge_put : (image : ImageValue) (links : List Link) (edges more : List Edge) (v : SpaceValue) (e : Edge)
+    (fates : List Fate) (table keys : List (List ℕ)) → IsFound (space_of image links edges) fates table keys
+    → space_of image links edges ≡ v → more ≡ edges ++ e ∷ [] → IsEdge v e
+    → IsFound (space_of image links more) fates table keys
+edge_put image links edges more v e fates table keys is view pushed edge =
+    let w : SpaceValue = space_of image links edges in
+    subst (λ (es : List Edge). IsFound (space_of image links es) fates table keys) (sym pushed)
+    (found_edge w fates table keys e is (subst (λ (x : SpaceValue). IsEdge x e) (sym view) edge))
+
+pub edge_frontier : (v w : SpaceValue) (e : Edge) (ms : List MachineValue) (n : ℕ) → w ≡ with_edge v e
+    → IsFrontier v ms n → IsFrontier w ms n
+edge_frontier v w e ms n is front =
+    subst (λ (x : SpaceValue). IsFrontier x ms n) (sym is) (frontier_stays v (with_edge v e) ms n refl refl front)
+
+pub edge_breadth : (v w : SpaceValue) (e : Edge) (n : ℕ) → w ≡ with_edge v e → IsBreadthFirst v n
+    → IsBreadthFirst w n
+edge_breadth v w e n is breadth =
+    subst (λ (x : SpaceValue). IsBreadthFirst x n) (sym is) (breadth_stays v (with_edge v e) n refl breadth)
+
+-- What stays as it is.
+
+pub kept : (image : ImageValue) (links ls : List Link) (edges : List Edge) (fates fs : List Fate)
+    (old table keys ks : List (List ℕ)) → IsFound (space_of image links edges) fates old keys → Extends old table
+    → ls ≡ links → fs ≡ fates → ks ≡ keys → IsFound (space_of image ls edges) fs table ks
+kept image links ls edges fates fs old table keys ks is grown linked fated keyed =
+    subst (λ (xs : List Link). IsFound (space_of image xs edges) fs table ks) (sym linked)
+    (subst (λ (xs : List Fate). IsFound (space_of image links edges) xs table ks) (sym fated)
+    (subst (λ (xs : List (List ℕ)). IsFound (space_of image links edges) fates table xs) (sym keyed)
+    (found_later (space_of image links edges) fates old table keys grown is)))
+
+pub kept_view : (image : ImageValue) (links ls : List Link) (edges : List Edge) (v : SpaceValue)
+    → space_of image links edges ≡ v → ls ≡ links → space_of image ls edges ≡ v
+kept_view image links ls edges v view linked = ap (λ (xs : List Link). space_of image xs edges) linked ∙ view
+
+pub stays_within : (v w : SpaceValue) (most : ℕ) → w ≡ v → count v ≤ most → count w ≤ most
+stays_within v w most is few = omega (arith, ap count is, few)
+
+pub stays_frontier : (v w : SpaceValue) (ms more : List MachineValue) (n : ℕ) → w ≡ v → more ≡ ms → IsFrontier v ms n
+    → IsFrontier w more n
+stays_frontier v w ms more n is same front =
+    subst (λ (x : SpaceValue). IsFrontier x more n) (sym is) (same ∙ front)
+
+pub stays_breadth : (v w : SpaceValue) (n : ℕ) → w ≡ v → IsBreadthFirst v n → IsBreadthFirst w n
+stays_breadth v w n is breadth = subst (λ (x : SpaceValue). IsBreadthFirst x n) (sym is) breadth

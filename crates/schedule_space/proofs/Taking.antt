@@ -1,0 +1,127 @@
+-- A step that is taken, and all steps from a world.
+use Rattle.std.proofs.Common.{◌≡◌, ℕ, zero, suc, ◌+◌, ◌<◌, ◌≤◌, refl, sym, ap, ◌∙◌, subst, arith, List, [], ◌∷◌, ◌++◌}
+use Rattle.std.proofs.Common.{◌⊎◌, inl, inr, length, get_or, Bool, true, false, ◌≢◌}
+use Rattle.std.specs.List.{Contains}
+use Rattle.std.proofs.lemmas.Bool.{cases_lt}
+use Rattle.std.proofs.lemmas.List.Elements.{Contains-push}
+use Rattle.stream_core.specs.declared.steps.Outcome.{Outcome}
+use Rattle.machine.specs.MachineValue.{MachineValue}
+use Rattle.processor.specs.World.{World, world_step, after}
+use Rattle.processor.specs.declared.steps.Step.{Step}
+use Rattle.waiting.specs.Running.{runs_in, AreRunning}
+use Rattle.waiting.specs.Stuck.{IsStuck}
+use Rattle.schedule_space.specs.declared.links.Edge.{Edge}
+use Rattle.schedule_space.specs.Spaces.{SpaceValue, count, schedule_of, world_of, machine_after, IsEdge}
+use Rattle.schedule_space.specs.Finding.{with_edge, IsGrown, IsTaken, IsExpanded, IsBreadthFirst}
+use Rattle.schedule_space.proofs.Growing.{world_grown, taken_grown, expanded_grown, grown_trans, with_edge_grown}
+use Rattle.schedule_space.proofs.Breadth.{breadth_stays}
+use Rattle.schedule_space.proofs.Resting.{rested, stuck_stays}
+
+-- a step that leaves the world as it is
+pub taken_stays : (v : SpaceValue) (from : ℕ) (t : Step) → from < count v
+    → after v.image (world_of v from) t ≡ world_of v from → IsTaken v from t
+taken_stays v from t below stays = record {
+  to = from;
+  within = below;
+  leads = sym stays;
+  near = omega arith;
+  edge = inl refl;
+}
+
+pub taken_stuck : (v : SpaceValue) (from : ℕ) (t : Step) → from < count v → IsStuck v.image (world_of v from) t
+    → IsTaken v from t
+taken_stuck v from t below stuck = taken_stays v from t below (stuck_stays v.image (world_of v from) t stuck)
+
+-- a step that leads to a place of the space, with an edge unless it is the same place
+pub taken_to : (old new : SpaceValue) (from to : ℕ) (t : Step) (w : World) → IsGrown old new → from < count old
+    → to < count new → world_of new to ≡ w → w ≡ after old.image (world_of old from) t → IsBreadthFirst new from
+    → (to ≡ from) ⊎ Contains new.edges (record { from = from; step = t; to = to }) → IsTaken new from t
+taken_to old new from to t w g below there is leads breadth edge = record {
+  to = to;
+  within = there;
+  leads = is ∙ leads ∙ (λ i. after (sym g.image i) (sym (world_grown old new from g below) i) t);
+  near = breadth.near to there;
+  edge = edge;
+}
+
+pub edge_to : (old new : SpaceValue) (from to : ℕ) (t : Step) (w : World) → IsGrown old new → from < count old
+    → to < count new → world_of new to ≡ w → w ≡ after old.image (world_of old from) t → (to ≢ from)
+    → IsEdge new (record { from = from; step = t; to = to })
+edge_to old new from to t w g below there is leads apart = record {
+  from = omega (arith, g.more, below);
+  to = there;
+  apart = apart;
+  leads = is ∙ leads ∙ (λ i. after (sym g.image i) (sym (world_grown old new from g below) i) t);
+}
+
+-- the steps so far are taken
+abbrev pub AreTaken : SpaceValue → ℕ → List Step → ℕ → Type 0
+AreTaken v from ts n = (k : ℕ) (d : Step) → k < n → IsTaken v from (get_or ts k d)
+
+same_default : (ts : List Step) (n : ℕ) (c d : Step) → n < length ts → get_or ts n c ≡ get_or ts n d
+same_default [] n c d below = absurd (omega arith)
+same_default (t ∷ ts) zero c d below = refl
+same_default (t ∷ ts) (suc n) c d below = same_default ts n c d (omega (arith, below))
+
+pub taken_next : (v w : SpaceValue) (from n : ℕ) (ts : List Step) (c : Step) → IsGrown v w → from < count v
+    → n < length ts → AreTaken v from ts n → IsTaken w from (get_or ts n c) → AreTaken w from ts (n + 1)
+taken_next v w from n ts c g below within all last k d less = by_case (cases_lt k n) where
+  by_case : (k < n) ⊎ (n ≤ k) → IsTaken w from (get_or ts k d)
+  by_case (inl before) = taken_grown v w from (get_or ts k d) g below (all k d before)
+  by_case (inr past) =
+      let same : n ≡ k = omega (arith, past, less) in
+      subst (λ (j : ℕ). IsTaken w from (get_or ts j d)) same (subst (IsTaken w from) (same_default ts n c d within) last)
+
+-- where the steps of all streams that run are taken, all steps are
+pub all_taken : (v : SpaceValue) (from n : ℕ) (ts : List Step) → from < count v → AreRunning (world_of v from) ts
+    → length ts ≤ n → AreTaken v from ts n → IsExpanded v from
+all_taken v from n ts below running many all t = by_runs (runs_in (world_of v from) t) refl where
+  by_place : Contains ts t → IsTaken v from t
+  by_place has = subst (IsTaken v from) has.2 (all has.0 t (omega (arith, has.1, many)))
+
+  by_runs : (b : Bool) → runs_in (world_of v from) t ≡ b → IsTaken v from t
+  by_runs true on = by_place ((running t).1 on)
+  by_runs false off = taken_stays v from t below (rested v.image (world_of v from) t off)
+
+-- What the code does for one step.
+
+pub stuck_at : (v : SpaceValue) (from : ℕ) (m : MachineValue) (t : Step) → from < count v
+    → m ≡ machine_after v.image (schedule_of v from) → IsStuck m.image m.world t → IsTaken v from t
+stuck_at v from m t below is stuck =
+    taken_stuck v from t below (subst (λ (x : MachineValue). IsStuck x.image x.world t) is stuck)
+
+-- a clone of the machine at a place, after a step
+pub stepped : (v : SpaceValue) (from : ℕ) (m c n : MachineValue) (o : Outcome) (t : Step)
+    → m ≡ machine_after v.image (schedule_of v from) → c ≡ m → (n.world, o) ≡ world_step c.image c.world t
+    → n.image ≡ c.image → (n.image ≡ v.image) × (n.world ≡ after v.image (world_of v from) t)
+stepped v from m c n o t is same world image =
+    let at = same ∙ is in (
+      image ∙ ap (λ (x : MachineValue). x.image) at,
+      ap (λ (x : World × Outcome). x.0) world ∙ (λ i. after (at i).image (at i).world t),
+    )
+
+-- the space with the edge of a step
+pub taken_edge : (old new : SpaceValue) (from to : ℕ) (t : Step) (w : World) (e : Edge) → IsGrown old new
+    → from < count old → to < count new → world_of new to ≡ w → w ≡ after old.image (world_of old from) t
+    → IsBreadthFirst new from → e ≡ record { from = from; step = t; to = to } → IsTaken (with_edge new e) from t
+taken_edge old new from to t w e g below there is leads breadth edge =
+    taken_to old (with_edge new e) from to t w (grown_trans old new (with_edge new e) g (with_edge_grown new e)) below
+    there is leads (breadth_stays new (with_edge new e) from refl breadth)
+    (inr (subst (Contains (new.edges ++ e ∷ [])) edge (Contains-push new.edges e)))
+
+pub running_at : (v : SpaceValue) (from : ℕ) (m : MachineValue) (ts : List Step)
+    → m ≡ machine_after v.image (schedule_of v from) → AreRunning m.world ts → AreRunning (world_of v from) ts
+running_at v from m ts is running = subst (λ (x : MachineValue). AreRunning x.world ts) is running
+
+-- a machine is at the world of its place also where the space has grown
+pub machine_grown : (v w : SpaceValue) (k : ℕ) (m : MachineValue) → IsGrown v w → k < count v
+    → m ≡ machine_after v.image (schedule_of v k) → m ≡ machine_after w.image (schedule_of w k)
+machine_grown v w k m g below is = is ∙ (λ i. machine_after (sym g.image i) (sym (g.same k below) i))
+
+-- one world more is expanded
+pub expanded_more : (v w : SpaceValue) (n : ℕ) → IsGrown v w → n < count v → ((k : ℕ) → k < n → IsExpanded v k)
+    → IsExpanded w n → (k : ℕ) → k < n + 1 → IsExpanded w k
+expanded_more v w n g inside all last k below = by_case (cases_lt k n) where
+  by_case : (k < n) ⊎ (n ≤ k) → IsExpanded w k
+  by_case (inl less) = expanded_grown v w k g (omega (arith, less, inside)) (all k less)
+  by_case (inr past) = let same : n ≡ k = omega (arith, below, past) in subst (IsExpanded w) same last

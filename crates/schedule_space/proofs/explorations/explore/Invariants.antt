@@ -1,0 +1,15 @@
+-- the worlds so far are expanded, and the machines of the others are on the frontier
+use Rattle.std.proofs.Common.{◌≡◌, ℕ, ◌≤◌, ◌<◌}
+use Rattle.schedule_space.specs.Spaces.{count}
+use Rattle.schedule_space.specs.Finding.{IsExpanded, IsFrontier, IsBreadthFirst}
+use Rattle.schedule_space.proofs.explorations.explore.Given as goal
+
+abbrev pub invariant-loop-from : goal.invariant-loop-from
+invariant-loop-from g l = record {
+  image : l.found.image ≡ l.image;
+  expanded : (k : ℕ) → k < l.from → IsExpanded l.found k;
+  inside : l.from ≤ count l.found;
+  within : count l.found ≤ l.limit;
+  frontier : IsFrontier l.found l.frontier.items l.from;
+  breadth : l.from < count l.found → IsBreadthFirst l.found l.from;
+}

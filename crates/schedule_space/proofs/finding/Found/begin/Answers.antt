@@ -1,0 +1,20 @@
+use Rattle.std.proofs.Common.{rules, arith, sym, subst, []}
+use Rattle.machine.specs.MachineValue.{MachineValue}
+use Rattle.world_keys.specs.WorldKeys.{IsMemoryOf}
+use Rattle.schedule_space.proofs.Memories.{memory_of_run}
+use Rattle.schedule_space.proofs.Keys.{found_begun}
+use Rattle.schedule_space.proofs.finding.Found.begin.Goals as goal
+
+pub world_key-requires : goal.world_key-requires
+world_key-requires g c = (
+  omega arith,
+  subst (λ (m : MachineValue). IsMemoryOf m.image m.world.memory) (sym c.requires)
+      (memory_of_run c.args.first.now.image []),
+)
+
+pub invariant_of-result : goal.invariant_of-result
+invariant_of-result g c =
+    found_begun c.image.result.now c.new.result.items c.new-2.result.items c.in_ok-fate.fate c.push-2.new.self.items
+    c.world_key.new.contents c.push.new.self c.in_ok-key.key.items c.args.first.now c.image.ensures.is
+    c.new.ensures.items c.new-2.ensures.items c.requires c.in_ok-fate.ensures (search rules)
+    c.in_ok-key.ensures.known c.in_ok-key.ensures.is (search rules)

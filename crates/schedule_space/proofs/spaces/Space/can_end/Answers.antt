@@ -1,0 +1,27 @@
+use Rattle.std.proofs.Common.{◌≡◌, arith, rules, sym, subst, List, Bool, length}
+use Rattle.schedule_space.specs.Reaching.{IsMarked, AreMarkedToo, AreMarkedBack, HasEndsMarked}
+use Rattle.schedule_space.proofs.Marking.{written, all_can, all_marked}
+use Rattle.schedule_space.proofs.spaces.Space.can_end.Goals as goal
+
+pub returns-then-not-mark_before-clause-all : goal.returns-then-not-mark_before-clause-all
+returns-then-not-mark_before-clause-all c = λ complete edges k below can.
+    let v = c.args.self.now in
+    let old = c.loop-pass.marks.items in
+    let new = c.mark_before.new.marks in
+    let n = c.loop-pass.marks.len in
+    let each = c.mark_before.ensures.ends.each in
+    let many : length old ≡ n = search rules in
+    let kept : AreMarkedToo old new = search rules in
+    let back : AreMarkedBack v new = search rules in
+    let ends : HasEndsMarked v new = λ j less end. kept j (c.loop-pass.invariant.ends j less end) in
+    let same = written old new n many (omega (arith, each, many, c.loop-pass.invariant.can.each)) in
+    subst (λ (ms : List Bool). IsMarked ms k) (sym same) (all_can v new complete edges ends back k below can)
+
+pub returns-clause-all : goal.returns-clause-all
+returns-clause-all c = λ _ _ k below _.
+    let marks = c.loop-pass.marks.items in
+    let many : c.len-pass-end.result ≡ length c.in_ok-marks.marks.items = search rules in
+    let before = c.in_ok-marks.ensures.each in
+    all_marked marks k
+    (omega (arith, many, before, c.loop-pass.invariant.can.each, c.loop-pass.invariant.more, c.loop-pass-test.false))
+    (omega (arith, below, c.loop-pass.invariant.can.each))

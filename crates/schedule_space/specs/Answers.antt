@@ -1,0 +1,15 @@
+-- What a search answers.
+use Rattle.std.specs.Prelude.{Bool, true, false}
+use Rattle.schedule_space.specs.Spaces.{SpaceValue}
+use Rattle.schedule_space.specs.declared.explorations.Exploration.{Exploration}
+use Rattle.schedule_space.specs.declared.explorations.Exploration.TheVariants.{Complete, Bounded}
+
+-- the space that was found
+abbrev pub space_in : Exploration → SpaceValue
+space_in (Complete v) = v
+space_in (Bounded v) = v
+
+-- whether it is said to be complete
+abbrev pub is_complete : Exploration → Bool
+is_complete (Complete v) = true
+is_complete (Bounded v) = false

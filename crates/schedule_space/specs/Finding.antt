@@ -1,0 +1,73 @@
+-- A space in the making.
+use Rattle.std.specs.Prelude.{◌≡◌, ℕ, ◌+◌, ◌<◌, ◌≤◌, List, [], ◌∷◌, ◌++◌, length, map, drop, slice_index_or, Contains, ◌⊎◌}
+use Rattle.image_file.specs.ImageValue.{ImageValue}
+use Rattle.processor.specs.World.{after, run}
+use Rattle.processor.specs.declared.steps.Step.{Step}
+use Rattle.machine.specs.MachineValue.{MachineValue}
+use Rattle.world_keys.specs.WorldKeys.{key_of, IsKnown}
+use Rattle.schedule_space.specs.declared.links.Link.{Link}
+use Rattle.schedule_space.specs.declared.links.Edge.{Edge}
+use Rattle.schedule_space.specs.declared.fates.Fate.{Fate}
+use Rattle.schedule_space.specs.declared.fates.Fate.TheVariants as fate
+use Rattle.schedule_space.specs.Spaces.{schedules, SpaceValue, count, schedule_of, world_of, machine_after, IsEdge}
+use Rattle.schedule_space.specs.Spaces.{IsDistinct}
+use Rattle.schedule_space.specs.Fates.{IsFate}
+
+-- the space of these parts
+abbrev pub space_of : ImageValue → List Link → List Edge → SpaceValue
+space_of image links edges = record { image = image; links = links; edges = edges }
+
+-- the space with one more world
+abbrev pub with_link : SpaceValue → Link → SpaceValue
+with_link v l = record v { links = v.links ++ l ∷ [] }
+
+-- the space with one more edge
+abbrev pub with_edge : SpaceValue → Edge → SpaceValue
+with_edge v e = record v { edges = v.edges ++ e ∷ [] }
+
+-- What holds of the parts of a space: each link names an earlier world, each edge is one, and each world has its fate.
+pub record IsSpace (v : SpaceValue) (fs : List Fate) : Type 0 where
+  pub earlier : (k : ℕ) (l : Link) → k < length v.links → (slice_index_or v.links k l).from ≤ k
+  pub edges : (e : Edge) → Contains v.edges e → IsEdge v e
+  pub each : length fs ≡ count v
+  pub fates : (k : ℕ) → k < count v → IsFate v.image (world_of v k) (slice_index_or fs k fate.GoesOn)
+
+-- Keys are those of the worlds, in a table, and no world is there twice.
+pub record IsKeyed (v : SpaceValue) (table ks : List (List ℕ)) : Type 0 where
+  pub keys : ks ≡ map (λ ts. key_of table v.image (run v.image ts)) (schedules v.links)
+  pub known : (k : ℕ) → k < count v → IsKnown table v.image (world_of v k)
+  pub distinct : IsDistinct v
+
+-- what holds of a space in the making
+pub record IsFound (v : SpaceValue) (fates : List Fate) (table keys : List (List ℕ)) : Type 0 where
+  pub space : IsSpace v fates
+  pub keyed : IsKeyed v table keys
+
+-- the machines are those of the worlds from this place on, in order
+abbrev pub IsFrontier : SpaceValue → List MachineValue → ℕ → Type 0
+IsFrontier v ms n = ms ≡ map (machine_after v.image) (drop n (schedules v.links))
+
+-- the later space has the same worlds at the same places, perhaps more behind them, and the same edges, perhaps more
+pub record IsGrown (old new : SpaceValue) : Type 0 where
+  pub image : new.image ≡ old.image
+  pub more : length old.links ≤ length new.links
+  pub same : (k : ℕ) → k < count old → schedule_of new k ≡ schedule_of old k
+  pub edges : (e : Edge) → Contains old.edges e → Contains new.edges e
+
+-- A step from the world at this place leads to a world of the space, whose schedule is at most one step longer, and
+-- there is an edge for it unless it leaves the world as it is.
+pub record IsTaken (v : SpaceValue) (from : ℕ) (t : Step) : Type 0 where
+  pub to : ℕ
+  pub within : to < count v
+  pub leads : world_of v to ≡ after v.image (world_of v from) t
+  pub near : length (schedule_of v to) ≤ length (schedule_of v from) + 1
+  pub edge : (to ≡ from) ⊎ Contains v.edges (record { from = from; step = t; to = to })
+
+-- each step from the world at this place is taken
+abbrev pub IsExpanded : SpaceValue → ℕ → Type 0
+IsExpanded v k = (t : Step) → IsTaken v k t
+
+-- Schedules do not get shorter from place to place, and none is more than one step longer than that of this place.
+pub record IsBreadthFirst (v : SpaceValue) (from : ℕ) : Type 0 where
+  pub sorted : (j k : ℕ) → j ≤ k → k < count v → length (schedule_of v j) ≤ length (schedule_of v k)
+  pub near : (k : ℕ) → k < count v → length (schedule_of v k) ≤ length (schedule_of v from) + 1

@@ -1,0 +1,72 @@
+-- Spaces: worlds of an image, each but the first with a link, the place of an earlier world and a step that leads from
+-- that to it.
+use Rattle.std.specs.Prelude.{◌≡◌, ◌≢◌, ◌↔◌, ℕ, ◌+◌, ◌<◌, ◌≤◌, ◌++◌, List, [], ◌∷◌, length, slice_index_or, Contains}
+use Rattle.image_file.specs.ImageValue.{ImageValue}
+use Rattle.processor.specs.World.{World, after, run}
+use Rattle.processor.specs.declared.steps.Step.{Step}
+use Rattle.machine.specs.MachineValue.{MachineValue}
+use Rattle.schedule_space.specs.declared.links.Link.{Link}
+use Rattle.schedule_space.specs.declared.links.Edge.{Edge}
+
+-- The schedules that links give.
+
+-- behind those that are there
+abbrev pub schedules_after : List (List Step) → List Link → List (List Step)
+schedules_after found [] = found
+schedules_after found (l ∷ ls) =
+    schedules_after (found ++ (slice_index_or found l.from [] ++ l.step ∷ []) ∷ []) ls
+
+-- first the empty one, and for each link the schedule of the place that it names, with its step behind
+unfoldable pub schedules : List Link → List (List Step)
+schedules links = schedules_after ([] ∷ []) links
+
+-- A space, as contracts see it: its worlds are those that the schedules of its links lead to, and its edges say which
+-- step leads from which of them to which.
+pub record SpaceValue : Type 0 where
+  pub image : ImageValue
+  pub links : List Link
+  pub edges : List Edge
+
+-- how many worlds it has
+abbrev pub count : SpaceValue → ℕ
+count v = length v.links + 1
+
+-- the schedule that the links give for the world at a place
+abbrev pub schedule_of : SpaceValue → ℕ → List Step
+schedule_of v k = slice_index_or (schedules v.links) k []
+
+-- the world at a place
+abbrev pub world_of : SpaceValue → ℕ → World
+world_of v k = run v.image (schedule_of v k)
+
+-- the image's machine after a schedule
+abbrev pub machine_after : ImageValue → List Step → MachineValue
+machine_after image ts = record { image = image; world = run image ts }
+
+-- the world is one of the space
+abbrev pub Has : SpaceValue → World → Type 0
+Has v w = (k : ℕ) × (k < count v) × (world_of v k ≡ w)
+
+-- each schedule of the image leads to a world of the space
+abbrev pub IsComplete : SpaceValue → Type 0
+IsComplete v = (ts : List Step) → Has v (run v.image ts)
+
+-- the space has none of its worlds twice
+abbrev pub IsDistinct : SpaceValue → Type 0
+IsDistinct v = (k j : ℕ) → k < count v → j < count v → world_of v k ≡ world_of v j → k ≡ j
+
+-- no schedule that leads to the world at a place is shorter than the one that the links give
+abbrev pub IsShortest : SpaceValue → Type 0
+IsShortest v =
+    (k : ℕ) → k < count v → (ts : List Step) → run v.image ts ≡ world_of v k → length (schedule_of v k) ≤ length ts
+
+-- an edge is a step that leads from one world of the space to another one
+pub record IsEdge (v : SpaceValue) (e : Edge) : Type 0 where
+  pub from : e.from < count v
+  pub to : e.to < count v
+  pub apart : e.to ≢ e.from
+  pub leads : world_of v e.to ≡ after v.image (world_of v e.from) e.step
+
+-- the space has an edge for each step that leads away from a world of it
+abbrev pub HasAllEdges : SpaceValue → Type 0
+HasAllEdges v = (e : Edge) → Contains v.edges e ↔ IsEdge v e

@@ -1,0 +1,64 @@
+//! The search for all worlds of an image.
+
+ghost use Rattle.std.specs.Prelude.{◌≡◌, ◌<◌, ◌≤◌, ◌↔◌, true, IsTrue, IfOk};
+ghost use Rattle.schedule_space.specs.Spaces.{count, IsComplete, IsDistinct, IsShortest, HasAllEdges};
+ghost use Rattle.schedule_space.specs.Answers.{space_in, is_complete};
+
+use crate::finding::Found;
+use crate::spaces::Space;
+use image_file::Image;
+use machine::{LoadFault, Machine};
+use std::alloc::Global;
+use std::collections::VecDeque;
+
+/// What a search found.
+#[derive(Drop)]
+pub enum Exploration<'i> {
+    /// All worlds that schedules lead to.
+    Complete(Space<'i>),
+    /// Some of them: there are more than were asked for, or memory was refused on the way.
+    Bounded(Space<'i>),
+}
+
+/// Looks for the worlds that schedules of an image lead to, those of fewer steps first, until there are no more or
+/// `most` are found. `S` is for how many streams a processor the machines of the search have room.
+///
+/// `Streams` exactly where the image's slim is above `S`; `NoMemory` where there was not even room for the first world.
+pub fn explore<'i, const S: usize>(
+    alloc: Global,
+    image: &'i Image,
+    most: usize,
+) -> Result<Exploration<'i>, LoadFault>
+    requires { 1 ≤ most }
+    ensures image { IfOk result (λ e. (space_in e).image ≡ image.entry.now) }
+    ensures complete { IfOk result (λ e. is_complete e ≡ true → IsComplete (space_in e)) }
+    ensures edges { IfOk result (λ e. is_complete e ≡ true → HasAllEdges (space_in e)) }
+    ensures distinct { IfOk result (λ e. IsDistinct (space_in e)) }
+    ensures shortest { IfOk result (λ e. IsShortest (space_in e)) }
+    ensures within { IfOk result (λ e. count (space_in e) ≤ most) }
+    ensures streams { (result ≡ Err LoadFault.Streams) ↔ (S < image.entry.now.slim) }
+{
+    let first = Machine::<S>::load(alloc, image)?;
+    let mut found = Found::begin(alloc, &first)?;
+    let mut frontier = VecDeque::new(alloc);
+    frontier.push_back(first)?;
+    let limit = world_limit(most);
+    for from in 0..limit {
+        let Some(machine) = frontier.pop_front() else {
+            return Ok(Exploration::Complete(found.into_space()));
+        };
+        if found.expand(&mut frontier, &machine, from, limit).is_err() {
+            return Ok(Exploration::Bounded(found.into_space()));
+        }
+    }
+    Ok(Exploration::Complete(found.into_space()))
+}
+
+/// As many worlds, or as many as places have numbers for.
+fn world_limit(most: usize) -> u32
+    requires { 1 ≤ most }
+    ensures some { 1 ≤ result }
+    ensures within { result ≤ most }
+{
+    u32::try_from(most).unwrap_or(u32::MAX)
+}

@@ -1,0 +1,273 @@
+//! A space in the making: worlds are told apart by their keys.
+
+ghost use Rattle.std.specs.Prelude.{◌≡◌, ◌<◌, ◌≤◌, ◌+◌, [], ◌∷◌, ◌++◌, length, IfOk, OnOk, OnErr, Contains};
+ghost use Rattle.image_file.specs.ImageValue.{ImageValue};
+ghost use Rattle.processor.specs.World.{start, after};
+ghost use Rattle.schedule_space.specs.Spaces.{count, schedule_of, world_of, machine_after, IsDistinct, IsEdge};
+ghost use Rattle.schedule_space.specs.declared.links.Edge.{Edge};
+ghost use Rattle.world_keys.specs.Tables.{Has};
+ghost use Rattle.schedule_space.specs.Finding.{space_of, with_edge, IsGrown, IsTaken, IsExpanded, IsFrontier, IsBreadthFirst};
+ghost use Rattle.schedule_space.specs.declared.finding.Stop.TheVariants.{NoMemory};
+
+use crate::fates::{Fate, fate_of};
+use crate::links::{Edge, Link};
+use crate::spaces::Space;
+use image_file::Image;
+use machine::Machine;
+use processor::Step;
+use std::alloc::{AllocError, AllocFailed, Global};
+use std::collections::VecDeque;
+use std::marker::Model;
+use waiting::{is_stuck, running_streams};
+use world_keys::{Table, world_key};
+
+/// The worlds that were found so far, with their keys.
+#[derive(Drop)]
+pub(crate) struct Found<'i> {
+    alloc: Global,
+    image: &'i Image,
+    links: Vec<Link>,
+    edges: Vec<Edge>,
+    fates: Vec<Fate>,
+    contents: Table,
+    keys: Table,
+}
+
+impl<'i> Model for Found<'i> {
+    ghost use Rattle.schedule_space.specs.Spaces.{SpaceValue};
+    ghost use Rattle.schedule_space.specs.Finding.{space_of, IsFound};
+
+    ghost Value = { SpaceValue };
+
+    ghost view = { λ f. space_of f.image.now f.links.items f.edges.items };
+
+    ghost invariant = { λ f. IsFound (space_of f.image.now f.links.items f.edges.items) f.fates.items f.contents f.keys };
+}
+
+/// Why a search stopped before its end.
+#[derive(Clone, Copy, Debug, PartialEq, Eq)]
+pub(crate) enum Stop {
+    /// As many worlds were found as may be.
+    Full,
+    /// Memory was refused.
+    NoMemory,
+}
+
+impl From<AllocError> for Stop {
+    ghost from_gives = { λ _ stop. stop ≡ NoMemory };
+
+    fn from(_error: AllocError) -> Stop {
+        Stop::NoMemory
+    }
+}
+
+impl<T: Drop> From<AllocFailed<T>> for Stop {
+    ghost from_gives = { λ _ stop. stop ≡ NoMemory };
+
+    fn from(_error: AllocFailed<T>) -> Stop {
+        Stop::NoMemory
+    }
+}
+
+impl<'i> Found<'i> {
+    /// The world of an image before any step.
+    pub(crate) fn begin<const S: usize>(
+        alloc: Global,
+        first: &Machine<'i, S>,
+    ) -> Result<Found<'i>, AllocError>
+        requires { first.now ≡ machine_after first.now.image [] }
+        ensures { IfOk result (λ v. v ≡ space_of first.now.image [] []) }
+    {
+        let fate = fate_of(alloc, first)?;
+        let mut contents = Table::new(alloc);
+        let key = world_key(alloc, &mut contents, first)?;
+        let mut keys = Table::new(alloc);
+        keys.push(key)?;
+        let mut fates = Vec::new(alloc);
+        fates.push(fate)?;
+        Ok(Found {
+            alloc,
+            image: first.image(),
+            links: Vec::new(alloc),
+            edges: Vec::new(alloc),
+            fates,
+            contents,
+            keys,
+        })
+    }
+
+    /// The space.
+    pub(crate) fn into_space(self) -> Space<'i>
+        ensures is { result ≡ self.entry }
+        ensures distinct { IsDistinct result }
+        ensures edges { (e : Edge) → Contains result.edges e → IsEdge result e }
+    {
+        Space::from_parts(self.image, self.links, self.edges, self.fates)
+    }
+
+    /// Takes each step of the world at a place, from its machine, unless there would be more than `most` worlds. New
+    /// worlds are put behind the frontier.
+    pub(crate) fn expand<const S: usize>(
+        &mut self,
+        frontier: &mut VecDeque<Machine<'i, S>>,
+        machine: &Machine<'i, S>,
+        from: u32,
+        most: u32,
+    ) -> Result<(), Stop>
+        requires from { from < count self.old }
+        requires within { count self.old ≤ most }
+        requires machine { machine.now ≡ machine_after self.old.image (schedule_of self.old from) }
+        requires frontier { IsFrontier self.old frontier.old.items (from + 1) }
+        requires breadth { IsBreadthFirst self.old from }
+        ensures grown { IsGrown self.old self.new }
+        ensures expanded { OnOk result (IsExpanded self.new from) }
+        ensures within { count self.new ≤ most }
+        ensures frontier { IsFrontier self.new frontier.new.items (from + 1) }
+        ensures breadth { IsBreadthFirst self.new from }
+    {
+        let running = running_streams(self.alloc, machine)?;
+        for step in &running {
+            self.take(frontier, machine, from, *step, most)?;
+        }
+        Ok(())
+    }
+
+    /// Takes one step.
+    fn take<const S: usize>(
+        &mut self,
+        frontier: &mut VecDeque<Machine<'i, S>>,
+        machine: &Machine<'i, S>,
+        from: u32,
+        step: Step,
+        most: u32,
+    ) -> Result<(), Stop>
+        requires from { from < count self.old }
+        requires within { count self.old ≤ most }
+        requires machine { machine.now ≡ machine_after self.old.image (schedule_of self.old from) }
+        requires frontier { IsFrontier self.old frontier.old.items (from + 1) }
+        requires breadth { IsBreadthFirst self.old from }
+        ensures grown { IsGrown self.old self.new }
+        ensures taken { OnOk result (IsTaken self.new from step) }
+        ensures within { count self.new ≤ most }
+        ensures frontier { IsFrontier self.new frontier.new.items (from + 1) }
+        ensures breadth { IsBreadthFirst self.new from }
+    {
+        if is_stuck(machine, step.p, step.s) {
+            return Ok(());
+        }
+        let next = stepped(machine, step)?;
+        let to = self.place(frontier, next, Link { from, step }, most)?;
+        if to == from {
+            return Ok(());
+        }
+        self.add_edge(Edge { from, step, to })?;
+        Ok(())
+    }
+
+    /// Puts an edge behind the others.
+    fn add_edge(&mut self, edge: Edge) -> Result<(), AllocError>
+        requires { IsEdge self.old edge }
+        ensures added { OnOk result (self.new ≡ with_edge self.old edge) }
+        ensures stays { OnErr result (self.new ≡ self.old) }
+    {
+        self.edges.push(edge)?;
+        Ok(())
+    }
+
+    /// The place of the world to which a step leads from one of the space. A new world is put behind the others, and its
+    /// machine behind the frontier.
+    fn place<const S: usize>(
+        &mut self,
+        frontier: &mut VecDeque<Machine<'i, S>>,
+        machine: Machine<'i, S>,
+        link: Link,
+        most: u32,
+    ) -> Result<u32, Stop>
+        requires from { link.from < count self.old }
+        requires within { count self.old ≤ most }
+        requires image { machine.image ≡ self.old.image }
+        requires world { machine.world ≡ after self.old.image (world_of self.old link.from) link.step }
+        requires frontier { IsFrontier self.old frontier.old.items (link.from + 1) }
+        requires breadth { IsBreadthFirst self.old link.from }
+        ensures grown { IsGrown self.old self.new }
+        ensures within { count self.new ≤ most }
+        ensures there { IfOk result (λ k. k < count self.new) }
+        ensures is { IfOk result (λ k. world_of self.new k ≡ machine.entry.world) }
+        ensures frontier { IsFrontier self.new frontier.new.items (link.from + 1) }
+        ensures breadth { IsBreadthFirst self.new link.from }
+    {
+        let key = world_key(self.alloc, &mut self.contents, &machine)?;
+        if let Some(place) = self.keys.find(&key) {
+            return Ok(place as u32);
+        }
+        let place = self.links.len() + 1;
+        if place >= most as usize {
+            return Err(Stop::Full);
+        }
+        let fate = fate_of(self.alloc, &machine)?;
+        let world = NewWorld {
+            machine,
+            link,
+            fate,
+            key,
+        };
+        push_world(
+            frontier,
+            &mut self.links,
+            &mut self.fates,
+            &mut self.keys,
+            world,
+        )?;
+        Ok(place as u32)
+    }
+}
+
+/// A machine at a world that was not found before, with how it was found, how it goes on from there, and its key.
+#[derive(Drop)]
+struct NewWorld<'i, const S: usize> {
+    machine: Machine<'i, S>,
+    link: Link,
+    fate: Fate,
+    key: Vec<u32>,
+}
+
+/// Puts what belongs to a new world behind what belongs to the others: all of it, or nothing where memory is refused.
+fn push_world<'i, const S: usize>(
+    frontier: &mut VecDeque<Machine<'i, S>>,
+    links: &mut Vec<Link>,
+    fates: &mut Vec<Fate>,
+    keys: &mut Table,
+    world: NewWorld<'i, S>,
+) -> Result<(), AllocError>
+    requires new { ¬ (Has keys.old world.key.items) }
+    ensures machine { OnOk result (frontier.new.items ≡ frontier.old.items ++ world.entry.machine ∷ []) }
+    ensures link { OnOk result (links.new.items ≡ links.old.items ++ world.entry.link ∷ []) }
+    ensures fate { OnOk result (fates.new.items ≡ fates.old.items ++ world.entry.fate ∷ []) }
+    ensures key { OnOk result (keys.new ≡ keys.old ++ world.entry.key.items ∷ []) }
+    ensures machines { OnErr result (frontier.new.items ≡ frontier.old.items) }
+    ensures links { OnErr result (links.new.items ≡ links.old.items) }
+    ensures fates { OnErr result (fates.new.items ≡ fates.old.items) }
+    ensures keys { OnErr result (keys.new ≡ keys.old) }
+{
+    frontier.reserve(1)?;
+    links.reserve(1)?;
+    fates.reserve(1)?;
+    keys.push(world.key)?;
+    links.push_reserved(world.link);
+    fates.push_reserved(world.fate);
+    frontier.push_back_reserved(world.machine);
+    Ok(())
+}
+
+/// A machine like this one, after one step more.
+fn stepped<'i, const S: usize>(
+    machine: &Machine<'i, S>,
+    step: Step,
+) -> Result<Machine<'i, S>, AllocError>
+    ensures image { IfOk result (λ m. m.image ≡ machine.now.image) }
+    ensures world { IfOk result (λ m. m.world ≡ after machine.now.image machine.now.world step) }
+{
+    let mut next = machine.try_clone()?;
+    next.step(step.p, step.s);
+    Ok(next)
+}

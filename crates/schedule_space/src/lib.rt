@@ -1,0 +1,14 @@
+//! The worlds that every schedule of an image leads to (docs/MACHINE.md, "Schedules").
+#![tactic(auto)]
+
+mod explorations;
+mod fates;
+mod finding;
+mod links;
+mod reaching;
+mod spaces;
+
+pub use explorations::{Exploration, explore};
+pub use fates::Fate;
+pub use links::{Edge, Link};
+pub use spaces::Space;

@@ -1,0 +1,138 @@
+//! A space of worlds, and what can be read of it.
+
+ghost use Rattle.std.specs.Prelude.{◌≡◌, ◌<◌, ◌↔◌, length, IfOk, reverse, Contains};
+ghost use Rattle.schedule_space.specs.declared.links.Edge.{Edge};
+ghost use Rattle.schedule_space.specs.Spaces.{count, schedule_of, world_of, machine_after, IsEdge};
+ghost use Rattle.schedule_space.specs.Fates.{IsFate};
+ghost use Rattle.schedule_space.specs.Finding.{space_of, IsSpace};
+
+use crate::fates::Fate;
+use crate::links::{Edge, Link};
+use image_file::Image;
+use machine::{LoadFault, Machine};
+use processor::Step;
+use std::alloc::{AllocError, Global};
+use std::marker::Model;
+
+/// Worlds of an image, each once, that schedules lead to: the first is the image's before any step, and each other one
+/// has a link, which says by which step from which earlier world it was found. Contracts see the image, the links and
+/// the edges; the worlds are those that the schedules of the links lead to.
+#[derive(Drop)]
+pub struct Space<'i> {
+    image: &'i Image,
+    links: Vec<Link>,
+    edges: Vec<Edge>,
+    fates: Vec<Fate>,
+}
+
+impl<'i> Model for Space<'i> {
+    ghost use Rattle.schedule_space.specs.Spaces.{SpaceValue};
+    ghost use Rattle.schedule_space.specs.Finding.{space_of, IsSpace};
+
+    ghost Value = { SpaceValue };
+
+    ghost view = { λ s. space_of s.image.now s.links.items s.edges.items };
+
+    ghost invariant = { λ s. IsSpace (space_of s.image.now s.links.items s.edges.items) s.fates.items };
+}
+
+impl<'i> Space<'i> {
+    /// The space of these parts.
+    pub(crate) fn from_parts(
+        image: &'i Image,
+        links: Vec<Link>,
+        edges: Vec<Edge>,
+        fates: Vec<Fate>,
+    ) -> Space<'i>
+        requires { IsSpace (space_of image.now links.items edges.items) fates.items }
+        ensures { result ≡ space_of image.entry.now links.items edges.items }
+    {
+        Space {
+            image,
+            links,
+            edges,
+            fates,
+        }
+    }
+
+    /// The image.
+    pub fn image(&self) -> &'i Image
+        ensures { result.now ≡ self.now.image }
+    {
+        self.image
+    }
+
+    /// How many worlds it has.
+    pub fn len(&self) -> usize
+        ensures { result ≡ count self.now }
+    {
+        self.fates.len()
+    }
+
+    /// How many steps it has that lead from one world to another.
+    pub fn step_count(&self) -> usize
+        ensures { result ≡ length self.now.edges }
+    {
+        self.edges.len()
+    }
+
+    /// The steps that lead from one world to another, in the order of the worlds that they lead from.
+    pub fn edges(&self) -> &[Edge]
+        ensures edges { result.now ≡ self.now.edges }
+        ensures each { (e : Edge) → Contains self.now.edges e → IsEdge self.now e }
+    {
+        &self.edges
+    }
+
+    /// How it goes on from the world at a place.
+    pub fn fate(&self, place: usize) -> Fate
+        requires { place < count self.now }
+        ensures { IsFate self.now.image (world_of self.now place) result }
+    {
+        self.fates[place]
+    }
+
+    /// The schedule by which the world at a place was found.
+    pub fn schedule(&self, alloc: Global, place: usize) -> Result<Vec<Step>, AllocError>
+        requires { place < count self.now }
+        ensures { IfOk result (λ v. v.items ≡ schedule_of self.now place) }
+    {
+        let mut steps = self.steps_back(alloc, place)?;
+        steps.reverse();
+        Ok(steps)
+    }
+
+    /// Its steps, the last first.
+    fn steps_back(&self, alloc: Global, place: usize) -> Result<Vec<Step>, AllocError>
+        requires { place < count self.now }
+        ensures { IfOk result (λ v. reverse v.items ≡ schedule_of self.now place) }
+    {
+        let mut steps = Vec::new(alloc);
+        let mut here = place;
+        for taken in 0..place {
+            if here == 0 {
+                return Ok(steps);
+            }
+            let link = self.links[here - 1];
+            steps.push(link.step)?;
+            here = link.from as usize;
+        }
+        Ok(steps)
+    }
+
+    /// A machine at the world at a place.
+    pub fn machine<const S: usize>(
+        &self,
+        alloc: Global,
+        place: usize,
+    ) -> Result<Machine<'i, S>, LoadFault>
+        requires { place < count self.now }
+        ensures machine { IfOk result (λ m. m ≡ machine_after self.now.image (schedule_of self.now place)) }
+        ensures streams { (result ≡ Err LoadFault.Streams) ↔ (S < self.now.image.slim) }
+    {
+        let mut machine = Machine::load(alloc, self.image)?;
+        let schedule = self.schedule(alloc, place)?;
+        machine.run(&schedule);
+        Ok(machine)
+    }
+}

@@ -1,0 +1,156 @@
+"""Pages and pictures of runs: the run in a page against what `view` tells of it, waits that are worked out anew from its
+steps, the policy, and texts of a program that look like markup."""
+
+import base64
+import glob
+import hashlib
+import html
+import json
+import os
+import re
+import tempfile
+import xml.etree.ElementTree
+
+import checks
+import tool
+from of_lab import EXAMPLES, lab, source_of
+
+HOSTILE = """; </script><script>alert(1)</script> @RUN@ @SCRIPT@ <!-- <img src=x onerror=alert(1)>
+ .entry go
+ .data 0 ; </title><b>"quoted" & 'more'
+go: LIT r1, 7 ; @TITLE@ ]]> \\u003c
+ STORE.N r1, r0, 0
+ QUIT
+"""
+
+
+def written(command, *words):
+    """The status of a command that writes a file, what it says, and the file's text."""
+    with tempfile.TemporaryDirectory(prefix="mta-case-") as folder:
+        path = os.path.join(folder, "made")
+        ended = lab(command, *words, "--out", path)
+        text = tool.read(path).decode() if os.path.exists(path) else None
+        return ended, text, os.listdir(folder)
+
+
+def run_in(page):
+    """The run in a page."""
+    return json.loads(re.search(r'<script type="application/json" id="run">(.*?)</script>', page, re.DOTALL).group(1))
+
+
+@checks.others("pages/runs")
+def runs():
+    """Each example by each of its schedules, and by random ones."""
+    for schedule in sorted(glob.glob(os.path.join(EXAMPLES, "*.schedule"))):
+        yield os.path.basename(schedule), lambda schedule=schedule: page_as_viewed(source_of(schedule), schedule)
+    for source in sorted(glob.glob(os.path.join(EXAMPLES, "*.asm"))):
+        words = ("--seed", "3", "--steps", "400")
+        yield os.path.basename(source), lambda source=source, words=words: page_as_viewed(source, *words)
+
+
+def page_as_viewed(source, *words):
+    _, page, _ = written("page", source, *words)
+    run = run_in(page)
+    head, *steps, end = [json.loads(line) for line in lab("view", source, *words, "--json").out.decode().splitlines()]
+    for step in steps:
+        del step["version"]
+    name = os.path.basename(source).removesuffix(".asm")
+    wanted = {key: head[key] for key in ("version", "source", "program", "data", "start")}
+    wanted |= {"name": name, "steps": steps, "waits": waits_of(run), "end": end}
+    got = {key: run[key] for key in wanted}
+    return json.dumps(wanted, sort_keys=True).encode(), json.dumps(got, sort_keys=True).encode()
+
+
+def waits_of(run):
+    """The waits of a run by its steps alone: a blocked reference waits for the state that its word is not in."""
+    full, turned, waits, now = {}, {}, [], {}
+    address = 0
+    for count, _, tags in run["start"]["memory"]:
+        for _ in range(count):
+            full[address] = tags & 1
+            address += 8
+    for number, step in enumerate(run["steps"], start=1):
+        stream = f"{step['p']}.{step['s']}"
+        wait = now.get(stream)
+        word = step["ref"][3] if step["o"] == "blocked" else None
+        if wait and wait["word"] == word:
+            wait["tries"] += 1
+        elif step["o"] != "skipped":
+            if wait:
+                turn = turned.get(wait["word"], 0)
+                wait["to"], wait["met"] = number, turn if step["o"] == "done" and turn > wait["from"] else 0
+                del now[stream]
+            if word is not None:
+                now[stream] = {"stream": stream, "word": word, "for": "empty" if full[word] else "full", "from": number,
+                               "tries": 1, "made": turned.get(word, 0), "to": None, "met": 0}
+                waits.append(now[stream])
+        for place, before, after in step["ch"]:
+            if place.endswith("].tags") and before % 2 != after % 2:
+                word = int(place[1:].split("]")[0])
+                full[word], turned[word] = after % 2, number
+    return waits
+
+
+@checks.others("pages/findings")
+def findings():
+    """Runs of which it was worked out by hand what went wrong in them; steps count from 1."""
+    lost = {"kind": "lost", "word": 8, "read": 2, "over": 4, "stored": 7}
+    torn = {"kind": "torn", "stale": 0, "fresh": 8, "reads": [1, 6], "writes": [3, 4]}
+    for name, schedule, wanted in (("lock", "lock.lost_update", [lost]), ("lock", "lock.ends", []),
+                                   ("readers_writer", "readers_writer.torn_read", [torn])):
+        yield schedule, lambda name=name, schedule=schedule, wanted=wanted: (wanted, found_in(name, schedule))
+
+
+def found_in(name, schedule):
+    _, page, _ = written("page", f"{name}.asm", f"{schedule}.schedule")
+    return run_in(page)["findings"]
+
+
+@checks.others("pages/safety")
+def safety():
+    """A program whose texts look like markup and like the places of the page."""
+    yield "hostile", hostile
+    yield "one page for all", lambda: (frame(written("page", "lock.asm")[1]), frame(written("page", "future.asm")[1]))
+
+
+def frame(page):
+    """A page without its title and its run: whatever the run is, it is the same."""
+    return re.sub(r"<title>.*?</title>|(?<=id=\"run\">).*?(?=</script>)", "", page, flags=re.DOTALL)
+
+
+def hostile():
+    title = "</title><script>'\"&@RUN@"
+    with tool.made_files(source=HOSTILE.encode()) as paths:
+        ended, page, made = written("page", paths["source"], "--title", title)
+    if ended.status or ended.out or ended.err or made != ["made"]:
+        return True, (ended.status, ended.out, ended.err, made)
+    told = re.search(r"<title>(.*?)</title>", page).group(1)
+    script = re.search(r"<script>(.*?)</script>", page, re.DOTALL).group(1)
+    style = re.search(r"<style>(.*?)</style>", page, re.DOTALL).group(1)
+    policy = re.search(r'Content-Security-Policy"\s+content="(.*?)"', page).group(1)
+    wanted = (f"{title}, a fair schedule", HOSTILE.splitlines(), 2, 1, True)
+    hashes = all(f"'sha256-{base64.b64encode(hashlib.sha256(text.encode()).digest()).decode()}'" in policy
+                 for text in (script, style))
+    run = run_in(page)
+    return wanted, (html.unescape(told), run["source"], page.count("<script"), page.count("<title>"), hashes)
+
+
+@checks.others("pages/pictures")
+def pictures():
+    """Each example by each of its schedules: the picture is well formed, and has a sign for each step."""
+    for schedule in sorted(glob.glob(os.path.join(EXAMPLES, "*.schedule"))):
+        yield os.path.basename(schedule), lambda schedule=schedule: signs(source_of(schedule), schedule)
+
+
+def signs(source, schedule):
+    steps = lab("view", source, schedule, "--json").out.decode().splitlines()[1:-1]
+    if len(steps) > 500:
+        return 1, written("picture", source, schedule)[0].status
+    _, picture, _ = written("picture", source, schedule)
+    found = [node.get("class") for node in xml.etree.ElementTree.fromstring(picture).iter()]
+    outcomes = [json.loads(step)["o"].split()[0] for step in steps]
+    # the legend has one of each of these
+    legend = {"done": 1, "blocked": 1, "trapped": 1}
+    names = ("done", "blocked", "trapped", "stopped")
+    return ({name: outcomes.count(name) for name in names},
+            {name: found.count(name) - legend.get(name, 0) for name in names})
