@@ -127,7 +127,7 @@ def hostile():
     told = re.search(r"<title>(.*?)</title>", page).group(1)
     script = re.search(r"<script>(.*?)</script>", page, re.DOTALL).group(1)
     style = re.search(r"<style>(.*?)</style>", page, re.DOTALL).group(1)
-    policy = re.search(r'Content-Security-Policy"\s+content="(.*?)"', page).group(1)
+    policy = re.search(r'Content-Security-Policy"\s+content="(.*?)"', page, re.DOTALL).group(1)
     wanted = (f"{title}, a fair schedule", HOSTILE.splitlines(), 2, 1, True)
     hashes = all(f"'sha256-{base64.b64encode(hashlib.sha256(text.encode()).digest()).decode()}'" in policy
                  for text in (script, style))
