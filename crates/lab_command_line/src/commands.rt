@@ -102,6 +102,25 @@ pub struct SurveyRequest<'a> {
     pub most: usize,
     /// The file of what each end has to be.
     pub expected: Option<&'a str>,
+    /// Beside it all schedules, to say how many of their ends were met: the most worlds that are looked for.
+    pub explored: Option<usize>,
+    /// How it is printed.
+    pub shown: Shown,
+}
+
+/// What `explore` is asked.
+#[derive(Clone, Copy, Debug)]
+pub struct ExploreRequest<'a> {
+    /// The program: a source text or an image.
+    pub program: &'a str,
+    /// The file of what each end has to be, and what is claimed of each world.
+    pub expected: Option<&'a str>,
+    /// The file of the schedule that all schedules begin with.
+    pub from: Option<&'a str>,
+    /// The most worlds that are looked for, at least 1.
+    pub most: usize,
+    /// The folder for the shortest schedules.
+    pub keep: Option<&'a str>,
     /// How it is printed.
     pub shown: Shown,
 }
@@ -115,6 +134,8 @@ pub struct GradeRequest<'a> {
     pub seeds: usize,
     /// The most steps of each schedule.
     pub most: usize,
+    /// All schedules in place of seeds: the most worlds that are looked for.
+    pub explored: Option<usize>,
     /// The submissions, one at least: source texts or images.
     pub submissions: Vec<&'a str>,
     /// How it is printed.
@@ -148,6 +169,8 @@ pub enum LabCommand<'a> {
     },
     /// Runs many random schedules, and counts their ends.
     Survey(SurveyRequest<'a>),
+    /// Shows every end that schedules of a program come to.
+    Explore(ExploreRequest<'a>),
     /// Judges submissions.
     Grade(GradeRequest<'a>),
     /// Writes a page that shows a run.

@@ -65,6 +65,14 @@ with a seed that leads there.
 Example:
   mta_lab survey lock.asm --seeds 1000";
 
+pub(crate) const EXPLORE: &str = "\
+Looks for all worlds that schedules of a program lead to, and shows their ends: how many worlds,
+a shortest schedule to them, who waits or was stopped, and the words that changed. Where it says
+complete, no schedule of any length comes to another end.
+
+Example:
+  mta_lab explore lock.asm";
+
 pub(crate) const GRADE: &str = "\
 Judges submissions by many random schedules each: a line a submission, which is right, wrong,
 a deadlock, a trap, out of steps, or a faulty source, with the seed that shows it.
@@ -102,6 +110,10 @@ pub(crate) const SCHEDULE_FILE: &str =
 pub(crate) const STEPS: &str = "the most steps of a made schedule, 1 to 1000000 [10000]";
 
 pub(crate) const SEED: &str = "steps are random, by a generator with this seed";
+
+pub(crate) const BEGIN: &str = "a schedule: only those that begin with it [none]";
+
+pub(crate) const STATES: &str = "of every schedule, the most worlds that are looked for [20000000]";
 
 pub(crate) const JSON: &str = "prints JSON, an object a line";
 

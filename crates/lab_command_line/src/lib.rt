@@ -4,10 +4,11 @@
 mod commands;
 mod help;
 mod options;
+mod parsers;
 mod reading;
 
 pub use commands::{
-    CheckRequest, FileKind, GradeRequest, LabCommand, Maker, PageRequest, RunChoice, Shown,
-    SurveyRequest, ViewRequest,
+    CheckRequest, ExploreRequest, FileKind, GradeRequest, LabCommand, Maker, PageRequest,
+    RunChoice, Shown, SurveyRequest, ViewRequest,
 };
 pub use reading::read_lab_command;

@@ -13,6 +13,12 @@ pub(crate) const MOST_SEEDS: u64 = 100_000_000;
 /// How many steps a made schedule has at most, where none are said.
 pub(crate) const USUAL_STEPS: usize = 10_000;
 
+/// The most worlds that `explore` may be asked to look for.
+pub(crate) const MOST_WORLDS: u64 = 1_000_000_000;
+
+/// How many worlds it looks for at most, where none are said.
+pub(crate) const USUAL_WORLDS: usize = 20_000_000;
+
 /// How many seeds `grade` tries, where none are said.
 pub(crate) const USUAL_SEEDS: usize = 200;
 

@@ -1,7 +1,6 @@
 //! The command `compare`.
 
 use crate::answer::{Answer, Status};
-use crate::findings::push_findings_of_run;
 use crate::inputs::Inputs;
 use crate::json::push_object;
 use crate::lab_fault::LabFault;
@@ -9,6 +8,7 @@ use crate::programs::{Program, read_program};
 use crate::scheduling::{loaded, read_steps};
 use crate::viewing::style_of;
 use lab_command_line::Shown;
+use lab_ends::push_findings_of_run;
 use lab_json::{VERSION, differences_value, end_value};
 use lab_texts::{
     ProgramNames, end_of, push_differences, push_differing_words, push_end, push_stream,

@@ -61,9 +61,9 @@ impl<'a, 'i, 't, const S: usize> Desk<'a, 'i, 't, S> {
         out: &mut String,
     ) -> Result<(), LabFault> {
         match word {
-            DebugWord::Step => self.step(count_of(rest), out),
+            DebugWord::Step => self.step(rest, out),
             DebugWord::Next => self.next(out),
-            DebugWord::Back => self.back(count_of(rest), out),
+            DebugWord::Back => self.back(rest, out),
             DebugWord::Continue => self.go(&Command::Continue, out),
             DebugWord::ReverseContinue => self.go(&Command::Back, out),
             DebugWord::Until => self.until(rest, out),
@@ -72,18 +72,26 @@ impl<'a, 'i, 't, const S: usize> Desk<'a, 'i, 't, S> {
             DebugWord::Delete => self.delete(rest, out),
             DebugWord::Info => self.info(rest, out),
             DebugWord::Print => self.print(rest, out),
-            DebugWord::List => self.list(self.stream_of(rest), out),
-            DebugWord::Why => self.why(self.stream_of(rest), out),
+            DebugWord::List => self.list(rest, out),
+            DebugWord::Why => self.why(rest, out),
             DebugWord::Try => self.take(rest, out),
             DebugWord::Help | DebugWord::Save | DebugWord::Quit => Ok(push_help(out, rest)?),
         }
     }
 
-    /// The stream that a text names, or else the one of the next step, or of the last one.
-    pub(crate) fn stream_of(&self, text: &str) -> Step {
-        if let Some(UserName::Stream(step)) = read_name(text) {
-            return step;
+    /// The stream that a text names, or where there is no text the one that is looked at; None of another text.
+    pub(crate) fn stream_of(&self, text: &str) -> Option<Step> {
+        if text.is_empty() {
+            return Some(self.stream_here());
         }
+        match read_name(text) {
+            Some(UserName::Stream(step)) => Some(step),
+            _ => None,
+        }
+    }
+
+    /// The stream that is looked at: the one of the next step, or else of the last one.
+    pub(crate) fn stream_here(&self) -> Step {
         match self.named.session.next_step() {
             Some(step) => step,
             None => self
@@ -95,7 +103,10 @@ impl<'a, 'i, 't, const S: usize> Desk<'a, 'i, 't, S> {
     }
 
     /// So many steps forward, as far as the schedule goes.
-    fn step(&mut self, count: u64, out: &mut String) -> Result<(), LabFault> {
+    fn step(&mut self, rest: &str, out: &mut String) -> Result<(), LabFault> {
+        let Some(count) = count_of(rest) else {
+            return Ok(out.push_str("step takes a number of steps, as 5\n")?);
+        };
         let steps = self.named.session.schedule().len() as u64;
         let left = steps.saturating_sub(self.named.session.position());
         if left == 0 {
@@ -106,7 +117,7 @@ impl<'a, 'i, 't, const S: usize> Desk<'a, 'i, 't, S> {
 
     /// On until the stream of the next step has stepped.
     fn next(&mut self, out: &mut String) -> Result<(), LabFault> {
-        let stream = self.stream_of("");
+        let stream = self.stream_here();
         match self.named.session.next_of(stream.p, stream.s) {
             Some(position) => self.go(&Command::Go(position), out),
             None => Ok(out.push_str("the schedule ends here\n")?),
@@ -114,7 +125,10 @@ impl<'a, 'i, 't, const S: usize> Desk<'a, 'i, 't, S> {
     }
 
     /// So many steps back, as far as the start.
-    fn back(&mut self, count: u64, out: &mut String) -> Result<(), LabFault> {
+    fn back(&mut self, rest: &str, out: &mut String) -> Result<(), LabFault> {
+        let Some(count) = count_of(rest) else {
+            return Ok(out.push_str("back takes a number of steps, as 5\n")?);
+        };
         let position = self.named.session.position().saturating_sub(count);
         self.go(&Command::Go(position), out)
     }
@@ -213,9 +227,12 @@ impl<'a, 'i, 't, const S: usize> Desk<'a, 'i, 't, S> {
     }
 }
 
-/// The count that a text is; 1 where it is none.
-fn count_of(text: &str) -> u64 {
-    text.parse::<u64>().unwrap_or(1)
+/// The count that a text is, 1 where there is no text; None where it is another text.
+fn count_of(text: &str) -> Option<u64> {
+    if text.is_empty() {
+        return Some(1);
+    }
+    text.parse::<u64>().ok()
 }
 
 /// Adds why a command was refused.

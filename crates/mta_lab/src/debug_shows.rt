@@ -82,7 +82,7 @@ impl<'a, 'i, 't, const S: usize> Desk<'a, 'i, 't, S> {
                 None => Ok(out.push_str("there is no word at this address\n")?),
             },
             Some(UserName::Register { stream, register }) => {
-                let step = stream.unwrap_or(self.stream_of(""));
+                let step = stream.unwrap_or(self.stream_here());
                 self.push_register(step, register, out)
             }
             Some(UserName::Stream(step)) if self.named.pc(step.p, step.s).is_some() => {
@@ -112,7 +112,10 @@ impl<'a, 'i, 't, const S: usize> Desk<'a, 'i, 't, S> {
     }
 
     /// Adds the program around a stream, with a mark at its place.
-    pub(crate) fn list(&self, step: Step, out: &mut String) -> Result<(), LabFault> {
+    pub(crate) fn list(&self, rest: &str, out: &mut String) -> Result<(), LabFault> {
+        let Some(step) = self.stream_of(rest) else {
+            return Ok(out.push_str("list takes a stream, as 2.0\n")?);
+        };
         let Some(pc) = self.named.pc(step.p, step.s) else {
             return Ok(out.push_str("there is no such stream\n")?);
         };
@@ -136,7 +139,10 @@ impl<'a, 'i, 't, const S: usize> Desk<'a, 'i, 't, S> {
     }
 
     /// Adds why a stream waits, and which step left the word so.
-    pub(crate) fn why(&self, step: Step, out: &mut String) -> Result<(), LabFault> {
+    pub(crate) fn why(&self, rest: &str, out: &mut String) -> Result<(), LabFault> {
+        let Some(step) = self.stream_of(rest) else {
+            return Ok(out.push_str("why takes a stream, as 2.0\n")?);
+        };
         let Some(wait) = self.named.wait(step.p, step.s) else {
             push_stream(out, step.p, step.s)?;
             return Ok(out.push_str(" does not wait\n")?);

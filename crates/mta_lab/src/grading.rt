@@ -1,13 +1,15 @@
 //! The command `grade`.
 
 use crate::answer::{Answer, Status};
+use crate::explored_grades::explored_verdict;
 use crate::inputs::Inputs;
 use crate::json::push_object;
 use crate::lab_fault::LabFault;
 use crate::outcomes::{Outcome, OutcomeKind, Seeds, outcomes_of, push_expectation};
 use crate::programs::{Program, program_of};
-use crate::surveying::{expected_of, status_of};
+use crate::surveying::status_of;
 use crate::viewing::style_of;
+use crate::wished::expectations_of;
 use expectations::Expectation;
 use lab_command_line::GradeRequest;
 use lab_json::VERSION;
@@ -19,23 +21,29 @@ use std::thread::Threads;
 
 /// What is said of a submission.
 #[derive(Drop)]
-struct Verdict {
+pub(crate) struct Verdict {
     /// The word of the table.
-    word: &'static str,
-    /// Why, and by which seed.
-    why: String,
+    pub word: &'static str,
+    /// Why, and by which seed or schedule.
+    pub why: String,
     /// What it means for the exit status.
-    status: Status,
+    pub status: Status,
 }
 
-/// Judges submissions, each by the same seeds.
+/// Judges submissions, each by the same seeds or by every schedule.
 pub(crate) fn grade<X: Threads + Sync, F: Files, R: Read>(
     rt: &X,
     alloc: Global,
     inputs: &mut Inputs<'_, F, R>,
     request: &GradeRequest,
 ) -> Result<Answer, LabFault> {
-    let expected = expected_of(alloc, inputs, request.expected)?;
+    let wishes = inputs.read(alloc, request.expected)?;
+    // with every schedule there are claims too, which are read by the names of each submission
+    let expected = if request.explored.is_some() {
+        Vec::new(alloc)
+    } else {
+        expectations_of(alloc, request.expected, &wishes)?
+    };
     let mut output = String::new(alloc);
     let mut status = Status::Done;
     for path in &request.submissions {
@@ -47,7 +55,10 @@ pub(crate) fn grade<X: Threads + Sync, F: Files, R: Read>(
                 continue;
             }
         };
-        let verdict = sampled_verdict(rt, alloc, request, &expected, &program)?;
+        let verdict = match request.explored {
+            Some(most) => explored_verdict(alloc, request, &wishes, &program, most)?,
+            None => sampled_verdict(rt, alloc, request, &expected, &program)?,
+        };
         status = status.worse(verdict.status);
         push_verdict(alloc, &mut output, request.shown.json, path, &verdict)?;
     }
@@ -179,7 +190,7 @@ fn why_of(
 }
 
 /// Adds the expectation that an end misses, what is told of it, and the first finding on the way to it.
-fn push_why(
+pub(crate) fn push_why(
     why: &mut String,
     expected: &[Expectation],
     missed: Option<usize>,

@@ -5,6 +5,7 @@ use crate::assembling::assemble_file;
 use crate::checking::check;
 use crate::comparing::compare;
 use crate::debugging::{Screen, debug};
+use crate::exploring::explore;
 use crate::grading::grade;
 use crate::inputs::Inputs;
 use crate::lab_fault::LabFault;
@@ -92,6 +93,7 @@ fn answer_to<X: Threads + Sync, F: Files, R: Read>(
         // (it has its own way of writing)
         LabCommand::Debug { .. } => Err(LabFault::Closed),
         LabCommand::Survey(request) => survey(rt, alloc, inputs, request),
+        LabCommand::Explore(request) => explore(alloc, inputs, request),
         LabCommand::Grade(request) => grade(rt, alloc, inputs, request),
         LabCommand::Page(request) => write_page(alloc, inputs, request),
         LabCommand::Picture(request) => write_picture(alloc, inputs, request),

@@ -11,8 +11,8 @@ mod debug_points;
 mod debug_shows;
 mod debug_words;
 mod debugging;
-mod end_words;
-mod findings;
+mod explored_grades;
+mod exploring;
 mod grading;
 mod inputs;
 mod json;
@@ -26,6 +26,7 @@ mod programs;
 mod scheduling;
 mod surveying;
 mod viewing;
+mod wished;
 
 use lab::run_lab;
 use std::env;

@@ -1,10 +1,9 @@
 //! Ends of random schedules, and what they are counted by.
 
-use crate::end_words::{StoppedBy, end_words_of};
-use crate::findings::first_finding;
 use crate::programs::Program;
 use crate::scheduling::loaded;
 use expectations::{Expectation, FullEmpty, first_missed};
+use lab_ends::{end_words_of, first_finding, is_expected_trap};
 use lab_texts::{NumberStyle, ProgramNames, push_value};
 use machine::LoadFault;
 use rayon::prelude::*;
@@ -127,6 +126,7 @@ fn outcomes_on<X: Threads + Sync, const S: usize>(
             add_outcome(&mut outcomes, outcome)?;
         }
     }
+    add_findings::<X, S>(rt, alloc, program, &names, &mut outcomes, seeds)?;
     Ok(outcomes)
 }
 
@@ -172,7 +172,7 @@ fn outcome_of<const S: usize>(
     let is_trapped = words
         .stopped
         .iter()
-        .any(|stream| !is_expected(expected, stream));
+        .any(|stream| !is_expected_trap(expected, stream));
     let kind = match made.end {
         MadeEnd::NobodyRuns if !words.stopped.is_empty() => OutcomeKind::Stopped,
         MadeEnd::NobodyRuns => OutcomeKind::Finished,
@@ -187,8 +187,37 @@ fn outcome_of<const S: usize>(
         seed,
         steps: made.steps.len(),
         runs,
-        finding: first_finding::<S>(alloc, names, &program.image, &made.steps)?,
+        finding: String::new(alloc),
     })
+}
+
+/// Adds the first finding of each outcome's run, over all cores.
+fn add_findings<X: Threads + Sync, const S: usize>(
+    rt: &X,
+    alloc: Global,
+    program: &Program,
+    names: &ProgramNames,
+    outcomes: &mut [Outcome],
+    seeds: Seeds,
+) -> Result<(), AllocError> {
+    let known = &*outcomes;
+    let found = (0..known.len())
+        .into_par_iter()
+        .map(|place: usize| -> Result<String, AllocError> {
+            let seed = known.get(place).ok_or(AllocError)?.seed;
+            let mut machine = loaded::<S>(alloc, &program.image)?;
+            let made = random(alloc, &mut machine, seed, seeds.most)?;
+            first_finding::<S>(alloc, names, &program.image, &made.steps)
+        })
+        .with_min_len(1)
+        .collect::<Result<Vec<String>, AllocError>>(rt, alloc);
+    let Ok(Ok(found)) = found else {
+        return Err(AllocError);
+    };
+    for (outcome, finding) in outcomes.iter_mut().zip(found) {
+        outcome.finding = finding;
+    }
+    Ok(())
 }
 
 /// Adds an outcome to those that are known.
@@ -206,16 +235,6 @@ fn add_outcome(outcomes: &mut Vec<Outcome>, outcome: Outcome) -> Result<(), Allo
 /// Whether two outcomes are told alike.
 fn is_same_outcome(one: &Outcome, other: &Outcome) -> bool {
     one.kind == other.kind && one.missed == other.missed && one.text == other.text
-}
-
-/// Whether it is expected that this trap stops this stream.
-pub(crate) fn is_expected(expected: &[Expectation], stopped: &StoppedBy) -> bool {
-    expected.iter().any(|expectation| match *expectation {
-        Expectation::Stopped { p, s, trap } => {
-            p == stopped.p && s == stopped.s && trap == stopped.trap.number()
-        }
-        Expectation::Word { .. } | Expectation::Register { .. } | Expectation::Finished => false,
-    })
 }
 
 /// Adds an expectation, as it is written.

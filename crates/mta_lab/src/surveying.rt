@@ -1,15 +1,19 @@
 //! The command `survey`.
 
 use crate::answer::{Answer, Status};
+use crate::exploring::{Explored, Search, explore_program};
 use crate::inputs::Inputs;
 use crate::json::push_object;
 use crate::lab_fault::LabFault;
 use crate::outcomes::{Outcome, OutcomeKind, Seeds, outcomes_of, push_expectation};
-use crate::programs::read_program;
+use crate::programs::{Program, read_program};
 use crate::viewing::style_of;
-use expectations::{Expectation, ExpectationFault, ExpectationFaultKind, read_expectations};
+use crate::wished::expected_of;
+use expectations::Expectation;
 use lab_command_line::SurveyRequest;
+use lab_ends::{SpaceEnd, SpaceEndKind, Wishes};
 use lab_json::{VERSION, digits};
+use lab_texts::{NumberStyle, ProgramNames};
 use serde_json::{Value, json};
 use std::alloc::{AllocError, Global};
 use std::io::Read;
@@ -56,6 +60,10 @@ pub(crate) fn survey<X: Threads + Sync, F: Files, R: Read>(
             push_outcome(&mut output, width, &expected, outcome)?;
         }
     }
+    if let Some(most) = request.explored {
+        let found = every_end(alloc, &program, expected, seeds.style, most)?;
+        push_met(alloc, &mut output, request.shown.json, &found, &outcomes)?;
+    }
     Ok(Answer {
         output,
         errors: String::new(alloc),
@@ -63,46 +71,71 @@ pub(crate) fn survey<X: Threads + Sync, F: Files, R: Read>(
     })
 }
 
-/// The expectations of a file.
-pub(crate) fn expected_of<F: Files, R: Read>(
+/// The ends of every schedule of a program.
+fn every_end(
     alloc: Global,
-    inputs: &mut Inputs<'_, F, R>,
-    path: &str,
-) -> Result<Vec<Expectation>, LabFault> {
-    let text = inputs.read(alloc, path)?;
-    match read_expectations(alloc, &text) {
-        Ok(expected) => Ok(expected),
-        Err(
-            ExpectationFault {
-                kind: ExpectationFaultKind::NoMemory,
-                ..
-            },
-        ) => Err(LabFault::NoMemory),
-        Err(fault) => Err(LabFault::Lines(expectation_words(alloc, path, fault)?)),
-    }
+    program: &Program,
+    expected: Vec<Expectation>,
+    style: NumberStyle,
+    most: usize,
+) -> Result<Explored, AllocError> {
+    let names = ProgramNames::of(alloc, &program.text)?;
+    let wishes = Wishes {
+        ends: expected,
+        claims: Vec::new(alloc),
+    };
+    let begin = Vec::new(alloc);
+    let asked = Search {
+        wishes: &wishes,
+        begin: &begin,
+        most,
+        style,
+    };
+    explore_program(alloc, program, &names, &asked)
 }
 
-/// What is wrong with a file of expectations.
-fn expectation_words(
+/// Adds how many of the ends of every schedule were met.
+fn push_met(
     alloc: Global,
-    path: &str,
-    fault: ExpectationFault,
-) -> Result<String, AllocError> {
-    let words = match fault.kind {
-        ExpectationFaultKind::Form => {
-            "a line is word ADDRESS VALUE [full|empty], register P.S rN VALUE, finished, or stopped P.S TRAP"
-        }
-        ExpectationFaultKind::Address =>
-            "no memory has a word at this address: multiples of 8 below 2097152",
-        ExpectationFaultKind::Stream => "a stream is P.S, P 0 to 15 and S 0 to 127",
-        ExpectationFaultKind::Register => "a register is r0 to r31",
-        ExpectationFaultKind::Number => "this is no number of 64 bits",
-        ExpectationFaultKind::Trap => "a trap is a number from 1 to 10",
-        ExpectationFaultKind::Empty => "nothing is expected here, so nothing can be judged",
-        ExpectationFaultKind::NoMemory => "no memory",
+    out: &mut String,
+    is_json: bool,
+    found: &Explored,
+    outcomes: &[Outcome],
+) -> Result<(), LabFault> {
+    let ends = found.ends.len();
+    let met = found
+        .ends
+        .iter()
+        .filter(|end| outcomes.iter().any(|outcome| is_met_by(end, outcome)))
+        .count();
+    let worlds = found.worlds;
+    let complete = found.is_complete;
+    if is_json {
+        let value = json!(in alloc; {
+            "version": VERSION, "ends": ends, "met": met, "worlds": worlds, "complete": complete
+        })?;
+        return push_object(alloc, out, &value);
+    }
+    let which = if complete {
+        "every schedule"
+    } else {
+        "some schedules"
     };
-    let line = fault.line.max(1);
-    format!(in alloc; "{path}:{line}:1: error: {words}\n")
+    Ok(write!(
+        out,
+        "met {met} of the {ends} ends of {which} ({worlds} worlds)\n"
+    )?)
+}
+
+/// Whether an outcome is an end of all schedules.
+fn is_met_by(end: &SpaceEnd, outcome: &Outcome) -> bool {
+    let is_kind = match outcome.kind {
+        OutcomeKind::Finished => end.kind == SpaceEndKind::Finished,
+        OutcomeKind::Stopped => end.kind == SpaceEndKind::Stopped,
+        OutcomeKind::Deadlock => end.kind == SpaceEndKind::Deadlock,
+        OutcomeKind::OutOfSteps => false,
+    };
+    is_kind && end.missed == outcome.missed && end.text == outcome.text
 }
 
 /// How an outcome counts for the exit status.
@@ -119,7 +152,7 @@ pub(crate) fn status_of(outcome: &Outcome) -> Status {
 }
 
 /// How many digits a number has.
-fn digits_of(number: usize) -> usize {
+pub(crate) fn digits_of(number: usize) -> usize {
     let mut digits: usize = 1;
     let mut rest = number / 10;
     for _ in 0..MOST_DIGITS {

@@ -1,13 +1,13 @@
 //! The command `view`.
 
 use crate::answer::{Answer, Status};
-use crate::findings::push_findings_of_run;
 use crate::inputs::Inputs;
 use crate::json::push_object;
 use crate::lab_fault::LabFault;
 use crate::programs::{Program, read_program};
 use crate::scheduling::{loaded, steps_of};
 use lab_command_line::{RunChoice, Shown, ViewRequest};
+use lab_ends::push_findings_of_run;
 use lab_json::{end_value, head_value, step_value};
 use lab_texts::{
     Columns, EndKind, NumberStyle, ProgramNames, RunEnd, end_of, push_differing_words, push_end,

@@ -50,15 +50,17 @@ breadth_more v l from is = record {
             subst (λ (n : ℕ). depth (with_link v l) n ≤ depth (with_link v l) k) (sym at) (omega arith)
       ]
 
-pub breadth_stays : (v w : SpaceValue) (from : ℕ) → w.links ≡ v.links → IsBreadthFirst v from → IsBreadthFirst w from
-breadth_stays v w from links is = record {
+pub breadth_stays : (v w : SpaceValue) (from : ℕ) → w.begin ≡ v.begin → w.links ≡ v.links → IsBreadthFirst v from → IsBreadthFirst w from
+breadth_stays v w from begin links is = record {
   sorted = λ j k le below.
-      subst (λ (ls : List Link). length (get_or (schedules ls) j []) ≤ length (get_or (schedules ls) k [])) (sym links)
+      subst (λ (xs : List (List Step)). length (get_or xs j []) ≤ length (get_or xs k [])) same
       (is.sorted j k le (omega (arith, below, ap length links)));
   near = λ k below.
-      subst (λ (ls : List Link). length (get_or (schedules ls) k []) ≤ length (get_or (schedules ls) from []) + 1)
-      (sym links) (is.near k (omega (arith, below, ap length links)));
-}
+      subst (λ (xs : List (List Step)). length (get_or xs k []) ≤ length (get_or xs from []) + 1) same
+      (is.near k (omega (arith, below, ap length links)));
+} where
+  same : schedules v.begin v.links ≡ schedules w.begin w.links
+  same = λ i. schedules (sym begin i) (sym links i)
 
 -- on to the next place
 pub breadth_next : (v : SpaceValue) (from : ℕ) → from + 1 < count v → IsBreadthFirst v from
@@ -88,12 +90,12 @@ pub record IsNear (v : SpaceValue) (ts : List Step) : Type 0 where
   pub is : world_of v place ≡ run v.image ts
   pub short : depth v place ≤ length ts
 
-pub near_start : (v : SpaceValue) → IsNear v []
+pub near_start : (v : SpaceValue) → IsNear v v.begin
 near_start v = record {
   place = 0;
   below = omega arith;
-  is = ap (run v.image) (first-schedule v.links);
-  short = omega (arith, ap length (first-schedule v.links));
+  is = ap (run v.image) (first-schedule v.begin v.links);
+  short = omega (arith, ap length (first-schedule v.begin v.links));
 }
 
 near_more : (v : SpaceValue) (ts : List Step) (t : Step) (n : IsNear v ts) → IsExpanded v n.place
@@ -112,9 +114,10 @@ near_from v all us (t ∷ ts) n =
     subst (IsNear v) (append_assoc us (t ∷ []) ts)
     (near_from v all (us ++ t ∷ []) ts (near_more v us t n (all n.place n.below)))
 
--- where all are expanded, each schedule leads to a world of the space
-near_all : (v : SpaceValue) → ((k : ℕ) → k < count v → IsExpanded v k) → (ts : List Step) → IsNear v ts
-near_all v all ts = near_from v all [] ts (near_start v)
+-- where all are expanded, each schedule that goes on from the beginning leads to a world of the space
+near_all : (v : SpaceValue) → ((k : ℕ) → k < count v → IsExpanded v k) → (ts : List Step)
+    → IsNear v (v.begin ++ ts)
+near_all v all ts = near_from v all v.begin ts (near_start v)
 
 pub complete_from : (v : SpaceValue) → ((k : ℕ) → k < count v → IsExpanded v k) → IsComplete v
 complete_from v all ts = let n = near_all v all ts in (n.place, n.below, n.is)
@@ -127,7 +130,8 @@ near_short v k ts distinct below leads n =
     subst (λ (j : ℕ). depth v j ≤ length ts) same n.short
 
 pub shortest_all : (v : SpaceValue) → IsDistinct v → ((k : ℕ) → k < count v → IsExpanded v k) → IsShortest v
-shortest_all v distinct all k below ts leads = near_short v k ts distinct below leads (near_all v all ts)
+shortest_all v distinct all k below ts leads =
+    near_short v k (v.begin ++ ts) distinct below leads (near_all v all ts)
 
 -- The same where only the worlds before a place are expanded.
 
@@ -153,9 +157,9 @@ near_or_long v from us (t ∷ ts) breadth all n =
 pub shortest_below : (v : SpaceValue) (from : ℕ) → IsDistinct v → IsBreadthFirst v from
     → ((k : ℕ) → k < from → IsExpanded v k) → IsShortest v
 shortest_below v from distinct breadth all k below ts leads =
-    by_case (near_or_long v from [] ts breadth all (inl (near_start v))) where
-      by_case : IsNearOrLong v from ts → depth v k ≤ length ts
-      by_case (inl n) = near_short v k ts distinct below leads n
+    by_case (near_or_long v from v.begin ts breadth all (inl (near_start v))) where
+      by_case : IsNearOrLong v from (v.begin ++ ts) → depth v k ≤ length (v.begin ++ ts)
+      by_case (inl n) = near_short v k (v.begin ++ ts) distinct below leads n
       by_case (inr long) = omega (arith, breadth.near k below, long)
 
 -- All edges.

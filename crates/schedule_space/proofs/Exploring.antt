@@ -4,26 +4,30 @@ use Rattle.std.specs.Prelude.{Result, Ok, Err, OnOk}
 use Rattle.std.specs.Result.{is_err}
 use Rattle.image_file.specs.ImageValue.{ImageValue}
 use Rattle.machine.specs.MachineValue.{MachineValue}
-use Rattle.processor.specs.World.{start}
+use Rattle.processor.specs.World.{start, steps}
+use Rattle.processor.specs.declared.steps.Step.{Step}
 use Rattle.schedule_space.specs.Spaces.{schedules, SpaceValue, count, machine_after, IsDistinct, IsShortest}
 use Rattle.schedule_space.specs.Finding.{space_of, IsGrown, IsExpanded, IsFrontier, IsBreadthFirst}
 use Rattle.schedule_space.proofs.Schedules.{one_schedule}
 use Rattle.schedule_space.proofs.Growing.{expanded_grown}
 use Rattle.schedule_space.proofs.Breadth.{shortest_below}
 
--- the machine that an image is loaded to is at the world of the empty schedule
-pub loaded : (image : ImageValue) (m : MachineValue) → m ≡ record { image = image; world = start image }
-    → m ≡ machine_after m.image []
-loaded image m is = is ∙ sym (ap (λ (i : ImageValue). machine_after i []) (ap (λ (x : MachineValue). x.image) is))
+-- the machine that an image is loaded to, run on a schedule, is at the world of the schedule
+pub loaded : (image : ImageValue) (m n : MachineValue) (begin : List Step)
+    → m ≡ record { image = image; world = start image }
+    → n ≡ record m { world = steps m.image m.world begin } → n ≡ machine_after n.image begin
+loaded image m n begin is ran =
+    let at : n ≡ machine_after image begin = ran ∙ ap (λ (x : MachineValue). record x { world = steps x.image x.world begin }) is in
+    at ∙ sym (ap (λ (i : ImageValue). machine_after i begin) (ap (λ (x : MachineValue). x.image) at))
 
 -- the frontier of the first world
-pub begun_frontier : (v : SpaceValue) (m : MachineValue) (ms : List MachineValue) → v ≡ space_of m.image [] []
-    → m ≡ machine_after m.image [] → ms ≡ m ∷ [] → IsFrontier v ms 0
-begun_frontier v m ms is at one =
+pub begun_frontier : (v : SpaceValue) (m : MachineValue) (ms : List MachineValue) (begin : List Step)
+    → v ≡ space_of m.image begin [] [] → m ≡ machine_after m.image begin → ms ≡ m ∷ [] → IsFrontier v ms 0
+begun_frontier v m ms begin is at one =
     one
     ∙ (λ i. at i ∷ [])
-    ∙ sym (ap (map (machine_after m.image)) one_schedule)
-    ∙ ap (λ (x : SpaceValue). map (machine_after x.image) (drop 0 (schedules x.links))) (sym is)
+    ∙ sym (ap (map (machine_after m.image)) (one_schedule begin))
+    ∙ ap (λ (x : SpaceValue). map (machine_after x.image) (drop 0 (schedules x.begin x.links))) (sym is)
 
 -- where an expansion stopped before its end, schedules are as short as any
 pub shortest_stopped : (v w : SpaceValue) (n : ℕ) → IsGrown v w → n < count v

@@ -13,7 +13,7 @@ use Rattle.schedule_space.specs.Finding.{with_link, with_edge, IsGrown, IsTaken,
 use Rattle.schedule_space.proofs.Schedules.{one_more, schedules-push, length-schedules, run-push}
 
 pub grown_refl : (v : SpaceValue) → IsGrown v v
-grown_refl v = record { image = refl; more = omega arith; same = λ k below. refl; edges = λ e has. has }
+grown_refl v = record { image = refl; begin = refl; more = omega arith; same = λ k below. refl; edges = λ e has. has }
 
 pub grown_to : (v w : SpaceValue) → w ≡ v → IsGrown v w
 grown_to v w is = subst (λ (x : SpaceValue). IsGrown v x) (sym is) (grown_refl v)
@@ -21,6 +21,7 @@ grown_to v w is = subst (λ (x : SpaceValue). IsGrown v x) (sym is) (grown_refl 
 pub grown_trans : (u v w : SpaceValue) → IsGrown u v → IsGrown v w → IsGrown u w
 grown_trans u v w g h = record {
   image = h.image ∙ g.image;
+  begin = h.begin ∙ g.begin;
   more = omega (arith, g.more, h.more);
   same = λ k below. h.same k (omega (arith, g.more, below)) ∙ g.same k below;
   edges = λ e has. h.edges e (g.edges e has);
@@ -35,18 +36,18 @@ world_grown v w k g below = λ i. run (g.image i) (g.same k below i)
 pub last_schedule : (v : SpaceValue) (l : Link)
     → schedule_of (with_link v l) (count v) ≡ schedule_of v l.from ++ l.step ∷ []
 last_schedule v l =
-    ap (λ xs. get_or xs (count v) []) (schedules-push v.links l)
-    ∙ ap (λ n. get_or (schedules v.links ++ one_more (schedules v.links) l ∷ []) n [])
-    (sym (length-schedules v.links))
-    ∙ get_or-append_seam (schedules v.links) (one_more (schedules v.links) l) [] []
+    ap (λ xs. get_or xs (count v) []) (schedules-push v.begin v.links l)
+    ∙ ap (λ n. get_or (schedules v.begin v.links ++ one_more (schedules v.begin v.links) l ∷ []) n [])
+    (sym (length-schedules v.begin v.links))
+    ∙ get_or-append_seam (schedules v.begin v.links) (one_more (schedules v.begin v.links) l) [] []
 
 -- those of the others stay
 pub other_schedule : (v : SpaceValue) (l : Link) (k : ℕ) → k < count v
     → schedule_of (with_link v l) k ≡ schedule_of v k
 other_schedule v l k below =
-    ap (λ xs. get_or xs k []) (schedules-push v.links l)
-    ∙ get_or_append_left (schedules v.links) (one_more (schedules v.links) l ∷ []) [] k
-    (omega (arith, length-schedules v.links, below))
+    ap (λ xs. get_or xs k []) (schedules-push v.begin v.links l)
+    ∙ get_or_append_left (schedules v.begin v.links) (one_more (schedules v.begin v.links) l ∷ []) [] k
+    (omega (arith, length-schedules v.begin v.links, below))
 
 pub count-link : (v : SpaceValue) (l : Link) → count (with_link v l) ≡ count v + 1
 count-link v l = omega (arith, length-append v.links (l ∷ []))
@@ -58,6 +59,7 @@ last_world v l = ap (run v.image) (last_schedule v l) ∙ run-push v.image (sche
 pub with_link_grown : (v : SpaceValue) (l : Link) → IsGrown v (with_link v l)
 with_link_grown v l = record {
   image = refl;
+  begin = refl;
   more = omega (arith, length-append v.links (l ∷ []));
   same = λ k below. other_schedule v l k below;
   edges = λ e has. has;
@@ -66,6 +68,7 @@ with_link_grown v l = record {
 pub with_edge_grown : (v : SpaceValue) (e : Edge) → IsGrown v (with_edge v e)
 with_edge_grown v e = record {
   image = refl;
+  begin = refl;
   more = omega arith;
   same = λ k below. refl;
   edges = λ d has. Contains-append_left v.edges (e ∷ []) d has;

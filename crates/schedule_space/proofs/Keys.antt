@@ -65,8 +65,8 @@ keyed_more v table keys more key l is known key_is none pushed = record {
   keys =
       pushed
       ∙ (λ i. is.keys i ++ (key_is ∙ ap (key_of table v.image) (sym (run-push v.image (schedule_of v l.from) l.step))) i ∷ [])
-      ∙ sym (map-append key_by (schedules v.links) (one_more (schedules v.links) l ∷ []))
-      ∙ ap (map key_by) (sym (schedules-push v.links l));
+      ∙ sym (map-append key_by (schedules v.begin v.links) (one_more (schedules v.begin v.links) l ∷ []))
+      ∙ ap (map key_by) (sym (schedules-push v.begin v.links l));
   known = λ k below. by_place k (below_next v l k below);
   distinct = λ k j kb jb same. by_both k j (below_next v l k kb) (below_next v l j jb) same;
 } where
@@ -127,30 +127,31 @@ pub found_edge : (v : SpaceValue) (fates : List Fate) (table keys : List (List �
     → IsFound v fates table keys → IsEdge v e → IsFound (with_edge v e) fates table keys
 found_edge v fates table keys e is edge = record {
   space = edged v fates e is.space edge;
-  keyed = keyed_edge v (with_edge v e) table keys refl refl is.keyed;
+  keyed = keyed_edge v (with_edge v e) table keys refl refl refl is.keyed;
 }
 
-pub found_first : (image : ImageValue) (f : Fate) (fates : List Fate) (table keys : List (List ℕ)) (key : List ℕ)
-    (m : MachineValue) → m ≡ machine_after image [] → IsFate m.image m.world f → fates ≡ f ∷ []
+pub found_first : (image : ImageValue) (begin : List Step) (f : Fate) (fates : List Fate) (table keys : List (List ℕ)) (key : List ℕ)
+    (m : MachineValue) → m ≡ machine_after image begin → IsFate m.image m.world f → fates ≡ f ∷ []
     → IsKnown table m.image m.world → key ≡ key_of table m.image m.world → keys ≡ key ∷ []
-    → IsFound (space_of image [] []) fates table keys
-found_first image f fates table keys key m is fate one known key_is only =
-    let first : schedule_of (space_of image [] []) 0 ≡ [] = ap (λ xs. get_or xs 0 []) one_schedule in
+    → IsFound (space_of image begin [] []) fates table keys
+found_first image begin f fates table keys key m is fate one known key_is only =
+    let first : schedule_of (space_of image begin [] []) 0 ≡ begin =
+    ap (λ xs. get_or xs 0 []) (one_schedule begin) in
     record {
       space =
-          begun image f fates one
+          begun image begin f fates one
           (subst (λ (ts : List Step). IsFate image (run image ts) f) (sym first)
           (subst (λ (x : MachineValue). IsFate x.image x.world f) is fate));
       keyed =
-          first_key (space_of image [] []) table keys key refl
+          first_key (space_of image begin [] []) table keys key refl
           (key_is ∙ ap (λ (x : MachineValue). key_of table x.image x.world) is)
           (subst (λ (x : MachineValue). IsKnown table x.image x.world) is known) only;
     }
 
-pub found_begun : (image : ImageValue) (links : List Link) (edges : List Edge) (f : Fate) (fates : List Fate)
+pub found_begun : (image : ImageValue) (begin : List Step) (links : List Link) (edges : List Edge) (f : Fate) (fates : List Fate)
     (table keys : List (List ℕ)) (key : List ℕ) (m : MachineValue) → image ≡ m.image → links ≡ [] → edges ≡ []
-    → m ≡ machine_after m.image [] → IsFate m.image m.world f → fates ≡ f ∷ [] → IsKnown table m.image m.world
-    → key ≡ key_of table m.image m.world → keys ≡ key ∷ [] → IsFound (space_of image links edges) fates table keys
-found_begun image links edges f fates table keys key m image_is none empty is fate one known key_is only =
-    subst (λ (v : SpaceValue). IsFound v fates table keys) (λ i. space_of (sym image_is i) (sym none i) (sym empty i))
-    (found_first m.image f fates table keys key m is fate one known key_is only)
+    → m ≡ machine_after m.image begin → IsFate m.image m.world f → fates ≡ f ∷ [] → IsKnown table m.image m.world
+    → key ≡ key_of table m.image m.world → keys ≡ key ∷ [] → IsFound (space_of image begin links edges) fates table keys
+found_begun image begin links edges f fates table keys key m image_is none empty is fate one known key_is only =
+    subst (λ (v : SpaceValue). IsFound v fates table keys) (λ i. space_of (sym image_is i) begin (sym none i) (sym empty i))
+    (found_first m.image begin f fates table keys key m is fate one known key_is only)

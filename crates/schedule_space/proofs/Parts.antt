@@ -33,17 +33,17 @@ below_next v l k below = by_case (cases_lt k (count v)) where
 
 -- The parts of a space.
 
-pub begun : (image : ImageValue) (f : Fate) (fates : List Fate) → fates ≡ f ∷ []
-    → IsFate image (world_of (space_of image [] []) 0) f → IsSpace (space_of image [] []) fates
-begun image f fates one is = record {
+pub begun : (image : ImageValue) (begin : List Step) (f : Fate) (fates : List Fate) → fates ≡ f ∷ []
+    → IsFate image (world_of (space_of image begin [] []) 0) f → IsSpace (space_of image begin [] []) fates
+begun image begin f fates one is = record {
   earlier = λ k l below. absurd (omega (arith, below));
   edges = λ e has. absurd (omega (arith, has.1));
   each = omega (arith, ap length one);
   fates = λ k below. by_place k below;
 } where
-  by_place : (k : ℕ) → k < count (space_of image [] []) → IsFate image (world_of (space_of image [] []) k) (get_or fates k fate.GoesOn)
+  by_place : (k : ℕ) → k < count (space_of image begin [] []) → IsFate image (world_of (space_of image begin [] []) k) (get_or fates k fate.GoesOn)
   by_place zero below =
-      subst (λ (xs : List Fate). IsFate image (world_of (space_of image [] []) 0) (get_or xs 0 fate.GoesOn)) (sym one)
+      subst (λ (xs : List Fate). IsFate image (world_of (space_of image begin [] []) 0) (get_or xs 0 fate.GoesOn)) (sym one)
       is
   by_place (suc k) below = absurd (omega (arith, below))
 
@@ -111,23 +111,24 @@ fate_at v w fs k f is view below read =
 
 -- the keys of the worlds
 abbrev pub keys_of : List (List ℕ) → SpaceValue → List (List ℕ)
-keys_of table v = map (λ ts. key_of table v.image (run v.image ts)) (schedules v.links)
+keys_of table v = map (λ ts. key_of table v.image (run v.image ts)) (schedules v.begin v.links)
 
 pub first_key : (v : SpaceValue) (table keys : List (List ℕ)) (key : List ℕ) → v.links ≡ []
-    → key ≡ key_of table v.image (run v.image []) → IsKnown table v.image (run v.image []) → keys ≡ key ∷ []
+    → key ≡ key_of table v.image (run v.image v.begin) → IsKnown table v.image (run v.image v.begin) → keys ≡ key ∷ []
     → IsKeyed v table keys
 first_key v table keys key none is known one = record {
   keys =
       one
       ∙ ap (λ x. x ∷ []) is
-      ∙ sym (ap (map (λ ts. key_of table v.image (run v.image ts))) (ap schedules none ∙ one_schedule));
+      ∙ sym (ap (map (λ ts. key_of table v.image (run v.image ts))) (ap (schedules v.begin) none ∙ one_schedule v.begin));
   known = λ k below. by_place k below;
   distinct = λ k j kb jb same. omega (arith, kb, jb, ap length none);
 } where
   by_place : (k : ℕ) → k < count v → IsKnown table v.image (world_of v k)
   by_place k below =
       let at : zero ≡ k = omega (arith, below, ap length none) in
-      let first : schedule_of v 0 ≡ [] = ap (λ ls. get_or (schedules ls) 0 []) none ∙ ap (λ xs. get_or xs 0 []) one_schedule in
+      let first : schedule_of v 0 ≡ v.begin =
+      ap (λ ls. get_or (schedules v.begin ls) 0 []) none ∙ ap (λ xs. get_or xs 0 []) (one_schedule v.begin) in
       subst (λ (n : ℕ). IsKnown table v.image (world_of v n)) at
       (subst (λ (ts : List Step). IsKnown table v.image (run v.image ts)) (sym first) known)
 
@@ -146,25 +147,25 @@ pub keyed_later : (v : SpaceValue) (old new keys : List (List ℕ)) → Extends 
 keyed_later v old new keys grown is = record {
   keys =
       is.keys
-      ∙ sym (keys_kept v.image old new (schedules v.links) grown
-      (λ k below. is.known k (omega (arith, below, length-schedules v.links))));
+      ∙ sym (keys_kept v.image old new (schedules v.begin v.links) grown
+      (λ k below. is.known k (omega (arith, below, length-schedules v.begin v.links))));
   known = λ k below. known_kept old new v.image (world_of v k) grown (is.known k below);
   distinct = is.distinct;
 }
 
 -- the edges don't matter
-pub keyed_edge : (v w : SpaceValue) (table keys : List (List ℕ)) → w.image ≡ v.image → w.links ≡ v.links
-    → IsKeyed v table keys → IsKeyed w table keys
-keyed_edge v w table keys image links is = record {
-  keys = is.keys ∙ (λ i. map (λ ts. key_of table (sym image i) (run (sym image i) ts)) (schedules (sym links i)));
+pub keyed_edge : (v w : SpaceValue) (table keys : List (List ℕ)) → w.image ≡ v.image → w.begin ≡ v.begin
+    → w.links ≡ v.links → IsKeyed v table keys → IsKeyed w table keys
+keyed_edge v w table keys image begin links is = record {
+  keys = is.keys ∙ (λ i. map (λ ts. key_of table (sym image i) (run (sym image i) ts)) (schedules (sym begin i) (sym links i)));
   known = λ k below.
-      subst (λ (x : World). IsKnown table w.image x) (λ i. run (sym image i) (get_or (schedules (sym links i)) k []))
+      subst (λ (x : World). IsKnown table w.image x) (λ i. run (sym image i) (get_or (schedules (sym begin i) (sym links i)) k []))
       (subst (λ (x : ImageValue). IsKnown table x (world_of v k)) (sym image)
       (is.known k (omega (arith, below, ap length links))));
   distinct = λ k j kb jb same.
       is.distinct k j (omega (arith, kb, ap length links)) (omega (arith, jb, ap length links))
-      ((λ i. run (sym image i) (get_or (schedules (sym links i)) k [])) ∙ same
-      ∙ (λ i. run (image i) (get_or (schedules (links i)) j [])));
+      ((λ i. run (sym image i) (get_or (schedules (sym begin i) (sym links i)) k [])) ∙ same
+      ∙ (λ i. run (image i) (get_or (schedules (begin i) (links i)) j [])));
 }
 
 -- the key at a place
@@ -172,35 +173,35 @@ pub key_at : (v : SpaceValue) (table keys : List (List ℕ)) (k : ℕ) → IsKey
     → get_or keys k [] ≡ key_of table v.image (world_of v k)
 key_at v table keys k is below =
     ap (λ xs. get_or xs k []) is.keys
-    ∙ get_or-map (λ ts. key_of table v.image (run v.image ts)) (schedules v.links) k [] []
-    (omega (arith, below, length-schedules v.links))
+    ∙ get_or-map (λ ts. key_of table v.image (run v.image ts)) (schedules v.begin v.links) k [] []
+    (omega (arith, below, length-schedules v.begin v.links))
 
 pub keys_many : (v : SpaceValue) (table keys : List (List ℕ)) → IsKeyed v table keys → length keys ≡ count v
 keys_many v table keys is =
     ap length is.keys
-    ∙ length-map (schedules v.links) (λ ts. key_of table v.image (run v.image ts))
-    ∙ length-schedules v.links
+    ∙ length-map (schedules v.begin v.links) (λ ts. key_of table v.image (run v.image ts))
+    ∙ length-schedules v.begin v.links
 
 -- Frontiers.
 
-pub frontier_stays : (v w : SpaceValue) (ms : List MachineValue) (n : ℕ) → w.image ≡ v.image → w.links ≡ v.links
-    → IsFrontier v ms n → IsFrontier w ms n
-frontier_stays v w ms n image links is =
-    is ∙ (λ i. map (machine_after (sym image i)) (drop n (schedules (sym links i))))
+pub frontier_stays : (v w : SpaceValue) (ms : List MachineValue) (n : ℕ) → w.image ≡ v.image → w.begin ≡ v.begin
+    → w.links ≡ v.links → IsFrontier v ms n → IsFrontier w ms n
+frontier_stays v w ms n image begin links is =
+    is ∙ (λ i. map (machine_after (sym image i)) (drop n (schedules (sym begin i) (sym links i))))
 
 pub frontier_more : (v : SpaceValue) (ms more : List MachineValue) (n : ℕ) (m : MachineValue) (l : Link)
     → IsFrontier v ms n → n ≤ count v → m.image ≡ v.image → m.world ≡ after v.image (world_of v l.from) l.step
     → more ≡ ms ++ m ∷ [] → IsFrontier (with_link v l) more n
 frontier_more v ms more n m l is below image world pushed =
-    let last : m ≡ machine_after v.image (one_more (schedules v.links) l) =
+    let last : m ≡ machine_after v.image (one_more (schedules v.begin v.links) l) =
     λ i. record { image = image i; world = (world ∙ sym (run-push v.image (schedule_of v l.from) l.step)) i } in
     pushed
     ∙ (λ i. is i ++ last i ∷ [])
-    ∙ sym (map-append (machine_after v.image) (drop n (schedules v.links)) (one_more (schedules v.links) l ∷ []))
+    ∙ sym (map-append (machine_after v.image) (drop n (schedules v.begin v.links)) (one_more (schedules v.begin v.links) l ∷ []))
     ∙ ap (map (machine_after v.image))
-    (sym (drop-append-le n (schedules v.links) (one_more (schedules v.links) l ∷ [])
-    (omega (arith, below, length-schedules v.links))))
-    ∙ ap (λ xs. map (machine_after v.image) (drop n xs)) (sym (schedules-push v.links l))
+    (sym (drop-append-le n (schedules v.begin v.links) (one_more (schedules v.begin v.links) l ∷ [])
+    (omega (arith, below, length-schedules v.begin v.links))))
+    ∙ ap (λ xs. map (machine_after v.image) (drop n xs)) (sym (schedules-push v.begin v.links l))
 
 drop_first : (image : ImageValue) (xs : List (List Step)) (k : ℕ) (m : MachineValue) (rest : List MachineValue)
     → m ∷ rest ≡ map (machine_after image) (drop k xs)
@@ -222,13 +223,13 @@ pub frontier_front : (v : SpaceValue) (ms rest : List MachineValue) (m : Machine
     → ms ≡ m ∷ rest
     → (n < count v) × ((m ≡ machine_after v.image (schedule_of v n)) × IsFrontier v rest (n + 1))
 frontier_front v ms rest m n is split =
-    let all = drop_first v.image (schedules v.links) n m rest (sym split ∙ is) in
-    (omega (arith, all.0, length-schedules v.links), all.1)
+    let all = drop_first v.image (schedules v.begin v.links) n m rest (sym split ∙ is) in
+    (omega (arith, all.0, length-schedules v.begin v.links), all.1)
 
 -- where the frontier is empty no place is left
 pub frontier_empty : (v : SpaceValue) (ms : List MachineValue) (n : ℕ) → IsFrontier v ms n → ms ≡ []
     → count v ≤ n
 frontier_empty v ms n is none =
-    let few : length (drop n (schedules v.links)) ≡ 0 =
-    sym (length-map (drop n (schedules v.links)) (machine_after v.image)) ∙ sym (ap length is) ∙ ap length none in
-    omega (arith, few, length-drop n (schedules v.links), length-schedules v.links)
+    let few : length (drop n (schedules v.begin v.links)) ≡ 0 =
+    sym (length-map (drop n (schedules v.begin v.links)) (machine_after v.image)) ∙ sym (ap length is) ∙ ap length none in
+    omega (arith, few, length-drop n (schedules v.begin v.links), length-schedules v.begin v.links)

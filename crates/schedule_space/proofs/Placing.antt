@@ -3,6 +3,7 @@ use Rattle.std.proofs.Common.{◌≡◌, ℕ, ◌<◌, ◌≤◌, refl, sym, ap,
 use Rattle.image_file.specs.ImageValue.{ImageValue}
 use Rattle.machine.specs.MachineValue.{MachineValue}
 use Rattle.processor.specs.World.{World, after}
+use Rattle.processor.specs.declared.steps.Step.{Step}
 use Rattle.world_keys.specs.Tables.{place_in, Has, Extends}
 use Rattle.world_keys.specs.WorldKeys.{key_of, IsKnown, IsMemoryOf}
 use Rattle.schedule_space.specs.declared.links.Link.{Link}
@@ -40,30 +41,30 @@ found_at v w fates old table keys key m k is view grown known key_is image at ha
     (subst (λ (n : ℕ). (n < count v) × (world_of v n ≡ m.world)) (sym at) here)
 
 -- the parts with one world more
-pub placed : (image : ImageValue) (links more : List Link) (edges : List Edge) (v : SpaceValue)
+pub placed : (image : ImageValue) (begin : List Step) (links more : List Link) (edges : List Edge) (v : SpaceValue)
     (fates fates_more : List Fate) (old table keys keys_more : List (List ℕ)) (key : List ℕ) (l : Link) (f : Fate)
-    (m : MachineValue) → IsFound (space_of image links edges) fates old keys → space_of image links edges ≡ v
+    (m : MachineValue) → IsFound (space_of image begin links edges) fates old keys → space_of image begin links edges ≡ v
     → Extends old table → l.from < count v → m.image ≡ v.image
     → m.world ≡ after v.image (world_of v l.from) l.step → IsFate m.image m.world f → IsKnown table m.image m.world
     → key ≡ key_of table m.image m.world → (Has keys key → ⊥) → more ≡ links ++ l ∷ []
     → fates_more ≡ fates ++ f ∷ [] → keys_more ≡ keys ++ key ∷ []
-    → IsFound (space_of image more edges) fates_more table keys_more
-placed image links more edges v fates fates_more old table keys keys_more key l f m is view grown from same world fate
+    → IsFound (space_of image begin more edges) fates_more table keys_more
+placed image begin links more edges v fates fates_more old table keys keys_more key l f m is view grown from same world fate
     known key_is none linked fated keyed =
-    let w : SpaceValue = space_of image links edges in
+    let w : SpaceValue = space_of image begin links edges in
     let from_here : l.from < count w = subst (λ (x : SpaceValue). l.from < count x) (sym view) from in
     let image_is : m.image ≡ w.image = same ∙ ap (λ (x : SpaceValue). x.image) (sym view) in
     let world_is : m.world ≡ after w.image (world_of w l.from) l.step =
     world ∙ ap (λ (x : SpaceValue). after x.image (world_of x l.from) l.step) (sym view) in
-    subst (λ (ls : List Link). IsFound (space_of image ls edges) fates_more table keys_more) (sym linked)
+    subst (λ (ls : List Link). IsFound (space_of image begin ls edges) fates_more table keys_more) (sym linked)
     (found_more w fates fates_more table keys keys_more key l f m (found_later w fates old table keys grown is)
     from_here image_is world_is fate fated known key_is none keyed)
 
 -- what contracts see of them
-pub placed_view : (image : ImageValue) (links more : List Link) (edges : List Edge) (v : SpaceValue) (l : Link)
-    → space_of image links edges ≡ v → more ≡ links ++ l ∷ [] → space_of image more edges ≡ with_link v l
-placed_view image links more edges v l view linked =
-    ap (λ (ls : List Link). space_of image ls edges) linked ∙ ap (λ (x : SpaceValue). with_link x l) view
+pub placed_view : (image : ImageValue) (begin : List Step) (links more : List Link) (edges : List Edge) (v : SpaceValue) (l : Link)
+    → space_of image begin links edges ≡ v → more ≡ links ++ l ∷ [] → space_of image begin more edges ≡ with_link v l
+placed_view image begin links more edges v l view linked =
+    ap (λ (ls : List Link). space_of image begin ls edges) linked ∙ ap (λ (x : SpaceValue). with_link x l) view
 
 -- What contracts say of a space with one world more.
 
@@ -91,44 +92,44 @@ placed_breadth v w l is from breadth =
 
 -- A space with one edge more.
 
-pub edge_view : (image : ImageValue) (links : List Link) (edges more : List Edge) (v : SpaceValue) (e : Edge)
-    → space_of image links edges ≡ v → more ≡ edges ++ e ∷ [] → space_of image links more ≡ with_edge v e
-edge_view image links edges more v e view pushed =
-    ap (λ (es : List Edge). space_of image links es) pushed ∙ ap (λ (x : SpaceValue). with_edge x e) view
+pub edge_view : (image : ImageValue) (begin : List Step) (links : List Link) (edges more : List Edge) (v : SpaceValue) (e : Edge)
+    → space_of image begin links edges ≡ v → more ≡ edges ++ e ∷ [] → space_of image begin links more ≡ with_edge v e
+edge_view image begin links edges more v e view pushed =
+    ap (λ (es : List Edge). space_of image begin links es) pushed ∙ ap (λ (x : SpaceValue). with_edge x e) view
 
-pub edge_put : (image : ImageValue) (links : List Link) (edges more : List Edge) (v : SpaceValue) (e : Edge)
-    (fates : List Fate) (table keys : List (List ℕ)) → IsFound (space_of image links edges) fates table keys
-    → space_of image links edges ≡ v → more ≡ edges ++ e ∷ [] → IsEdge v e
-    → IsFound (space_of image links more) fates table keys
-edge_put image links edges more v e fates table keys is view pushed edge =
-    let w : SpaceValue = space_of image links edges in
-    subst (λ (es : List Edge). IsFound (space_of image links es) fates table keys) (sym pushed)
+pub edge_put : (image : ImageValue) (begin : List Step) (links : List Link) (edges more : List Edge) (v : SpaceValue) (e : Edge)
+    (fates : List Fate) (table keys : List (List ℕ)) → IsFound (space_of image begin links edges) fates table keys
+    → space_of image begin links edges ≡ v → more ≡ edges ++ e ∷ [] → IsEdge v e
+    → IsFound (space_of image begin links more) fates table keys
+edge_put image begin links edges more v e fates table keys is view pushed edge =
+    let w : SpaceValue = space_of image begin links edges in
+    subst (λ (es : List Edge). IsFound (space_of image begin links es) fates table keys) (sym pushed)
     (found_edge w fates table keys e is (subst (λ (x : SpaceValue). IsEdge x e) (sym view) edge))
 
 pub edge_frontier : (v w : SpaceValue) (e : Edge) (ms : List MachineValue) (n : ℕ) → w ≡ with_edge v e
     → IsFrontier v ms n → IsFrontier w ms n
 edge_frontier v w e ms n is front =
-    subst (λ (x : SpaceValue). IsFrontier x ms n) (sym is) (frontier_stays v (with_edge v e) ms n refl refl front)
+    subst (λ (x : SpaceValue). IsFrontier x ms n) (sym is) (frontier_stays v (with_edge v e) ms n refl refl refl front)
 
 pub edge_breadth : (v w : SpaceValue) (e : Edge) (n : ℕ) → w ≡ with_edge v e → IsBreadthFirst v n
     → IsBreadthFirst w n
 edge_breadth v w e n is breadth =
-    subst (λ (x : SpaceValue). IsBreadthFirst x n) (sym is) (breadth_stays v (with_edge v e) n refl breadth)
+    subst (λ (x : SpaceValue). IsBreadthFirst x n) (sym is) (breadth_stays v (with_edge v e) n refl refl breadth)
 
 -- What stays as it is.
 
-pub kept : (image : ImageValue) (links ls : List Link) (edges : List Edge) (fates fs : List Fate)
-    (old table keys ks : List (List ℕ)) → IsFound (space_of image links edges) fates old keys → Extends old table
-    → ls ≡ links → fs ≡ fates → ks ≡ keys → IsFound (space_of image ls edges) fs table ks
-kept image links ls edges fates fs old table keys ks is grown linked fated keyed =
-    subst (λ (xs : List Link). IsFound (space_of image xs edges) fs table ks) (sym linked)
-    (subst (λ (xs : List Fate). IsFound (space_of image links edges) xs table ks) (sym fated)
-    (subst (λ (xs : List (List ℕ)). IsFound (space_of image links edges) fates table xs) (sym keyed)
-    (found_later (space_of image links edges) fates old table keys grown is)))
+pub kept : (image : ImageValue) (begin : List Step) (links ls : List Link) (edges : List Edge) (fates fs : List Fate)
+    (old table keys ks : List (List ℕ)) → IsFound (space_of image begin links edges) fates old keys → Extends old table
+    → ls ≡ links → fs ≡ fates → ks ≡ keys → IsFound (space_of image begin ls edges) fs table ks
+kept image begin links ls edges fates fs old table keys ks is grown linked fated keyed =
+    subst (λ (xs : List Link). IsFound (space_of image begin xs edges) fs table ks) (sym linked)
+    (subst (λ (xs : List Fate). IsFound (space_of image begin links edges) xs table ks) (sym fated)
+    (subst (λ (xs : List (List ℕ)). IsFound (space_of image begin links edges) fates table xs) (sym keyed)
+    (found_later (space_of image begin links edges) fates old table keys grown is)))
 
-pub kept_view : (image : ImageValue) (links ls : List Link) (edges : List Edge) (v : SpaceValue)
-    → space_of image links edges ≡ v → ls ≡ links → space_of image ls edges ≡ v
-kept_view image links ls edges v view linked = ap (λ (xs : List Link). space_of image xs edges) linked ∙ view
+pub kept_view : (image : ImageValue) (begin : List Step) (links ls : List Link) (edges : List Edge) (v : SpaceValue)
+    → space_of image begin links edges ≡ v → ls ≡ links → space_of image begin ls edges ≡ v
+kept_view image begin links ls edges v view linked = ap (λ (xs : List Link). space_of image begin xs edges) linked ∙ view
 
 pub stays_within : (v w : SpaceValue) (most : ℕ) → w ≡ v → count v ≤ most → count w ≤ most
 stays_within v w most is few = omega (arith, ap count is, few)

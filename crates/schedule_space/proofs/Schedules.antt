@@ -22,10 +22,10 @@ schedules_after-push : (found : List (List Step)) (ls : List Link) (l : Link)
 schedules_after-push found [] l = refl
 schedules_after-push found (x ∷ xs) l = schedules_after-push (found ++ one_more found x ∷ []) xs l
 
-pub schedules-push : (ls : List Link) (l : Link)
-    → schedules (ls ++ l ∷ []) ≡ schedules ls ++ one_more (schedules ls) l ∷ []
+pub schedules-push : (begin : List Step) (ls : List Link) (l : Link)
+    → schedules begin (ls ++ l ∷ []) ≡ schedules begin ls ++ one_more (schedules begin ls) l ∷ []
 unfolding schedules
-schedules-push ls l = schedules_after-push ([] ∷ []) ls l
+schedules-push begin ls l = schedules_after-push (begin ∷ []) ls l
 
 length-schedules_after : (found : List (List Step)) (ls : List Link)
     → length (schedules_after found ls) ≡ length found + length ls
@@ -35,9 +35,9 @@ length-schedules_after found (x ∷ xs) =
     let last = length-append found (one_more found x ∷ []) in
     omega (arith, more, last)
 
-pub length-schedules : (ls : List Link) → length (schedules ls) ≡ length ls + 1
+pub length-schedules : (begin : List Step) (ls : List Link) → length (schedules begin ls) ≡ length ls + 1
 unfolding schedules
-length-schedules ls = let all = length-schedules_after ([] ∷ []) ls in omega (arith, all)
+length-schedules begin ls = let all = length-schedules_after (begin ∷ []) ls in omega (arith, all)
 
 -- the schedules that are there stay
 stays_after : (found : List (List Step)) (ls : List Link) (k : ℕ) → k < length found
@@ -48,14 +48,14 @@ stays_after found (x ∷ xs) k some =
     stays_after (found ++ one_more found x ∷ []) xs k (omega (arith, longer))
     ∙ get_or_append_left found (one_more found x ∷ []) [] k some
 
--- the first world is the image's before any step
-pub first-schedule : (ls : List Link) → get_or (schedules ls) 0 [] ≡ []
+-- the first world is that of the beginning
+pub first-schedule : (begin : List Step) (ls : List Link) → get_or (schedules begin ls) 0 [] ≡ begin
 unfolding schedules
-first-schedule ls = stays_after ([] ∷ []) ls 0 (omega arith)
+first-schedule begin ls = stays_after (begin ∷ []) ls 0 (omega arith)
 
-pub one_schedule : schedules [] ≡ [] ∷ []
+pub one_schedule : (begin : List Step) → schedules begin [] ≡ begin ∷ []
 unfolding schedules
-one_schedule = refl
+one_schedule begin = refl
 
 -- the schedule that a link gives is that of an earlier place, with its step behind
 given_after : (found : List (List Step)) (ls : List Link) (k : ℕ) (l : Link) → k < length ls
@@ -83,13 +83,14 @@ given_after found (x ∷ xs) (suc k) l below earlier =
     ap (λ n. get_or (schedules_after more xs) n []) at
     ∙ given_after more xs k l (omega (arith, below)) (omega (arith, longer, earlier))
 
-pub given : (ls : List Link) (k : ℕ) (l : Link) → k < length ls → (get_or ls k l).from ≤ k
-    → get_or (schedules ls) (k + 1) [] ≡ get_or (schedules ls) (get_or ls k l).from [] ++ (get_or ls k l).step ∷ []
+pub given : (begin : List Step) (ls : List Link) (k : ℕ) (l : Link) → k < length ls → (get_or ls k l).from ≤ k
+    → get_or (schedules begin ls) (k + 1) []
+    ≡ get_or (schedules begin ls) (get_or ls k l).from [] ++ (get_or ls k l).step ∷ []
 unfolding schedules
-given ls k l below earlier =
+given begin ls k l below earlier =
     let at : k + 1 ≡ 1 + k = omega arith in
-    ap (λ n. get_or (schedules_after ([] ∷ []) ls) n []) at
-    ∙ given_after ([] ∷ []) ls k l below (omega (arith, earlier))
+    ap (λ n. get_or (schedules_after (begin ∷ []) ls) n []) at
+    ∙ given_after (begin ∷ []) ls k l below (omega (arith, earlier))
 
 -- The world after one more step.
 

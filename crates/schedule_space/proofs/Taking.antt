@@ -106,7 +106,7 @@ pub taken_edge : (old new : SpaceValue) (from to : ℕ) (t : Step) (w : World) (
     → IsBreadthFirst new from → e ≡ record { from = from; step = t; to = to } → IsTaken (with_edge new e) from t
 taken_edge old new from to t w e g below there is leads breadth edge =
     taken_to old (with_edge new e) from to t w (grown_trans old new (with_edge new e) g (with_edge_grown new e)) below
-    there is leads (breadth_stays new (with_edge new e) from refl breadth)
+    there is leads (breadth_stays new (with_edge new e) from refl refl breadth)
     (inr (subst (Contains (new.edges ++ e ∷ [])) edge (Contains-push new.edges e)))
 
 pub running_at : (v : SpaceValue) (from : ℕ) (m : MachineValue) (ts : List Step)

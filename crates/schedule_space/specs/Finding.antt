@@ -14,8 +14,8 @@ use Rattle.schedule_space.specs.Spaces.{IsDistinct}
 use Rattle.schedule_space.specs.Fates.{IsFate}
 
 -- the space of these parts
-abbrev pub space_of : ImageValue → List Link → List Edge → SpaceValue
-space_of image links edges = record { image = image; links = links; edges = edges }
+abbrev pub space_of : ImageValue → List Step → List Link → List Edge → SpaceValue
+space_of image begin links edges = record { image = image; begin = begin; links = links; edges = edges }
 
 -- the space with one more world
 abbrev pub with_link : SpaceValue → Link → SpaceValue
@@ -34,7 +34,7 @@ pub record IsSpace (v : SpaceValue) (fs : List Fate) : Type 0 where
 
 -- Keys are those of the worlds, in a table, and no world is there twice.
 pub record IsKeyed (v : SpaceValue) (table ks : List (List ℕ)) : Type 0 where
-  pub keys : ks ≡ map (λ ts. key_of table v.image (run v.image ts)) (schedules v.links)
+  pub keys : ks ≡ map (λ ts. key_of table v.image (run v.image ts)) (schedules v.begin v.links)
   pub known : (k : ℕ) → k < count v → IsKnown table v.image (world_of v k)
   pub distinct : IsDistinct v
 
@@ -45,11 +45,12 @@ pub record IsFound (v : SpaceValue) (fates : List Fate) (table keys : List (List
 
 -- the machines are those of the worlds from this place on, in order
 abbrev pub IsFrontier : SpaceValue → List MachineValue → ℕ → Type 0
-IsFrontier v ms n = ms ≡ map (machine_after v.image) (drop n (schedules v.links))
+IsFrontier v ms n = ms ≡ map (machine_after v.image) (drop n (schedules v.begin v.links))
 
 -- the later space has the same worlds at the same places, perhaps more behind them, and the same edges, perhaps more
 pub record IsGrown (old new : SpaceValue) : Type 0 where
   pub image : new.image ≡ old.image
+  pub begin : new.begin ≡ old.begin
   pub more : length old.links ≤ length new.links
   pub same : (k : ℕ) → k < count old → schedule_of new k ≡ schedule_of old k
   pub edges : (e : Edge) → Contains old.edges e → Contains new.edges e

@@ -1,5 +1,5 @@
--- Spaces: worlds of an image, each but the first with a link, the place of an earlier world and a step that leads from
--- that to it.
+-- Spaces: worlds of an image, the first of them after a schedule with which all begin, and each other one with a link,
+-- the place of an earlier world and a step that leads from that to it.
 use Rattle.std.specs.Prelude.{◌≡◌, ◌≢◌, ◌↔◌, ℕ, ◌+◌, ◌<◌, ◌≤◌, ◌++◌, List, [], ◌∷◌, length, slice_index_or, Contains}
 use Rattle.image_file.specs.ImageValue.{ImageValue}
 use Rattle.processor.specs.World.{World, after, run}
@@ -16,14 +16,15 @@ schedules_after found [] = found
 schedules_after found (l ∷ ls) =
     schedules_after (found ++ (slice_index_or found l.from [] ++ l.step ∷ []) ∷ []) ls
 
--- first the empty one, and for each link the schedule of the place that it names, with its step behind
-unfoldable pub schedules : List Link → List (List Step)
-schedules links = schedules_after ([] ∷ []) links
+-- first the one with which all begin, and for each link the schedule of the place that it names, with its step behind
+unfoldable pub schedules : List Step → List Link → List (List Step)
+schedules begin links = schedules_after (begin ∷ []) links
 
 -- A space, as contracts see it: its worlds are those that the schedules of its links lead to, and its edges say which
--- step leads from which of them to which.
+-- step leads from which of them to which. All schedules start with those of its beginning.
 pub record SpaceValue : Type 0 where
   pub image : ImageValue
+  pub begin : List Step
   pub links : List Link
   pub edges : List Edge
 
@@ -33,7 +34,7 @@ count v = length v.links + 1
 
 -- the schedule that the links give for the world at a place
 abbrev pub schedule_of : SpaceValue → ℕ → List Step
-schedule_of v k = slice_index_or (schedules v.links) k []
+schedule_of v k = slice_index_or (schedules v.begin v.links) k []
 
 -- the world at a place
 abbrev pub world_of : SpaceValue → ℕ → World
@@ -47,18 +48,19 @@ machine_after image ts = record { image = image; world = run image ts }
 abbrev pub Has : SpaceValue → World → Type 0
 Has v w = (k : ℕ) × (k < count v) × (world_of v k ≡ w)
 
--- each schedule of the image leads to a world of the space
+-- each schedule that goes on from the beginning leads to a world of the space
 abbrev pub IsComplete : SpaceValue → Type 0
-IsComplete v = (ts : List Step) → Has v (run v.image ts)
+IsComplete v = (ts : List Step) → Has v (run v.image (v.begin ++ ts))
 
 -- the space has none of its worlds twice
 abbrev pub IsDistinct : SpaceValue → Type 0
 IsDistinct v = (k j : ℕ) → k < count v → j < count v → world_of v k ≡ world_of v j → k ≡ j
 
--- no schedule that leads to the world at a place is shorter than the one that the links give
+-- no schedule that goes on from the beginning to the world at a place is shorter than the one that the links give
 abbrev pub IsShortest : SpaceValue → Type 0
 IsShortest v =
-    (k : ℕ) → k < count v → (ts : List Step) → run v.image ts ≡ world_of v k → length (schedule_of v k) ≤ length ts
+    (k : ℕ) → k < count v → (ts : List Step) → run v.image (v.begin ++ ts) ≡ world_of v k
+    → length (schedule_of v k) ≤ length (v.begin ++ ts)
 
 -- an edge is a step that leads from one world of the space to another one
 pub record IsEdge (v : SpaceValue) (e : Edge) : Type 0 where

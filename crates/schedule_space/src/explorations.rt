@@ -8,29 +8,33 @@ use crate::finding::Found;
 use crate::spaces::Space;
 use image_file::Image;
 use machine::{LoadFault, Machine};
+use processor::Step;
 use std::alloc::Global;
 use std::collections::VecDeque;
 
 /// What a search found.
 #[derive(Drop)]
 pub enum Exploration<'i> {
-    /// All worlds that schedules lead to.
+    /// All worlds that schedules with this beginning lead to.
     Complete(Space<'i>),
     /// Some of them: there are more than were asked for, or memory was refused on the way.
     Bounded(Space<'i>),
 }
 
-/// Looks for the worlds that schedules of an image lead to, those of fewer steps first, until there are no more or
-/// `most` are found. `S` is for how many streams a processor the machines of the search have room.
+/// Looks for the worlds that schedules of an image lead to which begin with `begin`, those of fewer steps first, until
+/// there are no more or `most` are found. With no step in `begin` these are all schedules. `S` is for how many streams a
+/// processor the machines of the search have room.
 ///
 /// `Streams` exactly where the image's slim is above `S`; `NoMemory` where there was not even room for the first world.
 pub fn explore<'i, const S: usize>(
     alloc: Global,
     image: &'i Image,
+    begin: &[Step],
     most: usize,
 ) -> Result<Exploration<'i>, LoadFault>
     requires { 1 ≤ most }
     ensures image { IfOk result (λ e. (space_in e).image ≡ image.entry.now) }
+    ensures begin { IfOk result (λ e. (space_in e).begin ≡ begin.now) }
     ensures complete { IfOk result (λ e. is_complete e ≡ true → IsComplete (space_in e)) }
     ensures edges { IfOk result (λ e. is_complete e ≡ true → HasAllEdges (space_in e)) }
     ensures distinct { IfOk result (λ e. IsDistinct (space_in e)) }
@@ -38,8 +42,9 @@ pub fn explore<'i, const S: usize>(
     ensures within { IfOk result (λ e. count (space_in e) ≤ most) }
     ensures streams { (result ≡ Err LoadFault.Streams) ↔ (S < image.entry.now.slim) }
 {
-    let first = Machine::<S>::load(alloc, image)?;
-    let mut found = Found::begin(alloc, &first)?;
+    let mut first = Machine::<S>::load(alloc, image)?;
+    first.run(begin);
+    let mut found = Found::begin(alloc, begin, &first)?;
     let mut frontier = VecDeque::new(alloc);
     frontier.push_back(first)?;
     let limit = world_limit(most);

@@ -26,6 +26,7 @@ use world_keys::{Table, world_key};
 pub(crate) struct Found<'i> {
     alloc: Global,
     image: &'i Image,
+    begin: Vec<Step>,
     links: Vec<Link>,
     edges: Vec<Edge>,
     fates: Vec<Fate>,
@@ -39,9 +40,9 @@ impl<'i> Model for Found<'i> {
 
     ghost Value = { SpaceValue };
 
-    ghost view = { λ f. space_of f.image.now f.links.items f.edges.items };
+    ghost view = { λ f. space_of f.image.now f.begin.items f.links.items f.edges.items };
 
-    ghost invariant = { λ f. IsFound (space_of f.image.now f.links.items f.edges.items) f.fates.items f.contents f.keys };
+    ghost invariant = { λ f. IsFound (space_of f.image.now f.begin.items f.links.items f.edges.items) f.fates.items f.contents f.keys };
 }
 
 /// Why a search stopped before its end.
@@ -70,13 +71,14 @@ impl<T: Drop> From<AllocFailed<T>> for Stop {
 }
 
 impl<'i> Found<'i> {
-    /// The world of an image before any step.
+    /// The world of an image after a schedule, from a machine that is there.
     pub(crate) fn begin<const S: usize>(
         alloc: Global,
+        begin: &[Step],
         first: &Machine<'i, S>,
     ) -> Result<Found<'i>, AllocError>
-        requires { first.now ≡ machine_after first.now.image [] }
-        ensures { IfOk result (λ v. v ≡ space_of first.now.image [] []) }
+        requires { first.now ≡ machine_after first.now.image begin.now }
+        ensures { IfOk result (λ v. v ≡ space_of first.now.image begin.now [] []) }
     {
         let fate = fate_of(alloc, first)?;
         let mut contents = Table::new(alloc);
@@ -88,6 +90,7 @@ impl<'i> Found<'i> {
         Ok(Found {
             alloc,
             image: first.image(),
+            begin: Vec::from_slice(alloc, begin)?,
             links: Vec::new(alloc),
             edges: Vec::new(alloc),
             fates,
@@ -102,7 +105,7 @@ impl<'i> Found<'i> {
         ensures distinct { IsDistinct result }
         ensures edges { (e : Edge) → Contains result.edges e → IsEdge result e }
     {
-        Space::from_parts(self.image, self.links, self.edges, self.fates)
+        Space::from_parts(self.image, self.begin, self.links, self.edges, self.fates)
     }
 
     /// Takes each step of the world at a place, from its machine, unless there would be more than `most` worlds. New

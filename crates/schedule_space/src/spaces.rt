@@ -1,6 +1,6 @@
 //! A space of worlds, and what can be read of it.
 
-ghost use Rattle.std.specs.Prelude.{◌≡◌, ◌<◌, ◌↔◌, length, IfOk, reverse, Contains};
+ghost use Rattle.std.specs.Prelude.{◌≡◌, ◌<◌, ◌↔◌, ◌++◌, length, IfOk, reverse, Contains};
 ghost use Rattle.schedule_space.specs.declared.links.Edge.{Edge};
 ghost use Rattle.schedule_space.specs.Spaces.{count, schedule_of, world_of, machine_after, IsEdge};
 ghost use Rattle.schedule_space.specs.Fates.{IsFate};
@@ -14,12 +14,13 @@ use processor::Step;
 use std::alloc::{AllocError, Global};
 use std::marker::Model;
 
-/// Worlds of an image, each once, that schedules lead to: the first is the image's before any step, and each other one
-/// has a link, which says by which step from which earlier world it was found. Contracts see the image, the links and
-/// the edges; the worlds are those that the schedules of the links lead to.
+/// Worlds of an image, each once, that schedules lead to: the first is that of the schedule with which all begin, and each
+/// other one has a link, which says by which step from which earlier world it was found. Contracts see the image, the
+/// beginning, the links and the edges; the worlds are those that the schedules of the links lead to.
 #[derive(Drop)]
 pub struct Space<'i> {
     image: &'i Image,
+    begin: Vec<Step>,
     links: Vec<Link>,
     edges: Vec<Edge>,
     fates: Vec<Fate>,
@@ -31,24 +32,26 @@ impl<'i> Model for Space<'i> {
 
     ghost Value = { SpaceValue };
 
-    ghost view = { λ s. space_of s.image.now s.links.items s.edges.items };
+    ghost view = { λ s. space_of s.image.now s.begin.items s.links.items s.edges.items };
 
-    ghost invariant = { λ s. IsSpace (space_of s.image.now s.links.items s.edges.items) s.fates.items };
+    ghost invariant = { λ s. IsSpace (space_of s.image.now s.begin.items s.links.items s.edges.items) s.fates.items };
 }
 
 impl<'i> Space<'i> {
     /// The space of these parts.
     pub(crate) fn from_parts(
         image: &'i Image,
+        begin: Vec<Step>,
         links: Vec<Link>,
         edges: Vec<Edge>,
         fates: Vec<Fate>,
     ) -> Space<'i>
-        requires { IsSpace (space_of image.now links.items edges.items) fates.items }
-        ensures { result ≡ space_of image.entry.now links.items edges.items }
+        requires { IsSpace (space_of image.now begin.items links.items edges.items) fates.items }
+        ensures { result ≡ space_of image.entry.now begin.items links.items edges.items }
     {
         Space {
             image,
+            begin,
             links,
             edges,
             fates,
@@ -60,6 +63,13 @@ impl<'i> Space<'i> {
         ensures { result.now ≡ self.now.image }
     {
         self.image
+    }
+
+    /// The schedule with which all schedules of its worlds begin.
+    pub fn begin(&self) -> &[Step]
+        ensures { result.now ≡ self.now.begin }
+    {
+        &self.begin
     }
 
     /// How many worlds it has.
@@ -92,20 +102,22 @@ impl<'i> Space<'i> {
         self.fates[place]
     }
 
-    /// The schedule by which the world at a place was found.
+    /// The schedule by which the world at a place was found, from the image's start on.
     pub fn schedule(&self, alloc: Global, place: usize) -> Result<Vec<Step>, AllocError>
         requires { place < count self.now }
         ensures { IfOk result (λ v. v.items ≡ schedule_of self.now place) }
     {
+        let mut schedule = Vec::from_slice(alloc, &self.begin)?;
         let mut steps = self.steps_back(alloc, place)?;
         steps.reverse();
-        Ok(steps)
+        schedule.extend_from_slice(&steps)?;
+        Ok(schedule)
     }
 
-    /// Its steps, the last first.
+    /// Its steps behind those of the beginning, the last first.
     fn steps_back(&self, alloc: Global, place: usize) -> Result<Vec<Step>, AllocError>
         requires { place < count self.now }
-        ensures { IfOk result (λ v. reverse v.items ≡ schedule_of self.now place) }
+        ensures { IfOk result (λ v. self.now.begin ++ reverse v.items ≡ schedule_of self.now place) }
     {
         let mut steps = Vec::new(alloc);
         let mut here = place;

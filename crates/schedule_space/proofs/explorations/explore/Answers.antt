@@ -1,6 +1,7 @@
 use Rattle.std.proofs.Common.{◌≡◌, ℕ, ◌+◌, ◌<◌, ◌≤◌, ap, ◌∙◌, arith, rules, false}
 use Rattle.std.specs.Result.{is_err}
 use Rattle.machine.specs.MachineValue.{MachineValue}
+use Rattle.processor.specs.World.{steps}
 use Rattle.schedule_space.specs.Spaces.{SpaceValue, count, schedule_of, machine_after}
 use Rattle.schedule_space.specs.Finding.{IsExpanded, IsFrontier, IsBreadthFirst}
 use Rattle.schedule_space.proofs.Parts.{frontier_front, frontier_empty}
@@ -10,22 +11,24 @@ use Rattle.schedule_space.proofs.Exploring.{loaded, begun_frontier, nothing_left
 use Rattle.schedule_space.proofs.explorations.explore.Goals as goal
 
 pub begin-requires : goal.begin-requires
-begin-requires g c = (omega arith, loaded c.args.image.now c.in_ok-first.first c.in_ok-first.ensures.is)
+begin-requires g c = (omega arith, loaded c.args.image.now c.in_ok-first.first c.run.new.self c.args.begin.now c.in_ok-first.ensures.is c.run.ensures)
 
 pub loop-from-init : goal.loop-from-init
 loop-from-init g c =
-    let first = c.in_ok-first.first in
+    let first = c.run.new.self in
+    let begin = c.args.begin.now in
     let v = c.in_ok-found.found in
     let is = c.in_ok-found.ensures in
     record {
       image =
-          ap (λ (x : SpaceValue). x.image) is ∙ ap (λ (m : MachineValue). m.image) c.in_ok-first.ensures.is;
+          ap (λ (x : SpaceValue). x.image) is ∙ ap (λ (m : MachineValue). m.image) (c.run.ensures ∙ ap (λ (m : MachineValue). record m { world = steps m.image m.world begin }) c.in_ok-first.ensures.is);
+      begin = ap (λ (x : SpaceValue). x.begin) is;
       expanded = λ k below. absurd (omega arith);
       inside = omega arith;
       within = omega (arith, ap count is, c.world_limit-limit.ensures.some);
       frontier =
-          begun_frontier v first c.push_back.new.self.items is
-          (loaded c.args.image.now first c.in_ok-first.ensures.is) (search rules);
+          begun_frontier v first c.push_back.new.self.items begin is
+          (loaded c.args.image.now c.in_ok-first.first first begin c.in_ok-first.ensures.is c.run.ensures) (search rules);
       breadth = λ _. breadth_begun v (ap (λ (x : SpaceValue). x.links) is);
     }
 
@@ -46,6 +49,10 @@ expand-requires g c =
 pub returns-in_default-clause-image : goal.returns-in_default-clause-image
 returns-in_default-clause-image g c =
     ap (λ (x : SpaceValue). x.image) c.into_space.ensures.is ∙ c.loop-from.invariant.image
+
+pub returns-in_default-clause-begin : goal.returns-in_default-clause-begin
+returns-in_default-clause-begin g c =
+    ap (λ (x : SpaceValue). x.begin) c.into_space.ensures.is ∙ c.loop-from.invariant.begin
 
 pub returns-in_default-clause-complete : goal.returns-in_default-clause-complete
 returns-in_default-clause-complete g c = λ _.
@@ -93,6 +100,10 @@ pub returns-then-is_err-clause-image : goal.returns-then-is_err-clause-image
 returns-then-is_err-clause-image g c =
     ap (λ (x : SpaceValue). x.image) c.into_space-then-is_err.ensures.is ∙ c.expand.ensures.grown.image ∙ c.loop-from.invariant.image
 
+pub returns-then-is_err-clause-begin : goal.returns-then-is_err-clause-begin
+returns-then-is_err-clause-begin g c =
+    ap (λ (x : SpaceValue). x.begin) c.into_space-then-is_err.ensures.is ∙ c.expand.ensures.grown.begin ∙ c.loop-from.invariant.begin
+
 pub returns-then-is_err-clause-shortest : goal.returns-then-is_err-clause-shortest
 returns-then-is_err-clause-shortest g c =
     let front =
@@ -117,6 +128,7 @@ loop-from-preserved g c =
     let done = ended_well c.expand.result (IsExpanded new n) well c.expand.ensures.expanded in
     record {
       image = c.expand.ensures.grown.image ∙ c.loop-from.invariant.image;
+      begin = c.expand.ensures.grown.begin ∙ c.loop-from.invariant.begin;
       expanded =
           expanded_more old new n c.expand.ensures.grown front.0 c.loop-from.invariant.expanded done;
       inside = omega (arith, front.0, c.expand.ensures.grown.more);
@@ -128,6 +140,10 @@ loop-from-preserved g c =
 pub returns-clause-image : goal.returns-clause-image
 returns-clause-image g c =
     ap (λ (x : SpaceValue). x.image) c.into_space-2.ensures.is ∙ c.loop-from.invariant.image
+
+pub returns-clause-begin : goal.returns-clause-begin
+returns-clause-begin g c =
+    ap (λ (x : SpaceValue). x.begin) c.into_space-2.ensures.is ∙ c.loop-from.invariant.begin
 
 pub returns-clause-complete : goal.returns-clause-complete
 returns-clause-complete g c = λ _.

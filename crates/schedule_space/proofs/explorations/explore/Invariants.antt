@@ -7,6 +7,7 @@ use Rattle.schedule_space.proofs.explorations.explore.Given as goal
 abbrev pub invariant-loop-from : goal.invariant-loop-from
 invariant-loop-from g l = record {
   image : l.found.image ≡ l.image;
+  begin : l.found.begin ≡ l.begin;
   expanded : (k : ℕ) → k < l.from → IsExpanded l.found k;
   inside : l.from ≤ count l.found;
   within : count l.found ≤ l.limit;

@@ -9,12 +9,12 @@ pub world_key-requires : goal.world_key-requires
 world_key-requires g c = (
   omega arith,
   subst (λ (m : MachineValue). IsMemoryOf m.image m.world.memory) (sym c.requires)
-      (memory_of_run c.args.first.now.image []),
+      (memory_of_run c.args.first.now.image c.args.begin.now),
 )
 
 pub invariant_of-result : goal.invariant_of-result
 invariant_of-result g c =
-    found_begun c.image.result.now c.new.result.items c.new-2.result.items c.in_ok-fate.fate c.push-2.new.self.items
+    found_begun c.image.result.now c.args.begin.now c.new.result.items c.new-2.result.items c.in_ok-fate.fate c.push-2.new.self.items
     c.world_key.new.contents c.push.new.self c.in_ok-key.key.items c.args.first.now c.image.ensures.is
     c.new.ensures.items c.new-2.ensures.items c.requires c.in_ok-fate.ensures (search rules)
     c.in_ok-key.ensures.known c.in_ok-key.ensures.is (search rules)

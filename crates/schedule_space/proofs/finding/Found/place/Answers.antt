@@ -14,38 +14,38 @@ world_key-requires g c =
 
 pub invariant_of-self : goal.invariant_of-self
 invariant_of-self g c =
-    found_later (space_of c.self.inside.image.now c.self.inside.links.items c.self.inside.edges.items)
+    found_later (space_of c.self.inside.image.now c.self.inside.begin.items c.self.inside.links.items c.self.inside.edges.items)
     c.self.inside.fates.items c.self.inside.contents c.world_key.new.contents c.self.inside.keys
     c.world_key.ensures.grown c.self.invariant
 
 pub invariant_of-self-in-Some : goal.invariant_of-self-in-Some
 invariant_of-self-in-Some g c =
-    found_later (space_of c.self.inside.image.now c.self.inside.links.items c.self.inside.edges.items)
+    found_later (space_of c.self.inside.image.now c.self.inside.begin.items c.self.inside.links.items c.self.inside.edges.items)
     c.self.inside.fates.items c.self.inside.contents c.world_key.new.contents c.self.inside.keys
     c.world_key.ensures.grown c.self.invariant
 
 pub invariant_of-self-then-place-most : goal.invariant_of-self-then-place-most
 invariant_of-self-then-place-most g c =
-    found_later (space_of c.self.inside.image.now c.self.inside.links.items c.self.inside.edges.items)
+    found_later (space_of c.self.inside.image.now c.self.inside.begin.items c.self.inside.links.items c.self.inside.edges.items)
     c.self.inside.fates.items c.self.inside.contents c.world_key.new.contents c.self.inside.keys
     c.world_key.ensures.grown c.self.invariant
 
 pub invariant_of-self-in_err-fate : goal.invariant_of-self-in_err-fate
 invariant_of-self-in_err-fate g c =
-    found_later (space_of c.self.inside.image.now c.self.inside.links.items c.self.inside.edges.items)
+    found_later (space_of c.self.inside.image.now c.self.inside.begin.items c.self.inside.links.items c.self.inside.edges.items)
     c.self.inside.fates.items c.self.inside.contents c.world_key.new.contents c.self.inside.keys
     c.world_key.ensures.grown c.self.invariant
 
 pub invariant_of-self-in_err-push_world : goal.invariant_of-self-in_err-push_world
 invariant_of-self-in_err-push_world g c =
-    kept c.self.inside.image.now c.self.inside.links.items c.push_world.new.links.items c.self.inside.edges.items
+    kept c.self.inside.image.now c.self.inside.begin.items c.self.inside.links.items c.push_world.new.links.items c.self.inside.edges.items
     c.self.inside.fates.items c.push_world.new.fates.items c.self.inside.contents c.world_key.new.contents
     c.self.inside.keys c.push_world.new.keys c.self.invariant c.world_key.ensures.grown
     c.in_err-push_world.ensures.links c.in_err-push_world.ensures.fates c.in_err-push_world.ensures.keys
 
 pub invariant_of-self-2 : goal.invariant_of-self-2
 invariant_of-self-2 g c =
-    placed c.self.inside.image.now c.self.inside.links.items c.push_world.new.links.items c.self.inside.edges.items
+    placed c.self.inside.image.now c.self.inside.begin.items c.self.inside.links.items c.push_world.new.links.items c.self.inside.edges.items
     c.args.self.now c.self.inside.fates.items c.push_world.new.fates.items c.self.inside.contents
     c.world_key.new.contents c.self.inside.keys c.push_world.new.keys c.in_ok-key.key.items c.args.link
     c.in_ok-fate.fate c.args.machine c.self.invariant c.self.view_is c.world_key.ensures.grown c.requires.from
@@ -57,7 +57,7 @@ invariant_of-self-2 g c =
 
 pub overflow_cast-result : goal.overflow_cast-result
 overflow_cast-result g c =
-    let w = space_of c.self.inside.image.now c.self.inside.links.items c.self.inside.edges.items in
+    let w = space_of c.self.inside.image.now c.self.inside.begin.items c.self.inside.links.items c.self.inside.edges.items in
     let keys = c.self.inside.keys in
     let key = c.in_ok-key.key.items in
     let at : c.in-Some.place ≡ place_in keys key = search rules in
@@ -70,48 +70,48 @@ overflow_cast-result g c =
 
 pub returns-in_err-key-clause-grown : goal.returns-in_err-key-clause-grown
 returns-in_err-key-clause-grown g c =
-    grown_to c.args.self.now (space_of c.self.inside.image.now c.self.inside.links.items c.self.inside.edges.items)
+    grown_to c.args.self.now (space_of c.self.inside.image.now c.self.inside.begin.items c.self.inside.links.items c.self.inside.edges.items)
     c.self.view_is
 
 pub returns-in_err-key-clause-within : goal.returns-in_err-key-clause-within
 returns-in_err-key-clause-within g c =
-    stays_within c.args.self.now (space_of c.self.inside.image.now c.self.inside.links.items c.self.inside.edges.items)
+    stays_within c.args.self.now (space_of c.self.inside.image.now c.self.inside.begin.items c.self.inside.links.items c.self.inside.edges.items)
     c.args.most c.self.view_is c.requires.within
 
 pub returns-in_err-key-clause-frontier : goal.returns-in_err-key-clause-frontier
 returns-in_err-key-clause-frontier g c =
-    stays_frontier c.args.self.now (space_of c.self.inside.image.now c.self.inside.links.items c.self.inside.edges.items)
+    stays_frontier c.args.self.now (space_of c.self.inside.image.now c.self.inside.begin.items c.self.inside.links.items c.self.inside.edges.items)
     c.args.frontier.now.items c.args.frontier.now.items (c.args.link.from + 1) c.self.view_is refl c.requires.frontier
 
 pub returns-in_err-key-clause-breadth : goal.returns-in_err-key-clause-breadth
 returns-in_err-key-clause-breadth g c =
-    stays_breadth c.args.self.now (space_of c.self.inside.image.now c.self.inside.links.items c.self.inside.edges.items)
+    stays_breadth c.args.self.now (space_of c.self.inside.image.now c.self.inside.begin.items c.self.inside.links.items c.self.inside.edges.items)
     c.args.link.from c.self.view_is c.requires.breadth
 
 pub returns-in_err-fate-clause-grown : goal.returns-in_err-fate-clause-grown
 returns-in_err-fate-clause-grown g c =
-    grown_to c.args.self.now (space_of c.self.inside.image.now c.self.inside.links.items c.self.inside.edges.items)
+    grown_to c.args.self.now (space_of c.self.inside.image.now c.self.inside.begin.items c.self.inside.links.items c.self.inside.edges.items)
     c.self.view_is
 
 pub returns-in_err-fate-clause-within : goal.returns-in_err-fate-clause-within
 returns-in_err-fate-clause-within g c =
-    stays_within c.args.self.now (space_of c.self.inside.image.now c.self.inside.links.items c.self.inside.edges.items)
+    stays_within c.args.self.now (space_of c.self.inside.image.now c.self.inside.begin.items c.self.inside.links.items c.self.inside.edges.items)
     c.args.most c.self.view_is c.requires.within
 
 pub returns-in_err-fate-clause-frontier : goal.returns-in_err-fate-clause-frontier
 returns-in_err-fate-clause-frontier g c =
-    stays_frontier c.args.self.now (space_of c.self.inside.image.now c.self.inside.links.items c.self.inside.edges.items)
+    stays_frontier c.args.self.now (space_of c.self.inside.image.now c.self.inside.begin.items c.self.inside.links.items c.self.inside.edges.items)
     c.args.frontier.now.items c.args.frontier.now.items (c.args.link.from + 1) c.self.view_is refl c.requires.frontier
 
 pub returns-in_err-fate-clause-breadth : goal.returns-in_err-fate-clause-breadth
 returns-in_err-fate-clause-breadth g c =
-    stays_breadth c.args.self.now (space_of c.self.inside.image.now c.self.inside.links.items c.self.inside.edges.items)
+    stays_breadth c.args.self.now (space_of c.self.inside.image.now c.self.inside.begin.items c.self.inside.links.items c.self.inside.edges.items)
     c.args.link.from c.self.view_is c.requires.breadth
 
 pub returns-then-place-most : goal.returns-then-place-most
 returns-then-place-most g c =
     let v = c.args.self.now in
-    let w = space_of c.self.inside.image.now c.self.inside.links.items c.self.inside.edges.items in
+    let w = space_of c.self.inside.image.now c.self.inside.begin.items c.self.inside.links.items c.self.inside.edges.items in
     let n = c.args.link.from + 1 in
     record {
       grown = grown_to v w c.self.view_is;
@@ -125,7 +125,7 @@ returns-then-place-most g c =
 pub returns-in-Some : goal.returns-in-Some
 returns-in-Some g c =
     let v = c.args.self.now in
-    let w = space_of c.self.inside.image.now c.self.inside.links.items c.self.inside.edges.items in
+    let w = space_of c.self.inside.image.now c.self.inside.begin.items c.self.inside.links.items c.self.inside.edges.items in
     let keys = c.self.inside.keys in
     let key = c.in_ok-key.key.items in
     let at : c.in-Some.place ≡ place_in keys key = search rules in
@@ -148,27 +148,27 @@ returns-in-Some g c =
 pub returns-in_err-push_world-clause-grown : goal.returns-in_err-push_world-clause-grown
 returns-in_err-push_world-clause-grown g c =
     let v = c.args.self.now in
-    let w = space_of c.self.inside.image.now c.push_world.new.links.items c.self.inside.edges.items in
+    let w = space_of c.self.inside.image.now c.self.inside.begin.items c.push_world.new.links.items c.self.inside.edges.items in
     let is =
-    kept_view c.self.inside.image.now c.self.inside.links.items c.push_world.new.links.items c.self.inside.edges.items v
+    kept_view c.self.inside.image.now c.self.inside.begin.items c.self.inside.links.items c.push_world.new.links.items c.self.inside.edges.items v
     c.self.view_is c.in_err-push_world.ensures.links in
     grown_to v w is
 
 pub returns-in_err-push_world-clause-within : goal.returns-in_err-push_world-clause-within
 returns-in_err-push_world-clause-within g c =
     let v = c.args.self.now in
-    let w = space_of c.self.inside.image.now c.push_world.new.links.items c.self.inside.edges.items in
+    let w = space_of c.self.inside.image.now c.self.inside.begin.items c.push_world.new.links.items c.self.inside.edges.items in
     let is =
-    kept_view c.self.inside.image.now c.self.inside.links.items c.push_world.new.links.items c.self.inside.edges.items v
+    kept_view c.self.inside.image.now c.self.inside.begin.items c.self.inside.links.items c.push_world.new.links.items c.self.inside.edges.items v
     c.self.view_is c.in_err-push_world.ensures.links in
     stays_within v w c.args.most is c.requires.within
 
 pub returns-in_err-push_world-clause-frontier : goal.returns-in_err-push_world-clause-frontier
 returns-in_err-push_world-clause-frontier g c =
     let v = c.args.self.now in
-    let w = space_of c.self.inside.image.now c.push_world.new.links.items c.self.inside.edges.items in
+    let w = space_of c.self.inside.image.now c.self.inside.begin.items c.push_world.new.links.items c.self.inside.edges.items in
     let is =
-    kept_view c.self.inside.image.now c.self.inside.links.items c.push_world.new.links.items c.self.inside.edges.items v
+    kept_view c.self.inside.image.now c.self.inside.begin.items c.self.inside.links.items c.push_world.new.links.items c.self.inside.edges.items v
     c.self.view_is c.in_err-push_world.ensures.links in
     stays_frontier v w c.args.frontier.now.items c.push_world.new.frontier.items (c.args.link.from + 1) is
     c.in_err-push_world.ensures.machines c.requires.frontier
@@ -176,9 +176,9 @@ returns-in_err-push_world-clause-frontier g c =
 pub returns-in_err-push_world-clause-breadth : goal.returns-in_err-push_world-clause-breadth
 returns-in_err-push_world-clause-breadth g c =
     let v = c.args.self.now in
-    let w = space_of c.self.inside.image.now c.push_world.new.links.items c.self.inside.edges.items in
+    let w = space_of c.self.inside.image.now c.self.inside.begin.items c.push_world.new.links.items c.self.inside.edges.items in
     let is =
-    kept_view c.self.inside.image.now c.self.inside.links.items c.push_world.new.links.items c.self.inside.edges.items v
+    kept_view c.self.inside.image.now c.self.inside.begin.items c.self.inside.links.items c.push_world.new.links.items c.self.inside.edges.items v
     c.self.view_is c.in_err-push_world.ensures.links in
     stays_breadth v w c.args.link.from is c.requires.breadth
 
@@ -187,9 +187,9 @@ returns g c =
     let v = c.args.self.now in
     let l = c.args.link in
     let m = c.args.machine in
-    let w = space_of c.self.inside.image.now c.push_world.new.links.items c.self.inside.edges.items in
+    let w = space_of c.self.inside.image.now c.self.inside.begin.items c.push_world.new.links.items c.self.inside.edges.items in
     let is =
-    placed_view c.self.inside.image.now c.self.inside.links.items c.push_world.new.links.items
+    placed_view c.self.inside.image.now c.self.inside.begin.items c.self.inside.links.items c.push_world.new.links.items
     c.self.inside.edges.items v l c.self.view_is c.in_ok-push_world.ensures.link in
     let many : c.len-place.result ≡ length c.self.inside.links.items = search rules in
     let at : c.len-place.result + 1 ≡ count v = omega (arith, many, ap count c.self.view_is) in

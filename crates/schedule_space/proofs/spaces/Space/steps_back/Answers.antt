@@ -6,7 +6,7 @@ use Rattle.schedule_space.proofs.spaces.Space.steps_back.Goals as goal
 
 pub returns-then-here-eq0 : goal.returns-then-here-eq0
 returns-then-here-eq0 c =
-    read_all c.args.self.now.links c.loop-taken.here c.loop-taken.steps.items
+    read_all c.args.self.now.begin c.args.self.now.links c.loop-taken.here c.loop-taken.steps.items
     (schedule_of c.args.self.now c.args.place) c.loop-taken.invariant.read (omega arith)
 
 pub loop-taken-preserved : goal.loop-taken-preserved
@@ -22,7 +22,7 @@ loop-taken-preserved c =
     (c.self.invariant.earlier (here - 1) link (omega (arith, below, many))) in
     record {
       read =
-          read_more v.links here (here - 1) c.loop-taken.steps.items c.push.new.self.items (schedule_of v c.args.place)
+          read_more v.begin v.links here (here - 1) c.loop-taken.steps.items c.push.new.self.items (schedule_of v c.args.place)
           link c.loop-taken.invariant.read (omega arith) below
           (c.index-link.ensures ∙ ap (λ (x : SpaceValue). get_or x.links (here - 1) link) c.self.view_is) earlier
           (search rules);
@@ -31,5 +31,5 @@ loop-taken-preserved c =
 
 pub returns : goal.returns
 returns c =
-    read_all c.args.self.now.links c.loop-taken.here c.loop-taken.steps.items
+    read_all c.args.self.now.begin c.args.self.now.links c.loop-taken.here c.loop-taken.steps.items
     (schedule_of c.args.self.now c.args.place) c.loop-taken.invariant.read (omega arith)

@@ -6,6 +6,6 @@ use Rattle.schedule_space.proofs.spaces.Space.steps_back.Given as goal
 
 abbrev pub invariant-loop-taken : goal.invariant-loop-taken
 invariant-loop-taken l = record {
-  read : IsReadTo l.self.links l.here l.steps.items (schedule_of l.self l.place);
+  read : IsReadTo l.self.begin l.self.links l.here l.steps.items (schedule_of l.self l.place);
   low : l.here + l.taken ≤ l.place;
 }

@@ -1,6 +1,6 @@
-//! Findings of the runs that commands show.
+//! Findings of runs.
 
-use crate::scheduling::loaded;
+use crate::machines::loaded;
 use image_file::Image;
 use lab_texts::{
     FindingsOfRun, NumberStyle, ProgramNames, Telling, push_findings, push_first_finding,
@@ -27,7 +27,7 @@ fn actions_of<const S: usize>(
 }
 
 /// Adds the findings of an image's run by these steps, a line each, or that they were not looked for.
-pub(crate) fn push_findings_of_run<const S: usize>(
+pub fn push_findings_of_run<const S: usize>(
     alloc: Global,
     out: &mut String,
     names: &ProgramNames<'_>,
@@ -51,7 +51,7 @@ pub(crate) fn push_findings_of_run<const S: usize>(
 }
 
 /// The first finding of an image's run by these steps, and how many more there are; empty where there is none.
-pub(crate) fn first_finding<const S: usize>(
+pub fn first_finding<const S: usize>(
     alloc: Global,
     names: &ProgramNames<'_>,
     image: &Image,

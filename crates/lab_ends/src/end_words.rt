@@ -10,7 +10,7 @@ use waiting::{running_streams, wait_of};
 
 /// What is told of a world at which a run ended.
 #[derive(Drop)]
-pub(crate) struct EndWords {
+pub struct EndWords {
     /// Who was stopped, who waits, and the words that changed.
     pub text: String,
     /// The streams that a trap stopped, in the order of processor and stream.
@@ -19,7 +19,7 @@ pub(crate) struct EndWords {
 
 /// A stream that a trap stopped.
 #[derive(Clone, Copy, Debug)]
-pub(crate) struct StoppedBy {
+pub struct StoppedBy {
     /// The processor's number.
     pub p: u8,
     /// The stream's number.
@@ -29,7 +29,7 @@ pub(crate) struct StoppedBy {
 }
 
 /// What is told of the world of a machine.
-pub(crate) fn end_words_of<const S: usize>(
+pub fn end_words_of<const S: usize>(
     alloc: Global,
     machine: &Machine<'_, S>,
     names: &ProgramNames<'_>,

@@ -1,0 +1,229 @@
+//! Ends of all schedules, and what they are told by.
+
+use crate::claims::Claim;
+use crate::end_words::{EndWords, end_words_of};
+use crate::expected_traps::is_expected_trap;
+use crate::findings::first_finding;
+use crate::machines::machine_at;
+use crate::spinning::add_spinning;
+use crate::wishes::Wishes;
+use expectations::{Expectation, first_missed};
+use lab_texts::{NumberStyle, ProgramNames};
+use processor::Step;
+use schedule_space::{Edge, Fate, Space};
+use std::alloc::{AllocError, Global};
+
+/// How a world of a space ends.
+#[derive(Clone, Copy, Debug, PartialEq, Eq)]
+pub enum SpaceEndKind {
+    /// No stream runs, and none was stopped.
+    Finished,
+    /// No stream runs, and some was stopped by a trap.
+    Stopped,
+    /// Nobody can go on.
+    Deadlock,
+    /// Some stream goes on for ever: no schedule from here comes to an end.
+    Spinning,
+    /// A claim about all worlds does not hold.
+    Broken,
+}
+
+impl SpaceEndKind {
+    /// Its name in tables.
+    pub fn name(self) -> &'static str {
+        match self {
+            SpaceEndKind::Finished => "finished",
+            SpaceEndKind::Stopped => "stopped",
+            SpaceEndKind::Deadlock => "deadlock",
+            SpaceEndKind::Spinning => "spinning",
+            SpaceEndKind::Broken => "broken",
+        }
+    }
+}
+
+/// Ends that agree in their kind, in who waits, was stopped or goes on for ever, in the words that changed, and in what
+/// is not as expected; or all worlds that break a claim.
+#[derive(Drop)]
+pub struct SpaceEnd {
+    /// The kind.
+    pub kind: SpaceEndKind,
+    /// Who was stopped, who waits or goes on for ever, and the words that changed. The claim, where it is broken.
+    pub text: String,
+    /// The place of the first expectation that is not met.
+    pub missed: Option<usize>,
+    /// Whether a trap that nobody expected stopped a stream.
+    pub is_trapped: bool,
+    /// The places of the worlds, the first of which no schedule is shorter to.
+    pub places: Vec<usize>,
+    /// How many sets of worlds they are that no step leads out of: each world of an end is one by itself.
+    pub sets: usize,
+    /// From how many worlds of the space some schedule leads there.
+    pub sources: usize,
+    /// A shortest schedule that leads there.
+    pub schedule: Vec<Step>,
+    /// The first finding of that schedule's run, and how many more there are; empty where there is none.
+    pub finding: String,
+}
+
+/// The ends of a space by the names of its program, in the order of their shortest schedules; then, where the space is
+/// complete, the sets of worlds that spin; then the worlds that break claims, those of each claim as one.
+pub fn space_ends<const S: usize>(
+    alloc: Global,
+    names: &ProgramNames<'_>,
+    style: NumberStyle,
+    wishes: &Wishes,
+    space: &Space<'_>,
+    is_complete: bool,
+) -> Result<Vec<SpaceEnd>, AllocError> {
+    let mut ends = Vec::new(alloc);
+    for place in 0..space.len() {
+        if place < space.len() && space.fate(place) != Fate::GoesOn {
+            add_end::<S>(alloc, &mut ends, names, style, &wishes.ends, space, place)?;
+        }
+    }
+    if is_complete {
+        add_spinning::<S>(alloc, &mut ends, names, style, space)?;
+    }
+    add_broken::<S>(alloc, &mut ends, &wishes.claims, space)?;
+    for end in ends.iter_mut() {
+        end.sources = sources_of(alloc, space, &end.places)?;
+        end.finding = first_finding::<S>(alloc, names, space.image(), &end.schedule)?;
+    }
+    Ok(ends)
+}
+
+/// Adds the end at a place.
+fn add_end<const S: usize>(
+    alloc: Global,
+    ends: &mut Vec<SpaceEnd>,
+    names: &ProgramNames<'_>,
+    style: NumberStyle,
+    expected: &[Expectation],
+    space: &Space<'_>,
+    place: usize,
+) -> Result<(), AllocError> {
+    let machine = machine_at::<S>(alloc, space, place)?;
+    let EndWords { text, stopped } = end_words_of(alloc, &machine, names, style)?;
+    let fate = if place < space.len() {
+        space.fate(place)
+    } else {
+        Fate::GoesOn
+    };
+    let kind = match fate {
+        Fate::Deadlock => SpaceEndKind::Deadlock,
+        _ if !stopped.is_empty() => SpaceEndKind::Stopped,
+        _ => SpaceEndKind::Finished,
+    };
+    let missed = first_missed(&machine, expected);
+    let is_trapped = stopped
+        .iter()
+        .any(|stream| !is_expected_trap(expected, stream));
+    let known = ends.iter_mut().find(|end| end.kind == kind
+        && end.missed == missed
+        && end.text == text);
+    match known {
+        Some(end) => {
+            end.sets = end.sets.saturating_add(1);
+            Ok(end.places.push(place)?)
+        }
+        None => {
+            let end = new_end(alloc, space, place, kind, text)?;
+            let end = SpaceEnd {
+                missed,
+                is_trapped,
+                ..end
+            };
+            Ok(ends.push(end)?)
+        }
+    }
+}
+
+/// Adds the worlds that break claims, those of each claim as one.
+fn add_broken<const S: usize>(
+    alloc: Global,
+    ends: &mut Vec<SpaceEnd>,
+    claims: &[Claim],
+    space: &Space<'_>,
+) -> Result<(), AllocError> {
+    for claim in claims {
+        let mut places = Vec::new(alloc);
+        for place in 0..space.len() {
+            let machine = machine_at::<S>(alloc, space, place)?;
+            if !claim.holds(&machine) {
+                places.push(place)?;
+            }
+        }
+        let Some(first) = places.first().copied() else {
+            continue;
+        };
+        let text = claim.text.clone()?;
+        let sets = places.len();
+        let end = new_end(alloc, space, first, SpaceEndKind::Broken, text)?;
+        ends.push(SpaceEnd {
+            places,
+            sets,
+            ..end
+        })?;
+    }
+    Ok(())
+}
+
+/// An end of which this is the first world.
+pub(crate) fn new_end(
+    alloc: Global,
+    space: &Space<'_>,
+    place: usize,
+    kind: SpaceEndKind,
+    text: String,
+) -> Result<SpaceEnd, AllocError> {
+    let mut places = Vec::new(alloc);
+    places.push(place)?;
+    let schedule = if place < space.len() {
+        space.schedule(alloc, place)?
+    } else {
+        Vec::new(alloc)
+    };
+    Ok(SpaceEnd {
+        kind,
+        text,
+        missed: None,
+        is_trapped: false,
+        places,
+        sets: 1,
+        sources: 0,
+        schedule,
+        finding: String::new(alloc),
+    })
+}
+
+/// From how many worlds of a space some schedule leads to one of these places.
+fn sources_of(alloc: Global, space: &Space<'_>, places: &[usize]) -> Result<usize, AllocError> {
+    let mut marks = vec![in alloc; false; space.len()]?;
+    for place in places {
+        if let Some(mark) = marks.get_mut(*place) {
+            *mark = true;
+        }
+    }
+    for _ in 0..space.len() {
+        if !mark_before(space.edges(), &mut marks) {
+            break;
+        }
+    }
+    Ok(marks.iter().filter(|mark| **mark).count())
+}
+
+/// Marks the worlds from which an edge leads to a marked one, and says whether there was one to mark.
+fn mark_before(edges: &[Edge], marks: &mut [bool]) -> bool {
+    let mut is_more = false;
+    for edge in edges.iter().rev() {
+        let to = marks.get(edge.to as usize).copied().unwrap_or(false);
+        if to
+            && let Some(from) = marks.get_mut(edge.from as usize)
+            && !*from
+        {
+            *from = true;
+            is_more = true;
+        }
+    }
+    is_more
+}

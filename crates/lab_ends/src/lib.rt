@@ -1,0 +1,21 @@
+//! How runs and all schedules of a program end, told in words: who was stopped, who waits, the words that changed, the
+//! first finding; the ends of a space, and claims about all its worlds (docs/LAB.md, "Every schedule").
+#![tactic(auto)]
+
+mod claim_words;
+mod claims;
+mod end_words;
+mod every_end;
+mod expected_traps;
+mod findings;
+mod machines;
+mod spinning;
+mod strong_sets;
+mod wishes;
+
+pub use claims::Claim;
+pub use end_words::{EndWords, StoppedBy, end_words_of};
+pub use every_end::{SpaceEnd, SpaceEndKind, space_ends};
+pub use expected_traps::is_expected_trap;
+pub use findings::{first_finding, push_findings_of_run};
+pub use wishes::{WishFault, Wishes};

@@ -1,0 +1,142 @@
+//! Sets of worlds that no step leads out of, and in which it goes on for ever.
+
+use crate::every_end::{SpaceEnd, SpaceEndKind, new_end};
+use crate::machines::machine_at;
+use crate::strong_sets::{SetNumbers, closed_sets};
+use lab_texts::{NumberStyle, ProgramNames, push_changed_words, push_part_of, push_stream};
+use machine::Machine;
+use schedule_space::Space;
+use std::alloc::{AllocError, Global};
+use tag_memory::Word;
+use waiting::running_streams;
+
+/// Adds the sets of worlds that no step leads out of, and in which each world leads to each other one; those that are
+/// told alike as one. Every world from which no schedule comes to an end leads to such a set.
+pub(crate) fn add_spinning<const S: usize>(
+    alloc: Global,
+    ends: &mut Vec<SpaceEnd>,
+    names: &ProgramNames<'_>,
+    style: NumberStyle,
+    space: &Space<'_>,
+) -> Result<(), AllocError> {
+    let can_end = space.can_end(alloc)?;
+    let sets = closed_sets(alloc, space.edges(), &can_end)?;
+    for places in &places_of_sets(alloc, &sets)? {
+        add_set::<S>(alloc, ends, names, style, space, places)?;
+    }
+    Ok(())
+}
+
+/// The places of the worlds of each set, the sets in the order of their first worlds.
+fn places_of_sets(alloc: Global, sets: &SetNumbers) -> Result<Vec<Vec<usize>>, AllocError> {
+    let mut rank_of = vec![in alloc; None; sets.count]?;
+    let mut all = Vec::new(alloc);
+    for (place, number) in sets.number_of.iter().enumerate() {
+        let Some(number) = *number else {
+            continue;
+        };
+        let Some(rank) = rank_of.get_mut(number) else {
+            continue;
+        };
+        let first = *rank.get_or_insert(all.len());
+        if first == all.len() {
+            all.push(Vec::new(alloc))?;
+        }
+        if let Some(places) = all.get_mut(first) {
+            places.push(place)?;
+        }
+    }
+    Ok(all)
+}
+
+/// Adds a set of worlds.
+fn add_set<const S: usize>(
+    alloc: Global,
+    ends: &mut Vec<SpaceEnd>,
+    names: &ProgramNames<'_>,
+    style: NumberStyle,
+    space: &Space<'_>,
+    places: &[usize],
+) -> Result<(), AllocError> {
+    let Some(first) = places.first().copied() else {
+        return Ok(());
+    };
+    let text = set_text::<S>(alloc, names, style, space, places)?;
+    let known = ends.iter_mut().find(|end| end.kind == SpaceEndKind::Spinning && end.text == text);
+    match known {
+        Some(end) => {
+            end.sets = end.sets.saturating_add(1);
+            end.places.extend_from_slice(places)?;
+        }
+        None => {
+            let mut end = new_end(alloc, space, first, SpaceEndKind::Spinning, text)?;
+            end.places = Vec::from_slice(alloc, places)?;
+            ends.push(end)?;
+        }
+    }
+    Ok(())
+}
+
+/// Who runs in a set of worlds, the words that differ from the image in its first one, and those that change in it.
+fn set_text<const S: usize>(
+    alloc: Global,
+    names: &ProgramNames<'_>,
+    style: NumberStyle,
+    space: &Space<'_>,
+    places: &[usize],
+) -> Result<String, AllocError> {
+    let mut text = String::new(alloc);
+    let Some((first, others)) = places.split_first() else {
+        return Ok(text);
+    };
+    let machine = machine_at::<S>(alloc, space, *first)?;
+    for stream in &running_streams(alloc, &machine)? {
+        push_part_of(&mut text, 0, "")?;
+        push_stream(&mut text, stream.p, stream.s)?;
+        text.push_str(" runs")?;
+    }
+    push_changed_words(&mut text, names, style, &machine)?;
+    for address in &changing_words::<S>(alloc, space, &machine, others)? {
+        push_part_of(&mut text, 0, "")?;
+        write!(text, "[{address}] goes on changing")?;
+    }
+    Ok(text)
+}
+
+/// The byte addresses of the words that are not the same in all these worlds and in that of a machine.
+fn changing_words<const S: usize>(
+    alloc: Global,
+    space: &Space<'_>,
+    machine: &Machine<'_, S>,
+    places: &[usize],
+) -> Result<Vec<u64>, AllocError> {
+    let count = machine.image().cells().len();
+    let mut is_changing = vec![in alloc; false; count]?;
+    for place in places {
+        let other = machine_at::<S>(alloc, space, *place)?;
+        for (index, mark) in is_changing.iter_mut().enumerate() {
+            let address = (index as u64).saturating_mul(8);
+            if !is_same(machine.word(address), other.word(address)) {
+                *mark = true;
+            }
+        }
+    }
+    let mut addresses = Vec::new(alloc);
+    for (index, mark) in is_changing.iter().enumerate() {
+        if *mark {
+            addresses.push((index as u64).saturating_mul(8))?;
+        }
+    }
+    Ok(addresses)
+}
+
+/// Whether both words have the same value and tags.
+fn is_same(one: Option<Word>, other: Option<Word>) -> bool {
+    match (one, other) {
+        (Some(one), Some(other)) => {
+            one.value() == other.value() && one.tag_number() == other.tag_number()
+        }
+        (None, None) => true,
+        _ => false,
+    }
+}

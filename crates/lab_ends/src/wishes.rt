@@ -1,0 +1,117 @@
+//! What is wished of a program: of its ends, and of all worlds on the way.
+
+use crate::claims::Claim;
+use expectations::{Expectation, ExpectationFault, read_expectations};
+use lab_texts::ProgramNames;
+use std::alloc::{AllocError, AllocFailed, Global};
+use std::str;
+
+/// What is wished of a program.
+#[derive(Drop)]
+pub struct Wishes {
+    /// What each end has to be.
+    pub ends: Vec<Expectation>,
+    /// What has to hold of each world.
+    pub claims: Vec<Claim>,
+}
+
+/// Why a text says no wishes.
+#[derive(Clone, Copy, Debug, PartialEq, Eq)]
+pub enum WishFault {
+    /// A line begins as a claim, and is none.
+    Claim {
+        /// The line, counted from 1.
+        line: usize,
+    },
+    /// Another line has a fault, or the text says nothing.
+    Expectation(ExpectationFault),
+    /// Memory was refused.
+    NoMemory,
+}
+
+impl From<AllocError> for WishFault {
+    fn from(_error: AllocError) -> WishFault {
+        WishFault::NoMemory
+    }
+}
+
+impl<T: Drop> From<AllocFailed<T>> for WishFault {
+    fn from(_error: AllocFailed<T>) -> WishFault {
+        WishFault::NoMemory
+    }
+}
+
+impl Wishes {
+    /// No wishes.
+    pub fn none(alloc: Global) -> Wishes {
+        Wishes {
+            ends: Vec::new(alloc),
+            claims: Vec::new(alloc),
+        }
+    }
+
+    /// The wishes of a text, by the names of a program: a line that begins with `always` or `never` is a claim, the
+    /// others are expectations.
+    ///
+    /// `Claim` at the first line that begins as a claim and is none; else `Expectation` where the others are no
+    /// expectations, or where the text says nothing.
+    pub fn of(alloc: Global, text: &[u8], names: &ProgramNames<'_>) -> Result<Wishes, WishFault> {
+        let mut claims = Vec::new(alloc);
+        let mut others = Vec::with_capacity(alloc, text.len())?;
+        for (index, line) in text.split(|byte| *byte == b'\n').enumerate() {
+            let words = claim_words(alloc, line)?;
+            if words.is_empty() {
+                others.extend_from_slice(line)?;
+            } else {
+                match Claim::of(alloc, names, &words)? {
+                    Some(claim) => claims.push(claim)?,
+                    None => {
+                        return Err(WishFault::Claim {
+                            line: index.saturating_add(1),
+                        });
+                    }
+                }
+            }
+            others.push(b'\n')?;
+        }
+        let ends = if claims.is_empty() || has_words(&others) {
+            read_ends(alloc, &others)?
+        } else {
+            Vec::new(alloc)
+        };
+        Ok(Wishes { ends, claims })
+    }
+}
+
+/// The expectations of a text.
+fn read_ends(alloc: Global, text: &[u8]) -> Result<Vec<Expectation>, WishFault> {
+    match read_expectations(alloc, text) {
+        Ok(ends) => Ok(ends),
+        Err(fault) => Err(WishFault::Expectation(fault)),
+    }
+}
+
+/// The words of a line that is to be a claim; none of another line.
+fn claim_words(alloc: Global, line: &[u8]) -> Result<Vec<&str>, AllocError> {
+    let mut words = Vec::new(alloc);
+    let text = str::from_utf8(line).unwrap_or("");
+    let text = match text.split_once('#') {
+        Some((before, _)) => before,
+        None => text,
+    };
+    for word in text.split_whitespace() {
+        if words.is_empty() && word != "always" && word != "never" {
+            return Ok(words);
+        }
+        words.push(word)?;
+    }
+    Ok(words)
+}
+
+/// Whether a text has a line with something before its comment.
+fn has_words(text: &[u8]) -> bool {
+    text.split(|byte| *byte == b'\n').any(|line| {
+        let first = line.iter().find(|byte| **byte != b' ' && **byte != b'\t' && **byte != b'\r');
+        first.is_some_and(|byte| *byte != b'#')
+    })
+}
