@@ -7,8 +7,9 @@ _mta_lab_options() {
     schedule) echo '--seed --steps' ;;
     view) echo '--fair --seed --steps --from --to --only --word --columns --hex --json' ;;
     compare) echo '--hex --json' ;;
-    survey) echo '--seeds --from --steps --expect --hex --json' ;;
-    grade) echo '--expect --seeds --steps --hex --json' ;;
+    survey) echo '--seeds --from --steps --expect --explore --states --hex --json' ;;
+    explore) echo '--expect --from --states --keep --hex --json' ;;
+    grade) echo '--expect --seeds --steps --explore --states --hex --json' ;;
     debug) echo '--fair --seed --steps' ;;
     page | picture) echo '--fair --rounds --seed --steps --title --out' ;;
     asm) echo '--out' ;;
@@ -18,14 +19,14 @@ _mta_lab_options() {
 _mta_lab() {
   local current=${COMP_WORDS[COMP_CWORD]} before=${COMP_WORDS[COMP_CWORD - 1]} command=${COMP_WORDS[1]} words
   if [ "$COMP_CWORD" -eq 1 ]; then
-    words='check schedule view compare survey grade page picture debug asm --help --version'
+    words='check schedule view compare survey explore grade page picture debug asm --help --version'
   elif [ "$before" = --as ]; then
     words='source image schedule'
   elif [ "$command $COMP_CWORD" = 'schedule 2' ]; then
     words='rounds fair random'
   elif [[ $current = -* ]]; then
     words="$(_mta_lab_options "$command") --help"
-  elif [[ $before = --@(seed|seeds|steps|from|to|only|word|title) ]]; then
+  elif [[ $before = --@(seed|seeds|steps|states|from|to|only|word|title) && $command$before != explore--from ]]; then
     words=''
   else
     # a folder gets a slash and no blank, and a name with blanks is quoted

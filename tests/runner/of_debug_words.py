@@ -48,6 +48,20 @@ def sessions():
         yield os.path.basename(schedule), lambda schedule=schedule: (True, agrees(of_lab.source_of(schedule), schedule))
 
 
+@checks.others("lab/debug_refusals")
+def refusals():
+    """Words whose arguments say nothing: each is refused in words, and the session stays where it is."""
+    for line, said in (("step x", b"step takes a number of steps, as 5\n"), ("back -1", b"back takes a number of steps, as 5\n"),
+                       ("list 9", b"list takes a stream, as 2.0\n"), ("why x", b"why takes a stream, as 2.0\n"),
+                       ("delete x", b"delete takes the number of a point\n"), ("try x", b"try takes a stream, as 2.0\n")):
+        yield line, lambda line=line, said=said: (said, behind_the_first_line(line))
+
+
+def behind_the_first_line(line):
+    said = of_lab.lab("debug", "lock.asm", "lock.ends.schedule", given=line.encode() + b"\n")
+    return said.out.partition(b"\n")[2]
+
+
 def agrees(source, schedule):
     """Whether a session in words and one in commands stand at the same positions and show the same words."""
     image, chooser = tool.asm(tool.read(source)), random.Random(os.path.basename(schedule))

@@ -224,9 +224,10 @@ fn push_head(
     };
     let some_worlds = plural(worlds);
     let some_steps = plural(steps);
-    Ok(
-        write!(out, "{which}: {worlds} world{some_worlds}, {steps} step{some_steps}, {end}\n")?,
-    )
+    Ok(write!(
+        out,
+        "{which}: {worlds} world{some_worlds}, {steps} step{some_steps}, {end}\n"
+    )?)
 }
 
 /// What stands behind a word that is counted.
@@ -253,7 +254,10 @@ fn push_end_line(
     }
     let some_steps = plural(steps);
     let some_sources = plural(sources);
-    write!(out, "  {steps} step{some_steps}, from {sources} world{some_sources}")?;
+    write!(
+        out,
+        "  {steps} step{some_steps}, from {sources} world{some_sources}"
+    )?;
     if !end.text.is_empty() {
         let text = end.text.as_str();
         write!(out, "   {text}")?;

@@ -1,6 +1,6 @@
 -- Marks of the worlds from which an end can be reached.
 use Rattle.std.proofs.Common.{◌≡◌, ◌≢◌, ℕ, zero, suc, ◌+◌, ◌<◌, ◌≤◌, refl, sym, ap, ◌∙◌, subst, arith, List, [], ◌∷◌, ◌++◌}
-use Rattle.std.proofs.Common.{◌⊎◌, inl, inr, ◌-◌, length, get_or, set, take, drop, length-set, append-nil}
+use Rattle.std.proofs.Common.{◌⊎◌, inl, inr, ◌-◌, length, get_or, set, take, drop, length-set, append-nil, append_assoc}
 use Rattle.std.proofs.Common.{Bool, true, false}
 use Rattle.std.specs.Prelude.{IsTrue, ◌↔◌}
 use Rattle.std.specs.List.{Contains}
@@ -10,16 +10,16 @@ use Rattle.std.proofs.lemmas.List.Elements.{Contains-get_or}
 use Rattle.std.proofs.Math.ListN.{drop_of_length-le}
 use Rattle.std.proofs.Math.Seq.{get_or-append_seam}
 use Rattle.image_file.specs.ImageValue.{ImageValue}
-use Rattle.processor.specs.World.{World, after, steps}
+use Rattle.processor.specs.World.{World, after, run, steps}
 use Rattle.processor.specs.declared.steps.Step.{Step}
 use Rattle.schedule_space.specs.declared.links.Edge.{Edge}
-use Rattle.schedule_space.specs.Spaces.{SpaceValue, count, schedule_of, world_of, IsComplete, IsEdge, HasAllEdges}
+use Rattle.schedule_space.specs.Spaces.{SpaceValue, count, schedule_of, world_of, Has, HasEarlierLinks, IsComplete, IsEdge, HasAllEdges}
 use Rattle.schedule_space.specs.declared.fates.Fate.{Fate}
 use Rattle.schedule_space.specs.declared.fates.Fate.TheVariants as fate
 use Rattle.schedule_space.specs.Fates.{IsFate, is_end}
 use Rattle.schedule_space.specs.Reaching.{IsEnd, CanEnd, IsMarked, AreEnds, CanAllEnd, AreMarkedBack}
 use Rattle.schedule_space.specs.Reaching.{HasEndsMarked, marked}
-use Rattle.schedule_space.proofs.Schedules.{run-push}
+use Rattle.schedule_space.proofs.Schedules.{goes_on, run-push}
 
 -- from where an edge leads to a world that can end
 pub can_end_before : (v : SpaceValue) (e : Edge) → IsEdge v e → CanEnd v.image (world_of v e.to)
@@ -181,15 +181,29 @@ same_or_not j k =
           ]
     ]
 
-pub all_can_by : (v : SpaceValue) (marks : List Bool) → IsComplete v → HasAllEdges v → HasEndsMarked v marks
-    → AreMarkedBack v marks → (k : ℕ) → k < count v → (ts : List Step)
+-- a step from a world of a complete space leads to one of it
+next_place : (v : SpaceValue) → IsComplete v → HasEarlierLinks v → (k : ℕ) → k < count v → (t : Step)
+    → Has v (after v.image (world_of v k) t)
+next_place v complete earlier k below t =
+    let on = goes_on v.begin v.links k k earlier (omega arith) (omega (arith, below)) in
+    let next = complete (on.0 ++ t ∷ []) in (
+      next.0,
+      next.1,
+      next.2
+          ∙ ap (run v.image) (sym (append_assoc v.begin on.0 (t ∷ [])))
+          ∙ ap (λ xs. run v.image (xs ++ t ∷ [])) (sym on.1)
+          ∙ run-push v.image (schedule_of v k) t,
+    )
+
+pub all_can_by : (v : SpaceValue) (marks : List Bool) → IsComplete v → HasEarlierLinks v → HasAllEdges v
+    → HasEndsMarked v marks → AreMarkedBack v marks → (k : ℕ) → k < count v → (ts : List Step)
     → IsEnd v.image (steps v.image (world_of v k) ts) → IsMarked marks k
-all_can_by v marks complete edges ends back k below [] is = ends k below is
-all_can_by v marks complete edges ends back k below (t ∷ ts) is =
-    let next = complete (schedule_of v k ++ t ∷ []) in
-    let leads : world_of v next.0 ≡ after v.image (world_of v k) t = next.2 ∙ run-push v.image (schedule_of v k) t in
+all_can_by v marks complete earlier edges ends back k below [] is = ends k below is
+all_can_by v marks complete earlier edges ends back k below (t ∷ ts) is =
+    let next = next_place v complete earlier k below t in
+    let leads : world_of v next.0 ≡ after v.image (world_of v k) t = next.2 in
     let there : IsMarked marks next.0 =
-    all_can_by v marks complete edges ends back next.0 next.1 ts
+    all_can_by v marks complete earlier edges ends back next.0 next.1 ts
     (subst (λ (w : World). IsEnd v.image (steps v.image w ts)) (sym leads) is) in
     let e : Edge = record { from = k; step = t; to = next.0 } in
     elim (same_or_not next.0 k) [
@@ -198,7 +212,8 @@ all_can_by v marks complete edges ends back k below (t ∷ ts) is =
           back e ((edges e).1 (record { from = below; to = next.1; apart = apart; leads = leads })) there
     ]
 
-pub all_can : (v : SpaceValue) (marks : List Bool) → IsComplete v → HasAllEdges v → HasEndsMarked v marks
-    → AreMarkedBack v marks → (k : ℕ) → k < count v → CanEnd v.image (world_of v k) → IsMarked marks k
-all_can v marks complete edges ends back k below can =
-    all_can_by v marks complete edges ends back k below can.0 can.1
+pub all_can : (v : SpaceValue) (marks : List Bool) → IsComplete v → HasEarlierLinks v → HasAllEdges v
+    → HasEndsMarked v marks → AreMarkedBack v marks → (k : ℕ) → k < count v → CanEnd v.image (world_of v k)
+    → IsMarked marks k
+all_can v marks complete earlier edges ends back k below can =
+    all_can_by v marks complete earlier edges ends back k below can.0 can.1

@@ -1,7 +1,7 @@
 -- The schedules that links give, and the worlds that they lead to.
 use Rattle.std.proofs.Common.{◌≡◌, ℕ, zero, suc, ◌+◌, ◌<◌, ◌≤◌, refl, sym, ap, ◌∙◌, arith, List, [], ◌∷◌}
 use Rattle.std.proofs.Common.{◌++◌, length, get_or}
-use Rattle.std.proofs.Common.{length-append}
+use Rattle.std.proofs.Common.{length-append, append_assoc, append-nil}
 use Rattle.std.proofs.lemmas.List.{get_or_append_left}
 use Rattle.std.proofs.Math.Seq.{get_or-append_seam}
 use Rattle.image_file.specs.ImageValue.{ImageValue}
@@ -91,6 +91,25 @@ given begin ls k l below earlier =
     let at : k + 1 ≡ 1 + k = omega arith in
     ap (λ n. get_or (schedules_after (begin ∷ []) ls) n []) at
     ∙ given_after (begin ∷ []) ls k l below (omega (arith, earlier))
+
+-- each schedule goes on from the beginning
+pub goes_on : (begin : List Step) (ls : List Link) (most k : ℕ)
+    → ((j : ℕ) (l : Link) → j < length ls → (get_or ls j l).from ≤ j) → k ≤ most → k ≤ length ls
+    → (more : List Step) × (get_or (schedules begin ls) k [] ≡ begin ++ more)
+goes_on begin ls most zero earlier within below = ([], first-schedule begin ls ∙ sym (append-nil begin))
+goes_on begin ls zero (suc k) earlier within below = absurd (omega arith)
+goes_on begin ls (suc most) (suc k) earlier within below =
+    let none : Link = record { from = 0; step = record { p = 0; s = 0 } } in
+    let l = get_or ls k none in
+    let less : l.from ≤ k = earlier k none (omega arith) in
+    let before = goes_on begin ls most l.from earlier (omega (arith, less)) (omega (arith, less)) in
+    let at : suc k ≡ k + 1 = omega arith in
+    let is : get_or (schedules begin ls) (suc k) [] ≡ begin ++ (before.0 ++ l.step ∷ []) =
+    ap (λ n. get_or (schedules begin ls) n []) at
+    ∙ given begin ls k none (omega arith) less
+    ∙ ap (λ xs. xs ++ l.step ∷ []) before.1
+    ∙ append_assoc begin before.0 (l.step ∷ []) in
+    (before.0 ++ l.step ∷ [], is)
 
 -- The world after one more step.
 

@@ -44,6 +44,10 @@ world_of v k = run v.image (schedule_of v k)
 abbrev pub machine_after : ImageValue → List Step → MachineValue
 machine_after image ts = record { image = image; world = run image ts }
 
+-- each world but the first was found by a step from an earlier one
+abbrev pub HasEarlierLinks : SpaceValue → Type 0
+HasEarlierLinks v = (k : ℕ) (l : Link) → k < length v.links → (slice_index_or v.links k l).from ≤ k
+
 -- the world is one of the space
 abbrev pub Has : SpaceValue → World → Type 0
 Has v w = (k : ℕ) × (k < count v) × (world_of v k ≡ w)

@@ -22,7 +22,7 @@ impl Space<'_> {
             → CanEnd self.now.image (world_of self.now k) → IsMarked v.items k) }
     {
         let mut marks = self.ends(alloc)?;
-        for pass in 0..marks.len() {
+        for pass in 0..self.len() {
             if !self.mark_before(&mut marks) {
                 return Ok(marks);
             }

@@ -2,7 +2,7 @@
 
 ghost use Rattle.std.specs.Prelude.{◌≡◌, ◌<◌, ◌↔◌, ◌++◌, length, IfOk, reverse, Contains};
 ghost use Rattle.schedule_space.specs.declared.links.Edge.{Edge};
-ghost use Rattle.schedule_space.specs.Spaces.{count, schedule_of, world_of, machine_after, IsEdge};
+ghost use Rattle.schedule_space.specs.Spaces.{count, schedule_of, world_of, machine_after, IsEdge, HasEarlierLinks};
 ghost use Rattle.schedule_space.specs.Fates.{IsFate};
 ghost use Rattle.schedule_space.specs.Finding.{space_of, IsSpace};
 
@@ -72,9 +72,10 @@ impl<'i> Space<'i> {
         &self.begin
     }
 
-    /// How many worlds it has.
+    /// How many worlds it has, each but the first found by a step from an earlier one.
     pub fn len(&self) -> usize
-        ensures { result ≡ count self.now }
+        ensures count { result ≡ count self.now }
+        ensures links { HasEarlierLinks self.now }
     {
         self.fates.len()
     }

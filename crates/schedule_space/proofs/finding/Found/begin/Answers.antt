@@ -1,5 +1,6 @@
-use Rattle.std.proofs.Common.{rules, arith, sym, subst, []}
+use Rattle.std.proofs.Common.{rules, arith, sym, ap, ◌∙◌, subst}
 use Rattle.machine.specs.MachineValue.{MachineValue}
+use Rattle.schedule_space.specs.Spaces.{machine_after}
 use Rattle.world_keys.specs.WorldKeys.{IsMemoryOf}
 use Rattle.schedule_space.proofs.Memories.{memory_of_run}
 use Rattle.schedule_space.proofs.Keys.{found_begun}
@@ -14,7 +15,8 @@ world_key-requires g c = (
 
 pub invariant_of-result : goal.invariant_of-result
 invariant_of-result g c =
-    found_begun c.image.result.now c.args.begin.now c.new.result.items c.new-2.result.items c.in_ok-fate.fate c.push-2.new.self.items
+    found_begun c.image.result.now c.in_ok-from_slice.field-0.items c.new.result.items c.new-2.result.items c.in_ok-fate.fate c.push-2.new.self.items
     c.world_key.new.contents c.push.new.self c.in_ok-key.key.items c.args.first.now c.image.ensures.is
-    c.new.ensures.items c.new-2.ensures.items c.requires c.in_ok-fate.ensures (search rules)
+    c.new.ensures.items c.new-2.ensures.items
+    (c.requires ∙ ap (machine_after c.args.first.now.image) (sym c.in_ok-from_slice.ensures.items)) c.in_ok-fate.ensures (search rules)
     c.in_ok-key.ensures.known c.in_ok-key.ensures.is (search rules)

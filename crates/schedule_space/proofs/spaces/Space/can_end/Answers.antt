@@ -15,13 +15,11 @@ returns-then-not-mark_before-clause-all c = λ complete edges k below can.
     let back : AreMarkedBack v new = search rules in
     let ends : HasEndsMarked v new = λ j less end. kept j (c.loop-pass.invariant.ends j less end) in
     let same = written old new n many (omega (arith, each, many, c.loop-pass.invariant.can.each)) in
-    subst (λ (ms : List Bool). IsMarked ms k) (sym same) (all_can v new complete edges ends back k below can)
+    subst (λ (ms : List Bool). IsMarked ms k) (sym same) (all_can v new complete c.len-pass-end.ensures.links edges ends back k below can)
 
 pub returns-clause-all : goal.returns-clause-all
 returns-clause-all c = λ _ _ k below _.
     let marks = c.loop-pass.marks.items in
-    let many : c.len-pass-end.result ≡ length c.in_ok-marks.marks.items = search rules in
-    let before = c.in_ok-marks.ensures.each in
     all_marked marks k
-    (omega (arith, many, before, c.loop-pass.invariant.can.each, c.loop-pass.invariant.more, c.loop-pass-test.false))
+    (omega (arith, c.len-pass-end.ensures.count, c.loop-pass.invariant.can.each, c.loop-pass.invariant.more, c.loop-pass-test.false))
     (omega (arith, below, c.loop-pass.invariant.can.each))
