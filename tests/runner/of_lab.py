@@ -182,6 +182,7 @@ OBJECTS = {
     "compare lock.asm lock.ends.schedule lock.lost_update.schedule --json": [
         "one other step version", "differ position version", END, END],
     "survey lock.asm --seeds 5 --json": ["end expected finding missed runs seed steps version words"],
+    "explore lock.asm --states 50 --json": ["complete steps version worlds"],
     "grade --json --expect wishes --seeds 5 lock.asm": ["submission verdict version why"],
 }
 
@@ -226,7 +227,7 @@ def said_of(wanted):
 @checks.others("lab/help")
 def helps():
     """The help of each command is no fault."""
-    for command in ("check", "schedule", "view", "compare", "survey", "grade", "asm", ""):
+    for command in ("check", "schedule", "view", "compare", "survey", "explore", "grade", "debug", "page", "picture", "asm", ""):
         ended = lab(*command.split(), "--help")
         yield f"help {command}", (0, b"", True), (ended.status, ended.err, b"Exit status:" in ended.out)
 
@@ -251,6 +252,7 @@ def counts():
     yield "statuses", set("012345"), statuses
 
 
+@checks.each("lab_explore/commands.tsv")
 @checks.each("lab/commands.tsv")
 def answers(fields):
     """A command line in a folder with the examples and some files beside them: its status, and what it prints."""

@@ -116,6 +116,11 @@ fn why_of_end(
     expected: &[Expectation],
     end: &SpaceEnd,
 ) -> Result<String, AllocError> {
+    if end.schedule.is_empty() {
+        let mut why = String::from_str(alloc, "at the start")?;
+        push_why(&mut why, expected, end.missed, &end.text, &end.finding)?;
+        return Ok(why);
+    }
     let mut why = String::from_str(alloc, "schedule ")?;
     let schedule = write_schedule(alloc, &end.schedule)?;
     for (index, line) in schedule.trim().split('\n').enumerate() {
