@@ -38,6 +38,7 @@ fn command_of<'a>(alloc: Global, matches: &ArgMatches<'a>) -> Result<LabCommand<
             program: word(found, "PROGRAM"),
             run: run_of(found),
         }),
+        Some(("dap", _)) => Ok(LabCommand::Adapt),
         Some(("compare", found)) => Ok(LabCommand::Compare {
             program: word(found, "PROGRAM"),
             one: word(found, "ONE"),
@@ -178,6 +179,7 @@ fn lab_parser<'a>(alloc: Global, version: &'a str) -> Result<Command<'a>, AllocE
         .subcommand(schedule_parser(alloc)?)?
         .subcommand(view_parser(alloc)?)?
         .subcommand(debug_parser(alloc)?)?
+        .subcommand(dap_parser(alloc))?
         .subcommand(compare_parser(alloc)?)?
         .subcommand(survey_parser(alloc)?)?
         .subcommand(grade_parser(alloc)?)?
@@ -249,6 +251,12 @@ fn debug_parser<'a>(alloc: Global) -> Result<Command<'a>, AllocError> {
         .arg(fair_flag(alloc)?)?
         .arg(seed_option(alloc))?
         .arg(steps_option(alloc))
+}
+
+/// The parser of `dap`.
+fn dap_parser<'a>(alloc: Global) -> Command<'a> {
+    let about = "Lets an editor debug a program, by the Debug Adapter Protocol";
+    described(alloc, "dap", about, help::DAP)
 }
 
 /// The schedule of `view` and `debug`, which may be left out.
