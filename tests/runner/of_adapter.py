@@ -210,7 +210,7 @@ def requests():
 @checks.others("adapter/exceptions")
 def exceptions():
     """A trap and a blocked step stop the run forwards and backwards."""
-    source = b"        .slim 1\n        .entry a\n        .data 0 empty\na:      LIT r1, 1\n        LOAD.S r2, r0, 0\n        QUIT\n"
+    source = b"        .slim 1\n        .entry a\n        .data 0, 0\na:      LIT r1, 1\n        LOAD.S r2, r0, 0\n        QUIT\n"
     trap = b"        .slim 1\n        .entry a\n        .data 0\na:      LIT r1, 1\n        LOAD.N r2, r1, 0\n        QUIT\n"
     for name, text, filters, wanted in (("blocked", source, ["blocked"], (2, "exception")),
                                         ("trap", trap, ["traps"], (2, "exception")), ("none", trap, [], (4, "step"))):
@@ -292,7 +292,7 @@ def damaged_messages():
 def pause():
     """A search that has no end for long is stopped by a pause."""
     text = b"        .slim 1\n        .entry a\n        .data 0\na:      SKIP ALWAYS, 0, a\n"
-    with tool.made_files(source=text, schedule=b"0 0 16000000\n") as paths, adapters.adapter() as editor:
+    with tool.made_files(source=text, schedule=b"0 0 1000000\n" * 16) as paths, adapters.adapter() as editor:
         editor.launched(paths["source"], paths["schedule"])
         editor.body("setDataBreakpoints", breakpoints=[{"dataId": "[0]"}])
         editor.body("continue")
