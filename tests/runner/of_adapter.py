@@ -290,12 +290,16 @@ def damaged_messages():
 
 @checks.others("adapter/pause")
 def pause():
-    """A search that has no end for long is stopped by a pause."""
-    text = b"        .slim 1\n        .entry a\n        .data 0\na:      SKIP ALWAYS, 0, a\n"
-    with tool.made_files(source=text, schedule=b"0 0 1000000\n" * 16) as paths, adapters.adapter() as editor:
+    """A long search is stopped by a pause, and then goes on to its end."""
+    text = b"        .slim 1\n        .entry a\n        .fill 8, 0, 1\na:      SKIP ALWAYS, 0, a\n"
+    with tool.made_files(source=text, schedule=b"0 0 200000\n") as paths, adapters.adapter() as editor:
         editor.launched(paths["source"], paths["schedule"])
-        editor.body("setDataBreakpoints", breakpoints=[{"dataId": "[0]"}])
-        editor.body("continue")
-        time.sleep(0.02)
-        found = editor.move("pause")
-        yield "pause", ("pause", True), (found[1], 0 < found[0] < 16000000)
+        editor.body("setDataBreakpoints", breakpoints=[{"dataId": f"[{8 * word}]"} for word in range(8)])
+        editor.ask("continue")
+        editor.ask("pause")
+        answered = [editor.response()["success"] for _ in range(2)]
+        found = adapters.stop_of(editor.event("stopped"))
+        end = editor.move("continue")[:2]
+        start = editor.move("reverseContinue")[:2]
+        yield ("pause", ([True, True], "pause", True, (200000, "step"), (0, "step")),
+               (answered, found[1], found[0] < 200000, end, start))

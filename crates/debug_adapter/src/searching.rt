@@ -126,6 +126,10 @@ impl<'a, 'i, 't> Adapter<'a, 'i, 't> {
 
     /// A slice back; why it ends there, or None where it goes on.
     fn slice_back(&mut self, search: Search) -> Result<Option<Stop>, Refusal> {
+        if self.points.is_empty() && !search.wanted.is_any() {
+            self.to(search.goal)?;
+            return Ok(Some(Stop::Goal));
+        }
         let before = self.named.session.position();
         let why = self.named.session.back_within(search.budget)?;
         let here = self.named.session.position();
