@@ -16,7 +16,9 @@ import talks
 import tool
 from adapters import thread_of
 
-MOVES, RANDOM_REQUESTS, DAMAGED = 60, 400, 100
+# how many random moves of each run, random requests and damaged messages there are; TIMES in the environment for more
+TIMES = int(os.environ.get("TIMES", "1"))
+MOVES, RANDOM_REQUESTS, DAMAGED, BATCH = 60 * TIMES, 400 * TIMES, 40 * TIMES, 20
 NAMES = ["configurationDone", "continue", "dataBreakpointInfo", "disassemble", "evaluate", "exceptionInfo", "goto",
          "gotoTargets", "next", "pause", "readMemory", "restart", "reverseContinue", "scopes", "setBreakpoints",
          "setDataBreakpoints", "setExceptionBreakpoints", "setFunctionBreakpoints", "source", "stackTrace", "stepBack",
@@ -239,15 +241,22 @@ def random_value(chooser, depth=0):
             chooser.random()][kind]
 
 
+def random_request(editor, chooser):
+    """Sends a random request and gives its number."""
+    arguments = {chooser.choice(ARGUMENTS): random_value(chooser) for _ in range(chooser.randrange(4))}
+    return editor.ask(chooser.choice(NAMES), **arguments)
+
+
 @checks.others("adapter/random")
 def random_requests():
     """Random requests have one response each, in order, with their numbers."""
     chooser = random.Random(40)
     with adapters.adapter() as editor:
         editor.launched(LOCK, LOST)
-        seqs = [editor.ask(chooser.choice(NAMES), **{chooser.choice(ARGUMENTS): random_value(chooser)
-                                                     for _ in range(chooser.randrange(4))}) for _ in range(RANDOM_REQUESTS)]
-        answered = [editor.response()["request_seq"] for _ in seqs]
+        seqs, answered = [], []
+        for _ in range(RANDOM_REQUESTS // BATCH):
+            seqs += [random_request(editor, chooser) for _ in range(BATCH)]
+            answered += [editor.response()["request_seq"] for _ in range(BATCH)]
         editor.body("disconnect")
         yield "random", (seqs, 0), (answered, editor.process.wait())
 
