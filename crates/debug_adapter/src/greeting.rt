@@ -1,0 +1,222 @@
+//! Requests before a program is launched.
+
+ghost use Rattle.std.specs.Prelude.{◌≡◌, ◌+◌, OnOk};
+
+use crate::commands::dap_command;
+use crate::connection::Connection;
+use crate::json_text::Json;
+use crate::requests::Request;
+use std::alloc::{AllocError, Global};
+
+/// How many steps a made schedule has at most, where none are said.
+const USUAL_STEPS: u64 = 10_000;
+
+/// The most steps of a made schedule.
+const MOST_STEPS: u64 = 1_000_000;
+
+/// What the client says of itself.
+#[derive(Clone, Copy, Debug)]
+pub struct Client {
+    /// The number of the first line.
+    pub first_line: u64,
+    /// The number of the first column.
+    pub first_column: u64,
+}
+
+/// By which schedule a program is to run.
+#[derive(Debug, Drop)]
+pub enum ScheduleChoice {
+    /// By that of a file.
+    File(String),
+    /// The processors in turn, and within each its streams.
+    Fair,
+    /// The running streams in the order of processor and stream.
+    Rounds,
+    /// One of the running streams at each step, by a generator with this seed.
+    Random(u64),
+}
+
+/// What is to be launched.
+#[derive(Debug, Drop)]
+pub struct LaunchRequest {
+    /// The request's number.
+    pub seq: u64,
+    /// The program's path.
+    pub program: String,
+    /// Its schedule.
+    pub schedule: ScheduleChoice,
+    /// The most steps of a made schedule.
+    pub steps: usize,
+    /// Whether to stop at the start.
+    pub stops_on_entry: bool,
+}
+
+/// What comes behind a request.
+#[derive(Debug, Drop)]
+pub enum Greeting {
+    /// The next request; this one is answered.
+    On,
+    /// A program, by whose launch this request is answered.
+    Launch(LaunchRequest),
+    /// The end; this request is answered.
+    End,
+}
+
+impl Client {
+    /// A client that says nothing of itself.
+    pub fn usual() -> Client {
+        Client {
+            first_line: 1,
+            first_column: 1,
+        }
+    }
+}
+
+/// Answers a request before a program is launched.
+pub fn greet(
+    alloc: Global,
+    connection: &mut Connection,
+    client: &mut Client,
+    request: &Request,
+) -> Result<Greeting, AllocError> {
+    let command = request.command.as_str();
+    match command {
+        "initialize" => {
+            *client = client_of(request);
+            let body = capabilities(alloc)?;
+            connection.respond(alloc, request.seq, command, &body)?;
+            Ok(Greeting::On)
+        }
+        "launch" => match launch_of(alloc, request)? {
+            Ok(launch) => Ok(Greeting::Launch(launch)),
+            Err(words) => {
+                connection.refuse(alloc, request.seq, command, words)?;
+                Ok(Greeting::On)
+            }
+        },
+        "disconnect" => {
+            connection.respond(alloc, request.seq, command, &Json::new(alloc))?;
+            Ok(Greeting::End)
+        }
+        _ => {
+            let words = if dap_command(command).is_some() {
+                "no program is launched"
+            } else {
+                no_command(command)
+            };
+            connection.refuse(alloc, request.seq, command, words)?;
+            Ok(Greeting::On)
+        }
+    }
+}
+
+/// Why a command that is none is refused.
+pub(crate) fn no_command(command: &str) -> &'static str {
+    match command {
+        "" => "this is no request",
+        "setVariable" | "setExpression" | "writeMemory" =>
+            "what a schedule comes to is not changed by hand",
+        "attach" => "there is nothing to attach to: launch a program",
+        _ => "there is no such request here",
+    }
+}
+
+/// What a client says of itself.
+fn client_of(request: &Request) -> Client {
+    let first = |name: &str| -> u64 {
+        if request.truth(name) == Some(false) {
+            0
+        } else {
+            1
+        }
+    };
+    Client {
+        first_line: first("linesStartAt1"),
+        first_column: first("columnsStartAt1"),
+    }
+}
+
+/// What is to be launched; or why it can't be.
+fn launch_of(
+    alloc: Global,
+    request: &Request,
+) -> Result<Result<LaunchRequest, &'static str>, AllocError> {
+    let Some(program) = request.text("program") else {
+        return Ok(Err("launch takes a program: the path of a source text or an image"));
+    };
+    let schedule = match request.text("schedule").unwrap_or("fair") {
+        "fair" | "" => ScheduleChoice::Fair,
+        "rounds" => ScheduleChoice::Rounds,
+        text => match text.strip_prefix("random:") {
+            Some(seed) => match seed.parse::<u64>() {
+                Ok(seed) => ScheduleChoice::Random(seed),
+                Err(_) => return Ok(Err("random: takes a seed, as random:7")),
+            },
+            None => ScheduleChoice::File(String::from_str(alloc, text)?),
+        },
+    };
+    let steps = request.number("steps").unwrap_or(USUAL_STEPS);
+    Ok(Ok(LaunchRequest {
+        seq: request.seq,
+        program: String::from_str(alloc, program)?,
+        schedule,
+        steps: steps.clamp(1, MOST_STEPS) as usize,
+        stops_on_entry: request.truth("stopOnEntry") == Some(true),
+    }))
+}
+
+/// What can be asked for here.
+const CAPABILITIES: [&str; 12] = [
+    "supportsConfigurationDoneRequest",
+    "supportsFunctionBreakpoints",
+    "supportsDataBreakpoints",
+    "supportsEvaluateForHovers",
+    "supportsStepBack",
+    "supportsGotoTargetsRequest",
+    "supportsRestartRequest",
+    "supportsExceptionInfoRequest",
+    "supportsTerminateRequest",
+    "supportsDisassembleRequest",
+    "supportsReadMemoryRequest",
+    "supportsValueFormattingOptions",
+];
+
+/// The body that tells it.
+fn capabilities(alloc: Global) -> Result<Json, AllocError> {
+    let mut body = Json::new(alloc);
+    body.open()?;
+    for name in CAPABILITIES.iter() {
+        body.truth_of(name, true)?;
+    }
+    body.open_list("exceptionBreakpointFilters")?;
+    push_filter(
+        &mut body,
+        "traps",
+        "Traps",
+        "stops behind a step that trapped",
+    )?;
+    push_filter(
+        &mut body,
+        "blocked",
+        "Blocked steps",
+        "stops behind a step that was blocked",
+    )?;
+    body.close_list()?;
+    body.close()?;
+    Ok(body)
+}
+
+/// Adds a filter of exceptions.
+fn push_filter(
+    body: &mut Json,
+    filter: &str,
+    label: &str,
+    description: &str,
+) -> Result<(), AllocError> {
+    body.open()?;
+    body.text_of("filter", filter)?;
+    body.text_of("label", label)?;
+    body.text_of("description", description)?;
+    body.truth_of("default", false)?;
+    body.close()
+}

@@ -1,0 +1,30 @@
+//! The Debug Adapter Protocol over a session of the debugger: what a client's requests are answered (docs/EDITORS.md).
+#![tactic(auto)]
+
+mod adapter;
+mod breaking;
+mod code;
+mod commands;
+mod connection;
+mod evaluating;
+mod framing;
+mod greeting;
+mod json_text;
+mod memory;
+mod moving;
+mod refusals;
+mod requests;
+mod scanning;
+mod scopes;
+mod searching;
+mod stopping;
+mod streams;
+mod variables;
+
+pub use adapter::{Adapter, Origin, Turn};
+pub use connection::Connection;
+pub use framing::{Frame, Frames, MESSAGE_LIMIT};
+pub use greeting::{Client, Greeting, LaunchRequest, ScheduleChoice, greet};
+pub use json_text::Json;
+pub use refusals::Refusal;
+pub use requests::{Request, read_request};

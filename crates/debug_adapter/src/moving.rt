@@ -1,0 +1,177 @@
+//! Requests that go to another position.
+
+use crate::adapter::Adapter;
+use crate::connection::Events;
+use crate::json_text::Json;
+use crate::refusals::Refusal;
+use crate::requests::Request;
+use crate::scanning::{Wanted, first_found, last_found, runs};
+use crate::searching::{Search, Stop};
+use processor::Step;
+
+impl<'a, 'i, 't> Adapter<'a, 'i, 't> {
+    /// Begins the run: stops at the start, or goes on to the first stop.
+    pub(crate) fn begin(&mut self, events: &mut Events) -> Result<(), Refusal> {
+        if self.search.is_some() {
+            return Ok(());
+        }
+        if self.origin.stops_on_entry {
+            return self.tell("entry", None, events);
+        }
+        self.search = Some(Search::forward(self.end(), None, self.wanted));
+        Ok(())
+    }
+
+    /// Begins again at the start.
+    pub(crate) fn restart(&mut self, events: &mut Events) -> Result<(), Refusal> {
+        self.search = None;
+        self.to(0)?;
+        self.begin(events)
+    }
+
+    /// Ends what is under way, and says that it is over.
+    pub(crate) fn terminate(&mut self, events: &mut Events) -> Result<(), Refusal> {
+        self.search = None;
+        Ok(events.push("terminated", Json::new(self.alloc))?)
+    }
+
+    /// Stops what is under way.
+    pub(crate) fn pause(&mut self, events: &mut Events) -> Result<(), Refusal> {
+        self.search = None;
+        self.tell("pause", None, events)
+    }
+
+    /// The last position.
+    fn end(&self) -> u64 {
+        self.named.session.schedule().len() as u64
+    }
+
+    /// On to the next stop, or to the end.
+    pub(crate) fn go_forward(&mut self, body: &mut Json) -> Result<(), Refusal> {
+        self.search = Some(Search::forward(self.end(), None, self.wanted));
+        push_all_go_on(body)
+    }
+
+    /// Back to the last stop, or to the start.
+    pub(crate) fn go_backward(&mut self, body: &mut Json) -> Result<(), Refusal> {
+        let position = self.named.session.position();
+        self.search = Some(Search::backward(position, 0, None, self.wanted));
+        push_all_go_on(body)
+    }
+
+    /// On by one step, whoever's.
+    pub(crate) fn step_once(&mut self) -> Result<(), Refusal> {
+        let goal = self.named.session.position().saturating_add(1);
+        self.search = Some(Search::forward(goal.min(self.end()), None, self.wanted));
+        Ok(())
+    }
+
+    /// On until the stream has stepped.
+    pub(crate) fn step_stream(&mut self, request: &Request) -> Result<(), Refusal> {
+        let stream = self.thread_of(request)?;
+        let goal = self
+            .named
+            .session
+            .next_of(stream.p, stream.s)
+            .unwrap_or(self.end());
+        self.search = Some(Search::forward(goal, Some(stream), self.wanted));
+        Ok(())
+    }
+
+    /// On until the stream no longer runs.
+    pub(crate) fn step_out(&mut self, request: &Request) -> Result<(), Refusal> {
+        let stream = self.thread_of(request)?;
+        let goal = if runs(self.named.session.machine(), stream) {
+            self.end()
+        } else {
+            self.named.session.position()
+        };
+        let wanted = Wanted {
+            end_of: Some(stream),
+            ..self.wanted
+        };
+        self.search = Some(Search::forward(goal, Some(stream), wanted));
+        Ok(())
+    }
+
+    /// Back to before the stream's last step, or to the start.
+    pub(crate) fn step_back(&mut self, request: &Request) -> Result<(), Refusal> {
+        let stream = self.thread_of(request)?;
+        let position = self.named.session.position();
+        let mut goal: u64 = 0;
+        for (place, step) in self.steps(0, position).iter().enumerate() {
+            if *step == stream {
+                goal = place as u64;
+            }
+        }
+        self.search = Some(Search::backward(position, goal, Some(stream), self.wanted));
+        Ok(())
+    }
+
+    /// To the next position, else the last before, at which the stream stands at a program word.
+    pub(crate) fn go_to(&mut self, request: &Request, events: &mut Events) -> Result<(), Refusal> {
+        let stream = self.thread_of(request)?;
+        let target = request.number("targetId").unwrap_or(u64::MAX);
+        let Ok(word) = u32::try_from(target) else {
+            return Err(Refusal::Words("there is no such target"));
+        };
+        let wanted = Wanted {
+            place: Some((stream, word)),
+            ..Wanted::nothing()
+        };
+        match self.place_ahead(&wanted)? {
+            Some(position) => self.to(position)?,
+            None => self.go_to_behind(&wanted)?,
+        }
+        self.tell("goto", Some(stream), events)
+    }
+
+    /// The next position behind a wanted step.
+    fn place_ahead(&self, wanted: &Wanted) -> Result<Option<u64>, Refusal> {
+        let position = self.named.session.position();
+        let mut machine = self.named.session.machine().try_clone()?;
+        let steps = self.steps(position, self.end());
+        match first_found(&mut machine, steps, wanted) {
+            Some((count, _)) => Ok(Some(position.saturating_add(count as u64))),
+            None => Ok(None),
+        }
+    }
+
+    /// Goes to the last position before that is behind a wanted step, or refuses and stays.
+    fn go_to_behind(&mut self, wanted: &Wanted) -> Result<(), Refusal> {
+        let position = self.named.session.position();
+        self.to(0)?;
+        let mut machine = self.named.session.machine().try_clone()?;
+        let steps = self.steps(0, position.saturating_sub(1));
+        let found = last_found(&mut machine, steps, wanted);
+        match found {
+            Some((count, _)) => self.to(count as u64),
+            None => {
+                self.to(position)?;
+                Err(Refusal::Words("the stream comes there at no position"))
+            }
+        }
+    }
+
+    /// Tells where a move ended.
+    pub(crate) fn tell_stop(
+        &mut self,
+        stop: Stop,
+        stream: Option<Step>,
+        events: &mut Events,
+    ) -> Result<(), Refusal> {
+        let last = self.named.session.last_step();
+        match stop {
+            Stop::Point => self.tell_points(events),
+            Stop::Exception => self.tell("exception", last, events),
+            Stop::Goal => self.tell("step", stream, events),
+        }
+    }
+}
+
+/// Says that all streams go on together.
+fn push_all_go_on(body: &mut Json) -> Result<(), Refusal> {
+    body.open()?;
+    body.truth_of("allThreadsContinued", true)?;
+    Ok(body.close()?)
+}

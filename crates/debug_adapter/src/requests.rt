@@ -1,0 +1,100 @@
+//! Requests, read from the bytes of messages.
+
+use serde_json::Value;
+use std::alloc::{AllocError, Global};
+
+/// How many values a message may have at most. Each takes far more memory than its bytes.
+const MOST_VALUES: usize = 20_000;
+
+/// A request of the client.
+#[derive(Drop)]
+pub struct Request {
+    /// Its number.
+    pub seq: u64,
+    /// What it asks for; empty where it doesn't say so.
+    pub command: String,
+    message: Value,
+}
+
+/// The request of a message. A message that is none has an empty command, and 0 for a number that it lacks.
+pub fn read_request(alloc: Global, bytes: &[u8]) -> Result<Request, AllocError> {
+    let message = read_message(alloc, bytes)?;
+    let seq = message.get("seq").and_then(Value::as_u64).unwrap_or(0);
+    let command = String::from_str(alloc, command_in(&message))?;
+    Ok(Request {
+        seq,
+        command,
+        message,
+    })
+}
+
+/// The value of a message; null where it is no JSON, or has too many values.
+fn read_message(alloc: Global, bytes: &[u8]) -> Result<Value, AllocError> {
+    if values_in(bytes) > MOST_VALUES {
+        return Ok(Value::Null);
+    }
+    match Value::from_slice(alloc, bytes) {
+        Ok(message) => Ok(message),
+        Err(error) if error.is_memory() => Err(AllocError),
+        Err(_) => Ok(Value::Null),
+    }
+}
+
+/// The command of a request; empty where the value is none.
+fn command_in(message: &Value) -> &str {
+    match text_in(message, "type") {
+        Some("request") => text_in(message, "command").unwrap_or(""),
+        _ => "",
+    }
+}
+
+/// A member that is a text.
+fn text_in<'v>(value: &'v Value, name: &str) -> Option<&'v str> {
+    value.get(name).and_then(Value::as_str)
+}
+
+/// How many values a text has at most.
+fn values_in(text: &[u8]) -> usize {
+    let mut count: usize = 1;
+    for byte in text {
+        if matches!(*byte, b',' | b':' | b'[' | b'{') {
+            count = count.saturating_add(1);
+        }
+    }
+    count
+}
+
+impl Request {
+    /// An argument; None where there is none of this name.
+    pub fn argument(&self, name: &str) -> Option<&Value> {
+        self.message.get("arguments")?.get(name)
+    }
+
+    /// An argument that is a text.
+    pub fn text(&self, name: &str) -> Option<&str> {
+        self.argument(name)?.as_str()
+    }
+
+    /// An argument that is a natural number.
+    pub fn number(&self, name: &str) -> Option<u64> {
+        self.argument(name)?.as_u64()
+    }
+
+    /// An argument that is a whole number; 0 where there is none.
+    pub fn integer(&self, name: &str) -> i64 {
+        self.argument(name).and_then(Value::as_i64).unwrap_or(0)
+    }
+
+    /// An argument that is true or false; None where there is none.
+    pub fn truth(&self, name: &str) -> Option<bool> {
+        self.argument(name)?.as_bool()
+    }
+
+    /// An argument that is a list; empty where there is none.
+    pub fn list(&self, name: &str) -> &[Value] {
+        match self.argument(name).and_then(Value::as_array) {
+            Some(list) => list.as_slice(),
+            None => &[],
+        }
+    }
+}

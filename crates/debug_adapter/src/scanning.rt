@@ -1,0 +1,116 @@
+//! Looking for steps that no point of a session stops at.
+
+use machine::Machine;
+use processor::Step;
+use stream_core::{Outcome, Status};
+
+/// What is looked for.
+#[derive(Clone, Copy, Debug)]
+pub(crate) struct Wanted {
+    /// Steps that trap.
+    pub traps: bool,
+    /// Steps that are blocked.
+    pub blocked: bool,
+    /// A step with which this stream no longer runs.
+    pub end_of: Option<Step>,
+    /// A step behind which a stream runs and stands at a program word.
+    pub place: Option<(Step, u32)>,
+}
+
+/// What was found.
+#[derive(Clone, Copy, Debug, PartialEq, Eq)]
+pub(crate) enum Found {
+    /// A step that trapped, or was blocked.
+    Exception,
+    /// The end of the stream, or the place, that was looked for.
+    Goal,
+}
+
+impl Wanted {
+    /// Nothing.
+    pub(crate) fn nothing() -> Wanted {
+        Wanted {
+            traps: false,
+            blocked: false,
+            end_of: None,
+            place: None,
+        }
+    }
+
+    /// Whether anything is looked for.
+    pub(crate) fn is_any(&self) -> bool {
+        self.traps || self.blocked || self.end_of.is_some() || self.place.is_some()
+    }
+
+    /// What a step is of this, given the machine behind it.
+    fn find(&self, machine: &Machine<'_, 128>, step: Step, outcome: Outcome) -> Option<Found> {
+        let is_exception = match outcome {
+            Outcome::Trapped(_) | Outcome::Stopped(_) => self.traps,
+            Outcome::Blocked => self.blocked,
+            Outcome::Done | Outcome::Skipped => false,
+        };
+        if is_exception {
+            return Some(Found::Exception);
+        }
+        if self.end_of == Some(step) && !runs(machine, step) {
+            return Some(Found::Goal);
+        }
+        let (stream, word) = self.place?;
+        if stands_at(machine, stream, word) {
+            Some(Found::Goal)
+        } else {
+            None
+        }
+    }
+}
+
+/// Whether a stream runs.
+pub(crate) fn runs(machine: &Machine<'_, 128>, stream: Step) -> bool {
+    match machine.stream(stream.p, stream.s) {
+        Some(stream) => stream.status() == Status::Running,
+        None => false,
+    }
+}
+
+/// Whether a stream runs and stands at a program word.
+fn stands_at(machine: &Machine<'_, 128>, stream: Step, word: u32) -> bool {
+    match machine.stream(stream.p, stream.s) {
+        Some(stream) => stream.status() == Status::Running && stream.ssw().pc == word,
+        None => false,
+    }
+}
+
+/// Takes steps on a machine up to the first that is wanted: how many those are, and what was found.
+pub(crate) fn first_found(
+    machine: &mut Machine<'_, 128>,
+    steps: &[Step],
+    wanted: &Wanted,
+) -> Option<(usize, Found)> {
+    let mut count: usize = 0;
+    for step in steps {
+        let outcome = machine.step(step.p, step.s);
+        count = count.saturating_add(1);
+        if let Some(found) = wanted.find(machine, *step, outcome) {
+            return Some((count, found));
+        }
+    }
+    None
+}
+
+/// Takes all of the steps on a machine: how many lead up to and with the last that is wanted, and what was found.
+pub(crate) fn last_found(
+    machine: &mut Machine<'_, 128>,
+    steps: &[Step],
+    wanted: &Wanted,
+) -> Option<(usize, Found)> {
+    let mut count: usize = 0;
+    let mut last = None;
+    for step in steps {
+        let outcome = machine.step(step.p, step.s);
+        count = count.saturating_add(1);
+        if let Some(found) = wanted.find(machine, *step, outcome) {
+            last = Some((count, found));
+        }
+    }
+    last
+}

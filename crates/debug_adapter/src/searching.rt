@@ -1,0 +1,183 @@
+//! Moves in slices, so that a pause is seen between two of them.
+
+use crate::adapter::Adapter;
+use crate::connection::Events;
+use crate::refusals::Refusal;
+use crate::scanning::{Found, Wanted, first_found, last_found};
+use debug_commands::{Command, Why};
+use processor::Step;
+
+/// How many steps a slice takes at first.
+const SLICE: u64 = 10_000;
+
+/// A move that is under way.
+#[derive(Clone, Copy, Debug)]
+pub(crate) struct Search {
+    /// Whether it goes back.
+    is_back: bool,
+    /// The position at which it ends at last.
+    goal: u64,
+    /// The stream that is told there; None for that of the next step.
+    stream: Option<Step>,
+    /// What is looked for beside the points.
+    wanted: Wanted,
+    /// On the way back: no exception is looked for from this position on.
+    high: u64,
+    /// On the way back: how many steps a slice takes at most.
+    budget: u64,
+}
+
+/// Why a move ends.
+#[derive(Clone, Copy, Debug, PartialEq, Eq)]
+pub(crate) enum Stop {
+    /// A point.
+    Point,
+    /// A step that trapped or was blocked.
+    Exception,
+    /// It has come where it was to go.
+    Goal,
+}
+
+impl Search {
+    /// A move forward to a position.
+    pub(crate) fn forward(goal: u64, stream: Option<Step>, wanted: Wanted) -> Search {
+        Search {
+            is_back: false,
+            goal,
+            stream,
+            wanted,
+            high: 0,
+            budget: SLICE,
+        }
+    }
+
+    /// A move back from a position to another.
+    pub(crate) fn backward(from: u64, goal: u64, stream: Option<Step>, wanted: Wanted) -> Search {
+        Search {
+            is_back: true,
+            goal,
+            stream,
+            wanted,
+            high: from,
+            budget: SLICE,
+        }
+    }
+}
+
+impl<'a, 'i, 't> Adapter<'a, 'i, 't> {
+    /// Goes on with what is under way for a slice, and tells where it stops.
+    pub(crate) fn search_on(&mut self, events: &mut Events) -> Result<(), Refusal> {
+        let Some(search) = self.search else {
+            return Ok(());
+        };
+        let stop = if search.is_back {
+            self.slice_back(search)?
+        } else {
+            self.slice_forward(search)?
+        };
+        match stop {
+            Some(stop) => {
+                self.search = None;
+                self.tell_stop(stop, search.stream, events)
+            }
+            None => Ok(()),
+        }
+    }
+
+    /// A slice forward; why it ends there, or None where it goes on.
+    fn slice_forward(&mut self, search: Search) -> Result<Option<Stop>, Refusal> {
+        let position = self.named.session.position();
+        let slice = search.goal.saturating_sub(position).min(SLICE);
+        let found = self.found_ahead(slice, &search.wanted)?;
+        let count = match found {
+            Some((steps, _)) => steps as u64,
+            None => slice,
+        };
+        let why = self.named.session.go_on_within(count)?;
+        let here = self.named.session.position();
+        if why == Some(Why::Stop) {
+            return Ok(Some(Stop::Point));
+        }
+        match found {
+            Some((_, Found::Exception)) => Ok(Some(Stop::Exception)),
+            Some((_, Found::Goal)) => Ok(Some(Stop::Goal)),
+            None if here >= search.goal || why == Some(Why::End) => Ok(Some(Stop::Goal)),
+            None => Ok(None),
+        }
+    }
+
+    /// What is found within so many steps ahead.
+    fn found_ahead(&self, count: u64, wanted: &Wanted) -> Result<Option<(usize, Found)>, Refusal> {
+        if !wanted.is_any() {
+            return Ok(None);
+        }
+        let position = self.named.session.position();
+        let steps = self.steps(position, position.saturating_add(count));
+        let mut machine = self.named.session.machine().try_clone()?;
+        Ok(first_found(&mut machine, steps, wanted))
+    }
+
+    /// The steps of the schedule between two positions.
+    pub(crate) fn steps(&self, from: u64, to: u64) -> &[Step] {
+        let schedule = self.named.session.schedule();
+        let end = (to as usize).min(schedule.len());
+        schedule.get(from as usize..end).unwrap_or(&[])
+    }
+
+    /// A slice back; why it ends there, or None where it goes on.
+    fn slice_back(&mut self, search: Search) -> Result<Option<Stop>, Refusal> {
+        if self.points.is_empty() && !search.wanted.is_any() {
+            self.to(search.goal)?;
+            return Ok(Some(Stop::Goal));
+        }
+        let before = self.named.session.position();
+        let why = self.named.session.back_within(search.budget)?;
+        let here = self.named.session.position();
+        if let Some(position) = self.found_behind(search)?
+            && position >= search.goal
+        {
+            self.to(position)?;
+            return Ok(Some(Stop::Exception));
+        }
+        if here < search.goal || (here == search.goal && why != Some(Why::Stop)) {
+            self.to(search.goal)?;
+            return Ok(Some(Stop::Goal));
+        }
+        match why {
+            Some(Why::Stop) => Ok(Some(Stop::Point)),
+            Some(_) => Ok(Some(Stop::Goal)),
+            None => {
+                self.search = Some(Search {
+                    high: here.saturating_add(1),
+                    budget: if here == before {
+                        search.budget.saturating_mul(2)
+                    } else {
+                        search.budget
+                    },
+                    ..search
+                });
+                Ok(None)
+            }
+        }
+    }
+
+    /// The last position above the session's, and below where this slice began, that is behind a wanted step.
+    fn found_behind(&self, search: Search) -> Result<Option<u64>, Refusal> {
+        if !search.wanted.is_any() {
+            return Ok(None);
+        }
+        let here = self.named.session.position();
+        let steps = self.steps(here, search.high.saturating_sub(1));
+        let mut machine = self.named.session.machine().try_clone()?;
+        match last_found(&mut machine, steps, &search.wanted) {
+            Some((count, _)) => Ok(Some(here.saturating_add(count as u64))),
+            None => Ok(None),
+        }
+    }
+
+    /// Goes to a position.
+    pub(crate) fn to(&mut self, position: u64) -> Result<(), Refusal> {
+        let _ = self.named.session.command(&Command::Go(position))?;
+        Ok(())
+    }
+}

@@ -1,0 +1,146 @@
+//! Events where a move ends, and what the last step did.
+
+use crate::adapter::Adapter;
+use crate::breaking::PointKind;
+use crate::connection::Events;
+use crate::json_text::Json;
+use crate::refusals::Refusal;
+use crate::streams::thread_id;
+use lab_texts::{NumberStyle, push_step_line, push_trap};
+use processor::Step;
+use step_views::{StepView, take_step};
+use stream_core::Outcome;
+
+impl<'a, 'i, 't> Adapter<'a, 'i, 't> {
+    /// Tells a stop, for a reason, of a stream: None for that of the next step, or else of the last.
+    pub(crate) fn tell(
+        &mut self,
+        reason: &str,
+        stream: Option<Step>,
+        events: &mut Events,
+    ) -> Result<(), Refusal> {
+        let keys = Vec::new(self.alloc);
+        self.tell_with(reason, stream, &keys, events)
+    }
+
+    /// Tells a stop at points.
+    pub(crate) fn tell_points(&mut self, events: &mut Events) -> Result<(), Refusal> {
+        let keys = self.named.session.stopping_points(self.alloc)?;
+        let mut numbers = Vec::new(self.alloc);
+        let mut kind = PointKind::Data;
+        for key in keys.iter() {
+            if let Some(point) = self.known_point(*key) {
+                if kind == PointKind::Data {
+                    kind = point.kind;
+                }
+                numbers.push(point.breakpoint)?;
+            }
+        }
+        let (reason, stream) = match kind {
+            PointKind::Line => ("breakpoint", self.named.session.next_step()),
+            PointKind::Function => ("function breakpoint", self.named.session.next_step()),
+            PointKind::Data => ("data breakpoint", self.named.session.last_step()),
+        };
+        self.tell_with(reason, stream, &numbers, events)
+    }
+
+    /// Tells a stop with the numbers of the breakpoints that it is at.
+    fn tell_with(
+        &mut self,
+        reason: &str,
+        stream: Option<Step>,
+        numbers: &[u64],
+        events: &mut Events,
+    ) -> Result<(), Refusal> {
+        self.tell_last_step(events)?;
+        let stream = stream.unwrap_or(self.usual_stream());
+        self.told = stream;
+        let position = self.named.session.position();
+        let steps = self.named.session.schedule().len();
+        let end = if self.named.session.next_step().is_none() {
+            ": the schedule ends here"
+        } else {
+            ""
+        };
+        let description = format!(in self.alloc; "after {position} of {steps} steps{end}")?;
+        let mut body = Json::new(self.alloc);
+        body.open()?;
+        body.text_of("reason", reason)?;
+        body.text_of("description", &description)?;
+        body.number_of("threadId", thread_id(stream))?;
+        body.truth_of("allThreadsStopped", true)?;
+        body.open_list("hitBreakpointIds")?;
+        for number in numbers {
+            body.number(*number)?;
+        }
+        body.close_list()?;
+        body.close()?;
+        Ok(events.push("stopped", body)?)
+    }
+
+    /// The stream of the next step, or else of the last.
+    pub(crate) fn usual_stream(&self) -> Step {
+        match self.named.session.next_step() {
+            Some(step) => step,
+            None => self.named.session.last_step().unwrap_or(self.told),
+        }
+    }
+
+    /// Tells the line of the step that led to the position, where there is one.
+    fn tell_last_step(&mut self, events: &mut Events) -> Result<(), Refusal> {
+        let Some((_, line)) = self.last_view()? else {
+            return Ok(());
+        };
+        let mut body = Json::new(self.alloc);
+        body.open()?;
+        body.text_of("category", "console")?;
+        body.text_of("output", &line)?;
+        body.close()?;
+        Ok(events.push("output", body)?)
+    }
+
+    /// What the step did that led to the position, and its line: it is taken once more. None at the start.
+    fn last_view(&mut self) -> Result<Option<(StepView, String)>, Refusal> {
+        let Some(step) = self.named.session.last_step() else {
+            return Ok(None);
+        };
+        let position = self.named.session.position();
+        self.to(position.saturating_sub(1))?;
+        let mut machine = self.named.session.machine().try_clone()?;
+        self.to(position)?;
+        let view = take_step(self.alloc, &mut machine, step)?;
+        let mut line = String::new(self.alloc);
+        let style = NumberStyle::Decimal;
+        let number = position as usize;
+        push_step_line(
+            &mut line,
+            self.names,
+            style,
+            self.columns,
+            number,
+            &view,
+            &machine,
+        )?;
+        Ok(Some((view, line)))
+    }
+
+    /// What the trap was, or what was blocked, at the last step.
+    pub(crate) fn exception_info(&mut self, body: &mut Json) -> Result<(), Refusal> {
+        let Some((view, line)) = self.last_view()? else {
+            return Err(Refusal::Words("no step has been taken"));
+        };
+        let mut name = String::new(self.alloc);
+        match view.outcome {
+            Outcome::Trapped(trap) | Outcome::Stopped(trap) => push_trap(&mut name, trap)?,
+            Outcome::Blocked => name.push_str("blocked")?,
+            Outcome::Done | Outcome::Skipped => return Err(Refusal::Words(
+                "the last step neither trapped nor was blocked",
+            )),
+        }
+        body.open()?;
+        body.text_of("exceptionId", &name)?;
+        body.text_of("description", line.trim())?;
+        body.text_of("breakMode", "always")?;
+        Ok(body.close()?)
+    }
+}
