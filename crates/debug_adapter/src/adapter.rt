@@ -20,7 +20,7 @@ use std::alloc::{AllocError, Global};
 pub(crate) const STREAMS: usize = 128;
 
 /// What a launch says beside the program itself.
-#[derive(Clone, Copy, Debug)]
+#[derive(Clone, Copy)]
 pub struct Origin<'a> {
     /// The program's path.
     pub path: &'a str,
@@ -33,7 +33,7 @@ pub struct Origin<'a> {
 }
 
 /// What comes behind a request.
-#[derive(Clone, Copy, Debug, PartialEq, Eq)]
+#[derive(Clone, Copy, PartialEq, Eq)]
 pub enum Turn {
     /// The next request.
     On,
@@ -113,7 +113,7 @@ impl<'a, 'i, 't> Adapter<'a, 'i, 't> {
                 Turn::On
             }
         };
-        connection.tell_all(alloc, &events)?;
+        connection.outbox.tell_all(alloc, &events)?;
         Ok(turn)
     }
 
@@ -126,7 +126,7 @@ impl<'a, 'i, 't> Adapter<'a, 'i, 't> {
         if self.search_on(&mut events).is_err() {
             return Err(AllocError);
         }
-        connection.tell_all(alloc, &events)
+        connection.outbox.tell_all(alloc, &events)
     }
 
     /// Does what a request asks for, and writes the body of its response and the events behind it.

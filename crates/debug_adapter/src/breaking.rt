@@ -12,7 +12,7 @@ use serde_json::Value;
 const MOST_BREAKPOINTS: usize = 1024;
 
 /// The kinds of breakpoints, each of which is set as a whole.
-#[derive(Clone, Copy, Debug, PartialEq, Eq)]
+#[derive(Clone, Copy, PartialEq, Eq)]
 pub(crate) enum PointKind {
     /// On lines.
     Line,
@@ -23,7 +23,7 @@ pub(crate) enum PointKind {
 }
 
 /// A point of the session that a breakpoint made.
-#[derive(Clone, Copy, Debug)]
+#[derive(Clone, Copy)]
 pub(crate) struct KnownPoint {
     /// Its key in the session.
     pub key: u64,

@@ -1,7 +1,7 @@
 //! What requests ask for.
 
 /// What a request asks for.
-#[derive(Clone, Copy, Debug, PartialEq, Eq)]
+#[derive(Clone, Copy, PartialEq, Eq)]
 pub(crate) enum DapCommand {
     ConfigurationDone,
     Continue,

@@ -5,13 +5,20 @@ ghost use Rattle.std.specs.Prelude.{◌≡◌, ◌+◌, OnOk};
 use crate::json_text::Json;
 use std::alloc::{AllocError, Global};
 
-/// Messages for the client, in their order, and how many requests have been answered.
+/// Messages for the client, in their order.
 #[derive(Drop)]
-pub struct Connection {
+pub struct Outbox {
     /// The messages that are not yet written, each with its head.
     pub out: String,
     /// How many messages were sent.
     sent: u64,
+}
+
+/// What is sent to the client, and how many of its requests have been answered.
+#[derive(Drop)]
+pub struct Connection {
+    /// What is sent.
+    pub outbox: Outbox,
     /// How many requests were answered.
     pub answered: u64,
     /// The number of the request that was answered last.
@@ -19,14 +26,14 @@ pub struct Connection {
 }
 
 /// An event for the client.
-#[derive(Debug, Drop)]
+#[derive(Drop)]
 pub(crate) struct Event {
     name: &'static str,
     body: Json,
 }
 
 /// Events for the client, in their order.
-#[derive(Debug, Drop)]
+#[derive(Drop)]
 pub(crate) struct Events {
     list: Vec<Event>,
 }
@@ -45,12 +52,68 @@ impl Events {
     }
 }
 
+impl Outbox {
+    /// Sends events in their order.
+    pub(crate) fn tell_all(&mut self, alloc: Global, events: &Events) -> Result<(), AllocError> {
+        for event in &events.list {
+            self.tell(alloc, event.name, &event.body)?;
+        }
+        Ok(())
+    }
+
+    /// Sends an event.
+    pub fn tell(&mut self, alloc: Global, name: &str, body: &Json) -> Result<(), AllocError> {
+        let mut message = self.begin(alloc, "event")?;
+        message.text_of("event", name)?;
+        if !body.is_empty() {
+            message.value_of("body", body)?;
+        }
+        self.finish(message)
+    }
+
+    /// Begins a message of a kind, with its number.
+    fn begin(&mut self, alloc: Global, kind: &str) -> Result<Json, AllocError> {
+        self.sent = self.sent.saturating_add(1);
+        let mut message = Json::new(alloc);
+        message.open()?;
+        message.number_of("seq", self.sent)?;
+        message.text_of("type", kind)?;
+        Ok(message)
+    }
+
+    /// Begins a response to the request of this number.
+    fn begin_response(
+        &mut self,
+        alloc: Global,
+        request: u64,
+        command: &str,
+        is_done: bool,
+    ) -> Result<Json, AllocError> {
+        let mut message = self.begin(alloc, "response")?;
+        message.number_of("request_seq", request)?;
+        message.truth_of("success", is_done)?;
+        message.text_of("command", command)?;
+        Ok(message)
+    }
+
+    /// Ends a message, and adds it with its head.
+    fn finish(&mut self, message: Json) -> Result<(), AllocError> {
+        let mut message = message;
+        message.close()?;
+        let length = message.as_str().len();
+        write!(self.out, "Content-Length: {length}\r\n\r\n")?;
+        self.out.push_str(message.as_str())
+    }
+}
+
 impl Connection {
     /// Nothing was sent.
     pub fn new(alloc: Global) -> Connection {
         Connection {
-            out: String::new(alloc),
-            sent: 0,
+            outbox: Outbox {
+                out: String::new(alloc),
+                sent: 0,
+            },
             answered: 0,
             last_answered: 0,
         }
@@ -67,14 +130,11 @@ impl Connection {
         ensures one { OnOk result (self.new.answered ≡ self.old.answered + 1) }
         ensures whom { OnOk result (self.new.last_answered ≡ request) }
     {
-        let mut message = self.begin(alloc, "response")?;
-        message.number_of("request_seq", request)?;
-        message.truth_of("success", true)?;
-        message.text_of("command", command)?;
+        let mut message = self.outbox.begin_response(alloc, request, command, true)?;
         if !body.is_empty() {
             message.value_of("body", body)?;
         }
-        self.finish(message)?;
+        self.outbox.finish(message)?;
         self.note_answer(request)
     }
 
@@ -89,14 +149,11 @@ impl Connection {
         ensures one { OnOk result (self.new.answered ≡ self.old.answered + 1) }
         ensures whom { OnOk result (self.new.last_answered ≡ request) }
     {
-        let mut message = self.begin(alloc, "response")?;
-        message.number_of("request_seq", request)?;
-        message.truth_of("success", false)?;
-        message.text_of("command", command)?;
+        let mut message = self.outbox.begin_response(alloc, request, command, false)?;
         message.text_of("message", words)?;
         let body = error_body(alloc, words)?;
         message.value_of("body", &body)?;
-        self.finish(message)?;
+        self.outbox.finish(message)?;
         self.note_answer(request)
     }
 
@@ -111,55 +168,6 @@ impl Connection {
         self.answered = answered;
         self.last_answered = request;
         Ok(())
-    }
-
-    /// Sends an event.
-    pub fn tell(&mut self, alloc: Global, name: &str, body: &Json) -> Result<(), AllocError>
-        ensures none { self.new.answered ≡ self.old.answered }
-        ensures last { self.new.last_answered ≡ self.old.last_answered }
-    {
-        let mut message = self.begin(alloc, "event")?;
-        message.text_of("event", name)?;
-        if !body.is_empty() {
-            message.value_of("body", body)?;
-        }
-        self.finish(message)
-    }
-
-    /// Sends events in their order.
-    pub(crate) fn tell_all(&mut self, alloc: Global, events: &Events) -> Result<(), AllocError>
-        ensures none { self.new.answered ≡ self.old.answered }
-        ensures last { self.new.last_answered ≡ self.old.last_answered }
-    {
-        for event in &events.list {
-            self.tell(alloc, event.name, &event.body)?;
-        }
-        Ok(())
-    }
-
-    /// Begins a message of a kind, with its number.
-    fn begin(&mut self, alloc: Global, kind: &str) -> Result<Json, AllocError>
-        ensures none { self.new.answered ≡ self.old.answered }
-        ensures last { self.new.last_answered ≡ self.old.last_answered }
-    {
-        self.sent = self.sent.saturating_add(1);
-        let mut message = Json::new(alloc);
-        message.open()?;
-        message.number_of("seq", self.sent)?;
-        message.text_of("type", kind)?;
-        Ok(message)
-    }
-
-    /// Ends a message, and adds it with its head.
-    fn finish(&mut self, message: Json) -> Result<(), AllocError>
-        ensures none { self.new.answered ≡ self.old.answered }
-        ensures last { self.new.last_answered ≡ self.old.last_answered }
-    {
-        let mut message = message;
-        message.close()?;
-        let length = message.as_str().len();
-        write!(self.out, "Content-Length: {length}\r\n\r\n")?;
-        self.out.push_str(message.as_str())
     }
 }
 

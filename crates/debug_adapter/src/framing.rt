@@ -12,7 +12,7 @@ const HEAD_LIMIT: usize = 4096;
 const LENGTH_NAME: &[u8] = b"Content-Length:";
 
 /// What was cut out.
-#[derive(Debug, Drop)]
+#[derive(Drop)]
 pub enum Frame {
     /// The bytes of a message.
     Message(Vec<u8>),

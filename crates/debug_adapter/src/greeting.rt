@@ -2,6 +2,7 @@
 
 ghost use Rattle.std.specs.Prelude.{◌≡◌, ◌+◌, OnOk};
 
+use crate::adapter::Turn;
 use crate::commands::dap_command;
 use crate::connection::Connection;
 use crate::json_text::Json;
@@ -15,7 +16,7 @@ const USUAL_STEPS: u64 = 10_000;
 const MOST_STEPS: u64 = 1_000_000;
 
 /// What the client says of itself.
-#[derive(Clone, Copy, Debug)]
+#[derive(Clone, Copy)]
 pub struct Client {
     /// The number of the first line.
     pub first_line: u64,
@@ -24,7 +25,7 @@ pub struct Client {
 }
 
 /// By which schedule a program is to run.
-#[derive(Debug, Drop)]
+#[derive(Drop)]
 pub enum ScheduleChoice {
     /// By that of a file.
     File(String),
@@ -37,7 +38,7 @@ pub enum ScheduleChoice {
 }
 
 /// What is to be launched.
-#[derive(Debug, Drop)]
+#[derive(Drop)]
 pub struct LaunchRequest {
     /// The request's number.
     pub seq: u64,
@@ -51,17 +52,6 @@ pub struct LaunchRequest {
     pub stops_on_entry: bool,
 }
 
-/// What comes behind a request.
-#[derive(Debug, Drop)]
-pub enum Greeting {
-    /// The next request; this one is answered.
-    On,
-    /// A program, by whose launch this request is answered.
-    Launch(LaunchRequest),
-    /// The end; this request is answered.
-    End,
-}
-
 impl Client {
     /// A client that says nothing of itself.
     pub fn usual() -> Client {
@@ -72,41 +62,41 @@ impl Client {
     }
 }
 
-/// Answers a request before a program is launched.
+/// Answers a request before a program is launched, which is none to launch: by one response, which has its number.
 pub fn greet(
     alloc: Global,
     connection: &mut Connection,
     client: &mut Client,
     request: &Request,
-) -> Result<Greeting, AllocError> {
+) -> Result<Turn, AllocError>
+    ensures one { OnOk result (connection.new.answered ≡ connection.old.answered + 1) }
+    ensures whom { OnOk result (connection.new.last_answered ≡ request.now.seq) }
+{
     let command = request.command.as_str();
     match command {
         "initialize" => {
             *client = client_of(request);
             let body = capabilities(alloc)?;
             connection.respond(alloc, request.seq, command, &body)?;
-            Ok(Greeting::On)
+            Ok(Turn::On)
         }
-        "launch" => match launch_of(alloc, request)? {
-            Ok(launch) => Ok(Greeting::Launch(launch)),
-            Err(words) => {
-                connection.refuse(alloc, request.seq, command, words)?;
-                Ok(Greeting::On)
-            }
-        },
         "disconnect" => {
             connection.respond(alloc, request.seq, command, &Json::new(alloc))?;
-            Ok(Greeting::End)
+            Ok(Turn::End)
         }
         _ => {
-            let words = if dap_command(command).is_some() {
-                "no program is launched"
-            } else {
-                no_command(command)
-            };
-            connection.refuse(alloc, request.seq, command, words)?;
-            Ok(Greeting::On)
+            connection.refuse(alloc, request.seq, command, not_yet(command))?;
+            Ok(Turn::On)
         }
+    }
+}
+
+/// Why a command is refused before a program is launched.
+fn not_yet(command: &str) -> &'static str {
+    if dap_command(command).is_some() {
+        "no program is launched"
+    } else {
+        no_command(command)
     }
 }
 
@@ -116,6 +106,7 @@ pub(crate) fn no_command(command: &str) -> &'static str {
         "" => "this is no request",
         "setVariable" | "setExpression" | "writeMemory" =>
             "what a schedule comes to is not changed by hand",
+        "initialize" | "launch" => "a program is launched already",
         "attach" => "there is nothing to attach to: launch a program",
         _ => "there is no such request here",
     }
@@ -136,8 +127,8 @@ fn client_of(request: &Request) -> Client {
     }
 }
 
-/// What is to be launched; or why it can't be.
-fn launch_of(
+/// What a request to launch asks for; or why that can't be launched.
+pub fn launch_of(
     alloc: Global,
     request: &Request,
 ) -> Result<Result<LaunchRequest, &'static str>, AllocError> {

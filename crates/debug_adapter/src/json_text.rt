@@ -3,7 +3,7 @@
 use std::alloc::{AllocError, Global};
 
 /// A JSON text that is being written.
-#[derive(Debug, Drop)]
+#[derive(Drop)]
 pub struct Json {
     text: String,
     is_fresh: bool,

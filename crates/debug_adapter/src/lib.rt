@@ -22,9 +22,9 @@ mod streams;
 mod variables;
 
 pub use adapter::{Adapter, Origin, Turn};
-pub use connection::Connection;
+pub use connection::{Connection, Outbox};
 pub use framing::{Frame, Frames, MESSAGE_LIMIT};
-pub use greeting::{Client, Greeting, LaunchRequest, ScheduleChoice, greet};
+pub use greeting::{Client, LaunchRequest, ScheduleChoice, greet, launch_of};
 pub use json_text::Json;
 pub use refusals::Refusal;
 pub use requests::{Request, read_request};

@@ -4,7 +4,7 @@ use debug_commands::DebugFault;
 use std::alloc::{AllocError, AllocFailed};
 
 /// Why a request is refused.
-#[derive(Clone, Copy, Debug, PartialEq, Eq)]
+#[derive(Clone, Copy, PartialEq, Eq)]
 pub enum Refusal {
     /// For a reason in words.
     Words(&'static str),

@@ -5,7 +5,7 @@ use processor::Step;
 use stream_core::{Outcome, Status};
 
 /// What is looked for.
-#[derive(Clone, Copy, Debug)]
+#[derive(Clone, Copy)]
 pub(crate) struct Wanted {
     /// Steps that trap.
     pub traps: bool,
@@ -18,7 +18,7 @@ pub(crate) struct Wanted {
 }
 
 /// What was found.
-#[derive(Clone, Copy, Debug, PartialEq, Eq)]
+#[derive(Clone, Copy, PartialEq, Eq)]
 pub(crate) enum Found {
     /// A step that trapped, or was blocked.
     Exception,

@@ -23,7 +23,7 @@ const MEMORY: u64 = 0x4_0000;
 const WORDS: u64 = 0x10_0000;
 
 /// What a reference means.
-#[derive(Clone, Copy, Debug)]
+#[derive(Clone, Copy)]
 pub(crate) enum Container {
     /// The registers of a stream.
     Registers(Step),

@@ -11,7 +11,7 @@ use processor::Step;
 const SLICE: u64 = 10_000;
 
 /// A move that is under way.
-#[derive(Clone, Copy, Debug)]
+#[derive(Clone, Copy)]
 pub(crate) struct Search {
     /// Whether it goes back.
     is_back: bool,
@@ -28,7 +28,7 @@ pub(crate) struct Search {
 }
 
 /// Why a move ends.
-#[derive(Clone, Copy, Debug, PartialEq, Eq)]
+#[derive(Clone, Copy, PartialEq, Eq)]
 pub(crate) enum Stop {
     /// A point.
     Point,

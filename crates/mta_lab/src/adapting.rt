@@ -7,8 +7,8 @@ use crate::programs::{Program, is_image, program_of};
 use crate::scheduling::steps_of;
 use crossbeam_channel::{Receiver, Sender};
 use debug_adapter::{
-    Adapter, Client, Connection, Frame, Frames, Greeting, Json, LaunchRequest, Origin, Request,
-    ScheduleChoice, Turn, greet, read_request,
+    Adapter, Client, Connection, Frame, Frames, Json, LaunchRequest, Origin, Request,
+    ScheduleChoice, Turn, greet, launch_of, read_request,
 };
 use lab_command_line::{Maker, RunChoice};
 use lab_texts::ProgramNames;
@@ -118,41 +118,63 @@ fn serve<X: Wait, F: Files, W: Write>(
         let Some(request) = line.next(rt, alloc)? else {
             return Ok(Status::Done);
         };
-        match greet(alloc, &mut line.connection, &mut client, &request)? {
-            Greeting::On => {}
-            Greeting::End => return line.flush().map(|()| Status::Done),
-            Greeting::Launch(launch) => {
-                if launch_on(rt, alloc, files, &launch, client, &mut line)? {
-                    return Ok(Status::Done);
-                }
-            }
+        let turn = if request.command.as_str() == "launch" {
+            launch_by(rt, alloc, files, &request, client, &mut line)?
+        } else {
+            greet(alloc, &mut line.connection, &mut client, &request)?
+        };
+        if turn == Turn::End {
+            line.flush()?;
+            return Ok(Status::Done);
         }
     }
     unreachable!()
 }
 
-/// Launches a program, and answers messages from there on; whether it did. A program that can't be launched is refused.
-fn launch_on<X: Wait, F: Files, W: Write>(
+/// Answers a request to launch a program, and where it can be launched all requests up to the end.
+fn launch_by<X: Wait, F: Files, W: Write>(
     rt: &X,
     alloc: Global,
     files: &F,
-    launch: &LaunchRequest,
+    request: &Request,
     client: Client,
     line: &mut Line<'_, W>,
-) -> Result<bool, LabFault> {
-    let loaded = match load(alloc, files, launch) {
-        Ok(loaded) => loaded,
+) -> Result<Turn, LabFault> {
+    let launch = match launch_of(alloc, request)? {
+        Ok(launch) => launch,
+        Err(words) => {
+            line.connection.refuse(alloc, request.seq, "launch", words)?;
+            return Ok(Turn::On);
+        }
+    };
+    match load(alloc, files, &launch) {
+        Ok(loaded) => {
+            launch_on(rt, alloc, &loaded, &launch, client, line)?;
+            Ok(Turn::End)
+        }
         Err(LabFault::Words(words) | LabFault::Lines(words)) => {
             line.connection
                 .refuse(alloc, launch.seq, "launch", words.trim())?;
-            return Ok(false);
+            Ok(Turn::On)
         }
-        Err(fault) => return Err(fault),
-    };
+        Err(fault) => Err(fault),
+    }
+}
+
+/// Launches a program, and answers requests up to the end.
+fn launch_on<X: Wait, W: Write>(
+    rt: &X,
+    alloc: Global,
+    loaded: &Loaded,
+    launch: &LaunchRequest,
+    client: Client,
+    line: &mut Line<'_, W>,
+) -> Result<(), LabFault> {
     let text = &loaded.program.text;
     let names = ProgramNames::of(alloc, text)?;
     let places = SourcePlaces::of(alloc, text)?;
-    let Ok(session) = Session::<128>::begin(alloc, &loaded.program.image, loaded.steps) else {
+    let steps = Vec::from_slice(alloc, &loaded.steps)?;
+    let Ok(session) = Session::<128>::begin(alloc, &loaded.program.image, steps) else {
         return Err(LabFault::NoMemory);
     };
     let origin = Origin {
@@ -170,9 +192,8 @@ fn launch_on<X: Wait, F: Files, W: Write>(
     let empty = Json::new(alloc);
     line.connection
         .respond(alloc, launch.seq, "launch", &empty)?;
-    line.connection.tell(alloc, "initialized", &empty)?;
-    answer_all(rt, alloc, &mut adapter, line)?;
-    Ok(true)
+    line.connection.outbox.tell(alloc, "initialized", &empty)?;
+    answer_all(rt, alloc, &mut adapter, line)
 }
 
 /// Answers messages over a launched program, and goes on with what is under way between them.
@@ -265,9 +286,9 @@ impl<W: Write> Line<'_, W> {
     fn flush(&mut self) -> Result<(), LabFault> {
         let wrote = self
             .output
-            .write_all(self.connection.out.as_bytes())
+            .write_all(self.connection.outbox.out.as_bytes())
             .and_then(|()| self.output.flush());
-        self.connection.out.clear();
+        self.connection.outbox.out.clear();
         match wrote {
             Ok(()) => Ok(()),
             Err(error) if error.kind() == ErrorKind::BrokenPipe => Err(LabFault::Closed),
