@@ -39,11 +39,16 @@ pub(crate) fn adapt<X: Threads + Wait + Sync, F: Files, R: Read + Send, W: Write
     output: &mut W,
 ) -> Result<Status, LabFault> {
     let (sender, receiver) = crossbeam_channel::bounded(alloc, WAITING)?;
+    let input = &mut *input;
+    let output = &mut *output;
     thread::scope(thread::scope_env(), rt, move |scope| {
-        match scope.spawn(move || read_frames(rt, alloc, input, &sender)) {
-            Ok(_reader) => serve(rt, alloc, files, receiver, output),
-            Err(_) => Err(LabFault::NoMemory),
+        if scope
+            .spawn(move || read_frames(rt, alloc, input, sender))
+            .is_err()
+        {
+            return Err(LabFault::NoMemory);
         }
+        serve_all(rt, alloc, files, receiver, output)
     })
 }
 
@@ -52,7 +57,7 @@ fn read_frames<X: Wait, R: Read>(
     rt: &X,
     alloc: Global,
     input: &mut R,
-    sender: &Sender<Frame, Global>,
+    sender: Sender<Frame, Global>,
 ) {
     let mut frames = Frames::new(alloc);
     let mut chunk = [0u8; CHUNK];
@@ -64,7 +69,7 @@ fn read_frames<X: Wait, R: Read>(
             return;
         }
         for byte in chunk.get(..count).unwrap_or(b"") {
-            if !pass_on(rt, alloc, &mut frames, *byte, sender) {
+            if !pass_on(rt, alloc, &mut frames, *byte, &sender) {
                 return;
             }
         }
@@ -100,8 +105,8 @@ fn asks_for_end(alloc: Global, frame: &Frame) -> bool {
     }
 }
 
-/// Answers messages, up to one that asks for the end, or to the last.
-fn serve<X: Wait, F: Files, W: Write>(
+/// Answers the messages that come, up to one that asks for the end, or to the last.
+fn serve_all<X: Wait, F: Files, W: Write>(
     rt: &X,
     alloc: Global,
     files: &F,
@@ -113,13 +118,23 @@ fn serve<X: Wait, F: Files, W: Write>(
         connection: Connection::new(alloc),
         output,
     };
+    serve(rt, alloc, files, &mut line)
+}
+
+/// The same on a line.
+fn serve<X: Wait, F: Files, W: Write>(
+    rt: &X,
+    alloc: Global,
+    files: &F,
+    line: &mut Line<'_, W>,
+) -> Result<Status, LabFault> {
     let mut client = Client::usual();
     for _ in rt.forever() {
         let Some(request) = line.next(rt, alloc)? else {
             return Ok(Status::Done);
         };
         let turn = if request.command.as_str() == "launch" {
-            launch_by(rt, alloc, files, &request, client, &mut line)?
+            launch_by(rt, alloc, files, &request, client, line)?
         } else {
             greet(alloc, &mut line.connection, &mut client, &request)?
         };
@@ -234,11 +249,18 @@ struct Loaded {
 
 /// Reads what is to be launched.
 fn load<F: Files>(alloc: Global, files: &F, launch: &LaunchRequest) -> Result<Loaded, LabFault> {
-    let mut none: &[u8] = b"";
-    let mut inputs = Inputs {
-        files,
-        input: &mut none,
-    };
+    let mut none: &'static [u8] = b"";
+    load_from(alloc, files, &mut none, launch)
+}
+
+/// The same, with a standard input that has nothing.
+fn load_from<'a, F: Files>(
+    alloc: Global,
+    files: &'a F,
+    none: &'a mut &'static [u8],
+    launch: &LaunchRequest,
+) -> Result<Loaded, LabFault> {
+    let mut inputs = Inputs { files, input: none };
     let path = launch.program.as_str();
     if path == "-" {
         return Err(LabFault::Words(String::from_str(
