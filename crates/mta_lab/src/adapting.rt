@@ -39,17 +39,12 @@ pub(crate) fn adapt<X: Threads + Wait + Sync, F: Files, R: Read + Send, W: Write
     output: &mut W,
 ) -> Result<Status, LabFault> {
     let (sender, receiver) = crossbeam_channel::bounded(alloc, WAITING)?;
-    let input = &mut *input;
-    let output = &mut *output;
-    thread::scope(thread::scope_env(), rt, move |scope| {
-        if scope
-            .spawn(move || read_frames(rt, alloc, input, sender))
-            .is_err()
-        {
-            return Err(LabFault::NoMemory);
-        }
-        serve_all(rt, alloc, files, receiver, output)
-    })
+    let (_, served) = thread::join(
+        rt,
+        || read_frames(rt, alloc, input, sender),
+        || serve_all(rt, alloc, files, receiver, output),
+    );
+    served
 }
 
 /// Reads messages and passes them on, up to one that asks for the end, or to the end of the input.
