@@ -12,7 +12,7 @@ CRATES ?=
 # how many of them are tried side by side
 JOBS ?= $(shell nproc)
 
-.PHONY: help run try test cases checks trust edits refuse hostile pages documents bench build dist check-dist install uninstall clean
+.PHONY: help run try test cases checks trust edits refuse hostile pages editors documents bench build dist check-dist install uninstall clean
 
 # the targets, each with what it does and how long it takes
 help:
@@ -29,6 +29,7 @@ help:
 	@echo "make hostile    hostile use of the built program; needs Python 3 and a C compiler (4 minutes on four idle cores)"
 	@echo "make refuse     the part of it that refuses each allocation of the commands in turn (some minutes)"
 	@echo "make pages      the replay page in a browser; needs chromium, its driver and Python's selenium, and says what is missing (5 minutes beside other work)"
+	@echo "make editors    mta_lab dap by a client that others' library makes; needs Go and Debian's go-dap, and says what is missing (seconds)"
 	@echo "make bench      time, instructions and peak memory on the longest inputs (some minutes; valgrind counts instructions)"
 	@echo "make install    puts the built programs, their examples and documents under PREFIX, $(PREFIX) (a second)"
 	@echo "make uninstall  takes away what make install has put there (a second)"
@@ -94,6 +95,10 @@ refuse: build
 hostile: build
 	@test -x $(CALLS) || (cd crates/library_calls && rt run -- calls < /dev/null > /dev/null)
 	@python3 tests/hostile
+
+# tries mta_lab dap by a client of the Debug Adapter Protocol on a library that others wrote
+editors:
+	@tests/adapter_go/run.sh
 
 # the replay page in headless Chromium: its states, controls, texts, sizes and widths; installs nothing
 pages:

@@ -143,4 +143,6 @@ if command -v dpkg-deb >/dev/null; then
 else
   echo "no dpkg-deb here, so no Debian package"
 fi
+packaging/vsix.py "$room/$package/editors/vscode" "out/dist/mta-sim-$version.vsix"
+echo "out/dist/mta-sim-$version.vsix"
 cat "$room/$package/BUILD"

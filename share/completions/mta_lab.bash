@@ -19,7 +19,7 @@ _mta_lab_options() {
 _mta_lab() {
   local current=${COMP_WORDS[COMP_CWORD]} before=${COMP_WORDS[COMP_CWORD - 1]} command=${COMP_WORDS[1]} words
   if [ "$COMP_CWORD" -eq 1 ]; then
-    words='check schedule view compare survey explore grade page picture debug asm --help --version'
+    words='check schedule view compare survey explore grade page picture debug dap asm --help --version'
   elif [ "$before" = --as ]; then
     words='source image schedule'
   elif [ "$command $COMP_CWORD" = 'schedule 2' ]; then

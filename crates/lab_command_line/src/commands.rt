@@ -160,6 +160,8 @@ pub enum LabCommand<'a> {
         program: &'a str,
         run: RunChoice<'a>,
     },
+    /// Answers the requests of an editor.
+    Adapt,
     /// Shows where two schedules of a program part.
     Compare {
         program: &'a str,

@@ -51,6 +51,14 @@ answered before the next is read. An empty line repeats the last. The word help 
 Example:
   mta_lab debug lock.asm --seed 7";
 
+pub(crate) const DAP: &str = "\
+Lets an editor debug a program: requests of the Debug Adapter Protocol come on standard input,
+and are answered on standard output. The editor starts it; its launch request names the program
+and the schedule. docs/EDITORS.md has what to set in VS Code, Neovim and Emacs.
+
+Example:
+  mta_lab dap";
+
 pub(crate) const COMPARE: &str = "\
 Shows the first step at which two schedules of a program part, the first position at which
 the worlds differ, and in what, and both ends.

@@ -19,6 +19,7 @@ pub(crate) fn lab_parser<'a>(alloc: Global, version: &'a str) -> Result<Command<
         .subcommand(schedule_parser(alloc)?)?
         .subcommand(view_parser(alloc)?)?
         .subcommand(debug_parser(alloc)?)?
+        .subcommand(dap_parser(alloc))?
         .subcommand(compare_parser(alloc)?)?
         .subcommand(survey_parser(alloc)?)?
         .subcommand(explore_parser(alloc)?)?
@@ -91,6 +92,12 @@ fn debug_parser<'a>(alloc: Global) -> Result<Command<'a>, AllocError> {
         .arg(fair_flag(alloc)?)?
         .arg(seed_option(alloc))?
         .arg(steps_option(alloc))
+}
+
+/// The parser of `dap`.
+fn dap_parser<'a>(alloc: Global) -> Command<'a> {
+    let about = "Lets an editor debug a program, by the Debug Adapter Protocol";
+    described(alloc, "dap", about, help::DAP)
 }
 
 /// The schedule of `view` and `debug`, which may be left out.

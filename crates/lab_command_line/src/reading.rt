@@ -35,6 +35,7 @@ fn command_of<'a>(alloc: Global, matches: &ArgMatches<'a>) -> Result<LabCommand<
             program: word(found, "PROGRAM"),
             run: run_of(found),
         }),
+        Some(("dap", _)) => Ok(LabCommand::Adapt),
         Some(("compare", found)) => Ok(LabCommand::Compare {
             program: word(found, "PROGRAM"),
             one: word(found, "ONE"),

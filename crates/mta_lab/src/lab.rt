@@ -1,5 +1,6 @@
 //! The program, from its command line to its status.
 
+use crate::adapting::adapt;
 use crate::answer::{Answer, Status};
 use crate::assembling::assemble_file;
 use crate::checking::check;
@@ -18,7 +19,9 @@ use lab_command_line::{LabCommand, read_lab_command};
 use std::alloc::Global;
 use std::convert::AsStr;
 use std::io::{Error, ErrorKind, Read, Write};
+use std::marker::Send;
 use std::rt::Files;
+use std::sync::Wait;
 use std::thread::Threads;
 
 /// The program's version; CHANGELOG.md says what each brought.
@@ -27,7 +30,14 @@ const VERSION: &str = "0.3.0";
 /// Runs the command of a command line, whose first word is the program's name, on these files and standard streams,
 /// and gives the exit status ("Exit statuses", docs/LAB.md). All is composed before anything is written. `is_terminal`:
 /// standard input is one, so `debug` prompts.
-pub(crate) fn run_lab<X: Threads + Sync, S: AsStr, F: Files, R: Read, W: Write, E: Write>(
+pub(crate) fn run_lab<
+    X: Threads + Wait + Sync,
+    S: AsStr,
+    F: Files,
+    R: Read + Send,
+    W: Write,
+    E: Write,
+>(
     rt: &X,
     alloc: Global,
     words: &[S],
@@ -51,6 +61,12 @@ pub(crate) fn run_lab<X: Threads + Sync, S: AsStr, F: Files, R: Read, W: Write, 
             };
         }
     };
+    if let LabCommand::Adapt = &command {
+        return match adapt(rt, alloc, files, input, output) {
+            Ok(status) => status.number(),
+            Err(fault) => tell_fault(&fault, errors),
+        };
+    }
     let mut inputs = Inputs { files, input };
     if let LabCommand::Debug { program, run } = &command {
         let mut screen = Screen {
@@ -90,8 +106,8 @@ fn answer_to<X: Threads + Sync, F: Files, R: Read>(
             other,
             shown,
         } => compare(alloc, inputs, program, one, other, *shown),
-        // (it has its own way of writing)
-        LabCommand::Debug { .. } => Err(LabFault::Closed),
+        // (these have their own way of writing)
+        LabCommand::Debug { .. } | LabCommand::Adapt => Err(LabFault::Closed),
         LabCommand::Survey(request) => survey(rt, alloc, inputs, request),
         LabCommand::Explore(request) => explore(alloc, inputs, request),
         LabCommand::Grade(request) => grade(rt, alloc, inputs, request),

@@ -1,6 +1,7 @@
 //! The program for people: words for faults, schedules, views, grades (docs/LAB.md).
 #![tactic(auto)]
 
+mod adapting;
 mod answer;
 mod assembling;
 mod checking;
