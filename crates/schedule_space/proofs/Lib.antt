@@ -10,3 +10,4 @@ pub mod Taking
 pub mod Exploring
 pub mod Reading
 pub mod Marking
+pub mod Following

@@ -1,0 +1,5 @@
+pub mod Alone
+pub mod Beside
+pub mod Commuting
+pub mod Orders
+pub mod Told

@@ -1,0 +1,2 @@
+-- What public contracts promise: which steps concern their own stream alone.
+pub mod LocalSteps

@@ -1,0 +1,41 @@
+-- Spaces that have all ends, but not all worlds: of the steps from a world one may be taken alone that concerns its own
+-- stream alone.
+use Rattle.std.specs.Prelude.{◌≡◌, ℕ, ◌<◌, ◌≤◌, ◌++◌, ◌⊎◌, List, length}
+use Rattle.processor.specs.World.{run}
+use Rattle.processor.specs.declared.steps.Step.{Step}
+use Rattle.local_steps.specs.LocalSteps.{IsLocalStep}
+use Rattle.schedule_space.specs.Spaces.{SpaceValue, count, schedule_of, world_of, Has}
+use Rattle.schedule_space.specs.Reaching.{IsEnd, CanEnd}
+use Rattle.schedule_space.specs.Finding.{IsTaken, IsExpanded}
+
+-- a step from the world at this place that concerns its own stream alone is taken
+pub record IsTakenAlone (v : SpaceValue) (from : ℕ) : Type 0 where
+  pub step : Step
+  pub alone : IsLocalStep v.image (world_of v from) step
+  pub taken : IsTaken v from step
+
+-- each step from the world at this place is taken, or one that concerns its own stream alone
+abbrev pub IsFollowed : SpaceValue → ℕ → Type 0
+IsFollowed v k = IsExpanded v k ⊎ IsTakenAlone v k
+
+-- that holds of each world of the space
+abbrev pub AllFollowed : SpaceValue → Type 0
+AllFollowed v = (k : ℕ) → k < count v → IsFollowed v k
+
+-- each end that a schedule leads to which goes on from the beginning is a world of the space
+abbrev pub HasAllEnds : SpaceValue → Type 0
+HasAllEnds v = (ts : List Step) → IsEnd v.image (run v.image (v.begin ++ ts)) → Has v (run v.image (v.begin ++ ts))
+
+-- no schedule that goes on from the beginning to an end is shorter than the one that the links give
+abbrev pub HasShortestEnds : SpaceValue → Type 0
+HasShortestEnds v =
+    (k : ℕ) → k < count v → IsEnd v.image (world_of v k)
+    → (ts : List Step) → run v.image (v.begin ++ ts) ≡ world_of v k
+    → length (schedule_of v k) ≤ length (v.begin ++ ts)
+
+-- where an end can be reached from each world of the space, one can be from each world that a schedule leads to which
+-- goes on from the beginning
+abbrev pub TellsWhetherAllEnd : SpaceValue → Type 0
+TellsWhetherAllEnd v =
+    ((k : ℕ) → k < count v → CanEnd v.image (world_of v k))
+    → (ts : List Step) → CanEnd v.image (run v.image (v.begin ++ ts))
