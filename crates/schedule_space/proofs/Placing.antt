@@ -1,20 +1,24 @@
 -- What is known of a space in the making that gets the world of a machine, or has it.
-use Rattle.std.proofs.Common.{◌≡◌, ℕ, ◌<◌, ◌≤◌, refl, sym, ap, ◌∙◌, subst, arith, List, [], ◌∷◌, ◌++◌}
+use Rattle.std.proofs.Common.{◌≡◌, ℕ, ◌<◌, ◌≤◌, refl, sym, ap, ◌∙◌, subst, arith, List, [], ◌∷◌, ◌++◌, Bool, true}
+use Rattle.std.proofs.Common.{Option, Some, None, IsSome, length, get_or, set, slice_get, option_copied, Bor}
+use Rattle.std.proofs.lemmas.Option.{get_or_from_slice_get, slice_get-get_or}
 use Rattle.image_file.specs.ImageValue.{ImageValue}
 use Rattle.machine.specs.MachineValue.{MachineValue}
+use Rattle.processor.specs.Processors.{ProcessorValue}
 use Rattle.processor.specs.World.{World, after}
 use Rattle.processor.specs.declared.steps.Step.{Step}
 use Rattle.world_keys.specs.Tables.{place_in, Has, Extends}
-use Rattle.world_keys.specs.WorldKeys.{key_of, IsKnown, IsMemoryOf}
+use Rattle.world_keys.specs.WorldKeys.{key_of, no_processor, IsKnown, IsMemoryOf, IsKeyBefore}
 use Rattle.schedule_space.specs.declared.links.Link.{Link}
 use Rattle.schedule_space.specs.declared.links.Edge.{Edge}
 use Rattle.schedule_space.specs.declared.fates.Fate.{Fate}
 use Rattle.schedule_space.specs.Spaces.{SpaceValue, count, schedule_of, world_of, IsEdge}
 use Rattle.schedule_space.specs.Fates.{IsFate}
-use Rattle.schedule_space.specs.Finding.{space_of, with_link, with_edge, IsFound, IsGrown, IsFrontier, IsBreadthFirst}
+use Rattle.schedule_space.specs.Finding.{space_of, with_link, with_edge, IsKeyed, IsFound, IsGrown, IsFrontier, IsBreadthFirst}
 use Rattle.schedule_space.proofs.Memories.{memory_of_run, memory_after}
 use Rattle.schedule_space.proofs.Growing.{last_world, with_link_grown, count-link}
-use Rattle.schedule_space.proofs.Parts.{keyed_later, frontier_more, frontier_stays}
+use Rattle.schedule_space.proofs.Reaches.{as_many, others_stay}
+use Rattle.schedule_space.proofs.Parts.{key_at, keys_many, keyed_later, frontier_more, frontier_stays}
 use Rattle.schedule_space.proofs.Keys.{found_world, found_later, found_more, found_edge}
 use Rattle.schedule_space.proofs.Breadth.{breadth_more, breadth_stays}
 
@@ -25,6 +29,63 @@ memory_next v l m image world =
     subst (λ (x : World). IsMemoryOf m.image x.memory) (sym world)
     (subst (λ (i : ImageValue). IsMemoryOf i (after v.image (world_of v l.from) l.step).memory) (sym image)
     (memory_after v.image (world_of v l.from) l.step (memory_of_run v.image (schedule_of v l.from))))
+
+-- its step has a processor
+pub there_next : (v : SpaceValue) (l : Link) (m : MachineValue)
+    → m.world ≡ after v.image (world_of v l.from) l.step → l.step.p < length (world_of v l.from).processors
+    → l.step.p < length m.world.processors
+there_next v l m world there =
+    omega (
+      arith,
+      there,
+      ap (λ (x : World). length x.processors) world,
+      as_many v.image (world_of v l.from) l.step,
+    )
+
+-- the key of the world before the step
+pub key_before : (v w : SpaceValue) (fates : List Fate) (table keys : List (List ℕ)) (key : List ℕ) (l : Link)
+    (m : MachineValue) (kept : Bool) → IsFound v fates table keys → v ≡ w → l.from < count w → m.image ≡ w.image
+    → m.world ≡ after w.image (world_of w l.from) l.step → l.step.p < length (world_of w l.from).processors
+    → (kept ≡ true → m.world.memory ≡ (world_of w l.from).memory) → Some key ≡ slice_get keys l.from
+    → IsKeyBefore table m.image m.world l.step.p kept key
+key_before v w fates table keys key l m kept is view from image world there memory at = record {
+  before = world_of w l.from;
+  known =
+      subst (λ (x : World). IsKnown table m.image x) before
+      (subst (λ (i : ImageValue). IsKnown table i (world_of v l.from)) image_is (is.keyed.known l.from below));
+  is_key =
+      sym (get_or_from_slice_get keys l.from key [] (sym at))
+      ∙ key_at v table keys l.from is.keyed below
+      ∙ (λ i. key_of table (image_is i) (before i));
+  others =
+      subst (λ (x : World). x.processors ≡ set (world_of w l.from).processors l.step.p (stepped_in x)) (sym world)
+      (others_stay w.image (world_of w l.from) l.step (there_next w l next refl there));
+  memory = memory;
+} where
+  below : l.from < count v
+  below = subst (λ (x : SpaceValue). l.from < count x) (sym view) from
+
+  image_is : v.image ≡ m.image
+  image_is = ap (λ (x : SpaceValue). x.image) view ∙ sym image
+
+  before : world_of v l.from ≡ world_of w l.from
+  before = ap (λ (x : SpaceValue). world_of x l.from) view
+
+  next : MachineValue
+  next = record { image = w.image; world = after w.image (world_of w l.from) l.step }
+
+  stepped_in : World → ProcessorValue
+  stepped_in x = get_or x.processors l.step.p no_processor
+
+-- there is a key of each world
+pub has_key : (v w : SpaceValue) (table keys : List (List ℕ)) (k : ℕ) (o : Option (Bor (List ℕ))) → IsKeyed v table keys
+    → v ≡ w → k < count w → option_copied o ≡ slice_get keys k → IsSome o
+has_key v w table keys k o is view below at =
+    is_there o
+    (at ∙ slice_get-get_or keys k [] (omega (arith, below, ap count view, keys_many v table keys is))) where
+      is_there : (x : Option (Bor (List ℕ))) → option_copied x ≡ Some (get_or keys k []) → IsSome x
+      is_there None none = absurd cc
+      is_there (Some x) some = refl
 
 -- the world of the machine is at the place of its key
 pub found_at : (v w : SpaceValue) (fates : List Fate) (old table keys : List (List ℕ)) (key : List ℕ)

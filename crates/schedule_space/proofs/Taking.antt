@@ -85,10 +85,10 @@ all_taken v from n ts below running many all t = by_runs (runs_in (world_of v fr
 
 -- What the code does for one step.
 
-pub stuck_at : (v : SpaceValue) (from : ℕ) (m : MachineValue) (t : Step) → from < count v
-    → m ≡ machine_after v.image (schedule_of v from) → IsStuck m.image m.world t → IsTaken v from t
-stuck_at v from m t below is stuck =
-    taken_stuck v from t below (subst (λ (x : MachineValue). IsStuck x.image x.world t) is stuck)
+pub taken_at : (v : SpaceValue) (from : ℕ) (m : MachineValue) (t : Step) → from < count v
+    → m ≡ machine_after v.image (schedule_of v from) → after m.image m.world t ≡ m.world → IsTaken v from t
+taken_at v from m t below is stays =
+    taken_stays v from t below (subst (λ (x : MachineValue). after x.image x.world t ≡ x.world) is stays)
 
 -- a clone of the machine at a place, after a step
 pub stepped : (v : SpaceValue) (from : ℕ) (m c n : MachineValue) (o : Outcome) (t : Step)

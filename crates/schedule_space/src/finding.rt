@@ -1,6 +1,7 @@
 //! A space in the making: worlds are told apart by their keys.
 
-ghost use Rattle.std.specs.Prelude.{◌≡◌, ◌<◌, ◌≤◌, ◌+◌, [], ◌∷◌, ◌++◌, length, IfOk, OnOk, OnErr, Contains};
+ghost use Rattle.std.specs.Prelude.{◌≡◌, ◌≢◌, ◌<◌, ◌≤◌, ◌+◌, [], ◌∷◌, ◌++◌, length, IfOk, OnOk, OnErr};
+ghost use Rattle.std.specs.Prelude.{Contains};
 ghost use Rattle.image_file.specs.ImageValue.{ImageValue};
 ghost use Rattle.processor.specs.World.{start, after};
 ghost use Rattle.schedule_space.specs.Spaces.{count, schedule_of, world_of, machine_after, IsDistinct, IsEdge};
@@ -12,14 +13,15 @@ ghost use Rattle.schedule_space.specs.declared.finding.Stop.TheVariants.{NoMemor
 use crate::fates::{Fate, fate_of};
 use crate::links::{Edge, Link};
 use crate::spaces::Space;
+use crate::stepping::{Reach, is_memory_kept, reach_of, stepped};
 use image_file::Image;
 use machine::Machine;
 use processor::Step;
 use std::alloc::{AllocError, AllocFailed, Global};
 use std::collections::VecDeque;
 use std::marker::Model;
-use waiting::{is_stuck, running_streams};
-use world_keys::{Table, world_key};
+use waiting::running_streams;
+use world_keys::{Table, next_key, world_key};
 
 /// The worlds that were found so far, with their keys.
 #[derive(Drop)]
@@ -155,11 +157,12 @@ impl<'i> Found<'i> {
         ensures frontier { IsFrontier self.new frontier.new.items (from + 1) }
         ensures breadth { IsBreadthFirst self.new from }
     {
-        if is_stuck(machine, step.p, step.s) {
+        let reach = reach_of(machine, step);
+        if reach == Reach::Nothing {
             return Ok(());
         }
         let next = stepped(machine, step)?;
-        let to = self.place(frontier, next, Link { from, step }, most)?;
+        let to = self.place(frontier, next, Link { from, step }, reach, most)?;
         if to == from {
             return Ok(());
         }
@@ -184,12 +187,16 @@ impl<'i> Found<'i> {
         frontier: &mut VecDeque<Machine<'i, S>>,
         machine: Machine<'i, S>,
         link: Link,
+        reach: Reach,
         most: u32,
     ) -> Result<u32, Stop>
         requires from { link.from < count self.old }
         requires within { count self.old ≤ most }
         requires image { machine.image ≡ self.old.image }
         requires world { machine.world ≡ after self.old.image (world_of self.old link.from) link.step }
+        requires there { link.step.p < length (world_of self.old link.from).processors }
+        requires reach { reach ≢ Reach.Nothing }
+        requires memory { reach ≡ Reach.Processor → machine.world.memory ≡ (world_of self.old link.from).memory }
         requires frontier { IsFrontier self.old frontier.old.items (link.from + 1) }
         requires breadth { IsBreadthFirst self.old link.from }
         ensures grown { IsGrown self.old self.new }
@@ -199,7 +206,14 @@ impl<'i> Found<'i> {
         ensures frontier { IsFrontier self.new frontier.new.items (link.from + 1) }
         ensures breadth { IsBreadthFirst self.new link.from }
     {
-        let key = world_key(self.alloc, &mut self.contents, &machine)?;
+        let key = next_key(
+            self.alloc,
+            &mut self.contents,
+            self.keys.list(link.from as usize).unwrap(),
+            &machine,
+            link.step.p,
+            is_memory_kept(reach),
+        )?;
         if let Some(place) = self.keys.find(&key) {
             return Ok(place as u32);
         }
@@ -260,17 +274,4 @@ fn push_world<'i, const S: usize>(
     fates.push_reserved(world.fate);
     frontier.push_back_reserved(world.machine);
     Ok(())
-}
-
-/// A machine like this one, after one step more.
-fn stepped<'i, const S: usize>(
-    machine: &Machine<'i, S>,
-    step: Step,
-) -> Result<Machine<'i, S>, AllocError>
-    ensures image { IfOk result (λ m. m.image ≡ machine.now.image) }
-    ensures world { IfOk result (λ m. m.world ≡ after machine.now.image machine.now.world step) }
-{
-    let mut next = machine.try_clone()?;
-    next.step(step.p, step.s);
-    Ok(next)
 }

@@ -7,6 +7,7 @@ mod finding;
 mod links;
 mod reaching;
 mod spaces;
+mod stepping;
 
 pub use explorations::{Exploration, explore};
 pub use fates::Fate;

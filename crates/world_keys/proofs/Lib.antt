@@ -5,3 +5,4 @@ pub mod Memories
 pub mod Marks
 pub mod Readings
 pub mod Worlds
+pub mod Nexts

@@ -48,7 +48,7 @@ same_world t image w v one other same =
 
 -- The same where the table is extended.
 
-places_kept : (old new : List (List ℕ)) (image : ImageValue) (ps : List ProcessorValue) → Extends old new
+pub places_kept : (old new : List (List ℕ)) (image : ImageValue) (ps : List ProcessorValue) → Extends old new
     → AreKnown old image ps → map (processor_place new) ps ≡ map (processor_place old) ps
 places_kept old new image [] grown known = refl
 places_kept old new image (p ∷ ps) grown known =

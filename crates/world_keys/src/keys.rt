@@ -42,7 +42,7 @@ pub fn world_key<const S: usize>(
 }
 
 /// The place of what a processor holds.
-fn processor_place<const S: usize>(
+pub(crate) fn processor_place<const S: usize>(
     alloc: Global,
     contents: &mut Table,
     machine: &Machine<'_, S>,

@@ -6,9 +6,11 @@ mod halves;
 mod keys;
 mod laws;
 mod memory_numbers;
+mod next_keys;
 mod stream_numbers;
 mod tables;
 
 pub use keys::world_key;
 pub use laws::keys_tell_worlds_apart;
+pub use next_keys::next_key;
 pub use tables::Table;

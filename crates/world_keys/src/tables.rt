@@ -1,6 +1,7 @@
 //! Lists of numbers, each known by its place.
 
-ghost use Rattle.std.specs.Prelude.{◌≡◌, ◌++◌, ℕ, [], ◌∷◌, length, ◌↔◌, IsSome, IfSome, IfOk, OnOk, OnErr};
+ghost use Rattle.std.specs.Prelude.{◌≡◌, ◌++◌, ℕ, [], ◌∷◌, length, slice_get, ◌↔◌, IsSome, IfSome, IfOk, OnOk, OnErr};
+ghost use Rattle.std.specs.Option.{option_copied};
 ghost use Rattle.world_keys.specs.Tables.{place_in, Has, Extends};
 
 use indexmap::IndexSet;
@@ -47,6 +48,14 @@ impl Table {
         ensures there { IsSome result ↔ Has self.now list.now }
     {
         self.lists.get_index_of(list)
+    }
+
+    /// The list at a place; None from the table's length on.
+    pub fn list(&self, place: usize) -> Option<&[u32]>
+        ensures { option_copied result ≡ slice_get self.now place }
+    {
+        let list = self.lists.get_index(place)?;
+        Some(list)
     }
 
     /// Puts a list that the table does not have behind the others.

@@ -1,54 +1,78 @@
-use Rattle.std.proofs.Common.{◌≡◌, ◌+◌, ◌<◌, refl, sym, ap, subst, arith, rules, length}
+use Rattle.std.proofs.Common.{◌≡◌, ◌+◌, ◌<◌, ◌∙◌, refl, sym, ap, subst, arith, rules, length, Some, slice_get}
+use Rattle.std.proofs.Common.{option_copied}
 use Rattle.world_keys.specs.Tables.{place_in, Has}
 use Rattle.schedule_space.specs.Spaces.{SpaceValue, count, world_of}
 use Rattle.schedule_space.specs.Finding.{space_of}
 use Rattle.schedule_space.proofs.Growing.{grown_to, count-link}
 use Rattle.schedule_space.proofs.Keys.{found_later}
-use Rattle.schedule_space.proofs.Placing.{memory_next, found_at, placed, placed_view, placed_grown, placed_there, placed_is}
+use Rattle.schedule_space.proofs.Placing.{memory_next, there_next, key_before, has_key, found_at, placed, placed_view, placed_grown, placed_there, placed_is}
 use Rattle.schedule_space.proofs.Placing.{placed_frontier, placed_breadth, kept, kept_view, stays_within, stays_frontier, stays_breadth}
 use Rattle.schedule_space.proofs.finding.Found.place.Goals as goal
 
-pub world_key-requires : goal.world_key-requires
-world_key-requires g c =
-    (omega arith, memory_next c.args.self.now c.args.link c.args.machine c.requires.image c.requires.world)
+pub next_key-requires : goal.next_key-requires
+next_key-requires g c =
+    let v = c.args.self.now in
+    let w =
+    space_of c.self.inside.image.now c.self.inside.begin.items c.self.inside.links.items c.self.inside.edges.items in
+    let at : Some c.unwrap.result.now ≡ slice_get c.self.inside.keys c.args.link.from =
+    sym (ap option_copied c.unwrap.ensures) ∙ c.list.ensures in (
+      omega arith,
+      (
+        memory_next v c.args.link c.args.machine c.requires.image c.requires.world,
+        (
+          there_next v c.args.link c.args.machine c.requires.world c.requires.there,
+          key_before w v c.self.inside.fates.items c.self.inside.contents c.self.inside.keys c.unwrap.result.now
+              c.args.link c.args.machine c.is_memory_kept.result c.self.invariant c.self.view_is c.requires.from
+              c.requires.image c.requires.world c.requires.there
+              (λ kept. c.requires.memory (c.is_memory_kept.ensures kept c.requires.reach)) at,
+        ),
+      ),
+    )
+
+pub unwrap-requires : goal.unwrap-requires
+unwrap-requires g c =
+    let w =
+    space_of c.self.inside.image.now c.self.inside.begin.items c.self.inside.links.items c.self.inside.edges.items in
+    has_key w c.args.self.now c.self.inside.contents c.self.inside.keys c.args.link.from c.list.result
+    c.self.invariant.keyed c.self.view_is c.requires.from c.list.ensures
 
 pub invariant_of-self : goal.invariant_of-self
 invariant_of-self g c =
     found_later (space_of c.self.inside.image.now c.self.inside.begin.items c.self.inside.links.items c.self.inside.edges.items)
-    c.self.inside.fates.items c.self.inside.contents c.world_key.new.contents c.self.inside.keys
-    c.world_key.ensures.grown c.self.invariant
+    c.self.inside.fates.items c.self.inside.contents c.next_key.new.contents c.self.inside.keys
+    c.next_key.ensures.grown c.self.invariant
 
 pub invariant_of-self-in-Some : goal.invariant_of-self-in-Some
 invariant_of-self-in-Some g c =
     found_later (space_of c.self.inside.image.now c.self.inside.begin.items c.self.inside.links.items c.self.inside.edges.items)
-    c.self.inside.fates.items c.self.inside.contents c.world_key.new.contents c.self.inside.keys
-    c.world_key.ensures.grown c.self.invariant
+    c.self.inside.fates.items c.self.inside.contents c.next_key.new.contents c.self.inside.keys
+    c.next_key.ensures.grown c.self.invariant
 
 pub invariant_of-self-then-place-most : goal.invariant_of-self-then-place-most
 invariant_of-self-then-place-most g c =
     found_later (space_of c.self.inside.image.now c.self.inside.begin.items c.self.inside.links.items c.self.inside.edges.items)
-    c.self.inside.fates.items c.self.inside.contents c.world_key.new.contents c.self.inside.keys
-    c.world_key.ensures.grown c.self.invariant
+    c.self.inside.fates.items c.self.inside.contents c.next_key.new.contents c.self.inside.keys
+    c.next_key.ensures.grown c.self.invariant
 
 pub invariant_of-self-in_err-fate : goal.invariant_of-self-in_err-fate
 invariant_of-self-in_err-fate g c =
     found_later (space_of c.self.inside.image.now c.self.inside.begin.items c.self.inside.links.items c.self.inside.edges.items)
-    c.self.inside.fates.items c.self.inside.contents c.world_key.new.contents c.self.inside.keys
-    c.world_key.ensures.grown c.self.invariant
+    c.self.inside.fates.items c.self.inside.contents c.next_key.new.contents c.self.inside.keys
+    c.next_key.ensures.grown c.self.invariant
 
 pub invariant_of-self-in_err-push_world : goal.invariant_of-self-in_err-push_world
 invariant_of-self-in_err-push_world g c =
     kept c.self.inside.image.now c.self.inside.begin.items c.self.inside.links.items c.push_world.new.links.items c.self.inside.edges.items
-    c.self.inside.fates.items c.push_world.new.fates.items c.self.inside.contents c.world_key.new.contents
-    c.self.inside.keys c.push_world.new.keys c.self.invariant c.world_key.ensures.grown
+    c.self.inside.fates.items c.push_world.new.fates.items c.self.inside.contents c.next_key.new.contents
+    c.self.inside.keys c.push_world.new.keys c.self.invariant c.next_key.ensures.grown
     c.in_err-push_world.ensures.links c.in_err-push_world.ensures.fates c.in_err-push_world.ensures.keys
 
 pub invariant_of-self-2 : goal.invariant_of-self-2
 invariant_of-self-2 g c =
     placed c.self.inside.image.now c.self.inside.begin.items c.self.inside.links.items c.push_world.new.links.items c.self.inside.edges.items
     c.args.self.now c.self.inside.fates.items c.push_world.new.fates.items c.self.inside.contents
-    c.world_key.new.contents c.self.inside.keys c.push_world.new.keys c.in_ok-key.key.items c.args.link
-    c.in_ok-fate.fate c.args.machine c.self.invariant c.self.view_is c.world_key.ensures.grown c.requires.from
+    c.next_key.new.contents c.self.inside.keys c.push_world.new.keys c.in_ok-key.key.items c.args.link
+    c.in_ok-fate.fate c.args.machine c.self.invariant c.self.view_is c.next_key.ensures.grown c.requires.from
     c.requires.image c.requires.world c.in_ok-fate.ensures c.in_ok-key.ensures.known c.in_ok-key.ensures.is
     (λ has.
     let e = c.in_default.ensures.there.1 (subst (Has c.self.inside.keys) (sym c.deref.ensures.value) has) in absurd cc)
@@ -63,8 +87,8 @@ overflow_cast-result g c =
     let at : c.in-Some.place ≡ place_in keys key = search rules in
     let has : Has keys key = search rules in
     let here =
-    found_at w c.args.self.now c.self.inside.fates.items c.self.inside.contents c.world_key.new.contents keys key
-    c.args.machine c.in-Some.place c.self.invariant c.self.view_is c.world_key.ensures.grown
+    found_at w c.args.self.now c.self.inside.fates.items c.self.inside.contents c.next_key.new.contents keys key
+    c.args.machine c.in-Some.place c.self.invariant c.self.view_is c.next_key.ensures.grown
     c.in_ok-key.ensures.known c.in_ok-key.ensures.is c.requires.image at has in
     omega (arith, here.0, c.requires.within)
 
@@ -131,8 +155,8 @@ returns-in-Some g c =
     let at : c.in-Some.place ≡ place_in keys key = search rules in
     let has : Has keys key = search rules in
     let here =
-    found_at w v c.self.inside.fates.items c.self.inside.contents c.world_key.new.contents keys key c.args.machine
-    c.in-Some.place c.self.invariant c.self.view_is c.world_key.ensures.grown c.in_ok-key.ensures.known
+    found_at w v c.self.inside.fates.items c.self.inside.contents c.next_key.new.contents keys key c.args.machine
+    c.in-Some.place c.self.invariant c.self.view_is c.next_key.ensures.grown c.in_ok-key.ensures.known
     c.in_ok-key.ensures.is c.requires.image at has in
     record {
       grown = grown_to v w c.self.view_is;

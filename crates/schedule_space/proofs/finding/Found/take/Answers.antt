@@ -1,12 +1,13 @@
-use Rattle.std.proofs.Common.{◌≡◌, ◌+◌, ap, ◌∙◌, sym, subst, arith, rules, inl, refl}
+use Rattle.std.proofs.Common.{◌≡◌, ◌≢◌, ◌+◌, ◌<◌, ap, ◌∙◌, sym, subst, arith, rules, inl, refl, length}
 use Rattle.machine.specs.MachineValue.{MachineValue}
-use Rattle.processor.specs.World.{after}
+use Rattle.processor.specs.World.{World, after}
 use Rattle.schedule_space.specs.declared.links.Edge.{Edge}
-use Rattle.schedule_space.specs.Spaces.{SpaceValue, count}
+use Rattle.schedule_space.specs.declared.stepping.Reach.TheVariants as Reach
+use Rattle.schedule_space.specs.Spaces.{SpaceValue, count, schedule_of, world_of, machine_after}
 use Rattle.schedule_space.specs.Finding.{IsGrown, IsTaken}
 use Rattle.schedule_space.proofs.Growing.{grown_refl, grown_trans, with_edge_grown}
 use Rattle.schedule_space.proofs.Placing.{edge_frontier, edge_breadth, stays_within, stays_frontier, stays_breadth}
-use Rattle.schedule_space.proofs.Taking.{stuck_at, taken_to, taken_edge, edge_to}
+use Rattle.schedule_space.proofs.Taking.{taken_at, taken_to, taken_edge, edge_to}
 use Rattle.schedule_space.proofs.finding.Found.take.Goals as goal
 
 pub add_edge-requires : goal.add_edge-requires
@@ -16,12 +17,34 @@ add_edge-requires g c =
     (c.in_ok-next.ensures.world ∙ ap (λ (m : MachineValue). after m.image m.world c.args.step) c.requires.machine)
     (search rules)
 
-pub returns-then-is_stuck : goal.returns-then-is_stuck
-returns-then-is_stuck g c = record {
+pub place-requires : goal.place-requires
+place-requires g c =
+    let v = c.args.self.now in
+    let machine : c.args.machine.now ≡ machine_after v.image (schedule_of v c.args.from) = c.requires.machine in
+    let next = c.in_ok-next.next in
+    let reach = c.reach_of-reach.result in
+    let some : reach ≢ Reach.Nothing = search rules in
+    let image : next.image ≡ v.image = c.in_ok-next.ensures.image ∙ ap (λ (m : MachineValue). m.image) machine in
+    let world : next.world ≡ after v.image (world_of v c.args.from) c.args.step =
+    c.in_ok-next.ensures.world ∙ ap (λ (m : MachineValue). after m.image m.world c.args.step) machine in
+    let there : c.args.step.p < length (world_of v c.args.from).processors =
+    subst (λ (m : MachineValue). c.args.step.p < length m.world.processors) machine
+    (c.reach_of-reach.ensures.there some) in
+    let memory : reach ≡ Reach.Processor → next.world.memory ≡ (world_of v c.args.from).memory =
+    λ own.
+    ap (λ (w : World). w.memory) c.in_ok-next.ensures.world
+    ∙ c.reach_of-reach.ensures.memory own
+    ∙ ap (λ (m : MachineValue). m.world.memory) machine in (
+      omega arith,
+      (c.requires.from, (c.requires.within, (image, (world, (there, (some, (memory, (c.requires.frontier, c.requires.breadth)))))))),
+    )
+
+pub returns-then-eq : goal.returns-then-eq
+returns-then-eq g c = record {
   grown = grown_refl c.args.self.now;
   taken =
-      stuck_at c.args.self.now c.args.from c.args.machine.now c.args.step c.requires.from c.requires.machine
-      (search rules);
+      taken_at c.args.self.now c.args.from c.args.machine.now c.args.step c.requires.from c.requires.machine
+      (c.reach_of-reach.ensures.nothing (search rules));
   within = c.requires.within;
   frontier = c.requires.frontier;
   breadth = c.requires.breadth;

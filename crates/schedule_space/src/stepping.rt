@@ -1,0 +1,63 @@
+//! A step from a machine's world, and what it can change.
+
+ghost use Rattle.std.specs.Prelude.{◌≡◌, ◌≢◌, ◌<◌, length, true, IfOk};
+ghost use Rattle.processor.specs.World.{after};
+
+use machine::Machine;
+use processor::{Next, Step};
+use std::alloc::AllocError;
+use waiting::is_stuck;
+
+/// What a step can change.
+#[derive(Clone, Copy, Debug, PartialEq, Eq)]
+pub(crate) enum Reach {
+    /// Nothing: its stream does not run, or is stuck.
+    Nothing,
+    /// Its processor alone.
+    Processor,
+    /// Its processor and the memory.
+    Memory,
+}
+
+/// What a step from a machine's world can change.
+pub(crate) fn reach_of<const S: usize>(machine: &Machine<'_, S>, step: Step) -> Reach
+    ensures nothing { result ≡ Reach.Nothing → after machine.now.image machine.now.world step ≡ machine.now.world }
+    ensures there { result ≢ Reach.Nothing → step.p < length machine.now.world.processors }
+    ensures memory { result ≡ Reach.Processor
+        → (after machine.now.image machine.now.world step).memory ≡ machine.now.world.memory }
+{
+    match machine.next(step.p, step.s) {
+        Next::Skip => Reach::Nothing,
+        Next::Local => Reach::Processor,
+        Next::Ask(_) => {
+            if is_stuck(machine, step.p, step.s) {
+                Reach::Nothing
+            } else {
+                Reach::Memory
+            }
+        }
+    }
+}
+
+/// Whether a step of this reach leaves the memory as it is.
+pub(crate) fn is_memory_kept(reach: Reach) -> bool
+    ensures { result ≡ true → reach ≢ Reach.Nothing → reach ≡ Reach.Processor }
+{
+    match reach {
+        Reach::Nothing | Reach::Processor => true,
+        Reach::Memory => false,
+    }
+}
+
+/// A machine like this one, after one step more.
+pub(crate) fn stepped<'i, const S: usize>(
+    machine: &Machine<'i, S>,
+    step: Step,
+) -> Result<Machine<'i, S>, AllocError>
+    ensures image { IfOk result (λ m. m.image ≡ machine.now.image) }
+    ensures world { IfOk result (λ m. m.world ≡ after machine.now.image machine.now.world step) }
+{
+    let mut next = machine.try_clone()?;
+    next.step(step.p, step.s);
+    Ok(next)
+}
