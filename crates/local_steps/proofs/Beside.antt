@@ -155,7 +155,7 @@ module _ (proc : ProcessorValue) (k n : ℕ) (x : StreamValue) (apart : n ≢ k)
       let c = control_of s i in
       let by : ℕ → ProcessorValue × Outcome =
       λ g. (let e = row_asking image.retry_limit s i g r (request_of s i) in
-          (after_control_if_done (with_stream (with_stream proc k x) n e.0) n g c e.1, e.1)) in
+      (after_control_if_done (with_stream (with_stream proc k x) n e.0) n g c e.1, e.1)) in
       let grant = grant_of image proc c in
       let e = row_asking image.retry_limit s i grant r (request_of s i) in
       ap by (grant_same image proc k x c) ∙ ap (λ p. (p, e.1)) (done_beside e.0 grant c e.1)
@@ -165,7 +165,7 @@ module _ (proc : ProcessorValue) (k n : ℕ) (x : StreamValue) (apart : n ≢ k)
   row_beside image r =
       row_is image (with_stream proc k x) n r
       ∙ (λ i. row_on_fetch image (with_stream proc k x) n r (get_or-set_other proc.streams k n x idle apart i)
-          (fetch_same image proc k n x apart i))
+      (fetch_same image proc k n x apart i))
       ∙ fetch_beside image r (stream_at proc.streams n) (step_fetch_of image proc n)
       ∙ ap beside (sym (row_is image proc n r))
 
@@ -181,6 +181,8 @@ module _ (proc : ProcessorValue) (k n : ℕ) (x : StreamValue) (apart : n ≢ k)
   unfolding row_over_memory
   over_memory_beside image m =
       let e = memory_reply m (request image proc n) in
-      (λ i. (row image (with_stream proc k x) n (memory_reply m (request_same image i)).1,
-          (memory_reply m (request_same image i)).0))
+      (λ i. (
+        row image (with_stream proc k x) n (memory_reply m (request_same image i)).1,
+        (memory_reply m (request_same image i)).0,
+      ))
       ∙ ap (λ p. (p, e.0)) (row_beside image e.1)

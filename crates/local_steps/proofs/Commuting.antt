@@ -59,8 +59,10 @@ pub alone_over_memory : (image : ImageValue) (proc : ProcessorValue) (n : ℕ) (
     → row_over_memory image proc n m ≡ ((with_stream proc n (stepped (stream_at proc.streams n) i), outcome.Done), m)
 unfolding row_over_memory
 alone_over_memory image proc n m i l =
-    (λ j. (row image proc n (memory_reply m (asks_none image proc n i l j)).1,
-        (memory_reply m (asks_none image proc n i l j)).0))
+    (λ j. (
+      row image proc n (memory_reply m (asks_none image proc n i l j)).1,
+      (memory_reply m (asks_none image proc n i l j)).0,
+    ))
     ∙ ap (λ p. (p, m)) (row_alone image proc n None i l)
 
 -- the world with a stream changed

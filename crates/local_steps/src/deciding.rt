@@ -16,6 +16,9 @@ pub fn is_local_step<const S: usize>(machine: &Machine<'_, S>, step: Step) -> bo
         return false;
     };
     let is_unasked = matches!(stream.plan(image.profile(), image.program()), Plan::Local);
-    let is_plain = matches!(stream.control(image.profile(), image.program()), Control::Plain);
+    let is_plain = matches!(
+        stream.control(image.profile(), image.program()),
+        Control::Plain
+    );
     is_unasked && is_plain
 }

@@ -8,8 +8,7 @@ use Rattle.processor.specs.declared.steps.Step.{Step}
 use Rattle.processor.proofs.Histories.{steps-append}
 use Rattle.local_steps.specs.LocalSteps.{IsLocalStep}
 use Rattle.local_steps.proofs.Orders.{same_or_other, commutes, stays, not_stuck, runs}
-use Rattle.schedule_space.specs.declared.links.Edge.{Edge}
-use Rattle.schedule_space.specs.Spaces.{SpaceValue, count, schedule_of, world_of, IsDistinct}
+use Rattle.schedule_space.specs.Spaces.{SpaceValue, count, world_of, IsDistinct}
 use Rattle.schedule_space.specs.Reaching.{IsEnd, CanEnd, IsMarked, HasEndsMarked, AreMarkedBack}
 use Rattle.schedule_space.specs.Finding.{IsTaken}
 use Rattle.schedule_space.specs.Followed.{AllFollowed, IsFollowed, HasAllEnds, HasShortestEnds, TellsWhetherAllEnd}
@@ -109,7 +108,7 @@ module _ (v : SpaceValue) (all : AllFollowed v) where
             let m = moved v.image (world_of v k) one.step (t ∷ ts) one.alone end in
             reached_on k one.step (t ∷ ts) m.others one.taken m.one_less m.leads
             (reached n one.taken.to m.others (omega (arith, few, m.one_less)) one.taken.within
-              (end_on k one.step (t ∷ ts) m.others one.taken m.leads end))
+            (end_on k one.step (t ∷ ts) m.others one.taken m.leads end))
       ]
 
   -- where the beginning leads, and on from there
@@ -138,9 +137,9 @@ module _ (v : SpaceValue) (all : AllFollowed v) where
   onward_by : (k : ℕ) (ts es : List Step) → IsFollowed v k → (t : Step) (rest : List Step) → ts ≡ t ∷ rest
       → IsEnd v.image (steps v.image (world_of v k) es)
       → ((j : ℕ) (us : List Step) → suc (length us) ≡ length ts → j < count v
-        → CanEnd v.image (steps v.image (world_of v j) us))
+      → CanEnd v.image (steps v.image (world_of v j) us))
       → ((j : ℕ) (us : List Step) → suc (length us) ≡ length es → j < count v
-        → IsEnd v.image (steps v.image (world_of v j) us) → CanEnd v.image (steps v.image (world_of v j) ts))
+      → IsEnd v.image (steps v.image (world_of v j) us) → CanEnd v.image (steps v.image (world_of v j) ts))
       → CanEnd v.image (steps v.image (world_of v k) ts)
   onward_by k ts es (inl each) t rest same end shorter nearer =
       let e = each t in
@@ -155,7 +154,7 @@ module _ (v : SpaceValue) (all : AllFollowed v) where
             (shorter one.taken.to on.others (sym on.one_less) one.taken.within)
         | inr left ↦
             let there = nearer one.taken.to off.others (sym off.one_less) one.taken.within
-              (end_on k one.step es off.others one.taken off.leads end) in
+            (end_on k one.step es off.others one.taken off.leads end) in
             let at : steps v.image (world_of v one.taken.to) ts
             ≡ after v.image (steps v.image (world_of v k) ts) one.step =
             ap (λ x. steps v.image x ts) one.taken.leads ∙ left.leads in
@@ -170,16 +169,16 @@ module _ (v : SpaceValue) (all : AllFollowed v) where
   onward (suc n) zero k (t ∷ ts) es few less below can end =
       onward_by k (t ∷ ts) es (all k below) t ts refl end
       (λ j us one_less there.
-        let first = can j there in
-        onward n (length first.0) j us first.0 (omega (arith, few, one_less)) (omega arith) there can first.1)
+      let first = can j there in
+      onward n (length first.0) j us first.0 (omega (arith, few, one_less)) (omega arith) there can first.1)
       (λ j us one_less there end. absurd (omega (arith, less, one_less)))
   onward (suc n) (suc m) k (t ∷ ts) es few less below can end =
       onward_by k (t ∷ ts) es (all k below) t ts refl end
       (λ j us one_less there.
-        let first = can j there in
-        onward n (length first.0) j us first.0 (omega (arith, few, one_less)) (omega arith) there can first.1)
+      let first = can j there in
+      onward n (length first.0) j us first.0 (omega (arith, few, one_less)) (omega arith) there can first.1)
       (λ j us one_less there end.
-        onward (suc n) m j (t ∷ ts) us few (omega (arith, less, one_less)) there can end)
+      onward (suc n) m j (t ∷ ts) us few (omega (arith, less, one_less)) there can end)
 
   pub tells_all : TellsWhetherAllEnd v
   tells_all can ts =
@@ -205,12 +204,12 @@ module _ (v : SpaceValue) (all : AllFollowed v) where
           | inl each ↦
               back_over k t (each t)
               (marked_from n (each t).to ts (omega (arith, few)) (each t).within
-                (end_on k t (t ∷ ts) ts (each t) refl end))
+              (end_on k t (t ∷ ts) ts (each t) refl end))
           | inr one ↦
               let m = moved v.image (world_of v k) one.step (t ∷ ts) one.alone end in
               back_over k one.step one.taken
               (marked_from n one.taken.to m.others (omega (arith, few, m.one_less)) one.taken.within
-                (end_on k one.step (t ∷ ts) m.others one.taken m.leads end))
+              (end_on k one.step (t ∷ ts) m.others one.taken m.leads end))
         ]
 
     pub marked_all : (k : ℕ) → k < count v → CanEnd v.image (world_of v k) → IsMarked marks k

@@ -11,4 +11,6 @@ pub mod Taking
 pub mod Exploring
 pub mod Reading
 pub mod Marking
+pub mod Alone
 pub mod Following
+pub mod Explored

@@ -58,7 +58,7 @@ edge_to old new from to t w g below there is leads apart = record {
 abbrev pub AreTaken : SpaceValue → ℕ → List Step → ℕ → Type 0
 AreTaken v from ts n = (k : ℕ) (d : Step) → k < n → IsTaken v from (get_or ts k d)
 
-same_default : (ts : List Step) (n : ℕ) (c d : Step) → n < length ts → get_or ts n c ≡ get_or ts n d
+pub same_default : (ts : List Step) (n : ℕ) (c d : Step) → n < length ts → get_or ts n c ≡ get_or ts n d
 same_default [] n c d below = absurd (omega arith)
 same_default (t ∷ ts) zero c d below = refl
 same_default (t ∷ ts) (suc n) c d below = same_default ts n c d (omega (arith, below))

@@ -1,9 +1,13 @@
 //! The search for all worlds of an image.
 
-ghost use Rattle.std.specs.Prelude.{◌≡◌, ◌<◌, ◌≤◌, ◌↔◌, true, IsTrue, IfOk};
-ghost use Rattle.schedule_space.specs.Spaces.{count, IsComplete, IsDistinct, IsShortest, HasAllEdges};
+ghost use Rattle.std.specs.Prelude.{◌≡◌, ◌<◌, ◌≤◌, ◌↔◌, ℕ, true, IsTrue, IfOk, Contains};
+ghost use Rattle.schedule_space.specs.declared.links.Edge.{Edge};
+ghost use Rattle.schedule_space.specs.Spaces.{count, IsComplete, IsDistinct, IsShortest, IsEdge, HasAllEdges};
+ghost use Rattle.schedule_space.specs.Finding.{IsExpanded};
+ghost use Rattle.schedule_space.specs.Followed.{AllFollowed, HasAllEnds, HasShortestEnds, TellsWhetherAllEnd};
 ghost use Rattle.schedule_space.specs.Answers.{space_in, is_complete};
 
+use crate::expanding::Wanted;
 use crate::finding::Found;
 use crate::spaces::Space;
 use image_file::Image;
@@ -15,9 +19,9 @@ use std::collections::VecDeque;
 /// What a search found.
 #[derive(Drop)]
 pub enum Exploration<'i> {
-    /// All worlds that schedules with this beginning lead to.
+    /// All worlds that schedules with this beginning lead to, or all ends, as was asked for.
     Complete(Space<'i>),
-    /// Some of them: there are more than were asked for, or memory was refused on the way.
+    /// Some of them: there are more worlds than were asked for, or memory was refused on the way.
     Bounded(Space<'i>),
 }
 
@@ -42,6 +46,52 @@ pub fn explore<'i, const S: usize>(
     ensures within { IfOk result (λ e. count (space_in e) ≤ most) }
     ensures streams { (result ≡ Err LoadFault.Streams) ↔ (S < image.entry.now.slim) }
 {
+    search::<S>(alloc, image, begin, Wanted::Worlds, most)
+}
+
+/// Looks for the ends of an image, worlds from which nothing goes on, that schedules lead to which begin with `begin`, in
+/// the same way, but of fewer worlds: where a step concerns its own stream alone and leads to a new world, only that one
+/// is taken. Where the search is complete, each end is there, by a schedule that is as short as any.
+pub fn explore_ends<'i, const S: usize>(
+    alloc: Global,
+    image: &'i Image,
+    begin: &[Step],
+    most: usize,
+) -> Result<Exploration<'i>, LoadFault>
+    requires { 1 ≤ most }
+    ensures image { IfOk result (λ e. (space_in e).image ≡ image.entry.now) }
+    ensures begin { IfOk result (λ e. (space_in e).begin ≡ begin.now) }
+    ensures ends { IfOk result (λ e. is_complete e ≡ true → HasAllEnds (space_in e)) }
+    ensures followed { IfOk result (λ e. is_complete e ≡ true → AllFollowed (space_in e)) }
+    ensures tells { IfOk result (λ e. is_complete e ≡ true → TellsWhetherAllEnd (space_in e)) }
+    ensures distinct { IfOk result (λ e. IsDistinct (space_in e)) }
+    ensures shortest { IfOk result (λ e. is_complete e ≡ true → HasShortestEnds (space_in e)) }
+    ensures within { IfOk result (λ e. count (space_in e) ≤ most) }
+    ensures streams { (result ≡ Err LoadFault.Streams) ↔ (S < image.entry.now.slim) }
+{
+    search::<S>(alloc, image, begin, Wanted::Ends, most)
+}
+
+/// Looks for what is wanted.
+fn search<'i, const S: usize>(
+    alloc: Global,
+    image: &'i Image,
+    begin: &[Step],
+    wanted: Wanted,
+    most: usize,
+) -> Result<Exploration<'i>, LoadFault>
+    requires { 1 ≤ most }
+    ensures image { IfOk result (λ e. (space_in e).image ≡ image.entry.now) }
+    ensures begin { IfOk result (λ e. (space_in e).begin ≡ begin.now) }
+    ensures expanded { IfOk result (λ e. wanted ≡ Wanted.Worlds → is_complete e ≡ true
+        → (k : ℕ) → k < count (space_in e) → IsExpanded (space_in e) k) }
+    ensures followed { IfOk result (λ e. is_complete e ≡ true → AllFollowed (space_in e)) }
+    ensures edges { IfOk result (λ e. (d : Edge) → Contains (space_in e).edges d → IsEdge (space_in e) d) }
+    ensures distinct { IfOk result (λ e. IsDistinct (space_in e)) }
+    ensures shortest { IfOk result (λ e. wanted ≡ Wanted.Worlds → IsShortest (space_in e)) }
+    ensures within { IfOk result (λ e. count (space_in e) ≤ most) }
+    ensures streams { (result ≡ Err LoadFault.Streams) ↔ (S < image.entry.now.slim) }
+{
     let mut first = Machine::<S>::load(alloc, image)?;
     first.run(begin);
     let mut found = Found::begin(alloc, begin, &first)?;
@@ -52,7 +102,10 @@ pub fn explore<'i, const S: usize>(
         let Some(machine) = frontier.pop_front() else {
             return Ok(Exploration::Complete(found.into_space()));
         };
-        if found.expand(&mut frontier, &machine, from, limit).is_err() {
+        if found
+            .expand(&mut frontier, &machine, from, wanted, limit)
+            .is_err()
+        {
             return Ok(Exploration::Bounded(found.into_space()));
         }
     }

@@ -1,35 +1,33 @@
 //! A space in the making: worlds are told apart by their keys.
 
-ghost use Rattle.std.specs.Prelude.{◌≡◌, ◌≢◌, ◌<◌, ◌≤◌, ◌+◌, [], ◌∷◌, ◌++◌, length, IfOk, OnOk, OnErr};
-ghost use Rattle.std.specs.Prelude.{Contains};
+ghost use Rattle.std.specs.Prelude.{◌≡◌, ◌≢◌, ◌<◌, ◌≤◌, ◌+◌, [], ◌∷◌, ◌++◌, length, IfOk, OnOk, OnErr, Contains};
 ghost use Rattle.image_file.specs.ImageValue.{ImageValue};
 ghost use Rattle.processor.specs.World.{start, after};
 ghost use Rattle.schedule_space.specs.Spaces.{count, schedule_of, world_of, machine_after, IsDistinct, IsEdge};
 ghost use Rattle.schedule_space.specs.declared.links.Edge.{Edge};
 ghost use Rattle.world_keys.specs.Tables.{Has};
-ghost use Rattle.schedule_space.specs.Finding.{space_of, with_edge, IsGrown, IsTaken, IsExpanded, IsFrontier, IsBreadthFirst};
+ghost use Rattle.schedule_space.specs.Finding.{space_of, with_edge, IsGrown, IsFrontier, IsBreadthFirst};
 ghost use Rattle.schedule_space.specs.declared.finding.Stop.TheVariants.{NoMemory};
 
 use crate::fates::{Fate, fate_of};
 use crate::links::{Edge, Link};
 use crate::spaces::Space;
-use crate::stepping::{Reach, is_memory_kept, reach_of, stepped};
+use crate::stepping::{Reach, is_memory_kept};
 use image_file::Image;
 use machine::Machine;
 use processor::Step;
 use std::alloc::{AllocError, AllocFailed, Global};
 use std::collections::VecDeque;
 use std::marker::Model;
-use waiting::running_streams;
 use world_keys::{Table, next_key, world_key};
 
 /// The worlds that were found so far, with their keys.
 #[derive(Drop)]
 pub(crate) struct Found<'i> {
-    alloc: Global,
+    pub(crate) alloc: Global,
     image: &'i Image,
     begin: Vec<Step>,
-    links: Vec<Link>,
+    pub(crate) links: Vec<Link>,
     edges: Vec<Edge>,
     fates: Vec<Fate>,
     contents: Table,
@@ -110,68 +108,8 @@ impl<'i> Found<'i> {
         Space::from_parts(self.image, self.begin, self.links, self.edges, self.fates)
     }
 
-    /// Takes each step of the world at a place, from its machine, unless there would be more than `most` worlds. New
-    /// worlds are put behind the frontier.
-    pub(crate) fn expand<const S: usize>(
-        &mut self,
-        frontier: &mut VecDeque<Machine<'i, S>>,
-        machine: &Machine<'i, S>,
-        from: u32,
-        most: u32,
-    ) -> Result<(), Stop>
-        requires from { from < count self.old }
-        requires within { count self.old ≤ most }
-        requires machine { machine.now ≡ machine_after self.old.image (schedule_of self.old from) }
-        requires frontier { IsFrontier self.old frontier.old.items (from + 1) }
-        requires breadth { IsBreadthFirst self.old from }
-        ensures grown { IsGrown self.old self.new }
-        ensures expanded { OnOk result (IsExpanded self.new from) }
-        ensures within { count self.new ≤ most }
-        ensures frontier { IsFrontier self.new frontier.new.items (from + 1) }
-        ensures breadth { IsBreadthFirst self.new from }
-    {
-        let running = running_streams(self.alloc, machine)?;
-        for step in &running {
-            self.take(frontier, machine, from, *step, most)?;
-        }
-        Ok(())
-    }
-
-    /// Takes one step.
-    fn take<const S: usize>(
-        &mut self,
-        frontier: &mut VecDeque<Machine<'i, S>>,
-        machine: &Machine<'i, S>,
-        from: u32,
-        step: Step,
-        most: u32,
-    ) -> Result<(), Stop>
-        requires from { from < count self.old }
-        requires within { count self.old ≤ most }
-        requires machine { machine.now ≡ machine_after self.old.image (schedule_of self.old from) }
-        requires frontier { IsFrontier self.old frontier.old.items (from + 1) }
-        requires breadth { IsBreadthFirst self.old from }
-        ensures grown { IsGrown self.old self.new }
-        ensures taken { OnOk result (IsTaken self.new from step) }
-        ensures within { count self.new ≤ most }
-        ensures frontier { IsFrontier self.new frontier.new.items (from + 1) }
-        ensures breadth { IsBreadthFirst self.new from }
-    {
-        let reach = reach_of(machine, step);
-        if reach == Reach::Nothing {
-            return Ok(());
-        }
-        let next = stepped(machine, step)?;
-        let to = self.place(frontier, next, Link { from, step }, reach, most)?;
-        if to == from {
-            return Ok(());
-        }
-        self.add_edge(Edge { from, step, to })?;
-        Ok(())
-    }
-
     /// Puts an edge behind the others.
-    fn add_edge(&mut self, edge: Edge) -> Result<(), AllocError>
+    pub(crate) fn add_edge(&mut self, edge: Edge) -> Result<(), AllocError>
         requires { IsEdge self.old edge }
         ensures added { OnOk result (self.new ≡ with_edge self.old edge) }
         ensures stays { OnErr result (self.new ≡ self.old) }
@@ -182,7 +120,7 @@ impl<'i> Found<'i> {
 
     /// The place of the world to which a step leads from one of the space. A new world is put behind the others, and its
     /// machine behind the frontier.
-    fn place<const S: usize>(
+    pub(crate) fn place<const S: usize>(
         &mut self,
         frontier: &mut VecDeque<Machine<'i, S>>,
         machine: Machine<'i, S>,

@@ -1,6 +1,7 @@
 //! The worlds that every schedule of an image leads to (docs/MACHINE.md, "Schedules").
 #![tactic(auto)]
 
+mod expanding;
 mod explorations;
 mod fates;
 mod finding;
@@ -9,7 +10,7 @@ mod reaching;
 mod spaces;
 mod stepping;
 
-pub use explorations::{Exploration, explore};
+pub use explorations::{Exploration, explore, explore_ends};
 pub use fates::Fate;
 pub use links::{Edge, Link};
 pub use spaces::Space;

@@ -3,6 +3,7 @@
 ghost use Rattle.std.specs.Prelude.{◌≡◌, ◌<◌, ◌↔◌, ℕ, IsTrue, IfOk, length, false};
 ghost use Rattle.schedule_space.specs.Spaces.{count, world_of, IsComplete, HasAllEdges};
 ghost use Rattle.schedule_space.specs.Fates.{is_end};
+ghost use Rattle.schedule_space.specs.Followed.{AllFollowed};
 ghost use Rattle.schedule_space.specs.Reaching.{CanEnd, IsMarked, AreEnds, CanAllEnd, AreMarkedToo, AreMarkedBack, marked};
 
 use crate::fates::Fate;
@@ -13,12 +14,15 @@ impl Space<'_> {
     /// For the world at each place, whether some schedule leads from it to an end, a world in which no stream runs or
     /// none that runs can go on. From those where this is false each schedule goes on for ever.
     ///
-    /// Of a complete space each answer is exact; of one that was bounded only those that are true are known.
+    /// Of a complete space, also of one for ends, each answer is exact; of one that was bounded only those that are true
+    /// are known.
     pub fn can_end(&self, alloc: Global) -> Result<Vec<bool>, AllocError>
         ensures len { IfOk result (λ v. length v.items ≡ count self.now) }
         ensures reach { IfOk result (λ v. (k : ℕ) → k < count self.now → IsMarked v.items k
             → CanEnd self.now.image (world_of self.now k)) }
         ensures all { IfOk result (λ v. IsComplete self.now → HasAllEdges self.now → (k : ℕ) → k < count self.now
+            → CanEnd self.now.image (world_of self.now k) → IsMarked v.items k) }
+        ensures followed { IfOk result (λ v. AllFollowed self.now → (k : ℕ) → k < count self.now
             → CanEnd self.now.image (world_of self.now k) → IsMarked v.items k) }
     {
         let mut marks = self.ends(alloc)?;

@@ -1,14 +1,17 @@
--- the worlds so far are expanded, and the machines of the others are on the frontier
+-- the worlds so far are followed, or expanded, and the machines of the others are on the frontier
 use Rattle.std.proofs.Common.{◌≡◌, ℕ, ◌≤◌, ◌<◌}
 use Rattle.schedule_space.specs.Spaces.{count}
 use Rattle.schedule_space.specs.Finding.{IsExpanded, IsFrontier, IsBreadthFirst}
-use Rattle.schedule_space.proofs.explorations.explore.Given as goal
+use Rattle.schedule_space.specs.Followed.{IsFollowed}
+use Rattle.schedule_space.specs.declared.expanding.Wanted.TheVariants as Wanted
+use Rattle.schedule_space.proofs.explorations.search.Given as goal
 
 abbrev pub invariant-loop-from : goal.invariant-loop-from
 invariant-loop-from g l = record {
   image : l.found.image ≡ l.image;
   begin : l.found.begin ≡ l.begin;
-  expanded : (k : ℕ) → k < l.from → IsExpanded l.found k;
+  expanded : l.wanted ≡ Wanted.Worlds → (k : ℕ) → k < l.from → IsExpanded l.found k;
+  followed : (k : ℕ) → k < l.from → IsFollowed l.found k;
   inside : l.from ≤ count l.found;
   within : count l.found ≤ l.limit;
   frontier : IsFrontier l.found l.frontier.items l.from;
