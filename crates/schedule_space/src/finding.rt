@@ -1,19 +1,21 @@
 //! A space in the making: worlds are told apart by their keys.
 
-ghost use Rattle.std.specs.Prelude.{◌≡◌, ◌≢◌, ◌<◌, ◌≤◌, ◌+◌, [], ◌∷◌, ◌++◌, length, IfOk, OnOk, OnErr};
-ghost use Rattle.std.specs.Prelude.{Contains};
+ghost use Rattle.std.specs.Prelude.{◌≡◌, ◌<◌, ◌≤◌, ◌+◌, [], ◌∷◌, ◌++◌, length, IfOk, OnOk, OnErr};
+ghost use Rattle.std.specs.Prelude.{Contains, true};
 ghost use Rattle.image_file.specs.ImageValue.{ImageValue};
 ghost use Rattle.processor.specs.World.{start, after};
 ghost use Rattle.schedule_space.specs.Spaces.{count, schedule_of, world_of, machine_after, IsDistinct, IsEdge};
 ghost use Rattle.schedule_space.specs.declared.links.Edge.{Edge};
 ghost use Rattle.world_keys.specs.Tables.{Has};
+ghost use Rattle.world_keys.specs.WorldKeys.{processor_in};
+ghost use Rattle.world_keys.specs.Changes.{HasOthersOf};
 ghost use Rattle.schedule_space.specs.Finding.{space_of, with_edge, IsGrown, IsTaken, IsExpanded, IsFrontier, IsBreadthFirst};
 ghost use Rattle.schedule_space.specs.declared.finding.Stop.TheVariants.{NoMemory};
 
 use crate::fates::{Fate, fate_of};
 use crate::links::{Edge, Link};
 use crate::spaces::Space;
-use crate::stepping::{Reach, is_memory_kept, reach_of, stepped};
+use crate::stepping::{Reach, change_of, reach_of, stepped};
 use image_file::Image;
 use machine::Machine;
 use processor::Step;
@@ -21,7 +23,7 @@ use std::alloc::{AllocError, AllocFailed, Global};
 use std::collections::VecDeque;
 use std::marker::Model;
 use waiting::running_streams;
-use world_keys::{Table, next_key, world_key};
+use world_keys::{Change, Table, next_key, world_key};
 
 /// The worlds that were found so far, with their keys.
 #[derive(Drop)]
@@ -162,7 +164,8 @@ impl<'i> Found<'i> {
             return Ok(());
         }
         let next = stepped(machine, step)?;
-        let to = self.place(frontier, next, Link { from, step }, reach, most)?;
+        let change = change_of(machine, &next, step, reach);
+        let to = self.place(frontier, next, Link { from, step }, change, most)?;
         if to == from {
             return Ok(());
         }
@@ -187,7 +190,7 @@ impl<'i> Found<'i> {
         frontier: &mut VecDeque<Machine<'i, S>>,
         machine: Machine<'i, S>,
         link: Link,
-        reach: Reach,
+        change: Change,
         most: u32,
     ) -> Result<u32, Stop>
         requires from { link.from < count self.old }
@@ -195,8 +198,10 @@ impl<'i> Found<'i> {
         requires image { machine.image ≡ self.old.image }
         requires world { machine.world ≡ after self.old.image (world_of self.old link.from) link.step }
         requires there { link.step.p < length (world_of self.old link.from).processors }
-        requires reach { reach ≢ Reach.Nothing }
-        requires memory { reach ≡ Reach.Processor → machine.world.memory ≡ (world_of self.old link.from).memory }
+        requires step { change.step ≡ link.step }
+        requires memory { change.is_memory_kept ≡ true → machine.world.memory ≡ (world_of self.old link.from).memory }
+        requires others { HasOthersOf (processor_in (world_of self.old link.from) link.step.p)
+            (processor_in machine.world link.step.p) change }
         requires frontier { IsFrontier self.old frontier.old.items (link.from + 1) }
         requires breadth { IsBreadthFirst self.old link.from }
         ensures grown { IsGrown self.old self.new }
@@ -211,8 +216,7 @@ impl<'i> Found<'i> {
             &mut self.contents,
             self.keys.list(link.from as usize).unwrap(),
             &machine,
-            link.step.p,
-            is_memory_kept(reach),
+            change,
         )?;
         if let Some(place) = self.keys.find(&key) {
             return Ok(place as u32);
