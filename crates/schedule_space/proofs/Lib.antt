@@ -2,6 +2,7 @@ pub mod Schedules
 pub mod Memories
 pub mod Resting
 pub mod Reaches
+pub mod Others
 pub mod Growing
 pub mod Parts
 pub mod Keys

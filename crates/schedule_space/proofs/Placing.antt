@@ -1,14 +1,15 @@
 -- What is known of a space in the making that gets the world of a machine, or has it.
-use Rattle.std.proofs.Common.{◌≡◌, ℕ, ◌<◌, ◌≤◌, refl, sym, ap, ◌∙◌, subst, arith, List, [], ◌∷◌, ◌++◌, Bool, true}
+use Rattle.std.proofs.Common.{◌≡◌, ℕ, ◌<◌, ◌≤◌, refl, sym, ap, ◌∙◌, subst, arith, List, [], ◌∷◌, ◌++◌, true}
 use Rattle.std.proofs.Common.{Option, Some, None, IsSome, length, get_or, set, slice_get, option_copied, Bor}
 use Rattle.std.proofs.lemmas.Option.{get_or_from_slice_get, slice_get-get_or}
 use Rattle.image_file.specs.ImageValue.{ImageValue}
 use Rattle.machine.specs.MachineValue.{MachineValue}
-use Rattle.processor.specs.Processors.{ProcessorValue}
 use Rattle.processor.specs.World.{World, after}
 use Rattle.processor.specs.declared.steps.Step.{Step}
 use Rattle.world_keys.specs.Tables.{place_in, Has, Extends}
-use Rattle.world_keys.specs.WorldKeys.{key_of, no_processor, IsKnown, IsMemoryOf, IsKeyBefore}
+use Rattle.world_keys.specs.WorldKeys.{processor_in, key_of, IsKnown, IsMemoryOf}
+use Rattle.world_keys.specs.Changes.{HasOthersOf, IsKeyBefore}
+use Rattle.world_keys.specs.declared.next_keys.Change.{Change}
 use Rattle.schedule_space.specs.declared.links.Link.{Link}
 use Rattle.schedule_space.specs.declared.links.Edge.{Edge}
 use Rattle.schedule_space.specs.declared.fates.Fate.{Fate}
@@ -44,11 +45,12 @@ there_next v l m world there =
 
 -- the key of the world before the step
 pub key_before : (v w : SpaceValue) (fates : List Fate) (table keys : List (List ℕ)) (key : List ℕ) (l : Link)
-    (m : MachineValue) (kept : Bool) → IsFound v fates table keys → v ≡ w → l.from < count w → m.image ≡ w.image
+    (m : MachineValue) (c : Change) → IsFound v fates table keys → v ≡ w → l.from < count w → m.image ≡ w.image
     → m.world ≡ after w.image (world_of w l.from) l.step → l.step.p < length (world_of w l.from).processors
-    → (kept ≡ true → m.world.memory ≡ (world_of w l.from).memory) → Some key ≡ slice_get keys l.from
-    → IsKeyBefore table m.image m.world l.step.p kept key
-key_before v w fates table keys key l m kept is view from image world there memory at = record {
+    → c.step ≡ l.step → (c.is_memory_kept ≡ true → m.world.memory ≡ (world_of w l.from).memory)
+    → HasOthersOf (processor_in (world_of w l.from) l.step.p) (processor_in m.world l.step.p) c
+    → Some key ≡ slice_get keys l.from → IsKeyBefore table m.image m.world c key
+key_before v w fates table keys key l m c is view from image world there step memory others at = record {
   before = world_of w l.from;
   known =
       subst (λ (x : World). IsKnown table m.image x) before
@@ -58,9 +60,13 @@ key_before v w fates table keys key l m kept is view from image world there memo
       ∙ key_at v table keys l.from is.keyed below
       ∙ (λ i. key_of table (image_is i) (before i));
   others =
-      subst (λ (x : World). x.processors ≡ set (world_of w l.from).processors l.step.p (stepped_in x)) (sym world)
-      (others_stay w.image (world_of w l.from) l.step (there_next w l next refl there));
+      subst (λ (t : Step). m.world.processors ≡ set (world_of w l.from).processors t.p (processor_in m.world t.p)) (sym step)
+      (subst (λ (x : World). x.processors ≡ set (world_of w l.from).processors l.step.p (processor_in x l.step.p)) (sym world)
+      (others_stay w.image (world_of w l.from) l.step (there_next w l next refl there)));
   memory = memory;
+  streams =
+      subst (λ (t : Step). HasOthersOf (processor_in (world_of w l.from) t.p) (processor_in m.world t.p) c) (sym step)
+      others;
 } where
   below : l.from < count v
   below = subst (λ (x : SpaceValue). l.from < count x) (sym view) from
@@ -73,9 +79,6 @@ key_before v w fates table keys key l m kept is view from image world there memo
 
   next : MachineValue
   next = record { image = w.image; world = after w.image (world_of w l.from) l.step }
-
-  stepped_in : World → ProcessorValue
-  stepped_in x = get_or x.processors l.step.p no_processor
 
 -- there is a key of each world
 pub has_key : (v w : SpaceValue) (table keys : List (List ℕ)) (k : ℕ) (o : Option (Bor (List ℕ))) → IsKeyed v table keys

@@ -1,4 +1,4 @@
--- A step of a stream that does not run leaves the world as it is, and so does a stuck one.
+-- A step of a stream that does not run leaves the world as it is.
 use Rattle.std.proofs.Common.{◌≡◌, true, false, refl, sym, ap, ◌∙◌, Option, Some, None, List, set, slice_get}
 use Rattle.std.specs.Prelude.{not}
 use Rattle.std.proofs.lemmas.List.{set-get_or}
@@ -14,7 +14,6 @@ use Rattle.processor.specs.declared.steps.Step.{Step}
 use Rattle.processor.proofs.Begun.{rests, row_begun, request_begun}
 use Rattle.processor.proofs.Histories.{after-known, after-absent}
 use Rattle.waiting.specs.Running.{streams_at, runs_at, runs_in}
-use Rattle.waiting.specs.Stuck.{IsStuck}
 use Rattle.waiting.proofs.Needs.{skips, skips-at, rests-begun}
 
 rest_alone : (f : Fetch) → rests f ≡ true → f ≡ fetch.Rest
@@ -41,7 +40,3 @@ rested_at image w t (Some proc) there rests_now =
 -- a step of a stream that does not run leaves the world as it is
 pub rested : (image : ImageValue) (w : World) (t : Step) → runs_in w t ≡ false → after image w t ≡ w
 rested image w t rests_now = rested_at image w t (slice_get w.processors t.p) refl rests_now
-
--- and so does a step of a stream that is stuck
-pub stuck_stays : (image : ImageValue) (w : World) (t : Step) → IsStuck image w t → after image w t ≡ w
-stuck_stays image w t stuck = ap (λ (x : World × Outcome). x.0) stuck.stays

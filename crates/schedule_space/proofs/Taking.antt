@@ -9,13 +9,12 @@ use Rattle.machine.specs.MachineValue.{MachineValue}
 use Rattle.processor.specs.World.{World, world_step, after}
 use Rattle.processor.specs.declared.steps.Step.{Step}
 use Rattle.waiting.specs.Running.{runs_in, AreRunning}
-use Rattle.waiting.specs.Stuck.{IsStuck}
 use Rattle.schedule_space.specs.declared.links.Edge.{Edge}
 use Rattle.schedule_space.specs.Spaces.{SpaceValue, count, schedule_of, world_of, machine_after, IsEdge}
 use Rattle.schedule_space.specs.Finding.{with_edge, IsGrown, IsTaken, IsExpanded, IsBreadthFirst}
 use Rattle.schedule_space.proofs.Growing.{world_grown, taken_grown, expanded_grown, grown_trans, with_edge_grown}
 use Rattle.schedule_space.proofs.Breadth.{breadth_stays}
-use Rattle.schedule_space.proofs.Resting.{rested, stuck_stays}
+use Rattle.schedule_space.proofs.Resting.{rested}
 
 -- a step that leaves the world as it is
 pub taken_stays : (v : SpaceValue) (from : ℕ) (t : Step) → from < count v
@@ -27,10 +26,6 @@ taken_stays v from t below stays = record {
   near = omega arith;
   edge = inl refl;
 }
-
-pub taken_stuck : (v : SpaceValue) (from : ℕ) (t : Step) → from < count v → IsStuck v.image (world_of v from) t
-    → IsTaken v from t
-taken_stuck v from t below stuck = taken_stays v from t below (stuck_stays v.image (world_of v from) t stuck)
 
 -- a step that leads to a place of the space, with an edge unless it is the same place
 pub taken_to : (old new : SpaceValue) (from to : ℕ) (t : Step) (w : World) → IsGrown old new → from < count old

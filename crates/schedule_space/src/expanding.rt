@@ -9,7 +9,7 @@ ghost use Rattle.schedule_space.specs.Followed.{IsTakenAlone, IsFollowed};
 
 use crate::finding::{Found, Stop};
 use crate::links::{Edge, Link};
-use crate::stepping::{Reach, reach_of, stepped};
+use crate::stepping::{Reach, change_of, reach_of, stepped};
 use local_steps::is_local_step;
 use machine::Machine;
 use processor::Step;
@@ -207,7 +207,8 @@ impl<'i> Found<'i> {
             return Ok(());
         }
         let next = stepped(machine, step)?;
-        let to = self.place(frontier, next, Link { from, step }, reach, most)?;
+        let change = change_of(machine, &next, step, reach);
+        let to = self.place(frontier, next, Link { from, step }, change, most)?;
         if to == from {
             return Ok(());
         }

@@ -1,25 +1,26 @@
 //! A space in the making: worlds are told apart by their keys.
 
-ghost use Rattle.std.specs.Prelude.{◌≡◌, ◌≢◌, ◌<◌, ◌≤◌, ◌+◌, [], ◌∷◌, ◌++◌, length, IfOk, OnOk, OnErr, Contains};
+ghost use Rattle.std.specs.Prelude.{◌≡◌, ◌<◌, ◌≤◌, ◌+◌, [], ◌∷◌, ◌++◌, length, true, IfOk, OnOk, OnErr, Contains};
 ghost use Rattle.image_file.specs.ImageValue.{ImageValue};
 ghost use Rattle.processor.specs.World.{start, after};
 ghost use Rattle.schedule_space.specs.Spaces.{count, schedule_of, world_of, machine_after, IsDistinct, IsEdge};
 ghost use Rattle.schedule_space.specs.declared.links.Edge.{Edge};
 ghost use Rattle.world_keys.specs.Tables.{Has};
+ghost use Rattle.world_keys.specs.WorldKeys.{processor_in};
+ghost use Rattle.world_keys.specs.Changes.{HasOthersOf};
 ghost use Rattle.schedule_space.specs.Finding.{space_of, with_edge, IsGrown, IsFrontier, IsBreadthFirst};
 ghost use Rattle.schedule_space.specs.declared.finding.Stop.TheVariants.{NoMemory};
 
 use crate::fates::{Fate, fate_of};
 use crate::links::{Edge, Link};
 use crate::spaces::Space;
-use crate::stepping::{Reach, is_memory_kept};
 use image_file::Image;
 use machine::Machine;
 use processor::Step;
 use std::alloc::{AllocError, AllocFailed, Global};
 use std::collections::VecDeque;
 use std::marker::Model;
-use world_keys::{Table, next_key, world_key};
+use world_keys::{Change, Table, next_key, world_key};
 
 /// The worlds that were found so far, with their keys.
 #[derive(Drop)]
@@ -125,7 +126,7 @@ impl<'i> Found<'i> {
         frontier: &mut VecDeque<Machine<'i, S>>,
         machine: Machine<'i, S>,
         link: Link,
-        reach: Reach,
+        change: Change,
         most: u32,
     ) -> Result<u32, Stop>
         requires from { link.from < count self.old }
@@ -133,8 +134,10 @@ impl<'i> Found<'i> {
         requires image { machine.image ≡ self.old.image }
         requires world { machine.world ≡ after self.old.image (world_of self.old link.from) link.step }
         requires there { link.step.p < length (world_of self.old link.from).processors }
-        requires reach { reach ≢ Reach.Nothing }
-        requires memory { reach ≡ Reach.Processor → machine.world.memory ≡ (world_of self.old link.from).memory }
+        requires step { change.step ≡ link.step }
+        requires memory { change.is_memory_kept ≡ true → machine.world.memory ≡ (world_of self.old link.from).memory }
+        requires others { HasOthersOf (processor_in (world_of self.old link.from) link.step.p)
+            (processor_in machine.world link.step.p) change }
         requires frontier { IsFrontier self.old frontier.old.items (link.from + 1) }
         requires breadth { IsBreadthFirst self.old link.from }
         ensures grown { IsGrown self.old self.new }
@@ -149,8 +152,7 @@ impl<'i> Found<'i> {
             &mut self.contents,
             self.keys.list(link.from as usize).unwrap(),
             &machine,
-            link.step.p,
-            is_memory_kept(reach),
+            change,
         )?;
         if let Some(place) = self.keys.find(&key) {
             return Ok(place as u32);

@@ -2,11 +2,14 @@
 
 ghost use Rattle.std.specs.Prelude.{◌≡◌, ◌≢◌, ◌<◌, length, true, IfOk};
 ghost use Rattle.processor.specs.World.{after};
+ghost use Rattle.world_keys.specs.WorldKeys.{processor_in};
+ghost use Rattle.world_keys.specs.Changes.{HasOthersOf};
 
 use machine::Machine;
 use processor::{Next, Step};
 use std::alloc::AllocError;
 use waiting::is_stuck;
+use world_keys::Change;
 
 /// What a step can change.
 #[derive(Clone, Copy, Debug, PartialEq, Eq)]
@@ -39,16 +42,6 @@ pub(crate) fn reach_of<const S: usize>(machine: &Machine<'_, S>, step: Step) -> 
     }
 }
 
-/// Whether a step of this reach leaves the memory as it is.
-pub(crate) fn is_memory_kept(reach: Reach) -> bool
-    ensures { result ≡ true → reach ≢ Reach.Nothing → reach ≡ Reach.Processor }
-{
-    match reach {
-        Reach::Nothing | Reach::Processor => true,
-        Reach::Memory => false,
-    }
-}
-
 /// A machine like this one, after one step more.
 pub(crate) fn stepped<'i, const S: usize>(
     machine: &Machine<'i, S>,
@@ -60,4 +53,50 @@ pub(crate) fn stepped<'i, const S: usize>(
     let mut next = machine.try_clone()?;
     next.step(step.p, step.s);
     Ok(next)
+}
+
+/// What the step changed that led from one machine to the next: the other streams of its processor are as they were
+/// where as many are current.
+pub(crate) fn change_of<const S: usize>(
+    machine: &Machine<'_, S>,
+    next: &Machine<'_, S>,
+    step: Step,
+    reach: Reach,
+) -> Change
+    requires world { next.now.world ≡ after machine.now.image machine.now.world step }
+    requires reach { reach ≢ Reach.Nothing }
+    requires memory { reach ≡ Reach.Processor → next.now.world.memory ≡ machine.now.world.memory }
+    ensures step { result.step ≡ step }
+    ensures memory { result.is_memory_kept ≡ true → next.now.world.memory ≡ machine.now.world.memory }
+    ensures others { HasOthersOf (processor_in machine.now.world step.p) (processor_in next.now.world step.p) result }
+{
+    Change {
+        step,
+        is_memory_kept: is_memory_kept(reach),
+        are_others_kept: are_as_many_current(machine, next, step.p),
+    }
+}
+
+/// Whether a step of this reach leaves the memory as it is.
+fn is_memory_kept(reach: Reach) -> bool
+    ensures { result ≡ true → reach ≢ Reach.Nothing → reach ≡ Reach.Processor }
+{
+    match reach {
+        Reach::Nothing | Reach::Processor => true,
+        Reach::Memory => false,
+    }
+}
+
+/// Whether processor `p` has as many current streams in both machines.
+fn are_as_many_current<const S: usize>(
+    machine: &Machine<'_, S>,
+    next: &Machine<'_, S>,
+    p: u8,
+) -> bool
+    ensures { result ≡ true → (processor_in next.now.world p).scur ≡ (processor_in machine.now.world p).scur }
+{
+    match (machine.counts(p), next.counts(p)) {
+        (Some((before, _)), Some((after, _))) => before == after,
+        _ => false,
+    }
 }

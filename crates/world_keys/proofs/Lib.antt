@@ -5,4 +5,5 @@ pub mod Memories
 pub mod Marks
 pub mod Readings
 pub mod Worlds
+pub mod Replacing
 pub mod Nexts

@@ -3,3 +3,4 @@ pub mod Tables
 pub mod StreamNumbers
 pub mod MemoryNumbers
 pub mod WorldKeys
+pub mod Changes

@@ -1,7 +1,7 @@
 -- The key of a world: few numbers, by which worlds of one image are told apart. What its streams, its processors and its
 -- memory hold is kept in a table of lists of numbers.
 use Rattle.std.specs.Prelude.{◌≡◌, ℕ, ◌+◌, ◌<◌, Bool, true, false, List, [], ◌∷◌, ◌++◌, length, map, if◌then◌else◌}
-use Rattle.std.specs.Prelude.{slice_index_or, slice_set}
+use Rattle.std.specs.Prelude.{slice_index_or}
 use Rattle.tag_memory.specs.Storage.{TaggedMemory}
 use Rattle.image_file.specs.ImageValue.{ImageValue}
 use Rattle.stream_core.specs.Streams.{StreamValue, idle}
@@ -64,6 +64,10 @@ pub record IsMemoryOf (image : ImageValue) (m : TaggedMemory) : Type 0 where
 abbrev pub no_processor : ProcessorValue
 no_processor = record { streams = []; scur = 0; sres = 0 }
 
+-- the processor of this number
+abbrev pub processor_in : World → ℕ → ProcessorValue
+processor_in w p = slice_index_or w.processors p no_processor
+
 -- what the memory and the processors of a world of the image hold is in the table
 pub record IsKnown (table : List (List ℕ)) (image : ImageValue) (w : World) : Type 0 where
   pub memory : IsMemoryOf image w.memory
@@ -71,13 +75,3 @@ pub record IsKnown (table : List (List ℕ)) (image : ImageValue) (w : World) : 
   pub one_each : length w.processors ≡ length image.entries
   pub processors : (p : ℕ) → p < length w.processors
       → IsKnownProcessor table image (slice_index_or w.processors p no_processor)
-
--- A key that is that of a known world before a step of processor p: what the step leaves differs from it in this
--- processor alone, and in the memory, unless that is said to be kept.
-pub record IsKeyBefore (table : List (List ℕ)) (image : ImageValue) (w : World) (p : ℕ) (is_kept : Bool) (key : List ℕ)
-    : Type 0 where
-  pub before : World
-  pub known : IsKnown table image before
-  pub is_key : key ≡ key_of table image before
-  pub others : w.processors ≡ slice_set before.processors p (slice_index_or w.processors p no_processor)
-  pub memory : is_kept ≡ true → w.memory ≡ before.memory

@@ -107,7 +107,8 @@ fn push_mark(
     Ok(())
 }
 
-fn is_idle(status: Status) -> bool
+/// Whether a stream of this status is idle.
+pub(crate) fn is_idle(status: Status) -> bool
     ensures { result ≡ is_idle_status status }
 {
     match status {

@@ -1,39 +1,54 @@
 //! The key of a machine's world after a step, from the key before it.
 
-ghost use Rattle.std.specs.Prelude.{◌≡◌, ◌<◌, true, length, slice_index_or, IfOk, OnOk};
+ghost use Rattle.std.specs.Prelude.{◌≡◌, ◌<◌, ◌+◌, ◌*◌, true, Some, length, slice_get, slice_index_or};
+ghost use Rattle.std.specs.Prelude.{IfOk, OnOk, IfSome};
 ghost use Rattle.world_keys.specs.Tables.{place_in, Has, Extends};
 ghost use Rattle.world_keys.specs.MemoryNumbers.{memory_numbers};
-ghost use Rattle.world_keys.specs.WorldKeys.{key_of, IsMemoryOf, IsKnown, IsKeyBefore};
+ghost use Rattle.world_keys.specs.WorldKeys.{processor_in, processor_numbers, processor_place, key_of};
+ghost use Rattle.world_keys.specs.WorldKeys.{IsMemoryOf, IsHeld, IsKnownProcessor, IsKnown};
+ghost use Rattle.world_keys.specs.Changes.{IsPlaceBefore, IsKeyBefore};
 
-use crate::keys::processor_place;
+use crate::keys::{is_idle, processor_place};
 use crate::memory_numbers::memory_numbers;
+use crate::stream_numbers::stream_numbers;
 use crate::tables::Table;
 use machine::Machine;
+use processor::Step;
 use std::alloc::{AllocError, Global};
 
-/// The key of a machine's world after a step of processor `p`, as `world_key` gives it, from the key `before` the step:
-/// only what this processor holds is looked up anew, and what the memory holds unless `is_memory_kept` says that the
-/// step did not change it.
+/// What a step can have changed: its processor, and in it its stream.
+#[derive(Clone, Copy, Debug, PartialEq, Eq)]
+pub struct Change {
+    /// The step.
+    pub step: Step,
+    /// Whether the memory is as it was.
+    pub is_memory_kept: bool,
+    /// Whether the other streams of the step's processor are as they were.
+    pub are_others_kept: bool,
+}
+
+/// The key of a machine's world after a step, as `world_key` gives it, from the key `before` the step: only what the
+/// step can have changed is looked up anew.
 pub fn next_key<const S: usize>(
     alloc: Global,
     contents: &mut Table,
     before: &[u32],
     machine: &Machine<'_, S>,
-    p: u8,
-    is_memory_kept: bool,
+    change: Change,
 ) -> Result<Vec<u32>, AllocError>
     requires memory { IsMemoryOf machine.now.image machine.now.world.memory }
-    requires there { p < length machine.now.world.processors }
-    requires before { IsKeyBefore contents.old machine.now.image machine.now.world p is_memory_kept before.now }
+    requires there { change.step.p < length machine.now.world.processors }
+    requires before { IsKeyBefore contents.old machine.now.image machine.now.world change before.now }
     ensures is { IfOk result (λ v. v.items ≡ key_of contents.new machine.now.image machine.now.world) }
     ensures known { OnOk result (IsKnown contents.new machine.now.image machine.now.world) }
     ensures grown { Extends contents.old contents.new }
 {
-    let memory = memory_place(alloc, contents, before[0], machine, is_memory_kept)?;
-    let place = processor_place(alloc, contents, machine, p)?;
+    let here = usize::from(change.step.p) + 1;
+    let memory = memory_place(alloc, contents, before[0], machine, change.is_memory_kept)?;
+    let place = changed_place(alloc, contents, before[here], machine, change)?;
     let mut key = Vec::from_slice(alloc, before)?;
     key[0] = memory;
-    key[usize::from(p) + 1] = place;
+    key[here] = place;
     Ok(key)
 }
 
@@ -59,4 +74,82 @@ fn memory_place<const S: usize>(
     let numbers = memory_numbers(alloc, machine)?;
     let place = contents.place(&numbers)?;
     Ok(place)
+}
+
+/// The place of what the processor of a step holds, from the one before.
+fn changed_place<const S: usize>(
+    alloc: Global,
+    contents: &mut Table,
+    before: u32,
+    machine: &Machine<'_, S>,
+    change: Change,
+) -> Result<u32, AllocError>
+    requires there { change.step.p < length machine.now.world.processors }
+    requires before { IsPlaceBefore contents.old machine.now.image (processor_in machine.now.world change.step.p) change before }
+    ensures is { IfOk result (λ k. k
+        ≡ processor_place contents.new (processor_in machine.now.world change.step.p)) }
+    ensures known { OnOk result (IsKnownProcessor contents.new machine.now.image
+        (processor_in machine.now.world change.step.p)) }
+    ensures grown { Extends contents.old contents.new }
+{
+    match changed_numbers(alloc, contents, before, machine, change)? {
+        Some(numbers) => {
+            let place = contents.place(&numbers)?;
+            Ok(place)
+        }
+        None => processor_place(alloc, contents, machine, change.step.p),
+    }
+}
+
+/// The numbers of a processor where only the stream of the step changed, and neither started nor ended; None where that
+/// is not known.
+fn changed_numbers<const S: usize>(
+    alloc: Global,
+    contents: &mut Table,
+    before: u32,
+    machine: &Machine<'_, S>,
+    change: Change,
+) -> Result<Option<Vec<u32>>, AllocError>
+    requires there { change.step.p < length machine.now.world.processors }
+    requires before { IsPlaceBefore contents.old machine.now.image (processor_in machine.now.world change.step.p) change before }
+    ensures is { IfOk result (λ o. IfSome o (λ v. v.items
+        ≡ processor_numbers contents.new (processor_in machine.now.world change.step.p))) }
+    ensures held { IfOk result (λ o. IfSome o (λ _. IsHeld contents.new machine.now.image
+        (processor_in machine.now.world change.step.p))) }
+    ensures grown { Extends contents.old contents.new }
+{
+    let Step { p, s } = change.step;
+    let Some(stream) = machine.stream(p, s) else {
+        return Ok(None);
+    };
+    if !change.are_others_kept || is_idle(stream.status()) {
+        return Ok(None);
+    }
+    let Some(marks) = contents.list(before as usize) else {
+        return Ok(None);
+    };
+    let Some(mark) = mark_of(marks, s) else {
+        return Ok(None);
+    };
+    let mut numbers = Vec::from_slice(alloc, marks)?;
+    let held = stream_numbers(alloc, stream)?;
+    let place = contents.place(&held)?;
+    let (_, sres) = machine.counts(p).unwrap();
+    numbers[0] = u32::from(sres);
+    numbers[2 * mark + 2] = place;
+    Ok(Some(numbers))
+}
+
+/// Which of the marks in a processor's numbers, which stand in twos behind the first number, is that of this stream.
+fn mark_of(numbers: &[u32], s: u8) -> Option<usize>
+    ensures within { IfSome result (λ k. 2 * k + 2 < length numbers.now) }
+    ensures mark { IfSome result (λ k. slice_get numbers.now (2 * k + 1) ≡ Some s) }
+{
+    let marks = numbers.len().saturating_sub(1) / 2;
+    for mark in 0..marks {
+        if numbers[2 * mark + 1] == u32::from(s) {
+            return Some(mark);
+        }
+    }
+    None
 }

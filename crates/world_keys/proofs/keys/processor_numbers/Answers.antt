@@ -1,9 +1,9 @@
 use Rattle.std.proofs.Common.{◌∷◌, ◌++◌, [], ap, sym, ◌∙◌, arith, option_copied}
 use Rattle.image_file.specs.ImageValue.{ImageValue}
-use Rattle.world_keys.specs.WorldKeys.{stream_mark, stream_marks}
+use Rattle.world_keys.specs.WorldKeys.{processor_in, stream_mark, stream_marks}
 use Rattle.world_keys.proofs.Places.{extends_refl, extends_trans}
 use Rattle.world_keys.proofs.Marks.{known_more, marks_more}
-use Rattle.world_keys.proofs.Readings.{processor_at, slims, seen, reserved, counted, held}
+use Rattle.world_keys.proofs.Readings.{slims, seen, reserved, counted, held}
 use Rattle.world_keys.proofs.keys.processor_numbers.Goals as goal
 
 pub loop-s-init : goal.loop-s-init
@@ -26,7 +26,7 @@ loop-s-preserved g c =
     let numbers = c.loop-s.numbers.items in
     let s = c.loop-s.s in
     let stream = c.unwrap-stream.result.now in
-    let proc = processor_at m.world c.args.p in
+    let proc = processor_in m.world c.args.p in
     let grown = c.in_ok-push_mark.ensures.grown in
     let known = c.loop-s.invariant.known in
     let many = slims g.row.S m c.args.p c.image.ensures.kept c.requires in

@@ -1,5 +1,6 @@
 use Rattle.std.proofs.Common.{◌≡◌, ◌+◌, ◌<◌, ◌∙◌, refl, sym, ap, subst, arith, rules, length, Some, slice_get}
 use Rattle.std.proofs.Common.{option_copied}
+use Rattle.processor.specs.declared.steps.Step.{Step}
 use Rattle.world_keys.specs.Tables.{place_in, Has}
 use Rattle.schedule_space.specs.Spaces.{SpaceValue, count, world_of}
 use Rattle.schedule_space.specs.Finding.{space_of}
@@ -12,19 +13,22 @@ use Rattle.schedule_space.proofs.finding.Found.place.Goals as goal
 pub next_key-requires : goal.next_key-requires
 next_key-requires g c =
     let v = c.args.self.now in
+    let m = c.args.machine in
     let w =
     space_of c.self.inside.image.now c.self.inside.begin.items c.self.inside.links.items c.self.inside.edges.items in
     let at : Some c.unwrap.result.now ≡ slice_get c.self.inside.keys c.args.link.from =
-    sym (ap option_copied c.unwrap.ensures) ∙ c.list.ensures in (
+    sym (ap option_copied c.unwrap.ensures) ∙ c.list.ensures in
+    let there : c.args.change.step.p < length m.world.processors =
+    subst (λ (t : Step). t.p < length m.world.processors) (sym c.requires.step)
+    (there_next v c.args.link m c.requires.world c.requires.there) in (
       omega arith,
       (
-        memory_next v c.args.link c.args.machine c.requires.image c.requires.world,
+        memory_next v c.args.link m c.requires.image c.requires.world,
         (
-          there_next v c.args.link c.args.machine c.requires.world c.requires.there,
+          there,
           key_before w v c.self.inside.fates.items c.self.inside.contents c.self.inside.keys c.unwrap.result.now
-              c.args.link c.args.machine c.is_memory_kept.result c.self.invariant c.self.view_is c.requires.from
-              c.requires.image c.requires.world c.requires.there
-              (λ kept. c.requires.memory (c.is_memory_kept.ensures kept c.requires.reach)) at,
+              c.args.link m c.args.change c.self.invariant c.self.view_is c.requires.from c.requires.image
+              c.requires.world c.requires.there c.requires.step c.requires.memory c.requires.others at,
         ),
       ),
     )

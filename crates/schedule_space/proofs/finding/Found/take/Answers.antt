@@ -1,7 +1,9 @@
-use Rattle.std.proofs.Common.{◌≡◌, ◌≢◌, ◌+◌, ◌<◌, ap, ◌∙◌, sym, subst, arith, rules, inl, refl, length}
+use Rattle.std.proofs.Common.{◌≡◌, ◌≢◌, ◌+◌, ◌<◌, ap, ◌∙◌, sym, subst, arith, rules, inl, refl, length, true}
 use Rattle.machine.specs.MachineValue.{MachineValue}
 use Rattle.processor.specs.World.{World, after}
 use Rattle.schedule_space.specs.declared.links.Edge.{Edge}
+use Rattle.world_keys.specs.WorldKeys.{processor_in}
+use Rattle.world_keys.specs.Changes.{HasOthersOf}
 use Rattle.schedule_space.specs.declared.stepping.Reach.TheVariants as Reach
 use Rattle.schedule_space.specs.Spaces.{SpaceValue, count, schedule_of, world_of, machine_after}
 use Rattle.schedule_space.specs.Finding.{IsGrown, IsTaken}
@@ -22,21 +24,51 @@ place-requires g c =
     let v = c.args.self.now in
     let machine : c.args.machine.now ≡ machine_after v.image (schedule_of v c.args.from) = c.requires.machine in
     let next = c.in_ok-next.next in
-    let reach = c.reach_of-reach.result in
-    let some : reach ≢ Reach.Nothing = search rules in
+    let change = c.change_of-change.result in
+    let p = c.args.step.p in
+    let some : c.reach_of-reach.result ≢ Reach.Nothing = search rules in
     let image : next.image ≡ v.image = c.in_ok-next.ensures.image ∙ ap (λ (m : MachineValue). m.image) machine in
     let world : next.world ≡ after v.image (world_of v c.args.from) c.args.step =
     c.in_ok-next.ensures.world ∙ ap (λ (m : MachineValue). after m.image m.world c.args.step) machine in
-    let there : c.args.step.p < length (world_of v c.args.from).processors =
-    subst (λ (m : MachineValue). c.args.step.p < length m.world.processors) machine
-    (c.reach_of-reach.ensures.there some) in
-    let memory : reach ≡ Reach.Processor → next.world.memory ≡ (world_of v c.args.from).memory =
-    λ own.
-    ap (λ (w : World). w.memory) c.in_ok-next.ensures.world
-    ∙ c.reach_of-reach.ensures.memory own
-    ∙ ap (λ (m : MachineValue). m.world.memory) machine in (
+    let there : p < length (world_of v c.args.from).processors =
+    subst (λ (m : MachineValue). p < length m.world.processors) machine (c.reach_of-reach.ensures.there some) in
+    let memory : change.is_memory_kept ≡ true → next.world.memory ≡ (world_of v c.args.from).memory =
+    λ kept.
+    c.change_of-change.ensures.memory kept ∙ ap (λ (m : MachineValue). m.world.memory) machine in
+    let others : HasOthersOf (processor_in (world_of v c.args.from) p) (processor_in next.world p) change =
+    subst (λ (m : MachineValue). HasOthersOf (processor_in m.world p) (processor_in next.world p) change) machine
+    c.change_of-change.ensures.others in (
       omega arith,
-      (c.requires.from, (c.requires.within, (image, (world, (there, (some, (memory, (c.requires.frontier, c.requires.breadth)))))))),
+      (
+        c.requires.from,
+        (
+          c.requires.within,
+          (
+            image,
+            (
+              world,
+              (
+                there,
+                (
+                  c.change_of-change.ensures.step,
+                  (memory, (others, (c.requires.frontier, c.requires.breadth))),
+                ),
+              ),
+            ),
+          ),
+        ),
+      ),
+    )
+
+pub change_of-change-requires : goal.change_of-change-requires
+change_of-change-requires g c =
+    let some : c.reach_of-reach.result ≢ Reach.Nothing = search rules in
+    let world = c.in_ok-next.ensures.world in (
+      omega arith,
+      (
+        omega arith,
+        (world, (some, λ own. ap (λ (w : World). w.memory) world ∙ c.reach_of-reach.ensures.memory own)),
+      ),
     )
 
 pub returns-then-eq : goal.returns-then-eq

@@ -1,0 +1,60 @@
+use Rattle.std.proofs.Common.{◌≡◌, ◌+◌, ◌*◌, false, set, slice_get, sym, ap, ◌∙◌, subst, rules}
+use Rattle.std.proofs.Common.{option_copied}
+use Rattle.processor.specs.Processors.{is_idle, is_idle_status}
+use Rattle.world_keys.specs.StreamNumbers.{stream_numbers}
+use Rattle.world_keys.specs.Tables.{place_in, Has}
+use Rattle.world_keys.specs.WorldKeys.{processor_in, processor_numbers, IsKnownIf}
+use Rattle.world_keys.proofs.Readings.{seen_any, reserved, counted}
+use Rattle.world_keys.proofs.Replacing.{kept_on, before_read, numbers_replaced, held_replaced}
+use Rattle.world_keys.proofs.next_keys.changed_numbers.Goals as goal
+
+pub returns-clause-is : goal.returns-clause-is
+returns-clause-is g c =
+    let old = c.args.contents.now in
+    let new = c.place.new.self in
+    let w = c.args.machine.now.world in
+    let p = c.args.change.step.p in
+    let s = c.args.change.step.s in
+    let b = c.requires.before in
+    let x = c.in-Some.stream.now in
+    let numbers = c.in_ok-numbers.numbers.items in
+    let mark = c.in-Some-mark_of.mark in
+    let place = c.in_ok-place.place in
+    let seen = seen_any g.row.S w p s x c.requires.there (sym c.stream.ensures ∙ ap option_copied c.in-Some.is) in
+    let copied : numbers ≡ c.in-Some-list.marks.now = c.in_ok-numbers.ensures.items in
+    let read : numbers ≡ processor_numbers old b.before =
+    copied
+    ∙ before_read old b.before c.args.before c.in-Some-list.marks.now b.known.numbers b.is_place
+    (sym (ap option_copied c.in-Some-list.is) ∙ c.list.ensures) in
+    let busy : is_idle x ≡ false =
+    sym (c.is_idle.ensures ∙ ap is_idle_status c.status.ensures) ∙ c.if-is_idle.false in
+    let place_is : place ≡ place_in new (stream_numbers x) = search rules in
+    let first : c.from.result ≡ (processor_in w p).sres =
+    c.from.ensures
+    ∙ reserved w p c.unwrap-sres.result c.requires.there (sym c.counts.ensures.is ∙ c.unwrap-sres.ensures) in
+    numbers_replaced old new c.args.machine.now.image b.before (processor_in w p) s mark place x numbers
+    (set (set numbers 0 c.from.result) (2 * mark + 2) place) c.in_ok-place.ensures.grown b.known.held read
+    (b.streams (kept_on c.args.change.are_others_kept c.if-not-change.false)
+    ∙ ap (set b.before.streams s) (sym seen)) busy
+    (ap (λ xs. slice_get xs (2 * mark + 1)) copied ∙ c.in-Some-mark_of.ensures.mark) place_is
+    (ap (λ n. set (set numbers 0 n) (2 * mark + 2) place) first)
+
+pub returns-clause-held : goal.returns-clause-held
+returns-clause-held g c =
+    let old = c.args.contents.now in
+    let new = c.place.new.self in
+    let w = c.args.machine.now.world in
+    let p = c.args.change.step.p in
+    let s = c.args.change.step.s in
+    let b = c.requires.before in
+    let x = c.in-Some.stream.now in
+    let seen = seen_any g.row.S w p s x c.requires.there (sym c.stream.ensures ∙ ap option_copied c.in-Some.is) in
+    let busy : is_idle x ≡ false =
+    sym (c.is_idle.ensures ∙ ap is_idle_status c.status.ensures) ∙ c.if-is_idle.false in
+    let there : Has new (stream_numbers x) = search rules in
+    held_replaced old new c.args.machine.now.image b.before (processor_in w p) s x c.in_ok-place.ensures.grown
+    b.known.held
+    (b.streams (kept_on c.args.change.are_others_kept c.if-not-change.false)
+    ∙ ap (set b.before.streams s) (sym seen)) seen
+    (subst (IsKnownIf new x) (sym busy) (there, c.in_ok-held.ensures.readable))
+    (counted w p c.requires.there c.counts.ensures.counts).counts
