@@ -119,6 +119,8 @@ pub struct ExploreRequest<'a> {
     pub from: Option<&'a str>,
     /// The most worlds that are looked for, at least 1.
     pub most: usize,
+    /// Whether all worlds are looked for, also where the ends need fewer.
+    pub is_plain: bool,
     /// The folder for the shortest schedules.
     pub keep: Option<&'a str>,
     /// How it is printed.

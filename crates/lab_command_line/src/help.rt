@@ -74,9 +74,11 @@ Example:
   mta_lab survey lock.asm --seeds 1000";
 
 pub(crate) const EXPLORE: &str = "\
-Looks for all worlds that schedules of a program lead to, and shows their ends: how many worlds,
-a shortest schedule to them, who waits or was stopped, and the words that changed. Where it says
-complete, no schedule of any length comes to another end.
+Shows the ends that schedules of a program lead to: how many worlds, a shortest schedule to them,
+who waits or was stopped, and the words that changed. Where it says complete, no schedule of any
+length comes to another end. A step that concerns its own stream alone is taken before the others
+where that leads to a new world, so fewer worlds are looked at; with --plain, and where something
+is claimed of all worlds, all are.
 
 Example:
   mta_lab explore lock.asm";
@@ -122,6 +124,8 @@ pub(crate) const SEED: &str = "steps are random, by a generator with this seed";
 pub(crate) const BEGIN: &str = "a schedule: only those that begin with it [none]";
 
 pub(crate) const STATES: &str = "of every schedule, the most worlds that are looked for [20000000]";
+
+pub(crate) const PLAIN: &str = "looks at all worlds, also where the ends need fewer";
 
 pub(crate) const JSON: &str = "prints JSON, an object a line";
 

@@ -162,6 +162,7 @@ fn explore_parser<'a>(alloc: Global) -> Result<Command<'a>, AllocError> {
         .arg(option(alloc, "expect", "FILE", help::EXPECT))?
         .arg(option(alloc, "from", "SCHEDULE", help::BEGIN))?
         .arg(states_option(alloc))?
+        .arg(flag(alloc, "plain", help::PLAIN))?
         .arg(option(alloc, "keep", "FOLDER", folder))?
         .arg(flag(alloc, "hex", help::HEX))?
         .arg(flag(alloc, "json", help::JSON))

@@ -154,6 +154,7 @@ fn explore_of<'a>(found: &ArgMatches<'a>) -> ExploreRequest<'a> {
         expected: text(found, "expect"),
         from: text(found, "from"),
         most: count(found, "states", USUAL_WORLDS),
+        is_plain: found.get_flag("plain"),
         keep: text(found, "keep"),
         shown: shown_of(found),
     }

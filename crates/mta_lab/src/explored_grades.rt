@@ -30,6 +30,7 @@ pub(crate) fn explored_verdict(
         wishes: &wishes,
         begin: &begin,
         most,
+        is_plain: false,
         style: style_of(request.shown),
     };
     let found = explore_program(alloc, program, &names, &asked)?;

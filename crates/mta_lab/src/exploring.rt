@@ -19,7 +19,7 @@ use lab_json::VERSION;
 use lab_texts::{NumberStyle, ProgramNames};
 use machine::LoadFault;
 use processor::Step;
-use schedule_space::{Exploration, Space, explore as explore_image};
+use schedule_space::{Exploration, Space, explore as explore_image, explore_ends};
 use serde_json::{Value, json};
 use std::alloc::{AllocError, Global};
 use std::io::Read;
@@ -35,8 +35,17 @@ pub(crate) struct Search<'a> {
     pub begin: &'a [Step],
     /// The most worlds, at least 1.
     pub most: usize,
+    /// Whether all worlds are looked for, also where the ends need fewer.
+    pub is_plain: bool,
     /// How the numbers of ends are told.
     pub style: NumberStyle,
+}
+
+impl Search<'_> {
+    /// Whether all worlds are looked for: where it is asked for, and where something is claimed of them.
+    fn is_of_all_worlds(&self) -> bool {
+        self.is_plain || !self.wishes.claims.is_empty()
+    }
 }
 
 /// What a search came to.
@@ -46,8 +55,10 @@ pub(crate) struct Explored {
     pub worlds: usize,
     /// How many steps lead from one of them to another.
     pub steps: usize,
-    /// Whether they are all.
+    /// Whether they are all, or all that the ends need.
     pub is_complete: bool,
+    /// Whether all worlds were looked for.
+    pub is_of_all_worlds: bool,
     /// Their ends.
     pub ends: Vec<SpaceEnd>,
 }
@@ -75,6 +86,7 @@ pub(crate) fn explore<F: Files, R: Read>(
         wishes: &wishes,
         begin: &begin,
         most: request.most,
+        is_plain: request.is_plain,
         style: style_of(request.shown),
     };
     let found = explore_program(alloc, &program, &names, &asked)?;
@@ -129,6 +141,7 @@ fn explore_on<const S: usize>(
         worlds: space.len(),
         steps: space.step_count(),
         is_complete,
+        is_of_all_worlds: asked.is_of_all_worlds(),
         ends,
     })
 }
@@ -139,7 +152,13 @@ fn space_of<'i, const S: usize>(
     image: &'i Image,
     asked: &Search<'_>,
 ) -> Result<(Space<'i>, bool), AllocError> {
-    match explore_image::<S>(alloc, image, asked.begin, asked.most.max(1)) {
+    let most = asked.most.max(1);
+    let explored = if asked.is_of_all_worlds() {
+        explore_image::<S>(alloc, image, asked.begin, most)
+    } else {
+        explore_ends::<S>(alloc, image, asked.begin, most)
+    };
+    match explored {
         Ok(Exploration::Complete(space)) => Ok((space, true)),
         Ok(Exploration::Bounded(space)) => Ok((space, false)),
         Err(LoadFault::NoMemory | LoadFault::Streams) => Err(AllocError),
@@ -208,9 +227,10 @@ fn push_head(
     let worlds = found.worlds;
     let steps = found.steps;
     let complete = found.is_complete;
+    let is_plain = found.is_of_all_worlds;
     if is_json {
         let value = json!(in alloc; {
-            "version": VERSION, "worlds": worlds, "steps": steps, "complete": complete
+            "version": VERSION, "worlds": worlds, "steps": steps, "complete": complete, "plain": is_plain
         })?;
         return push_object(alloc, out, &value);
     }
@@ -224,9 +244,10 @@ fn push_head(
     };
     let some_worlds = plural(worlds);
     let some_steps = plural(steps);
+    let looked_at = if is_plain { "" } else { " looked at" };
     Ok(write!(
         out,
-        "{which}: {worlds} world{some_worlds}, {steps} step{some_steps}, {end}\n"
+        "{which}: {worlds} world{some_worlds}{looked_at}, {steps} step{some_steps}, {end}\n"
     )?)
 }
 

@@ -89,6 +89,7 @@ fn every_end(
         wishes: &wishes,
         begin: &begin,
         most,
+        is_plain: false,
         style,
     };
     explore_program(alloc, program, &names, &asked)
