@@ -24,7 +24,7 @@ def counted(fields):
     """What is told of a program that was counted by hand."""
     _, source, told = fields
     with tool.made_files(source=unescaped(source)) as paths:
-        return unescaped(told), lab("explore", paths["source"]).out
+        return unescaped(told), lab("explore", "--plain", paths["source"]).out
 
 
 class Searched:
@@ -100,9 +100,9 @@ def running(world):
     return [(int(p), int(s)) for p, s in RUNNING.findall(world)]
 
 
-def told_of(source):
+def told_of(source, *words):
     """What explore prints of a program."""
-    printed = lab("explore", source, "--json").out.decode().splitlines()
+    printed = lab("explore", source, "--json", *words).out.decode().splitlines()
     head, *ends = [json.loads(line) for line in printed]
     return head, ends
 
@@ -113,7 +113,7 @@ def agrees(source, image):
     searched = Searched(image)
     if len(searched.schedules) > MOST:
         return None
-    head, ends = told_of(source)
+    head, ends = told_of(source, "--plain")
     wanted = (True, len(searched.schedules), len(searched.steps))
     if (head["complete"], head["worlds"], head["steps"]) != wanted:
         return f"{head}, and not {wanted}"
@@ -126,11 +126,30 @@ def agrees(source, image):
         counts[end["end"]] += end["worlds"]
     if counts != kinds or sum(end["sets"] for end in ends if end["end"] == "spinning") != len(sets):
         return f"{counts}, and not {kinds} with {len(sets)} sets"
-    return next((wrong for wrong in (in_end(searched, sets, end) for end in ends) if wrong), True)
+    wrong = next((wrong for wrong in (in_end(searched, sets, end) for end in ends) if wrong), None)
+    return wrong or by_fewer(source, searched, sets, head, ends)
+
+
+def by_fewer(source, searched, sets, plain, wanted):
+    """Whether the search for ends alone finds those that the plain one finds: True, or in what they differ."""
+    head, ends = told_of(source)
+    if not head["complete"] or head["worlds"] > plain["worlds"] or head["plain"] or ends_in(ends) != ends_in(wanted):
+        return f"{head} {ends}, and not {plain} {wanted}"
+    ended = [end for end in ends if end["end"] != "spinning"]
+    return next((wrong for wrong in (in_end(searched, sets, {**end, "from": None}) for end in ended) if wrong), True)
+
+
+def ends_in(ends):
+    """What both searches tell of ends: all but the schedules, from how many worlds they lead there, and the first
+    finding of a schedule; of those that spin whether there are any."""
+    told = {(end["end"], end["worlds"], end["words"], end["shortest"], end["expected"])
+            for end in ends if end["end"] != "spinning"}
+    return told, any(end["end"] == "spinning" for end in ends)
 
 
 def in_end(searched, sets, end):
-    """What is wrong with a line of explore; None where nothing is."""
+    """What is wrong with a line of explore; None where nothing is. A line that does not say from how many worlds a
+    schedule leads there has None for it."""
     steps = tuple((int(p), int(s)) for p, s, count in (line.split() for line in end["schedule"].splitlines())
                   for _ in range(int(count)))
     world, _ = searched.after(steps)
@@ -138,6 +157,8 @@ def in_end(searched, sets, end):
     kind = "spinning" if spins else searched.kind(world)
     if kind != end["end"] or len(steps) != end["shortest"] or len(steps) != len(searched.schedules[world]):
         return f"its schedule leads to {kind}, in {len(searched.schedules[world])} steps: {end}"
+    if end["from"] is None:
+        return None
     if kind == "finished" and end["worlds"] == 1 and len(searched.sources([world])) != end["from"]:
         return f"from {len(searched.sources([world]))} worlds: {end}"
     if spins and end["sets"] == 1 and len(searched.sources(spins[0])) != end["from"]:
@@ -188,6 +209,15 @@ def random_program(seed):
         if answer is not None:
             return answer if answer is True else f"{text.decode()}{answer}"
     return "no small program"
+
+
+@checks.others("lab/ends_by_fewer_worlds")
+def ends_by_fewer_worlds():
+    """The examples whose worlds are looked at in some seconds: the search for ends alone tells of the same ends."""
+    for name in ("count", "fetch_add", "forwarding", "future", "limited_wait", "lock", "readers_writer", "silent_wait",
+                 "trap_handler"):
+        source = os.path.join(EXAMPLES, name + ".asm")
+        yield name, lambda source=source: (ends_in(told_of(source, "--plain")[1]), ends_in(told_of(source)[1]))
 
 
 @checks.others("lab/explored")

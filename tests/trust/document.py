@@ -7,7 +7,7 @@ import reach
 import sources
 
 # the headline's first half, its second half, what stands below and above them, and every schedule
-ROOTS = ("Machine::run", "one_machine", "threaded", "run_tool", "explore")
+ROOTS = ("Machine::run", "one_machine", "threaded", "run_tool", "explore", "explore_ends")
 HEADLINE = ("one_machine", "threaded")
 
 INTRODUCTION = """\
