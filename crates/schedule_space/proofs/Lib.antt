@@ -3,6 +3,7 @@ pub mod Memories
 pub mod Resting
 pub mod Reaches
 pub mod Others
+pub mod KnownSteps
 pub mod Growing
 pub mod Parts
 pub mod Keys

@@ -1,84 +1,77 @@
 -- What is known of a space in the making that gets the world of a machine, or has it.
-use Rattle.std.proofs.Common.{◌≡◌, ℕ, ◌<◌, ◌≤◌, refl, sym, ap, ◌∙◌, subst, arith, List, [], ◌∷◌, ◌++◌, true}
-use Rattle.std.proofs.Common.{Option, Some, None, IsSome, length, get_or, set, slice_get, option_copied, Bor}
+use Rattle.std.proofs.Common.{◌≡◌, ℕ, ◌<◌, ◌≤◌, refl, sym, ap, ◌∙◌, subst, arith, List, [], ◌∷◌, ◌++◌}
+use Rattle.std.proofs.Common.{Option, Some, None, IsSome, get_or, slice_get, option_copied, Bor}
 use Rattle.std.proofs.lemmas.Option.{get_or_from_slice_get, slice_get-get_or}
 use Rattle.image_file.specs.ImageValue.{ImageValue}
 use Rattle.machine.specs.MachineValue.{MachineValue}
-use Rattle.processor.specs.World.{World, after}
+use Rattle.processor.specs.World.{after}
 use Rattle.processor.specs.declared.steps.Step.{Step}
 use Rattle.world_keys.specs.Tables.{place_in, Has, Extends}
-use Rattle.world_keys.specs.WorldKeys.{processor_in, key_of, IsKnown, IsMemoryOf}
-use Rattle.world_keys.specs.Changes.{HasOthersOf, IsKeyBefore}
-use Rattle.world_keys.specs.declared.next_keys.Change.{Change}
+use Rattle.world_keys.specs.WorldKeys.{key_of, IsKnown}
 use Rattle.schedule_space.specs.declared.links.Link.{Link}
 use Rattle.schedule_space.specs.declared.links.Edge.{Edge}
 use Rattle.schedule_space.specs.declared.fates.Fate.{Fate}
-use Rattle.schedule_space.specs.Spaces.{SpaceValue, count, schedule_of, world_of, IsEdge}
+use Rattle.schedule_space.specs.Spaces.{SpaceValue, count, schedule_of, world_of, machine_after, IsEdge}
 use Rattle.schedule_space.specs.Fates.{IsFate}
+use Rattle.schedule_space.specs.KnownSteps.{StepList, AreLeft}
 use Rattle.schedule_space.specs.Finding.{space_of, with_link, with_edge, IsKeyed, IsFound, IsGrown, IsFrontier, IsBreadthFirst}
-use Rattle.schedule_space.proofs.Memories.{memory_of_run, memory_after}
 use Rattle.schedule_space.proofs.Growing.{last_world, with_link_grown, count-link}
-use Rattle.schedule_space.proofs.Reaches.{as_many, others_stay}
 use Rattle.schedule_space.proofs.Parts.{key_at, keys_many, keyed_later, frontier_more, frontier_stays}
 use Rattle.schedule_space.proofs.Keys.{found_world, found_later, found_more, found_edge}
 use Rattle.schedule_space.proofs.Breadth.{breadth_more, breadth_stays}
 
--- the memory of the machine is one of the image
-pub memory_next : (v : SpaceValue) (l : Link) (m : MachineValue) → m.image ≡ v.image
-    → m.world ≡ after v.image (world_of v l.from) l.step → IsMemoryOf m.image m.world.memory
-memory_next v l m image world =
-    subst (λ (x : World). IsMemoryOf m.image x.memory) (sym world)
-    (subst (λ (i : ImageValue). IsMemoryOf i (after v.image (world_of v l.from) l.step).memory) (sym image)
-    (memory_after v.image (world_of v l.from) l.step (memory_of_run v.image (schedule_of v l.from))))
+-- The machine at a place.
 
--- its step has a processor
-pub there_next : (v : SpaceValue) (l : Link) (m : MachineValue)
-    → m.world ≡ after v.image (world_of v l.from) l.step → l.step.p < length (world_of v l.from).processors
-    → l.step.p < length m.world.processors
-there_next v l m world there =
-    omega (
-      arith,
-      there,
-      ap (λ (x : World). length x.processors) world,
-      as_many v.image (world_of v l.from) l.step,
-    )
+-- what its world holds is in the table
+pub known_at : (v w : SpaceValue) (fates : List Fate) (table keys : List (List ℕ)) (k : ℕ) (m : MachineValue)
+    → IsFound v fates table keys → v ≡ w → k < count w → m ≡ machine_after w.image (schedule_of w k)
+    → IsKnown table m.image m.world
+known_at v w fates table keys k m is view below at =
+    let known = is.keyed.known k (subst (λ (x : SpaceValue). k < count x) (sym view) below) in
+    subst (λ (x : MachineValue). IsKnown table x.image x.world) (sym at)
+    (subst (λ (x : SpaceValue). IsKnown table x.image (world_of x k)) view known)
 
--- the key of the world before the step
-pub key_before : (v w : SpaceValue) (fates : List Fate) (table keys : List (List ℕ)) (key : List ℕ) (l : Link)
-    (m : MachineValue) (c : Change) → IsFound v fates table keys → v ≡ w → l.from < count w → m.image ≡ w.image
-    → m.world ≡ after w.image (world_of w l.from) l.step → l.step.p < length (world_of w l.from).processors
-    → c.step ≡ l.step → (c.is_memory_kept ≡ true → m.world.memory ≡ (world_of w l.from).memory)
-    → HasOthersOf (processor_in (world_of w l.from) l.step.p) (processor_in m.world l.step.p) c
-    → Some key ≡ slice_get keys l.from → IsKeyBefore table m.image m.world c key
-key_before v w fates table keys key l m c is view from image world there step memory others at = record {
-  before = world_of w l.from;
-  known =
-      subst (λ (x : World). IsKnown table m.image x) before
-      (subst (λ (i : ImageValue). IsKnown table i (world_of v l.from)) image_is (is.keyed.known l.from below));
-  is_key =
-      sym (get_or_from_slice_get keys l.from key [] (sym at))
-      ∙ key_at v table keys l.from is.keyed below
-      ∙ (λ i. key_of table (image_is i) (before i));
-  others =
-      subst (λ (t : Step). m.world.processors ≡ set (world_of w l.from).processors t.p (processor_in m.world t.p)) (sym step)
-      (subst (λ (x : World). x.processors ≡ set (world_of w l.from).processors l.step.p (processor_in x l.step.p)) (sym world)
-      (others_stay w.image (world_of w l.from) l.step (there_next w l next refl there)));
-  memory = memory;
-  streams =
-      subst (λ (t : Step). HasOthersOf (processor_in (world_of w l.from) t.p) (processor_in m.world t.p) c) (sym step)
-      others;
-} where
-  below : l.from < count v
-  below = subst (λ (x : SpaceValue). l.from < count x) (sym view) from
+-- the key at the place is that of its world
+pub key_of_at : (v w : SpaceValue) (fates : List Fate) (table keys : List (List ℕ)) (key : List ℕ) (k : ℕ)
+    (m : MachineValue) → IsFound v fates table keys → v ≡ w → k < count w
+    → m ≡ machine_after w.image (schedule_of w k) → Some key ≡ slice_get keys k → key ≡ key_of table m.image m.world
+key_of_at v w fates table keys key k m is view below at there =
+    sym (get_or_from_slice_get keys k key [] (sym there))
+    ∙ key_at v table keys k is.keyed (subst (λ (x : SpaceValue). k < count x) (sym view) below)
+    ∙ ap (λ (x : SpaceValue). key_of table x.image (world_of x k)) view
+    ∙ sym (ap (λ (x : MachineValue). key_of table x.image x.world) at)
 
-  image_is : v.image ≡ m.image
-  image_is = ap (λ (x : SpaceValue). x.image) view ∙ sym image
+-- its image is that of the space
+image_at : (v w : SpaceValue) (k : ℕ) (m : MachineValue) → v ≡ w → m ≡ machine_after w.image (schedule_of w k)
+    → v.image ≡ m.image
+image_at v w k m view at =
+    ap (λ (x : SpaceValue). x.image) view ∙ sym (ap (λ (x : MachineValue). x.image) at)
 
-  before : world_of v l.from ≡ world_of w l.from
-  before = ap (λ (x : SpaceValue). world_of x l.from) view
+pub steps_at : (v w : SpaceValue) (table : List (List ℕ)) (steps : StepList) (k : ℕ) (m : MachineValue)
+    → AreLeft v.image table steps → v ≡ w → m ≡ machine_after w.image (schedule_of w k) → AreLeft m.image table steps
+steps_at v w table steps k m all view at =
+    subst (λ (i : ImageValue). AreLeft i table steps) (image_at v w k m view at) all
 
-  next : MachineValue
-  next = record { image = w.image; world = after w.image (world_of w l.from) l.step }
+pub steps_back : (v w : SpaceValue) (table : List (List ℕ)) (steps : StepList) (k : ℕ) (m : MachineValue)
+    → AreLeft m.image table steps → v ≡ w → m ≡ machine_after w.image (schedule_of w k) → AreLeft v.image table steps
+steps_back v w table steps k m all view at =
+    subst (λ (i : ImageValue). AreLeft i table steps) (sym (image_at v w k m view at)) all
+
+-- The machine after a step of it.
+
+-- as contracts see it
+abbrev pub machine_next : MachineValue → Step → MachineValue
+machine_next m u = record { image = m.image; world = after m.image m.world u }
+
+pub next_image : (w : SpaceValue) (k : ℕ) (m n : MachineValue) (u : Step) → m ≡ machine_after w.image (schedule_of w k)
+    → n ≡ machine_next m u → n.image ≡ w.image
+next_image w k m n u at is =
+    ap (λ (x : MachineValue). x.image) is ∙ ap (λ (x : MachineValue). x.image) at
+
+pub next_world : (w : SpaceValue) (k : ℕ) (m n : MachineValue) (u : Step) → m ≡ machine_after w.image (schedule_of w k)
+    → n ≡ machine_next m u → n.world ≡ after w.image (world_of w k) u
+next_world w k m n u at is =
+    ap (λ (x : MachineValue). x.world) is ∙ ap (λ (x : MachineValue). after x.image x.world u) at
 
 -- there is a key of each world
 pub has_key : (v w : SpaceValue) (table keys : List (List ℕ)) (k : ℕ) (o : Option (Bor (List ℕ))) → IsKeyed v table keys

@@ -12,6 +12,7 @@ use Rattle.schedule_space.specs.declared.fates.Fate.TheVariants as fate
 use Rattle.schedule_space.specs.Spaces.{schedules, SpaceValue, count, schedule_of, world_of, machine_after, IsEdge}
 use Rattle.schedule_space.specs.Spaces.{IsDistinct}
 use Rattle.schedule_space.specs.Fates.{IsFate}
+use Rattle.schedule_space.specs.KnownSteps.{StepList, AreLeft}
 
 -- the space of these parts
 abbrev pub space_of : ImageValue → List Step → List Link → List Edge → SpaceValue
@@ -42,6 +43,12 @@ pub record IsKeyed (v : SpaceValue) (table ks : List (List ℕ)) : Type 0 where
 pub record IsFound (v : SpaceValue) (fates : List Fate) (table keys : List (List ℕ)) : Type 0 where
   pub space : IsSpace v fates
   pub keyed : IsKeyed v table keys
+
+-- the same, and what steps of its worlds left
+pub record IsInTheMaking (v : SpaceValue) (fates : List Fate) (table keys : List (List ℕ)) (steps : StepList)
+    : Type 0 where
+  pub found : IsFound v fates table keys
+  pub left : AreLeft v.image table steps
 
 -- the machines are those of the worlds from this place on, in order
 abbrev pub IsFrontier : SpaceValue → List MachineValue → ℕ → Type 0

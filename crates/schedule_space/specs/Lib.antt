@@ -4,5 +4,6 @@ pub mod Spaces
 pub mod Fates
 pub mod Reaching
 pub mod Answers
+pub mod KnownSteps
 pub mod Finding
 pub mod Followed

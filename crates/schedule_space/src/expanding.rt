@@ -9,7 +9,6 @@ ghost use Rattle.schedule_space.specs.Followed.{IsTakenAlone, IsFollowed};
 
 use crate::finding::{Found, Stop};
 use crate::links::{Edge, Link};
-use crate::stepping::{Reach, change_of, reach_of, stepped};
 use local_steps::is_local_step;
 use machine::Machine;
 use processor::Step;
@@ -27,8 +26,8 @@ pub(crate) enum Wanted {
 
 impl<'i> Found<'i> {
     /// Takes steps of the world at a place, from its machine, unless there would be more than `most` worlds: each one,
-    /// or where ends are wanted and a step that concerns its own stream alone leads to a new world, that one. New worlds
-    /// are put behind the frontier.
+    /// or where ends are wanted and a step that concerns its own stream alone leads to a later place, that one: whatever
+    /// goes round has a step back, which is not taken alone. New worlds are put behind the frontier.
     pub(crate) fn expand<const S: usize>(
         &mut self,
         frontier: &mut VecDeque<Machine<'i, S>>,
@@ -61,7 +60,7 @@ impl<'i> Found<'i> {
         }
     }
 
-    /// Takes steps that concern their own stream alone, up to one that leads to a new world, and says whether there is
+    /// Takes steps that concern their own stream alone, up to one that leads to a later place, and says whether there is
     /// one. Else all such steps are taken.
     fn take_alone<const S: usize>(
         &mut self,
@@ -85,15 +84,15 @@ impl<'i> Found<'i> {
     {
         let running = running_streams(self.alloc, machine)?;
         for step in &running {
-            let is_new = self.take_local(frontier, machine, from, *step, most)?;
-            if is_new {
+            let is_later = self.take_local(frontier, machine, from, *step, most)?;
+            if is_later {
                 return Ok(true);
             }
         }
         Ok(false)
     }
 
-    /// Takes one step if it concerns its own stream alone, and says whether it does and leads to a new world.
+    /// Takes one step if it concerns its own stream alone, and says whether it does and leads to a later place.
     fn take_local<const S: usize>(
         &mut self,
         frontier: &mut VecDeque<Machine<'i, S>>,
@@ -118,9 +117,8 @@ impl<'i> Found<'i> {
         if !is_local_step(machine, step) {
             return Ok(false);
         }
-        let before = self.links.len();
-        self.take(frontier, machine, from, step, most)?;
-        Ok(self.links.len() > before)
+        let to = self.take(frontier, machine, from, step, most)?;
+        Ok(to > from)
     }
 
     /// Takes each step of the world at a place; where ends are wanted, those that concern their own stream alone are
@@ -179,10 +177,11 @@ impl<'i> Found<'i> {
         if is_taken_before(machine, step, wanted) {
             return Ok(());
         }
-        self.take(frontier, machine, from, step, most)
+        self.take(frontier, machine, from, step, most)?;
+        Ok(())
     }
 
-    /// Takes one step.
+    /// Takes one step, and says to which place it leads.
     fn take<const S: usize>(
         &mut self,
         frontier: &mut VecDeque<Machine<'i, S>>,
@@ -190,7 +189,7 @@ impl<'i> Found<'i> {
         from: u32,
         step: Step,
         most: u32,
-    ) -> Result<(), Stop>
+    ) -> Result<u32, Stop>
         requires from { from < count self.old }
         requires within { count self.old ≤ most }
         requires machine { machine.now ≡ machine_after self.old.image (schedule_of self.old from) }
@@ -202,18 +201,12 @@ impl<'i> Found<'i> {
         ensures frontier { IsFrontier self.new frontier.new.items (from + 1) }
         ensures breadth { IsBreadthFirst self.new from }
     {
-        let reach = reach_of(machine, step);
-        if reach == Reach::Nothing {
-            return Ok(());
-        }
-        let next = stepped(machine, step)?;
-        let change = change_of(machine, &next, step, reach);
-        let to = self.place(frontier, next, Link { from, step }, change, most)?;
+        let to = self.place(frontier, machine, Link { from, step }, most)?;
         if to == from {
-            return Ok(());
+            return Ok(to);
         }
         self.add_edge(Edge { from, step, to })?;
-        Ok(())
+        Ok(to)
     }
 }
 

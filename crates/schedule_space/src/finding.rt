@@ -6,21 +6,22 @@ ghost use Rattle.processor.specs.World.{start, after};
 ghost use Rattle.schedule_space.specs.Spaces.{count, schedule_of, world_of, machine_after, IsDistinct, IsEdge};
 ghost use Rattle.schedule_space.specs.declared.links.Edge.{Edge};
 ghost use Rattle.world_keys.specs.Tables.{Has};
-ghost use Rattle.world_keys.specs.WorldKeys.{processor_in};
-ghost use Rattle.world_keys.specs.Changes.{HasOthersOf};
 ghost use Rattle.schedule_space.specs.Finding.{space_of, with_edge, IsGrown, IsFrontier, IsBreadthFirst};
 ghost use Rattle.schedule_space.specs.declared.finding.Stop.TheVariants.{NoMemory};
 
 use crate::fates::{Fate, fate_of};
+use crate::known_steps::KnownSteps;
 use crate::links::{Edge, Link};
+use crate::next_worlds::key_after;
 use crate::spaces::Space;
+use crate::stepping::stepped;
 use image_file::Image;
 use machine::Machine;
 use processor::Step;
 use std::alloc::{AllocError, AllocFailed, Global};
 use std::collections::VecDeque;
 use std::marker::Model;
-use world_keys::{Change, Table, next_key, world_key};
+use world_keys::{Table, world_key};
 
 /// The worlds that were found so far, with their keys.
 #[derive(Drop)]
@@ -33,17 +34,19 @@ pub(crate) struct Found<'i> {
     fates: Vec<Fate>,
     contents: Table,
     keys: Table,
+    steps: KnownSteps,
 }
 
 impl<'i> Model for Found<'i> {
     ghost use Rattle.schedule_space.specs.Spaces.{SpaceValue};
-    ghost use Rattle.schedule_space.specs.Finding.{space_of, IsFound};
+    ghost use Rattle.schedule_space.specs.Finding.{space_of, IsInTheMaking};
 
     ghost Value = { SpaceValue };
 
     ghost view = { λ f. space_of f.image.now f.begin.items f.links.items f.edges.items };
 
-    ghost invariant = { λ f. IsFound (space_of f.image.now f.begin.items f.links.items f.edges.items) f.fates.items f.contents f.keys };
+    ghost invariant = { λ f. IsInTheMaking (space_of f.image.now f.begin.items f.links.items f.edges.items) f.fates.items
+        f.contents f.keys f.steps };
 }
 
 /// Why a search stopped before its end.
@@ -97,6 +100,7 @@ impl<'i> Found<'i> {
             fates,
             contents,
             keys,
+            steps: KnownSteps::new(alloc),
         })
     }
 
@@ -119,40 +123,35 @@ impl<'i> Found<'i> {
         Ok(())
     }
 
-    /// The place of the world to which a step leads from one of the space. A new world is put behind the others, and its
-    /// machine behind the frontier.
+    /// The place of the world to which a step leads from the world at a place, the machine's. A new world is put behind the
+    /// others, and its machine behind the frontier.
     pub(crate) fn place<const S: usize>(
         &mut self,
         frontier: &mut VecDeque<Machine<'i, S>>,
-        machine: Machine<'i, S>,
+        machine: &Machine<'i, S>,
         link: Link,
-        change: Change,
         most: u32,
     ) -> Result<u32, Stop>
         requires from { link.from < count self.old }
         requires within { count self.old ≤ most }
-        requires image { machine.image ≡ self.old.image }
-        requires world { machine.world ≡ after self.old.image (world_of self.old link.from) link.step }
-        requires there { link.step.p < length (world_of self.old link.from).processors }
-        requires step { change.step ≡ link.step }
-        requires memory { change.is_memory_kept ≡ true → machine.world.memory ≡ (world_of self.old link.from).memory }
-        requires others { HasOthersOf (processor_in (world_of self.old link.from) link.step.p)
-            (processor_in machine.world link.step.p) change }
+        requires machine { machine.now ≡ machine_after self.old.image (schedule_of self.old link.from) }
         requires frontier { IsFrontier self.old frontier.old.items (link.from + 1) }
         requires breadth { IsBreadthFirst self.old link.from }
         ensures grown { IsGrown self.old self.new }
         ensures within { count self.new ≤ most }
         ensures there { IfOk result (λ k. k < count self.new) }
-        ensures is { IfOk result (λ k. world_of self.new k ≡ machine.entry.world) }
+        ensures is { IfOk result (λ k. world_of self.new k ≡ after machine.now.image machine.now.world link.step) }
         ensures frontier { IsFrontier self.new frontier.new.items (link.from + 1) }
         ensures breadth { IsBreadthFirst self.new link.from }
     {
-        let key = next_key(
+        let before = self.keys.list(link.from as usize).unwrap();
+        let key = key_after(
             self.alloc,
             &mut self.contents,
-            self.keys.list(link.from as usize).unwrap(),
-            &machine,
-            change,
+            &mut self.steps,
+            before,
+            machine,
+            link.step,
         )?;
         if let Some(place) = self.keys.find(&key) {
             return Ok(place as u32);
@@ -161,9 +160,10 @@ impl<'i> Found<'i> {
         if place >= most as usize {
             return Err(Stop::Full);
         }
-        let fate = fate_of(self.alloc, &machine)?;
+        let next = stepped(machine, link.step)?;
+        let fate = fate_of(self.alloc, &next)?;
         let world = NewWorld {
-            machine,
+            machine: next,
             link,
             fate,
             key,

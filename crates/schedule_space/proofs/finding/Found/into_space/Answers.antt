@@ -7,4 +7,4 @@ use Rattle.schedule_space.proofs.finding.Found.into_space.Goals as goal
 pub returns-clause-edges : goal.returns-clause-edges
 returns-clause-edges c =
     subst (λ (v : SpaceValue). (e : Edge) → Contains v.edges e → IsEdge v e) (sym c.from_parts.ensures)
-    c.self.invariant.space.edges
+    c.self.invariant.found.space.edges

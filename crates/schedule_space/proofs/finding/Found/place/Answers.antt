@@ -1,87 +1,152 @@
 use Rattle.std.proofs.Common.{◌≡◌, ◌+◌, ◌<◌, ◌∙◌, refl, sym, ap, subst, arith, rules, length, Some, slice_get}
 use Rattle.std.proofs.Common.{option_copied}
-use Rattle.processor.specs.declared.steps.Step.{Step}
+use Rattle.machine.specs.MachineValue.{MachineValue}
 use Rattle.world_keys.specs.Tables.{place_in, Has}
+use Rattle.world_keys.specs.WorldKeys.{key_of, IsKnown}
 use Rattle.schedule_space.specs.Spaces.{SpaceValue, count, world_of}
 use Rattle.schedule_space.specs.Finding.{space_of}
 use Rattle.schedule_space.proofs.Growing.{grown_to, count-link}
 use Rattle.schedule_space.proofs.Keys.{found_later}
-use Rattle.schedule_space.proofs.Placing.{memory_next, there_next, key_before, has_key, found_at, placed, placed_view, placed_grown, placed_there, placed_is}
+use Rattle.schedule_space.proofs.Placing.{known_at, key_of_at, steps_at, steps_back, machine_next, next_image, next_world}
+use Rattle.schedule_space.proofs.Placing.{has_key, found_at, placed, placed_view, placed_grown, placed_there, placed_is}
 use Rattle.schedule_space.proofs.Placing.{placed_frontier, placed_breadth, kept, kept_view, stays_within, stays_frontier, stays_breadth}
 use Rattle.schedule_space.proofs.finding.Found.place.Goals as goal
 
-pub next_key-requires : goal.next_key-requires
-next_key-requires g c =
+pub key_after-requires : goal.key_after-requires
+key_after-requires g c =
     let v = c.args.self.now in
-    let m = c.args.machine in
+    let m = c.args.machine.now in
     let w =
     space_of c.self.inside.image.now c.self.inside.begin.items c.self.inside.links.items c.self.inside.edges.items in
-    let at : Some c.unwrap.result.now ≡ slice_get c.self.inside.keys c.args.link.from =
-    sym (ap option_copied c.unwrap.ensures) ∙ c.list.ensures in
-    let there : c.args.change.step.p < length m.world.processors =
-    subst (λ (t : Step). t.p < length m.world.processors) (sym c.requires.step)
-    (there_next v c.args.link m c.requires.world c.requires.there) in (
+    let at : Some c.unwrap-before.result.now ≡ slice_get c.self.inside.keys c.args.link.from =
+    sym (ap option_copied c.unwrap-before.ensures) ∙ c.list.ensures in (
       omega arith,
       (
-        memory_next v c.args.link m c.requires.image c.requires.world,
+        known_at w v c.self.inside.fates.items c.self.inside.contents c.self.inside.keys c.args.link.from m
+            c.self.invariant.found c.self.view_is c.requires.from c.requires.machine,
         (
-          there,
-          key_before w v c.self.inside.fates.items c.self.inside.contents c.self.inside.keys c.unwrap.result.now
-              c.args.link m c.args.change c.self.invariant c.self.view_is c.requires.from c.requires.image
-              c.requires.world c.requires.there c.requires.step c.requires.memory c.requires.others at,
+          key_of_at w v c.self.inside.fates.items c.self.inside.contents c.self.inside.keys c.unwrap-before.result.now
+              c.args.link.from m c.self.invariant.found c.self.view_is c.requires.from c.requires.machine at,
+          steps_at w v c.self.inside.contents c.self.inside.steps c.args.link.from m c.self.invariant.left
+              c.self.view_is c.requires.machine,
         ),
       ),
     )
 
-pub unwrap-requires : goal.unwrap-requires
-unwrap-requires g c =
+pub unwrap-before-requires : goal.unwrap-before-requires
+unwrap-before-requires g c =
     let w =
     space_of c.self.inside.image.now c.self.inside.begin.items c.self.inside.links.items c.self.inside.edges.items in
     has_key w c.args.self.now c.self.inside.contents c.self.inside.keys c.args.link.from c.list.result
-    c.self.invariant.keyed c.self.view_is c.requires.from c.list.ensures
+    c.self.invariant.found.keyed c.self.view_is c.requires.from c.list.ensures
 
 pub invariant_of-self : goal.invariant_of-self
 invariant_of-self g c =
-    found_later (space_of c.self.inside.image.now c.self.inside.begin.items c.self.inside.links.items c.self.inside.edges.items)
-    c.self.inside.fates.items c.self.inside.contents c.next_key.new.contents c.self.inside.keys
-    c.next_key.ensures.grown c.self.invariant
+    let w =
+    space_of c.self.inside.image.now c.self.inside.begin.items c.self.inside.links.items c.self.inside.edges.items in
+    record {
+      found =
+          found_later w c.self.inside.fates.items c.self.inside.contents c.key_after.new.contents c.self.inside.keys
+          c.key_after.ensures.grown c.self.invariant.found;
+      left =
+          steps_back w c.args.self.now c.key_after.new.contents c.key_after.new.steps c.args.link.from
+          c.args.machine.now c.key_after.ensures.steps c.self.view_is c.requires.machine;
+    }
 
 pub invariant_of-self-in-Some : goal.invariant_of-self-in-Some
 invariant_of-self-in-Some g c =
-    found_later (space_of c.self.inside.image.now c.self.inside.begin.items c.self.inside.links.items c.self.inside.edges.items)
-    c.self.inside.fates.items c.self.inside.contents c.next_key.new.contents c.self.inside.keys
-    c.next_key.ensures.grown c.self.invariant
+    let w =
+    space_of c.self.inside.image.now c.self.inside.begin.items c.self.inside.links.items c.self.inside.edges.items in
+    record {
+      found =
+          found_later w c.self.inside.fates.items c.self.inside.contents c.key_after.new.contents c.self.inside.keys
+          c.key_after.ensures.grown c.self.invariant.found;
+      left =
+          steps_back w c.args.self.now c.key_after.new.contents c.key_after.new.steps c.args.link.from
+          c.args.machine.now c.key_after.ensures.steps c.self.view_is c.requires.machine;
+    }
 
 pub invariant_of-self-then-place-most : goal.invariant_of-self-then-place-most
 invariant_of-self-then-place-most g c =
-    found_later (space_of c.self.inside.image.now c.self.inside.begin.items c.self.inside.links.items c.self.inside.edges.items)
-    c.self.inside.fates.items c.self.inside.contents c.next_key.new.contents c.self.inside.keys
-    c.next_key.ensures.grown c.self.invariant
+    let w =
+    space_of c.self.inside.image.now c.self.inside.begin.items c.self.inside.links.items c.self.inside.edges.items in
+    record {
+      found =
+          found_later w c.self.inside.fates.items c.self.inside.contents c.key_after.new.contents c.self.inside.keys
+          c.key_after.ensures.grown c.self.invariant.found;
+      left =
+          steps_back w c.args.self.now c.key_after.new.contents c.key_after.new.steps c.args.link.from
+          c.args.machine.now c.key_after.ensures.steps c.self.view_is c.requires.machine;
+    }
+
+pub invariant_of-self-in_err-next : goal.invariant_of-self-in_err-next
+invariant_of-self-in_err-next g c =
+    let w =
+    space_of c.self.inside.image.now c.self.inside.begin.items c.self.inside.links.items c.self.inside.edges.items in
+    record {
+      found =
+          found_later w c.self.inside.fates.items c.self.inside.contents c.key_after.new.contents c.self.inside.keys
+          c.key_after.ensures.grown c.self.invariant.found;
+      left =
+          steps_back w c.args.self.now c.key_after.new.contents c.key_after.new.steps c.args.link.from
+          c.args.machine.now c.key_after.ensures.steps c.self.view_is c.requires.machine;
+    }
 
 pub invariant_of-self-in_err-fate : goal.invariant_of-self-in_err-fate
 invariant_of-self-in_err-fate g c =
-    found_later (space_of c.self.inside.image.now c.self.inside.begin.items c.self.inside.links.items c.self.inside.edges.items)
-    c.self.inside.fates.items c.self.inside.contents c.next_key.new.contents c.self.inside.keys
-    c.next_key.ensures.grown c.self.invariant
+    let w =
+    space_of c.self.inside.image.now c.self.inside.begin.items c.self.inside.links.items c.self.inside.edges.items in
+    record {
+      found =
+          found_later w c.self.inside.fates.items c.self.inside.contents c.key_after.new.contents c.self.inside.keys
+          c.key_after.ensures.grown c.self.invariant.found;
+      left =
+          steps_back w c.args.self.now c.key_after.new.contents c.key_after.new.steps c.args.link.from
+          c.args.machine.now c.key_after.ensures.steps c.self.view_is c.requires.machine;
+    }
 
 pub invariant_of-self-in_err-push_world : goal.invariant_of-self-in_err-push_world
 invariant_of-self-in_err-push_world g c =
-    kept c.self.inside.image.now c.self.inside.begin.items c.self.inside.links.items c.push_world.new.links.items c.self.inside.edges.items
-    c.self.inside.fates.items c.push_world.new.fates.items c.self.inside.contents c.next_key.new.contents
-    c.self.inside.keys c.push_world.new.keys c.self.invariant c.next_key.ensures.grown
-    c.in_err-push_world.ensures.links c.in_err-push_world.ensures.fates c.in_err-push_world.ensures.keys
+    let w =
+    space_of c.self.inside.image.now c.self.inside.begin.items c.self.inside.links.items c.self.inside.edges.items in
+    record {
+      found =
+          kept c.self.inside.image.now c.self.inside.begin.items c.self.inside.links.items c.push_world.new.links.items c.self.inside.edges.items
+          c.self.inside.fates.items c.push_world.new.fates.items c.self.inside.contents c.key_after.new.contents
+          c.self.inside.keys c.push_world.new.keys c.self.invariant.found c.key_after.ensures.grown
+          c.in_err-push_world.ensures.links c.in_err-push_world.ensures.fates c.in_err-push_world.ensures.keys;
+      left =
+          steps_back w c.args.self.now c.key_after.new.contents c.key_after.new.steps c.args.link.from
+          c.args.machine.now c.key_after.ensures.steps c.self.view_is c.requires.machine;
+    }
 
 pub invariant_of-self-2 : goal.invariant_of-self-2
 invariant_of-self-2 g c =
-    placed c.self.inside.image.now c.self.inside.begin.items c.self.inside.links.items c.push_world.new.links.items c.self.inside.edges.items
-    c.args.self.now c.self.inside.fates.items c.push_world.new.fates.items c.self.inside.contents
-    c.next_key.new.contents c.self.inside.keys c.push_world.new.keys c.in_ok-key.key.items c.args.link
-    c.in_ok-fate.fate c.args.machine c.self.invariant c.self.view_is c.next_key.ensures.grown c.requires.from
-    c.requires.image c.requires.world c.in_ok-fate.ensures c.in_ok-key.ensures.known c.in_ok-key.ensures.is
-    (λ has.
-    let e = c.in_default.ensures.there.1 (subst (Has c.self.inside.keys) (sym c.deref.ensures.value) has) in absurd cc)
-    c.in_ok-push_world.ensures.link
-    c.in_ok-push_world.ensures.fate c.in_ok-push_world.ensures.key
+    let v = c.args.self.now in
+    let w =
+    space_of c.self.inside.image.now c.self.inside.begin.items c.self.inside.links.items c.self.inside.edges.items in
+    let m = c.args.machine.now in
+    let u = c.args.link.step in
+    let n = c.in_ok-next.next in
+    let is : n ≡ machine_next m u = λ i. record { image = c.in_ok-next.ensures.image i; world = c.in_ok-next.ensures.world i } in
+    record {
+      found =
+          placed c.self.inside.image.now c.self.inside.begin.items c.self.inside.links.items c.push_world.new.links.items c.self.inside.edges.items
+          v c.self.inside.fates.items c.push_world.new.fates.items c.self.inside.contents
+          c.key_after.new.contents c.self.inside.keys c.push_world.new.keys c.in_ok-key.key.items c.args.link
+          c.in_ok-fate.fate n c.self.invariant.found c.self.view_is c.key_after.ensures.grown c.requires.from
+          (next_image v c.args.link.from m n u c.requires.machine is)
+          (next_world v c.args.link.from m n u c.requires.machine is) c.in_ok-fate.ensures
+          (subst (λ (x : MachineValue). IsKnown c.key_after.new.contents x.image x.world) (sym is) c.in_ok-key.ensures.known)
+          (c.in_ok-key.ensures.is ∙ sym (ap (λ (x : MachineValue). key_of c.key_after.new.contents x.image x.world) is))
+          (λ has.
+          let e = c.in_default.ensures.there.1 (subst (Has c.self.inside.keys) (sym c.deref.ensures.value) has) in absurd cc)
+          c.in_ok-push_world.ensures.link
+          c.in_ok-push_world.ensures.fate c.in_ok-push_world.ensures.key;
+      left =
+          steps_back w c.args.self.now c.key_after.new.contents c.key_after.new.steps c.args.link.from
+          c.args.machine.now c.key_after.ensures.steps c.self.view_is c.requires.machine;
+    }
 
 pub overflow_cast-result : goal.overflow_cast-result
 overflow_cast-result g c =
@@ -91,9 +156,10 @@ overflow_cast-result g c =
     let at : c.in-Some.place ≡ place_in keys key = search rules in
     let has : Has keys key = search rules in
     let here =
-    found_at w c.args.self.now c.self.inside.fates.items c.self.inside.contents c.next_key.new.contents keys key
-    c.args.machine c.in-Some.place c.self.invariant c.self.view_is c.next_key.ensures.grown
-    c.in_ok-key.ensures.known c.in_ok-key.ensures.is c.requires.image at has in
+    found_at w c.args.self.now c.self.inside.fates.items c.self.inside.contents c.key_after.new.contents keys key
+    (machine_next c.args.machine.now c.args.link.step) c.in-Some.place c.self.invariant.found c.self.view_is
+    c.key_after.ensures.grown c.in_ok-key.ensures.known c.in_ok-key.ensures.is
+    (ap (λ (x : MachineValue). x.image) c.requires.machine) at has in
     omega (arith, here.0, c.requires.within)
 
 pub returns-in_err-key-clause-grown : goal.returns-in_err-key-clause-grown
@@ -113,6 +179,26 @@ returns-in_err-key-clause-frontier g c =
 
 pub returns-in_err-key-clause-breadth : goal.returns-in_err-key-clause-breadth
 returns-in_err-key-clause-breadth g c =
+    stays_breadth c.args.self.now (space_of c.self.inside.image.now c.self.inside.begin.items c.self.inside.links.items c.self.inside.edges.items)
+    c.args.link.from c.self.view_is c.requires.breadth
+
+pub returns-in_err-next-clause-grown : goal.returns-in_err-next-clause-grown
+returns-in_err-next-clause-grown g c =
+    grown_to c.args.self.now (space_of c.self.inside.image.now c.self.inside.begin.items c.self.inside.links.items c.self.inside.edges.items)
+    c.self.view_is
+
+pub returns-in_err-next-clause-within : goal.returns-in_err-next-clause-within
+returns-in_err-next-clause-within g c =
+    stays_within c.args.self.now (space_of c.self.inside.image.now c.self.inside.begin.items c.self.inside.links.items c.self.inside.edges.items)
+    c.args.most c.self.view_is c.requires.within
+
+pub returns-in_err-next-clause-frontier : goal.returns-in_err-next-clause-frontier
+returns-in_err-next-clause-frontier g c =
+    stays_frontier c.args.self.now (space_of c.self.inside.image.now c.self.inside.begin.items c.self.inside.links.items c.self.inside.edges.items)
+    c.args.frontier.now.items c.args.frontier.now.items (c.args.link.from + 1) c.self.view_is refl c.requires.frontier
+
+pub returns-in_err-next-clause-breadth : goal.returns-in_err-next-clause-breadth
+returns-in_err-next-clause-breadth g c =
     stays_breadth c.args.self.now (space_of c.self.inside.image.now c.self.inside.begin.items c.self.inside.links.items c.self.inside.edges.items)
     c.args.link.from c.self.view_is c.requires.breadth
 
@@ -153,20 +239,21 @@ returns-then-place-most g c =
 pub returns-in-Some : goal.returns-in-Some
 returns-in-Some g c =
     let v = c.args.self.now in
+    let n = machine_next c.args.machine.now c.args.link.step in
     let w = space_of c.self.inside.image.now c.self.inside.begin.items c.self.inside.links.items c.self.inside.edges.items in
     let keys = c.self.inside.keys in
     let key = c.in_ok-key.key.items in
     let at : c.in-Some.place ≡ place_in keys key = search rules in
     let has : Has keys key = search rules in
     let here =
-    found_at w v c.self.inside.fates.items c.self.inside.contents c.next_key.new.contents keys key c.args.machine
-    c.in-Some.place c.self.invariant c.self.view_is c.next_key.ensures.grown c.in_ok-key.ensures.known
-    c.in_ok-key.ensures.is c.requires.image at has in
+    found_at w v c.self.inside.fates.items c.self.inside.contents c.key_after.new.contents keys key n
+    c.in-Some.place c.self.invariant.found c.self.view_is c.key_after.ensures.grown c.in_ok-key.ensures.known
+    c.in_ok-key.ensures.is (ap (λ (x : MachineValue). x.image) c.requires.machine) at has in
     record {
       grown = grown_to v w c.self.view_is;
       within = stays_within v w c.args.most c.self.view_is c.requires.within;
       there = subst (λ (x : SpaceValue). c.in-Some.place < count x) (sym c.self.view_is) here.0;
-      is = subst (λ (x : SpaceValue). world_of x c.in-Some.place ≡ c.args.machine.world) (sym c.self.view_is) here.1;
+      is = subst (λ (x : SpaceValue). world_of x c.in-Some.place ≡ n.world) (sym c.self.view_is) here.1;
       frontier =
           stays_frontier v w c.args.frontier.now.items c.args.frontier.now.items (c.args.link.from + 1) c.self.view_is
           refl c.requires.frontier;
@@ -214,7 +301,12 @@ pub returns : goal.returns
 returns g c =
     let v = c.args.self.now in
     let l = c.args.link in
-    let m = c.args.machine in
+    let m = c.args.machine.now in
+    let n = c.in_ok-next.next in
+    let is_next : n ≡ machine_next m l.step =
+    λ i. record { image = c.in_ok-next.ensures.image i; world = c.in_ok-next.ensures.world i } in
+    let image = next_image v l.from m n l.step c.requires.machine is_next in
+    let world = next_world v l.from m n l.step c.requires.machine is_next in
     let w = space_of c.self.inside.image.now c.self.inside.begin.items c.push_world.new.links.items c.self.inside.edges.items in
     let is =
     placed_view c.self.inside.image.now c.self.inside.begin.items c.self.inside.links.items c.push_world.new.links.items
@@ -225,10 +317,9 @@ returns g c =
       grown = placed_grown v w l is;
       within = omega (arith, ap count is, count-link v l, at);
       there = placed_there v w l (c.len-place.result + 1) is at;
-      is = placed_is v w l m (c.len-place.result + 1) is at c.requires.world;
+      is = placed_is v w l n (c.len-place.result + 1) is at world ∙ c.in_ok-next.ensures.world;
       frontier =
-          placed_frontier v w c.args.frontier.now.items c.push_world.new.frontier.items (l.from + 1) m l is
-          c.requires.frontier (omega (arith, c.requires.from)) c.requires.image c.requires.world
-          c.in_ok-push_world.ensures.machine;
+          placed_frontier v w c.args.frontier.now.items c.push_world.new.frontier.items (l.from + 1) n l is
+          c.requires.frontier (omega (arith, c.requires.from)) image world c.in_ok-push_world.ensures.machine;
       breadth = placed_breadth v w l is c.requires.from c.requires.breadth;
     }

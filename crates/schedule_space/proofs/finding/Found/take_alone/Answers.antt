@@ -34,13 +34,13 @@ loop-step-init g c = record {
   breadth = c.requires.breadth;
 }
 
-pub returns-in_err-is_new-clause-grown : goal.returns-in_err-is_new-clause-grown
-returns-in_err-is_new-clause-grown g c =
+pub returns-in_err-is_later-clause-grown : goal.returns-in_err-is_later-clause-grown
+returns-in_err-is_later-clause-grown g c =
     grown_trans c.args.self.now c.loop-step.self c.take_local.new.self c.loop-step.invariant.grown
     c.take_local.ensures.grown
 
-pub returns-then-is_new-clause-grown : goal.returns-then-is_new-clause-grown
-returns-then-is_new-clause-grown g c =
+pub returns-then-is_later-clause-grown : goal.returns-then-is_later-clause-grown
+returns-then-is_later-clause-grown g c =
     grown_trans c.args.self.now c.loop-step.self c.take_local.new.self c.loop-step.invariant.grown
     c.take_local.ensures.grown
 

@@ -1,0 +1,48 @@
+use Rattle.std.proofs.Common.{◌≡◌, ◌+◌, ◌<◌, length, set, sym, ap, ◌∙◌, subst, arith, rules}
+use Rattle.processor.specs.World.{World}
+use Rattle.world_keys.specs.WorldKeys.{key_of, IsKnown}
+use Rattle.schedule_space.proofs.KnownSteps.{key_many, key_is, key_known, absent_stays}
+use Rattle.schedule_space.proofs.next_worlds.key_after.Goals as goal
+
+pub returns-then-here-before-clause-is : goal.returns-then-here-before-clause-is
+returns-then-here-before-clause-is g c =
+    let m = c.args.machine.now in
+    let t = c.args.contents.now in
+    let items : c.in_ok-key.key.items ≡ c.args.before.now = search rules in
+    let stays =
+    absent_stays m.image m.world c.args.step
+    (λ there. omega (arith, there, c.from-here.ensures, key_many m.image t m.world c.args.before.now c.requires.before)) in
+    items ∙ c.requires.before ∙ ap (key_of t m.image) (sym stays)
+
+pub returns-then-here-before-clause-known : goal.returns-then-here-before-clause-known
+returns-then-here-before-clause-known g c =
+    let m = c.args.machine.now in
+    let t = c.args.contents.now in
+    let stays =
+    absent_stays m.image m.world c.args.step
+    (λ there. omega (arith, there, c.from-here.ensures, key_many m.image t m.world c.args.before.now c.requires.before)) in
+    subst (λ (w : World). IsKnown t m.image w) (sym stays) c.requires.known
+
+pub returns : goal.returns
+returns g c =
+    let m = c.args.machine.now in
+    let old = c.args.contents.now in
+    let new = c.left_by.new.contents in
+    let u = c.args.step in
+    let key = c.args.before.now in
+    let l = c.in_ok-left.left in
+    let items : c.in_ok-key.key.items ≡ key = search rules in
+    let there : u.p < length m.world.processors =
+    omega (arith, c.from-here.ensures, key_many m.image old m.world key c.requires.before) in
+    record {
+      is =
+          key_is m.image old new m.world u key
+          (set (set c.in_ok-key.key.items 0 l.memory) (c.from-here.result + 1) l.processor) l c.requires.known
+          c.requires.before there c.in_ok-left.ensures.grown c.in_ok-left.ensures.left
+          (λ i. set (set (items i) 0 l.memory) (c.from-here.ensures i + 1) l.processor);
+      known =
+          key_known m.image old new m.world u key l c.requires.known c.requires.before there
+          c.in_ok-left.ensures.grown c.in_ok-left.ensures.left;
+      steps = c.in_ok-left.ensures.steps;
+      grown = c.in_ok-left.ensures.grown;
+    }

@@ -1,0 +1,51 @@
+-- What steps left. A step changes its processor and the memory alone, and what it leaves there is told by what both held
+-- and by the number of its stream.
+use Rattle.std.specs.Prelude.{◌≡◌, ℕ, ◌<◌, Some, List, [], ◌∷◌, length, slice_get, slice_index_or}
+use Rattle.tag_memory.specs.Storage.{TaggedMemory}
+use Rattle.image_file.specs.ImageValue.{ImageValue}
+use Rattle.processor.specs.Processors.{ProcessorValue}
+use Rattle.processor.specs.Row.{row_over_memory}
+use Rattle.world_keys.specs.Tables.{place_in, Has}
+use Rattle.world_keys.specs.MemoryNumbers.{memory_numbers}
+use Rattle.world_keys.specs.WorldKeys.{processor_place, IsMemoryOf, IsKnownProcessor}
+use Rattle.schedule_space.specs.declared.known_steps.Places.{Places}
+
+-- steps, each with the places that it left
+pub record StepList : Type 0 where
+  pub asked : List (List ℕ)
+  pub left : List Places
+
+abbrev pub no_steps : StepList
+no_steps = record { asked = []; left = [] }
+
+-- the list has the step, with these places
+abbrev pub IsSeen : StepList → List ℕ → Places → Type 0
+IsSeen v asked l =
+    (k : ℕ) × (k < length v.asked) × (slice_index_or v.asked k [] ≡ asked) × (slice_get v.left k ≡ Some l)
+
+-- what a processor and a memory of the image hold is in the table, at these places
+pub record IsAt (image : ImageValue) (table : List (List ℕ)) (proc : ProcessorValue) (m : TaggedMemory) (l : Places)
+    : Type 0 where
+  pub known : IsKnownProcessor table image proc
+  pub of : IsMemoryOf image m
+  pub has : Has table (memory_numbers image m)
+  pub processor : l.processor ≡ processor_place table proc
+  pub memory : l.memory ≡ place_in table (memory_numbers image m)
+
+-- a step, told by the places of what its processor and the memory hold before it, and by its stream
+abbrev pub step_numbers : Places → ℕ → List ℕ
+step_numbers before s = before.processor ∷ s ∷ before.memory ∷ []
+
+-- the step leaves these places, of some processor and memory that hold what is at the places before it
+pub record IsLeft (image : ImageValue) (table : List (List ℕ)) (asked : List ℕ) (l : Places) : Type 0 where
+  pub processor : ProcessorValue
+  pub memory : TaggedMemory
+  pub s : ℕ
+  pub before : Places
+  pub is_asked : asked ≡ step_numbers before s
+  pub at : IsAt image table processor memory before
+  pub left : IsAt image table (row_over_memory image processor s memory).0.0 (row_over_memory image processor s memory).1 l
+
+-- so does each step of the list
+abbrev pub AreLeft : ImageValue → List (List ℕ) → StepList → Type 0
+AreLeft image table v = (asked : List ℕ) (l : Places) → IsSeen v asked l → IsLeft image table asked l

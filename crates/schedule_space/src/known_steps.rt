@@ -1,0 +1,70 @@
+//! What steps leave, so that each is taken on a machine once.
+
+ghost use Rattle.std.specs.Prelude.{◌≡◌, ◌⊎◌, ℕ, List, IfSome, IsSome, IfOk};
+ghost use Rattle.schedule_space.specs.KnownSteps.{no_steps, IsSeen};
+ghost use Rattle.schedule_space.specs.declared.known_steps.Places.{Places};
+
+use std::alloc::{AllocError, Global};
+use std::marker::Model;
+use world_keys::Table;
+
+/// How many steps are kept: 16 megabytes of them.
+const MOST_STEPS: usize = 1 << 17;
+
+/// Where a table has what a processor holds, and what the memory holds.
+#[derive(Clone, Copy, Debug, PartialEq, Eq)]
+pub(crate) struct Places {
+    pub(crate) processor: u32,
+    pub(crate) memory: u32,
+}
+
+/// Steps that were taken, each told by the places before it and the number of its stream, with the places behind it.
+#[derive(Drop)]
+pub(crate) struct KnownSteps {
+    asked: Table,
+    left: Vec<Places>,
+}
+
+impl Model for KnownSteps {
+    ghost use Rattle.std.specs.Prelude.{◌≡◌, length};
+    ghost use Rattle.schedule_space.specs.KnownSteps.{StepList};
+
+    ghost Value = { StepList };
+
+    ghost view = { λ k. record { asked = k.asked; left = k.left.items } };
+
+    ghost invariant = { λ k. length k.left.items ≡ length k.asked };
+}
+
+impl KnownSteps {
+    /// No step.
+    pub(crate) fn new(alloc: Global) -> KnownSteps
+        ensures { result ≡ no_steps }
+    {
+        KnownSteps {
+            asked: Table::new(alloc),
+            left: Vec::new(alloc),
+        }
+    }
+
+    /// What a step left; None where it was not taken yet.
+    pub(crate) fn find(&self, asked: &[u32]) -> Option<Places>
+        ensures { IfSome result (λ l. IsSeen self.now asked.now l) }
+    {
+        let place = self.asked.find(asked)?;
+        Some(self.left[place])
+    }
+
+    /// Keeps what a step left, where there is room and it is not kept yet.
+    pub(crate) fn keep(&mut self, alloc: Global, asked: &[u32], left: Places) -> Result<(), AllocError>
+        ensures { (a : List ℕ) (l : Places) → IsSeen self.new a l → IsSeen self.old a l ⊎ ((a ≡ asked.now) × (l ≡ left)) }
+    {
+        if self.left.len() >= MOST_STEPS || self.asked.find(asked).is_some() {
+            return Ok(());
+        }
+        self.left.reserve(1)?;
+        self.asked.push(Vec::from_slice(alloc, asked)?)?;
+        self.left.push_reserved(left);
+        Ok(())
+    }
+}

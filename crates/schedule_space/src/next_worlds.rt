@@ -1,0 +1,110 @@
+//! The key of the world to which a step leads.
+
+ghost use Rattle.std.specs.Prelude.{◌≡◌, ◌<◌, ◌+◌, ◌∷◌, [], length, slice_index_or, IfOk, OnOk};
+ghost use Rattle.processor.specs.World.{after};
+ghost use Rattle.world_keys.specs.Tables.{Extends};
+ghost use Rattle.world_keys.specs.WorldKeys.{processor_in, key_of, IsKnown};
+ghost use Rattle.schedule_space.specs.KnownSteps.{IsAt, AreLeft};
+
+use crate::known_steps::{KnownSteps, Places};
+use crate::stepping::{Reach, change_of, reach_of, stepped};
+use machine::Machine;
+use processor::Step;
+use std::alloc::{AllocError, Global};
+use world_keys::{Table, next_key};
+
+/// The key of the world to which a step leads from a machine's world, from the key `before` the step. Only a step of which
+/// it is not known what it leaves is taken, on a copy of the machine.
+pub(crate) fn key_after<const S: usize>(
+    alloc: Global,
+    contents: &mut Table,
+    steps: &mut KnownSteps,
+    before: &[u32],
+    machine: &Machine<'_, S>,
+    step: Step,
+) -> Result<Vec<u32>, AllocError>
+    requires known { IsKnown contents.old machine.now.image machine.now.world }
+    requires before { before.now ≡ key_of contents.old machine.now.image machine.now.world }
+    requires steps { AreLeft machine.now.image contents.old steps.old }
+    ensures is { IfOk result (λ v. v.items
+        ≡ key_of contents.new machine.now.image (after machine.now.image machine.now.world step)) }
+    ensures known { OnOk result (IsKnown contents.new machine.now.image (after machine.now.image machine.now.world step)) }
+    ensures steps { AreLeft machine.now.image contents.new steps.new }
+    ensures grown { Extends contents.old contents.new }
+{
+    let here = usize::from(step.p) + 1;
+    let mut key = Vec::from_slice(alloc, before)?;
+    if here >= before.len() {
+        return Ok(key);
+    }
+    let left = left_by(alloc, contents, steps, before, machine, step)?;
+    key[0] = left.memory;
+    key[here] = left.processor;
+    Ok(key)
+}
+
+/// What a step leaves of its processor and of the memory.
+fn left_by<const S: usize>(
+    alloc: Global,
+    contents: &mut Table,
+    steps: &mut KnownSteps,
+    before: &[u32],
+    machine: &Machine<'_, S>,
+    step: Step,
+) -> Result<Places, AllocError>
+    requires there { step.p < length machine.now.world.processors }
+    requires known { IsKnown contents.old machine.now.image machine.now.world }
+    requires before { before.now ≡ key_of contents.old machine.now.image machine.now.world }
+    requires steps { AreLeft machine.now.image contents.old steps.old }
+    ensures left { IfOk result (λ l. IsAt machine.now.image contents.new
+        (processor_in (after machine.now.image machine.now.world step) step.p)
+        (after machine.now.image machine.now.world step).memory l) }
+    ensures steps { AreLeft machine.now.image contents.new steps.new }
+    ensures grown { Extends contents.old contents.new }
+{
+    let asked = [before[usize::from(step.p) + 1], u32::from(step.s), before[0]];
+    if let Some(left) = steps.find(&asked) {
+        return Ok(left);
+    }
+    let left = places_after(alloc, contents, before, machine, step)?;
+    steps.keep(alloc, &asked, left)?;
+    Ok(left)
+}
+
+/// The same, by taking the step.
+fn places_after<const S: usize>(
+    alloc: Global,
+    contents: &mut Table,
+    before: &[u32],
+    machine: &Machine<'_, S>,
+    step: Step,
+) -> Result<Places, AllocError>
+    requires there { step.p < length machine.now.world.processors }
+    requires known { IsKnown contents.old machine.now.image machine.now.world }
+    requires before { before.now ≡ key_of contents.old machine.now.image machine.now.world }
+    ensures left { IfOk result (λ l. IsAt machine.now.image contents.new
+        (processor_in (after machine.now.image machine.now.world step) step.p)
+        (after machine.now.image machine.now.world step).memory l) }
+    ensures grown { Extends contents.old contents.new }
+{
+    let reach = reach_of(machine, step);
+    if reach == Reach::Nothing {
+        return Ok(places_in(before, step.p));
+    }
+    let next = stepped(machine, step)?;
+    let change = change_of(machine, &next, step, reach);
+    let key = next_key(alloc, contents, before, &next, change)?;
+    Ok(places_in(&key, step.p))
+}
+
+/// The places that a key has of a processor and of the memory.
+fn places_in(key: &[u32], p: u8) -> Places
+    requires { p + 1 < length key.now }
+    ensures processor { result.processor ≡ slice_index_or key.now (p + 1) 0 }
+    ensures memory { result.memory ≡ slice_index_or key.now 0 0 }
+{
+    Places {
+        processor: key[usize::from(p) + 1],
+        memory: key[0],
+    }
+}
