@@ -106,7 +106,7 @@ left_again image t w u before l asked there asked_is at is =
     let e = row_over_memory image (processor_in w u.p) u.s w.memory in
     let here : IsAt image t e.0.0 e.1 l =
     subst (λ (x : ProcessorValue × ℕ × TaggedMemory).
-        IsAt image t (row_over_memory image x.0 x.1 x.2).0.0 (row_over_memory image x.0 x.1 x.2).1 l)
+    IsAt image t (row_over_memory image x.0 x.1 x.2).0.0 (row_over_memory image x.0 x.1 x.2).1 l)
     (λ i. (held.0 i, s i, held.1 i)) is.left in
     subst (λ (x : ProcessorValue × TaggedMemory). IsAt image t x.0 x.1 l) (λ i. (parts.0 i, parts.1 i)) here
 

@@ -56,7 +56,12 @@ impl KnownSteps {
     }
 
     /// Keeps what a step left, where there is room and it is not kept yet.
-    pub(crate) fn keep(&mut self, alloc: Global, asked: &[u32], left: Places) -> Result<(), AllocError>
+    pub(crate) fn keep(
+        &mut self,
+        alloc: Global,
+        asked: &[u32],
+        left: Places,
+    ) -> Result<(), AllocError>
         ensures { (a : List ℕ) (l : Places) → IsSeen self.new a l → IsSeen self.old a l ⊎ ((a ≡ asked.now) × (l ≡ left)) }
     {
         if self.left.len() >= MOST_STEPS || self.asked.find(asked).is_some() {

@@ -62,7 +62,11 @@ fn left_by<const S: usize>(
     ensures steps { AreLeft machine.now.image contents.new steps.new }
     ensures grown { Extends contents.old contents.new }
 {
-    let asked = [before[usize::from(step.p) + 1], u32::from(step.s), before[0]];
+    let asked = [
+        before[usize::from(step.p) + 1],
+        u32::from(step.s),
+        before[0],
+    ];
     if let Some(left) = steps.find(&asked) {
         return Ok(left);
     }

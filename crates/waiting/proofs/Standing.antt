@@ -1,16 +1,20 @@
 -- A standstill stays as it is, for ever.
 use Rattle.std.proofs.Common.{◌≡◌, ℕ, ◌<◌, ◌≤◌, Bool, true, false, refl, sym, ap, ◌∙◌, arith}
 use Rattle.std.proofs.Common.{Option, Some, None, List, [], ◌∷◌, length, get_or, set, slice_get}
+use Rattle.std.proofs.Common.{nat_lt, if◌then◌else◌, zero, suc}
 use Rattle.std.specs.Prelude.{not}
+use Rattle.std.proofs.lemmas.Bool.{ltb-false}
 use Rattle.std.proofs.lemmas.List.{set-get_or}
 use Rattle.std.proofs.lemmas.Option.{slice_get_within, get_or_from_slice_get}
 use Rattle.image_file.specs.ImageValue.{ImageValue}
 use Rattle.stream_core.specs.declared.steps.Outcome.{Outcome}
 use Rattle.stream_core.specs.declared.steps.Fetch.{Fetch}
 use Rattle.stream_core.specs.declared.steps.Fetch.TheVariants as fetch
-use Rattle.processor.specs.Processors.{ProcessorValue}
+use Rattle.stream_core.specs.Streams.{StreamValue, idle}
+use Rattle.processor.specs.Processors.{ProcessorValue, stream_at}
+use Rattle.processor.specs.Records.{is_running}
 use Rattle.processor.specs.Row.{step_fetch_of, next_of, request}
-use Rattle.processor.specs.World.{World, after, steps}
+use Rattle.processor.specs.World.{World, after, steps, stream_of, stream_seen_at}
 use Rattle.processor.specs.declared.steps.Step.{Step}
 use Rattle.processor.proofs.Begun.{rests, row_begun, request_begun}
 use Rattle.processor.proofs.Histories.{after-known, after-absent}
@@ -74,11 +78,42 @@ few_streams size m p machine = by_processor (slice_get m.world.processors p) ref
       let long : length proc.streams ≡ m.image.slim = sym (ap (λ (x : ProcessorValue). length x.streams) at) ∙ all in
       omega arith
 
+-- a stream that is not there does not run
+runs_or_idle : (ss : List StreamValue) (n : ℕ) → is_running (get_or ss n idle) ≡ runs_at (slice_get ss n)
+runs_or_idle [] n = refl
+runs_or_idle (s ∷ ss) zero = refl
+runs_or_idle (s ∷ ss) (suc n) = runs_or_idle ss n
+
+runs_past : (ss : List StreamValue) (n : ℕ) → length ss ≤ n → runs_at (slice_get ss n) ≡ false
+runs_past [] n past = refl
+runs_past (s ∷ ss) zero past = absurd (omega (arith, past))
+runs_past (s ∷ ss) (suc n) past = runs_past ss n (omega (arith, past))
+
+seen_by : (ss : List StreamValue) (n : ℕ) (b : Bool) → (b ≡ false → length ss ≤ n)
+    → runs_at (if b then Some (stream_at ss n) else None) ≡ runs_at (slice_get ss n)
+seen_by ss n true past = runs_or_idle ss n
+seen_by ss n false past = sym (runs_past ss n (past refl))
+
 -- a stream that runs is numbered below the image's slim
 pub runs-slim : (size : ℕ) (m : MachineValue) (t : Step) → IsMachine size m → runs_in m.world t ≡ true
     → t.s < m.image.slim
 runs-slim size m t machine runs =
     runs_within (slice_get m.world.processors t.p) t.s m.image.slim (few_streams size m t.p machine) runs
+
+-- what is seen of a stream tells whether it runs
+pub runs_seen : (size : ℕ) (m : MachineValue) (t : Step) (o : Option StreamValue) → IsMachine size m
+    → o ≡ stream_of size m.world t.p t.s → runs_at o ≡ runs_in m.world t
+runs_seen size m t o machine is = ap runs_at is ∙ by_processor (slice_get m.world.processors t.p) refl where
+  by_processor : (x : Option ProcessorValue) → slice_get m.world.processors t.p ≡ x
+      → runs_at (stream_seen_at size t.s x) ≡ runs_at (slice_get (streams_at x) t.s)
+  by_processor None got = refl
+  by_processor (Some proc) got =
+      seen_by proc.streams t.s (nat_lt t.s size)
+      (λ off.
+      let few : length (streams_at (slice_get m.world.processors t.p)) ≤ m.image.slim = few_streams size m t.p machine in
+      let same : length (streams_at (slice_get m.world.processors t.p)) ≡ length proc.streams =
+      ap (λ (x : Option ProcessorValue). length (streams_at x)) got in
+      omega (arith, ltb-false _ _ off, few, same, machine.within))
 
 processor_within : (w : World) (t : Step) (o : Option ProcessorValue) → slice_get w.processors t.p ≡ o
     → runs_at (slice_get (streams_at o) t.s) ≡ true → t.p < length w.processors

@@ -8,6 +8,6 @@ mod waiting_for;
 mod waits;
 
 pub use running::{running_streams, runs};
-pub use stuck::{is_standstill, is_stuck};
+pub use stuck::{is_standstill, is_stuck, some_run};
 pub use waiting_for::wait_of;
 pub use waits::{Wait, Wanted};

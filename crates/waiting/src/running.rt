@@ -1,19 +1,33 @@
 //! Which streams run.
 
 ghost use Rattle.std.specs.Prelude.{◌≡◌, ◌++◌, slice_get, IfOk, OnOk};
+ghost use Rattle.processor.specs.Records.{is_running_status};
 ghost use Rattle.waiting.specs.Running.{streams_at, runs_in, running_from, running_steps, AreRunning};
 
 use machine::Machine;
-use processor::{Next, Step};
+use processor::Step;
 use std::alloc::{AllocError, Global};
+use stream_core::Status;
 
 /// Whether stream `s` of processor `p` is there and runs ("Streams", docs/MACHINE.md).
 pub fn runs<const S: usize>(machine: &Machine<'_, S>, p: u8, s: u8) -> bool
     ensures { result ≡ runs_in machine.now.world (record { p = p; s = s }) }
 {
-    match machine.next(p, s) {
-        Next::Skip => false,
-        Next::Local | Next::Ask(_) => true,
+    // It says that no stream that is used stands past the room.
+    let _image = machine.image();
+    match machine.stream(p, s) {
+        Some(stream) => is_running(stream.status()),
+        None => false,
+    }
+}
+
+/// Whether a stream of this status runs.
+fn is_running(status: Status) -> bool
+    ensures { result ≡ is_running_status status }
+{
+    match status {
+        Status::Running => true,
+        Status::Idle | Status::Stopped(_) => false,
     }
 }
 

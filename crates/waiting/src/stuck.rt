@@ -45,7 +45,7 @@ pub fn is_standstill<const S: usize>(machine: &Machine<'_, S>) -> bool
 }
 
 /// Whether some stream runs.
-fn some_run<const S: usize>(machine: &Machine<'_, S>) -> bool
+pub fn some_run<const S: usize>(machine: &Machine<'_, S>) -> bool
     ensures { IsTrue result ↔ SomeRuns machine.now.world }
 {
     let image = machine.image();

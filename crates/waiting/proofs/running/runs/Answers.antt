@@ -1,10 +1,11 @@
-use Rattle.waiting.proofs.Needs.{runs-next, runs-asking}
+use Rattle.std.proofs.Common.{ap, ◌∙◌, Some}
+use Rattle.processor.specs.Records.{is_running_status}
+use Rattle.waiting.proofs.Standing.{runs_seen}
 use Rattle.waiting.proofs.running.runs.Goals as goal
 
-pub returns-in-Skip : goal.returns-in-Skip
-returns-in-Skip g c =
-    runs-next c.args.machine.now (record { p = c.args.p; s = c.args.s }) _ c.in-Skip.ensures
-
-pub returns-in-Local : goal.returns-in-Local
-returns-in-Local g c =
-    runs-asking c.args.machine.now (record { p = c.args.p; s = c.args.s }) c.next.result c.next.ensures c.in-Local.is
+pub returns-in-Some : goal.returns-in-Some
+returns-in-Some g c =
+    c.is_running.ensures
+    ∙ ap is_running_status c.status.ensures
+    ∙ runs_seen g.row.S c.args.machine.now (record { p = c.args.p; s = c.args.s }) (Some c.in-Some.stream.now)
+    c.image-image.ensures.kept c.in-Some.ensures
