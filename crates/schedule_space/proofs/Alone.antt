@@ -1,43 +1,37 @@
 -- Steps that concern their own stream alone, and are taken before others.
 use Rattle.std.proofs.Common.{◌≡◌, ℕ, ◌+◌, ◌<◌, ◌≤◌, ◌⊎◌, inl, inr, refl, sym, subst, arith, List}
-use Rattle.std.proofs.Common.{length, get_or}
+use Rattle.std.proofs.Common.{length}
+use Rattle.std.specs.Prelude.{Result, Ok, Err, OnOk}
 use Rattle.std.proofs.lemmas.Bool.{cases_lt}
 use Rattle.machine.specs.MachineValue.{MachineValue}
 use Rattle.processor.specs.declared.steps.Step.{Step}
 use Rattle.waiting.specs.Running.{AreRunning}
 use Rattle.local_steps.specs.LocalSteps.{IsLocalStep}
-use Rattle.local_steps.proofs.Orders.{runs}
 use Rattle.schedule_space.specs.Spaces.{SpaceValue, count, schedule_of, machine_after}
-use Rattle.schedule_space.specs.Finding.{IsGrown, IsTaken}
+use Rattle.schedule_space.specs.Finding.{IsGrown, IsTaken, IsExpanded}
 use Rattle.schedule_space.specs.Followed.{IsTakenAlone, IsFollowed}
 use Rattle.schedule_space.proofs.Growing.{taken_grown, expanded_grown}
-use Rattle.schedule_space.proofs.Taking.{machine_grown, same_default}
+use Rattle.schedule_space.proofs.Taking.{AreAllTaken, AreTakenOrWait, all_taken, waits_taken, machine_grown}
 
--- those of the steps so far that concern their own stream alone are taken
-abbrev pub AreTakenIfAlone : MachineValue → SpaceValue → ℕ → List Step → ℕ → Type 0
-AreTakenIfAlone m v from ts n =
-    (k : ℕ) (d : Step) → k < n → IsLocalStep m.image m.world (get_or ts k d) → IsTaken v from (get_or ts k d)
+-- where each stream that runs takes its step, the world is expanded
+pub expanded_if : {E : Type 0} (r : Result Unit E) (v w : SpaceValue) (from : ℕ) (m : MachineValue) (ts : List Step)
+    → IsGrown v w → from < count v → m ≡ machine_after v.image (schedule_of v from) → AreRunning m.world ts
+    → OnOk r (AreAllTaken w from ts) → OnOk r (IsExpanded w from)
+expanded_if (Ok a) v w from m ts g below is running all =
+    all_taken w from m ts (omega (arith, below, g.more)) (machine_grown v w from m g below is) running all
+expanded_if (Err e) v w from m ts g below is running all = all
 
-pub alone_next : (m : MachineValue) (v w : SpaceValue) (from n : ℕ) (ts : List Step) (c : Step) → IsGrown v w
-    → from < count v → n < length ts → AreTakenIfAlone m v from ts n
-    → (IsLocalStep m.image m.world (get_or ts n c) → IsTaken w from (get_or ts n c))
-    → AreTakenIfAlone m w from ts (n + 1)
-alone_next m v w from n ts c g below within all last k d less = by_case (cases_lt k n) where
-  One : Step → Type 0
-  One t = IsLocalStep m.image m.world t → IsTaken w from t
+pub followed_if : {E : Type 0} (r : Result Unit E) (v : SpaceValue) (from : ℕ) → OnOk r (IsExpanded v from)
+    → OnOk r (IsFollowed v from)
+followed_if (Ok a) v from all = inl all
+followed_if (Err e) v from all = all
 
-  by_case : (k < n) ⊎ (n ≤ k) → One (get_or ts k d)
-  by_case (inl before) = λ l. taken_grown v w from (get_or ts k d) g below (all k d before l)
-  by_case (inr past) =
-      let same : n ≡ k = omega (arith, past, less) in
-      subst (λ (j : ℕ). One (get_or ts j d)) same (subst One (same_default ts n c d within) last)
-
--- where all streams that run were looked at, all such steps are taken
-pub alone_all : (m : MachineValue) (v : SpaceValue) (from n : ℕ) (ts : List Step) → AreRunning m.world ts → length ts ≤ n
-    → AreTakenIfAlone m v from ts n → (t : Step) → IsLocalStep m.image m.world t → IsTaken v from t
-alone_all m v from n ts running many all t l =
-    let has = (running t).1 (runs m.image m.world t l) in
-    subst (λ x. IsLocalStep m.image m.world x → IsTaken v from x) has.2 (all has.0 t (omega (arith, has.1, many))) l
+-- so it is where the steps that wait are taken after the others
+pub waiting_taken : {E : Type 0} (r : Result Unit E) (w u : SpaceValue) (from n : ℕ) (others ts : List Step)
+    → IsGrown w u → from < count w → length ts ≤ n → AreTakenOrWait w from others ts n
+    → OnOk r (AreAllTaken u from others) → OnOk r (AreAllTaken u from ts)
+waiting_taken (Ok a) w u from n others ts g below many left all = waits_taken w u from n others ts g below many left all
+waiting_taken (Err e) w u from n others ts g below many left all = all
 
 -- a step of the machine at a place that is taken alone
 pub alone_at : (v w : SpaceValue) (from : ℕ) (m : MachineValue) (t : Step) → IsGrown v w → from < count v

@@ -1,5 +1,5 @@
 -- What is known of a space in the making that gets the world of a machine, or has it.
-use Rattle.std.proofs.Common.{◌≡◌, ℕ, ◌<◌, ◌≤◌, refl, sym, ap, ◌∙◌, subst, arith, List, [], ◌∷◌, ◌++◌}
+use Rattle.std.proofs.Common.{◌≡◌, ℕ, ◌+◌, ◌<◌, ◌≤◌, refl, sym, ap, ◌∙◌, subst, arith, List, [], ◌∷◌, ◌++◌}
 use Rattle.std.proofs.Common.{Option, Some, None, IsSome, get_or, slice_get, option_copied, Bor}
 use Rattle.std.proofs.lemmas.Option.{get_or_from_slice_get, slice_get-get_or}
 use Rattle.image_file.specs.ImageValue.{ImageValue}
@@ -14,7 +14,7 @@ use Rattle.schedule_space.specs.declared.fates.Fate.{Fate}
 use Rattle.schedule_space.specs.Spaces.{SpaceValue, count, schedule_of, world_of, machine_after, IsEdge}
 use Rattle.schedule_space.specs.Fates.{IsFate}
 use Rattle.schedule_space.specs.KnownSteps.{StepList, AreLeft}
-use Rattle.schedule_space.specs.Finding.{space_of, with_link, with_edge, IsKeyed, IsFound, IsGrown, IsFrontier, IsBreadthFirst}
+use Rattle.schedule_space.specs.Finding.{space_of, with_link, with_edge, IsKeyed, IsFound, IsGrown, IsFrontier, IsBreadthFirst, IsExpanding}
 use Rattle.schedule_space.proofs.Growing.{last_world, with_link_grown, count-link}
 use Rattle.schedule_space.proofs.Parts.{key_at, keys_many, keyed_later, frontier_more, frontier_stays}
 use Rattle.schedule_space.proofs.Keys.{found_world, found_later, found_more, found_edge}
@@ -136,16 +136,17 @@ pub placed_is : (v w : SpaceValue) (l : Link) (m : MachineValue) (k : ℕ) → w
 placed_is v w l m k is at world =
     ap (λ (x : SpaceValue). world_of x k) is ∙ ap (world_of (with_link v l)) at ∙ last_world v l ∙ sym world
 
-pub placed_frontier : (v w : SpaceValue) (ms more : List MachineValue) (n : ℕ) (m : MachineValue) (l : Link)
-    → w ≡ with_link v l → IsFrontier v ms n → n ≤ count v → m.image ≡ v.image
-    → m.world ≡ after v.image (world_of v l.from) l.step → more ≡ ms ++ m ∷ [] → IsFrontier w more n
-placed_frontier v w ms more n m l is front below image world pushed =
-    subst (λ (x : SpaceValue). IsFrontier x more n) (sym is) (frontier_more v ms more n m l front below image world pushed)
-
-pub placed_breadth : (v w : SpaceValue) (l : Link) → w ≡ with_link v l → l.from < count v → IsBreadthFirst v l.from
-    → IsBreadthFirst w l.from
-placed_breadth v w l is from breadth =
-    subst (λ (x : SpaceValue). IsBreadthFirst x l.from) (sym is) (breadth_more v l from breadth)
+pub placed_expanding : (v w : SpaceValue) (ms more : List MachineValue) (m : MachineValue) (l : Link) (most : ℕ)
+    → w ≡ with_link v l → count w ≤ most → m.image ≡ v.image → m.world ≡ after v.image (world_of v l.from) l.step
+    → more ≡ ms ++ m ∷ [] → IsExpanding v ms l.from most → IsExpanding w more l.from most
+placed_expanding v w ms more m l most is few image world pushed e = record {
+  there = omega (arith, e.there, ap count is, count-link v l);
+  within = few;
+  frontier =
+      subst (λ (x : SpaceValue). IsFrontier x more (l.from + 1)) (sym is)
+      (frontier_more v ms more (l.from + 1) m l e.frontier (omega (arith, e.there)) image world pushed);
+  breadth = subst (λ (x : SpaceValue). IsBreadthFirst x l.from) (sym is) (breadth_more v l e.there e.breadth);
+}
 
 -- A space with one edge more.
 
@@ -163,15 +164,15 @@ edge_put image begin links edges more v e fates table keys is view pushed edge =
     subst (λ (es : List Edge). IsFound (space_of image begin links es) fates table keys) (sym pushed)
     (found_edge w fates table keys e is (subst (λ (x : SpaceValue). IsEdge x e) (sym view) edge))
 
-pub edge_frontier : (v w : SpaceValue) (e : Edge) (ms : List MachineValue) (n : ℕ) → w ≡ with_edge v e
-    → IsFrontier v ms n → IsFrontier w ms n
-edge_frontier v w e ms n is front =
-    subst (λ (x : SpaceValue). IsFrontier x ms n) (sym is) (frontier_stays v (with_edge v e) ms n refl refl refl front)
-
-pub edge_breadth : (v w : SpaceValue) (e : Edge) (n : ℕ) → w ≡ with_edge v e → IsBreadthFirst v n
-    → IsBreadthFirst w n
-edge_breadth v w e n is breadth =
-    subst (λ (x : SpaceValue). IsBreadthFirst x n) (sym is) (breadth_stays v (with_edge v e) n refl refl breadth)
+pub edge_expanding : (v w : SpaceValue) (e : Edge) (ms : List MachineValue) (from most : ℕ) → w ≡ with_edge v e
+    → IsExpanding v ms from most → IsExpanding w ms from most
+edge_expanding v w e ms from most is x =
+    subst (λ (y : SpaceValue). IsExpanding y ms from most) (sym is) (record {
+      there = x.there;
+      within = x.within;
+      frontier = frontier_stays v (with_edge v e) ms (from + 1) refl refl refl x.frontier;
+      breadth = breadth_stays v (with_edge v e) from refl refl x.breadth;
+    })
 
 -- What stays as it is.
 
@@ -188,13 +189,8 @@ pub kept_view : (image : ImageValue) (begin : List Step) (links ls : List Link) 
     → space_of image begin links edges ≡ v → ls ≡ links → space_of image begin ls edges ≡ v
 kept_view image begin links ls edges v view linked = ap (λ (xs : List Link). space_of image begin xs edges) linked ∙ view
 
-pub stays_within : (v w : SpaceValue) (most : ℕ) → w ≡ v → count v ≤ most → count w ≤ most
-stays_within v w most is few = omega (arith, ap count is, few)
-
-pub stays_frontier : (v w : SpaceValue) (ms more : List MachineValue) (n : ℕ) → w ≡ v → more ≡ ms → IsFrontier v ms n
-    → IsFrontier w more n
-stays_frontier v w ms more n is same front =
-    subst (λ (x : SpaceValue). IsFrontier x more n) (sym is) (same ∙ front)
-
-pub stays_breadth : (v w : SpaceValue) (n : ℕ) → w ≡ v → IsBreadthFirst v n → IsBreadthFirst w n
-stays_breadth v w n is breadth = subst (λ (x : SpaceValue). IsBreadthFirst x n) (sym is) breadth
+pub stays_expanding : (v w : SpaceValue) (ms more : List MachineValue) (from most : ℕ) → w ≡ v → more ≡ ms
+    → IsExpanding v ms from most → IsExpanding w more from most
+stays_expanding v w ms more from most is same x =
+    subst (λ (y : SpaceValue). IsExpanding y more from most) (sym is)
+    (subst (λ (ns : List MachineValue). IsExpanding v ns from most) (sym same) x)

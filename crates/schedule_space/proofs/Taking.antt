@@ -67,23 +67,62 @@ taken_next v w from n ts c g below within all last k d less = by_case (cases_lt 
       let same : n ≡ k = omega (arith, past, less) in
       subst (λ (j : ℕ). IsTaken w from (get_or ts j d)) same (subst (IsTaken w from) (same_default ts n c d within) last)
 
--- where the steps of all streams that run are taken, all steps are
-pub all_taken : (v : SpaceValue) (from n : ℕ) (ts : List Step) → from < count v → AreRunning (world_of v from) ts
-    → length ts ≤ n → AreTaken v from ts n → IsExpanded v from
-all_taken v from n ts below running many all t = by_runs (runs_in (world_of v from) t) refl where
-  by_place : Contains ts t → IsTaken v from t
-  by_place has = subst (IsTaken v from) has.2 (all has.0 t (omega (arith, has.1, many)))
+-- each step of a list is taken
+abbrev pub AreAllTaken : SpaceValue → ℕ → List Step → Type 0
+AreAllTaken v from ts = (t : Step) → Contains ts t → IsTaken v from t
 
-  by_runs : (b : Bool) → runs_in (world_of v from) t ≡ b → IsTaken v from t
-  by_runs true on = by_place ((running t).1 on)
-  by_runs false off = taken_stays v from t below (rested v.image (world_of v from) t off)
+pub taken_each : (v : SpaceValue) (from n : ℕ) (ts : List Step) → length ts ≤ n → AreTaken v from ts n
+    → AreAllTaken v from ts
+taken_each v from n ts many all t has = subst (IsTaken v from) has.2 (all has.0 t (omega (arith, has.1, many)))
+
+-- where the steps of all streams that run are taken, all steps are
+pub all_taken : (v : SpaceValue) (from : ℕ) (m : MachineValue) (ts : List Step) → from < count v
+    → m ≡ machine_after v.image (schedule_of v from) → AreRunning m.world ts → AreAllTaken v from ts → IsExpanded v from
+all_taken v from m ts below is running all t = by_runs (runs_in m.world t) refl where
+  by_runs : (b : Bool) → runs_in m.world t ≡ b → IsTaken v from t
+  by_runs true on = all t ((running t).1 on)
+  by_runs false off =
+      taken_stays v from t below
+      (subst (λ (x : MachineValue). after x.image x.world t ≡ x.world) is (rested m.image m.world t off))
+
+-- Steps that are taken, or wait among others.
+
+abbrev pub IsTakenOrWaits : SpaceValue → ℕ → List Step → Step → Type 0
+IsTakenOrWaits v from others t = IsTaken v from t ⊎ Contains others t
+
+-- so are the steps so far
+abbrev pub AreTakenOrWait : SpaceValue → ℕ → List Step → List Step → ℕ → Type 0
+AreTakenOrWait v from others ts n = (k : ℕ) (d : Step) → k < n → IsTakenOrWaits v from others (get_or ts k d)
+
+taken_or_waits : (v w : SpaceValue) (from : ℕ) (old new : List Step) (t : Step) → IsGrown v w → from < count v
+    → ((u : Step) → Contains old u → Contains new u) → IsTakenOrWaits v from old t → IsTakenOrWaits w from new t
+taken_or_waits v w from old new t g below more (inl taken) = inl (taken_grown v w from t g below taken)
+taken_or_waits v w from old new t g below more (inr waits) = inr (more t waits)
+
+pub waits_next : (v w : SpaceValue) (from n : ℕ) (old new ts : List Step) (c : Step) → IsGrown v w → from < count v
+    → n < length ts → ((u : Step) → Contains old u → Contains new u) → AreTakenOrWait v from old ts n
+    → IsTakenOrWaits w from new (get_or ts n c) → AreTakenOrWait w from new ts (n + 1)
+waits_next v w from n old new ts c g below within more all last k d less = by_case (cases_lt k n) where
+  by_case : (k < n) ⊎ (n ≤ k) → IsTakenOrWaits w from new (get_or ts k d)
+  by_case (inl before) = taken_or_waits v w from old new (get_or ts k d) g below more (all k d before)
+  by_case (inr past) =
+      let same : n ≡ k = omega (arith, past, less) in
+      subst (λ (j : ℕ). IsTakenOrWaits w from new (get_or ts j d)) same
+      (subst (IsTakenOrWaits w from new) (same_default ts n c d within) last)
+
+taken_then : (v w : SpaceValue) (from : ℕ) (others : List Step) (t : Step) → IsGrown v w → from < count v
+    → AreAllTaken w from others → IsTakenOrWaits v from others t → IsTaken w from t
+taken_then v w from others t g below all (inl taken) = taken_grown v w from t g below taken
+taken_then v w from others t g below all (inr waits) = all t waits
+
+-- where the others are taken too, each is
+pub waits_taken : (v w : SpaceValue) (from n : ℕ) (others ts : List Step) → IsGrown v w → from < count v
+    → length ts ≤ n → AreTakenOrWait v from others ts n → AreAllTaken w from others → AreAllTaken w from ts
+waits_taken v w from n others ts g below many left all t has =
+    subst (IsTaken w from) has.2
+    (taken_then v w from others (get_or ts has.0 t) g below all (left has.0 t (omega (arith, has.1, many))))
 
 -- What the code does for one step.
-
-pub taken_at : (v : SpaceValue) (from : ℕ) (m : MachineValue) (t : Step) → from < count v
-    → m ≡ machine_after v.image (schedule_of v from) → after m.image m.world t ≡ m.world → IsTaken v from t
-taken_at v from m t below is stays =
-    taken_stays v from t below (subst (λ (x : MachineValue). after x.image x.world t ≡ x.world) is stays)
 
 -- a clone of the machine at a place, after a step
 pub stepped : (v : SpaceValue) (from : ℕ) (m c n : MachineValue) (o : Outcome) (t : Step)
@@ -103,10 +142,6 @@ taken_edge old new from to t w e g below there is leads breadth edge =
     taken_to old (with_edge new e) from to t w (grown_trans old new (with_edge new e) g (with_edge_grown new e)) below
     there is leads (breadth_stays new (with_edge new e) from refl refl breadth)
     (inr (subst (Contains (new.edges ++ e ∷ [])) edge (Contains-push new.edges e)))
-
-pub running_at : (v : SpaceValue) (from : ℕ) (m : MachineValue) (ts : List Step)
-    → m ≡ machine_after v.image (schedule_of v from) → AreRunning m.world ts → AreRunning (world_of v from) ts
-running_at v from m ts is running = subst (λ (x : MachineValue). AreRunning x.world ts) is running
 
 -- a machine is at the world of its place also where the space has grown
 pub machine_grown : (v w : SpaceValue) (k : ℕ) (m : MachineValue) → IsGrown v w → k < count v

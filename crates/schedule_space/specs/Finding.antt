@@ -79,3 +79,10 @@ IsExpanded v k = (t : Step) → IsTaken v k t
 pub record IsBreadthFirst (v : SpaceValue) (from : ℕ) : Type 0 where
   pub sorted : (j k : ℕ) → j ≤ k → k < count v → length (schedule_of v j) ≤ length (schedule_of v k)
   pub near : (k : ℕ) → k < count v → length (schedule_of v k) ≤ length (schedule_of v from) + 1
+
+-- What holds while steps from the world at this place are taken, of the space and of the machines of the frontier.
+pub record IsExpanding (v : SpaceValue) (ms : List MachineValue) (from most : ℕ) : Type 0 where
+  pub there : from < count v
+  pub within : count v ≤ most
+  pub frontier : IsFrontier v ms (from + 1)
+  pub breadth : IsBreadthFirst v from

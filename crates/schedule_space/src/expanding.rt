@@ -1,10 +1,10 @@
 //! All steps from a world of a space in the making, or one that concerns its own stream alone.
 
-ghost use Rattle.std.specs.Prelude.{◌≡◌, ◌<◌, ◌≤◌, ◌+◌, true, false, IfOk, OnOk};
+ghost use Rattle.std.specs.Prelude.{◌≡◌, ◌⊎◌, true, false, Contains, IfOk, OnOk};
 ghost use Rattle.processor.specs.declared.steps.Step.{Step};
-ghost use Rattle.local_steps.specs.LocalSteps.{IsLocalStep};
-ghost use Rattle.schedule_space.specs.Spaces.{count, schedule_of, machine_after};
-ghost use Rattle.schedule_space.specs.Finding.{IsGrown, IsTaken, IsExpanded, IsFrontier, IsBreadthFirst};
+ghost use Rattle.waiting.specs.Running.{AreRunning};
+ghost use Rattle.schedule_space.specs.Spaces.{schedule_of, machine_after};
+ghost use Rattle.schedule_space.specs.Finding.{IsGrown, IsTaken, IsExpanded, IsExpanding};
 ghost use Rattle.schedule_space.specs.Followed.{IsTakenAlone, IsFollowed};
 
 use crate::finding::{Found, Stop};
@@ -26,8 +26,8 @@ pub(crate) enum Wanted {
 
 impl<'i> Found<'i> {
     /// Takes steps of the world at a place, from its machine, unless there would be more than `most` worlds: each one,
-    /// or where ends are wanted and a step that concerns its own stream alone leads to a later place, that one: whatever
-    /// goes round has a step back, which is not taken alone. New worlds are put behind the frontier.
+    /// or where ends are wanted and a step that concerns its own stream alone leads to a later place, that one. New worlds
+    /// are put behind the frontier.
     pub(crate) fn expand<const S: usize>(
         &mut self,
         frontier: &mut VecDeque<Machine<'i, S>>,
@@ -36,148 +36,92 @@ impl<'i> Found<'i> {
         wanted: Wanted,
         most: u32,
     ) -> Result<(), Stop>
-        requires from { from < count self.old }
-        requires within { count self.old ≤ most }
+        requires expanding { IsExpanding self.old frontier.old.items from most }
         requires machine { machine.now ≡ machine_after self.old.image (schedule_of self.old from) }
-        requires frontier { IsFrontier self.old frontier.old.items (from + 1) }
-        requires breadth { IsBreadthFirst self.old from }
         ensures grown { IsGrown self.old self.new }
+        ensures expanding { IsExpanding self.new frontier.new.items from most }
         ensures followed { OnOk result (IsFollowed self.new from) }
         ensures expanded { wanted ≡ Wanted.Worlds → OnOk result (IsExpanded self.new from) }
-        ensures within { count self.new ≤ most }
-        ensures frontier { IsFrontier self.new frontier.new.items (from + 1) }
-        ensures breadth { IsBreadthFirst self.new from }
     {
+        let running = running_streams(self.alloc, machine)?;
         match wanted {
-            Wanted::Worlds => self.take_all(frontier, machine, from, wanted, most),
-            Wanted::Ends => {
-                let is_alone = self.take_alone(frontier, machine, from, most)?;
-                if is_alone {
-                    return Ok(());
-                }
-                self.take_all(frontier, machine, from, wanted, most)
-            }
+            Wanted::Worlds => self.take_all(frontier, machine, from, &running, most),
+            Wanted::Ends => self.take_enough(frontier, machine, from, &running, most),
         }
     }
 
-    /// Takes steps that concern their own stream alone, up to one that leads to a later place, and says whether there is
-    /// one. Else all such steps are taken.
-    fn take_alone<const S: usize>(
+    /// Takes steps of the streams that run, first those that concern their own stream alone: where one of these leads to
+    /// a later place the others wait. What goes round by such steps has one that leads back, so nobody waits for ever.
+    fn take_enough<const S: usize>(
         &mut self,
         frontier: &mut VecDeque<Machine<'i, S>>,
         machine: &Machine<'i, S>,
         from: u32,
+        running: &[Step],
         most: u32,
-    ) -> Result<bool, Stop>
-        requires from { from < count self.old }
-        requires within { count self.old ≤ most }
+    ) -> Result<(), Stop>
+        requires expanding { IsExpanding self.old frontier.old.items from most }
         requires machine { machine.now ≡ machine_after self.old.image (schedule_of self.old from) }
-        requires frontier { IsFrontier self.old frontier.old.items (from + 1) }
-        requires breadth { IsBreadthFirst self.old from }
+        requires running { AreRunning machine.now.world running.now }
         ensures grown { IsGrown self.old self.new }
-        ensures alone { IfOk result (λ b. b ≡ true → IsTakenAlone self.new from) }
-        ensures each { IfOk result (λ b. b ≡ false → (t : Step)
-            → IsLocalStep machine.now.image machine.now.world t → IsTaken self.new from t) }
-        ensures within { count self.new ≤ most }
-        ensures frontier { IsFrontier self.new frontier.new.items (from + 1) }
-        ensures breadth { IsBreadthFirst self.new from }
+        ensures expanding { IsExpanding self.new frontier.new.items from most }
+        ensures followed { OnOk result (IsFollowed self.new from) }
     {
-        let running = running_streams(self.alloc, machine)?;
-        for step in &running {
-            let is_later = self.take_local(frontier, machine, from, *step, most)?;
+        let mut others = Vec::new(self.alloc);
+        for step in running {
+            let is_later = self.take_local(frontier, machine, from, *step, &mut others, most)?;
             if is_later {
-                return Ok(true);
+                return Ok(());
             }
         }
-        Ok(false)
+        self.take_all(frontier, machine, from, &others, most)
     }
 
-    /// Takes one step if it concerns its own stream alone, and says whether it does and leads to a later place.
+    /// Takes one step if it concerns its own stream alone, and says whether it does and leads to a later place; else puts
+    /// it behind the others.
     fn take_local<const S: usize>(
         &mut self,
         frontier: &mut VecDeque<Machine<'i, S>>,
         machine: &Machine<'i, S>,
         from: u32,
         step: Step,
+        others: &mut Vec<Step>,
         most: u32,
     ) -> Result<bool, Stop>
-        requires from { from < count self.old }
-        requires within { count self.old ≤ most }
+        requires expanding { IsExpanding self.old frontier.old.items from most }
         requires machine { machine.now ≡ machine_after self.old.image (schedule_of self.old from) }
-        requires frontier { IsFrontier self.old frontier.old.items (from + 1) }
-        requires breadth { IsBreadthFirst self.old from }
         ensures grown { IsGrown self.old self.new }
+        ensures expanding { IsExpanding self.new frontier.new.items from most }
         ensures alone { IfOk result (λ b. b ≡ true → IsTakenAlone self.new from) }
-        ensures each { IfOk result (λ b. b ≡ false
-            → IsLocalStep machine.now.image machine.now.world step → IsTaken self.new from step) }
-        ensures within { count self.new ≤ most }
-        ensures frontier { IsFrontier self.new frontier.new.items (from + 1) }
-        ensures breadth { IsBreadthFirst self.new from }
+        ensures left { IfOk result (λ b. b ≡ false → IsTaken self.new from step ⊎ Contains others.new.items step) }
+        ensures others { (t : Step) → Contains others.old.items t → Contains others.new.items t }
     {
         if !is_local_step(machine, step) {
+            others.push(step)?;
             return Ok(false);
         }
         let to = self.take(frontier, machine, from, step, most)?;
         Ok(to > from)
     }
 
-    /// Takes each step of the world at a place; where ends are wanted, those that concern their own stream alone are
-    /// taken already.
+    /// Takes each of these steps.
     fn take_all<const S: usize>(
         &mut self,
         frontier: &mut VecDeque<Machine<'i, S>>,
         machine: &Machine<'i, S>,
         from: u32,
-        wanted: Wanted,
+        steps: &[Step],
         most: u32,
     ) -> Result<(), Stop>
-        requires from { from < count self.old }
-        requires within { count self.old ≤ most }
+        requires expanding { IsExpanding self.old frontier.old.items from most }
         requires machine { machine.now ≡ machine_after self.old.image (schedule_of self.old from) }
-        requires frontier { IsFrontier self.old frontier.old.items (from + 1) }
-        requires breadth { IsBreadthFirst self.old from }
-        requires alone { wanted ≡ Wanted.Ends → (t : Step)
-            → IsLocalStep machine.now.image machine.now.world t → IsTaken self.old from t }
         ensures grown { IsGrown self.old self.new }
-        ensures expanded { OnOk result (IsExpanded self.new from) }
-        ensures within { count self.new ≤ most }
-        ensures frontier { IsFrontier self.new frontier.new.items (from + 1) }
-        ensures breadth { IsBreadthFirst self.new from }
+        ensures expanding { IsExpanding self.new frontier.new.items from most }
+        ensures taken { OnOk result ((t : Step) → Contains steps.now t → IsTaken self.new from t) }
     {
-        let running = running_streams(self.alloc, machine)?;
-        for step in &running {
-            self.take_left(frontier, machine, from, *step, wanted, most)?;
+        for step in steps {
+            self.take(frontier, machine, from, *step, most)?;
         }
-        Ok(())
-    }
-
-    /// Takes one step, unless it is one of those that are taken already.
-    fn take_left<const S: usize>(
-        &mut self,
-        frontier: &mut VecDeque<Machine<'i, S>>,
-        machine: &Machine<'i, S>,
-        from: u32,
-        step: Step,
-        wanted: Wanted,
-        most: u32,
-    ) -> Result<(), Stop>
-        requires from { from < count self.old }
-        requires within { count self.old ≤ most }
-        requires machine { machine.now ≡ machine_after self.old.image (schedule_of self.old from) }
-        requires frontier { IsFrontier self.old frontier.old.items (from + 1) }
-        requires breadth { IsBreadthFirst self.old from }
-        requires alone { wanted ≡ Wanted.Ends → IsLocalStep machine.now.image machine.now.world step
-            → IsTaken self.old from step }
-        ensures grown { IsGrown self.old self.new }
-        ensures taken { OnOk result (IsTaken self.new from step) }
-        ensures within { count self.new ≤ most }
-        ensures frontier { IsFrontier self.new frontier.new.items (from + 1) }
-        ensures breadth { IsBreadthFirst self.new from }
-    {
-        if is_taken_before(machine, step, wanted) {
-            return Ok(());
-        }
-        self.take(frontier, machine, from, step, most)?;
         Ok(())
     }
 
@@ -190,16 +134,11 @@ impl<'i> Found<'i> {
         step: Step,
         most: u32,
     ) -> Result<u32, Stop>
-        requires from { from < count self.old }
-        requires within { count self.old ≤ most }
+        requires expanding { IsExpanding self.old frontier.old.items from most }
         requires machine { machine.now ≡ machine_after self.old.image (schedule_of self.old from) }
-        requires frontier { IsFrontier self.old frontier.old.items (from + 1) }
-        requires breadth { IsBreadthFirst self.old from }
         ensures grown { IsGrown self.old self.new }
+        ensures expanding { IsExpanding self.new frontier.new.items from most }
         ensures taken { OnOk result (IsTaken self.new from step) }
-        ensures within { count self.new ≤ most }
-        ensures frontier { IsFrontier self.new frontier.new.items (from + 1) }
-        ensures breadth { IsBreadthFirst self.new from }
     {
         let to = self.place(frontier, machine, Link { from, step }, most)?;
         if to == from {
@@ -207,16 +146,5 @@ impl<'i> Found<'i> {
         }
         self.add_edge(Edge { from, step, to })?;
         Ok(to)
-    }
-}
-
-/// Whether a step is taken before all are: where ends are wanted, those that concern their own stream alone are.
-fn is_taken_before<const S: usize>(machine: &Machine<'_, S>, step: Step, wanted: Wanted) -> bool
-    ensures wanted { result ≡ true → wanted ≡ Wanted.Ends }
-    ensures alone { result ≡ true → IsLocalStep machine.now.image machine.now.world step }
-{
-    match wanted {
-        Wanted::Worlds => false,
-        Wanted::Ends => is_local_step(machine, step),
     }
 }

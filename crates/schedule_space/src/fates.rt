@@ -1,11 +1,9 @@
 //! How it goes on from a world.
 
-ghost use Rattle.std.specs.Prelude.{IfOk};
 ghost use Rattle.schedule_space.specs.Fates.{IsFate};
 
 use machine::Machine;
-use std::alloc::{AllocError, Global};
-use waiting::{is_standstill, running_streams};
+use waiting::{is_standstill, some_run};
 
 /// How it goes on from a world.
 #[derive(Clone, Copy, Debug, PartialEq, Eq)]
@@ -19,18 +17,14 @@ pub enum Fate {
 }
 
 /// How it goes on from the world of a machine.
-pub(crate) fn fate_of<const S: usize>(
-    alloc: Global,
-    machine: &Machine<'_, S>,
-) -> Result<Fate, AllocError>
-    ensures { IfOk result (λ fate. IsFate machine.now.image machine.now.world fate) }
+pub(crate) fn fate_of<const S: usize>(machine: &Machine<'_, S>) -> Fate
+    ensures { IsFate machine.now.image machine.now.world result }
 {
-    let running = running_streams(alloc, machine)?;
-    if running.is_empty() {
-        return Ok(Fate::Finished);
+    if !some_run(machine) {
+        return Fate::Finished;
     }
     if is_standstill(machine) {
-        return Ok(Fate::Deadlock);
+        return Fate::Deadlock;
     }
-    Ok(Fate::GoesOn)
+    Fate::GoesOn
 }

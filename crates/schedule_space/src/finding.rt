@@ -6,7 +6,7 @@ ghost use Rattle.processor.specs.World.{start, after};
 ghost use Rattle.schedule_space.specs.Spaces.{count, schedule_of, world_of, machine_after, IsDistinct, IsEdge};
 ghost use Rattle.schedule_space.specs.declared.links.Edge.{Edge};
 ghost use Rattle.world_keys.specs.Tables.{Has};
-ghost use Rattle.schedule_space.specs.Finding.{space_of, with_edge, IsGrown, IsFrontier, IsBreadthFirst};
+ghost use Rattle.schedule_space.specs.Finding.{space_of, with_edge, IsGrown, IsExpanding};
 ghost use Rattle.schedule_space.specs.declared.finding.Stop.TheVariants.{NoMemory};
 
 use crate::fates::{Fate, fate_of};
@@ -84,7 +84,7 @@ impl<'i> Found<'i> {
         requires { first.now ≡ machine_after first.now.image begin.now }
         ensures { IfOk result (λ v. v ≡ space_of first.now.image begin.now [] []) }
     {
-        let fate = fate_of(alloc, first)?;
+        let fate = fate_of(first);
         let mut contents = Table::new(alloc);
         let key = world_key(alloc, &mut contents, first)?;
         let mut keys = Table::new(alloc);
@@ -132,17 +132,12 @@ impl<'i> Found<'i> {
         link: Link,
         most: u32,
     ) -> Result<u32, Stop>
-        requires from { link.from < count self.old }
-        requires within { count self.old ≤ most }
+        requires expanding { IsExpanding self.old frontier.old.items link.from most }
         requires machine { machine.now ≡ machine_after self.old.image (schedule_of self.old link.from) }
-        requires frontier { IsFrontier self.old frontier.old.items (link.from + 1) }
-        requires breadth { IsBreadthFirst self.old link.from }
         ensures grown { IsGrown self.old self.new }
-        ensures within { count self.new ≤ most }
+        ensures expanding { IsExpanding self.new frontier.new.items link.from most }
         ensures there { IfOk result (λ k. k < count self.new) }
         ensures is { IfOk result (λ k. world_of self.new k ≡ after machine.now.image machine.now.world link.step) }
-        ensures frontier { IsFrontier self.new frontier.new.items (link.from + 1) }
-        ensures breadth { IsBreadthFirst self.new link.from }
     {
         let before = self.keys.list(link.from as usize).unwrap();
         let key = key_after(
@@ -161,7 +156,7 @@ impl<'i> Found<'i> {
             return Err(Stop::Full);
         }
         let next = stepped(machine, link.step)?;
-        let fate = fate_of(self.alloc, &next)?;
+        let fate = fate_of(&next);
         let world = NewWorld {
             machine: next,
             link,

@@ -1,9 +1,9 @@
-use Rattle.std.proofs.Common.{◌≡◌, ◌+◌, ◌<◌, ◌≤◌, ap, ◌∙◌, arith, rules, false}
+use Rattle.std.proofs.Common.{◌≡◌, ap, ◌∙◌, arith, rules, false}
 use Rattle.std.specs.Result.{is_err}
 use Rattle.machine.specs.MachineValue.{MachineValue}
 use Rattle.processor.specs.World.{steps}
 use Rattle.schedule_space.specs.Spaces.{SpaceValue, count, schedule_of, machine_after}
-use Rattle.schedule_space.specs.Finding.{IsExpanded, IsFrontier, IsBreadthFirst}
+use Rattle.schedule_space.specs.Finding.{IsExpanded, IsExpanding}
 use Rattle.schedule_space.proofs.Parts.{frontier_front, frontier_empty}
 use Rattle.schedule_space.proofs.Breadth.{breadth_begun, breadth_next, shortest_all}
 use Rattle.schedule_space.specs.Followed.{IsFollowed}
@@ -42,11 +42,14 @@ expand-requires g c =
     let front =
     frontier_front v c.loop-from.frontier.items c.pop_front.new.self.items c.in-Some.machine n
     c.loop-from.invariant.frontier c.in-Some.ensures.items in
-    let there : n < count v = front.0 in
-    let within : count v ≤ c.world_limit-limit.result = c.loop-from.invariant.within in
     let machine : c.in-Some.machine ≡ machine_after v.image (schedule_of v n) = front.1.0 in
-    let rest : IsFrontier v c.pop_front.new.self.items (n + 1) = front.1.1 in
-    let breadth : IsBreadthFirst v n = c.loop-from.invariant.breadth there in
+    let expanding : IsExpanding v c.pop_front.new.self.items n c.world_limit-limit.result =
+    record {
+      there = front.0;
+      within = c.loop-from.invariant.within;
+      frontier = front.1.1;
+      breadth = c.loop-from.invariant.breadth front.0;
+    } in
     search rules
 
 pub returns-in_default-clause-image : goal.returns-in_default-clause-image
@@ -109,11 +112,11 @@ returns-then-is_err-clause-shortest g c = λ on.
     frontier_front c.loop-from.found c.loop-from.frontier.items c.pop_front.new.self.items c.in-Some.machine
     c.loop-from.from c.loop-from.invariant.frontier c.in-Some.ensures.items in
     same_shortest c.loop-from.found c.expand.new.self c.into_space-then-is_err.result c.loop-from.from c.into_space-then-is_err.ensures.is
-    c.expand.ensures.grown front.0 (c.loop-from.invariant.expanded on) c.expand.ensures.breadth c.into_space-then-is_err.ensures.distinct
+    c.expand.ensures.grown front.0 (c.loop-from.invariant.expanded on) c.expand.ensures.expanding.breadth c.into_space-then-is_err.ensures.distinct
 
 pub returns-then-is_err-clause-within : goal.returns-then-is_err-clause-within
 returns-then-is_err-clause-within g c =
-    omega (arith, ap count c.into_space-then-is_err.ensures.is, c.expand.ensures.within, c.world_limit-limit.ensures.within)
+    omega (arith, ap count c.into_space-then-is_err.ensures.is, c.expand.ensures.expanding.within, c.world_limit-limit.ensures.within)
 
 pub loop-from-preserved : goal.loop-from-preserved
 loop-from-preserved g c =
@@ -133,9 +136,9 @@ loop-from-preserved g c =
           (ended_well c.expand.result (IsExpanded new n) well (c.expand.ensures.expanded on));
       followed = followed_more old new n c.expand.ensures.grown front.0 c.loop-from.invariant.followed followed;
       inside = omega (arith, front.0, c.expand.ensures.grown.more);
-      within = c.expand.ensures.within;
-      frontier = c.expand.ensures.frontier;
-      breadth = λ below. breadth_next new n below c.expand.ensures.breadth;
+      within = c.expand.ensures.expanding.within;
+      frontier = c.expand.ensures.expanding.frontier;
+      breadth = λ below. breadth_next new n below c.expand.ensures.expanding.breadth;
     }
 
 pub returns-clause-image : goal.returns-clause-image

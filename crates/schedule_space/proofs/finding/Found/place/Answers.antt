@@ -9,7 +9,7 @@ use Rattle.schedule_space.proofs.Growing.{grown_to, count-link}
 use Rattle.schedule_space.proofs.Keys.{found_later}
 use Rattle.schedule_space.proofs.Placing.{known_at, key_of_at, steps_at, steps_back, machine_next, next_image, next_world}
 use Rattle.schedule_space.proofs.Placing.{has_key, found_at, placed, placed_view, placed_grown, placed_there, placed_is}
-use Rattle.schedule_space.proofs.Placing.{placed_frontier, placed_breadth, kept, kept_view, stays_within, stays_frontier, stays_breadth}
+use Rattle.schedule_space.proofs.Placing.{placed_expanding, kept, kept_view, stays_expanding}
 use Rattle.schedule_space.proofs.finding.Found.place.Goals as goal
 
 pub key_after-requires : goal.key_after-requires
@@ -23,10 +23,10 @@ key_after-requires g c =
       omega arith,
       (
         known_at w v c.self.inside.fates.items c.self.inside.contents c.self.inside.keys c.args.link.from m
-            c.self.invariant.found c.self.view_is c.requires.from c.requires.machine,
+            c.self.invariant.found c.self.view_is c.requires.expanding.there c.requires.machine,
         (
           key_of_at w v c.self.inside.fates.items c.self.inside.contents c.self.inside.keys c.unwrap-before.result.now
-              c.args.link.from m c.self.invariant.found c.self.view_is c.requires.from c.requires.machine at,
+              c.args.link.from m c.self.invariant.found c.self.view_is c.requires.expanding.there c.requires.machine at,
           steps_at w v c.self.inside.contents c.self.inside.steps c.args.link.from m c.self.invariant.left
               c.self.view_is c.requires.machine,
         ),
@@ -38,7 +38,7 @@ unwrap-before-requires g c =
     let w =
     space_of c.self.inside.image.now c.self.inside.begin.items c.self.inside.links.items c.self.inside.edges.items in
     has_key w c.args.self.now c.self.inside.contents c.self.inside.keys c.args.link.from c.list.result
-    c.self.invariant.found.keyed c.self.view_is c.requires.from c.list.ensures
+    c.self.invariant.found.keyed c.self.view_is c.requires.expanding.there c.list.ensures
 
 pub invariant_of-self : goal.invariant_of-self
 invariant_of-self g c =
@@ -92,19 +92,6 @@ invariant_of-self-in_err-next g c =
           c.args.machine.now c.key_after.ensures.steps c.self.view_is c.requires.machine;
     }
 
-pub invariant_of-self-in_err-fate : goal.invariant_of-self-in_err-fate
-invariant_of-self-in_err-fate g c =
-    let w =
-    space_of c.self.inside.image.now c.self.inside.begin.items c.self.inside.links.items c.self.inside.edges.items in
-    record {
-      found =
-          found_later w c.self.inside.fates.items c.self.inside.contents c.key_after.new.contents c.self.inside.keys
-          c.key_after.ensures.grown c.self.invariant.found;
-      left =
-          steps_back w c.args.self.now c.key_after.new.contents c.key_after.new.steps c.args.link.from
-          c.args.machine.now c.key_after.ensures.steps c.self.view_is c.requires.machine;
-    }
-
 pub invariant_of-self-in_err-push_world : goal.invariant_of-self-in_err-push_world
 invariant_of-self-in_err-push_world g c =
     let w =
@@ -134,9 +121,9 @@ invariant_of-self-2 g c =
           placed c.self.inside.image.now c.self.inside.begin.items c.self.inside.links.items c.push_world.new.links.items c.self.inside.edges.items
           v c.self.inside.fates.items c.push_world.new.fates.items c.self.inside.contents
           c.key_after.new.contents c.self.inside.keys c.push_world.new.keys c.in_ok-key.key.items c.args.link
-          c.in_ok-fate.fate n c.self.invariant.found c.self.view_is c.key_after.ensures.grown c.requires.from
+          c.fate_of-fate.result n c.self.invariant.found c.self.view_is c.key_after.ensures.grown c.requires.expanding.there
           (next_image v c.args.link.from m n u c.requires.machine is)
-          (next_world v c.args.link.from m n u c.requires.machine is) c.in_ok-fate.ensures
+          (next_world v c.args.link.from m n u c.requires.machine is) c.fate_of-fate.ensures
           (subst (λ (x : MachineValue). IsKnown c.key_after.new.contents x.image x.world) (sym is) c.in_ok-key.ensures.known)
           (c.in_ok-key.ensures.is ∙ sym (ap (λ (x : MachineValue). key_of c.key_after.new.contents x.image x.world) is))
           (λ has.
@@ -160,80 +147,37 @@ overflow_cast-result g c =
     (machine_next c.args.machine.now c.args.link.step) c.in-Some.place c.self.invariant.found c.self.view_is
     c.key_after.ensures.grown c.in_ok-key.ensures.known c.in_ok-key.ensures.is
     (ap (λ (x : MachineValue). x.image) c.requires.machine) at has in
-    omega (arith, here.0, c.requires.within)
+    omega (arith, here.0, c.requires.expanding.within)
 
 pub returns-in_err-key-clause-grown : goal.returns-in_err-key-clause-grown
 returns-in_err-key-clause-grown g c =
-    grown_to c.args.self.now (space_of c.self.inside.image.now c.self.inside.begin.items c.self.inside.links.items c.self.inside.edges.items)
-    c.self.view_is
+    grown_to c.args.self.now (space_of c.self.inside.image.now c.self.inside.begin.items c.self.inside.links.items c.self.inside.edges.items) c.self.view_is
 
-pub returns-in_err-key-clause-within : goal.returns-in_err-key-clause-within
-returns-in_err-key-clause-within g c =
-    stays_within c.args.self.now (space_of c.self.inside.image.now c.self.inside.begin.items c.self.inside.links.items c.self.inside.edges.items)
-    c.args.most c.self.view_is c.requires.within
-
-pub returns-in_err-key-clause-frontier : goal.returns-in_err-key-clause-frontier
-returns-in_err-key-clause-frontier g c =
-    stays_frontier c.args.self.now (space_of c.self.inside.image.now c.self.inside.begin.items c.self.inside.links.items c.self.inside.edges.items)
-    c.args.frontier.now.items c.args.frontier.now.items (c.args.link.from + 1) c.self.view_is refl c.requires.frontier
-
-pub returns-in_err-key-clause-breadth : goal.returns-in_err-key-clause-breadth
-returns-in_err-key-clause-breadth g c =
-    stays_breadth c.args.self.now (space_of c.self.inside.image.now c.self.inside.begin.items c.self.inside.links.items c.self.inside.edges.items)
-    c.args.link.from c.self.view_is c.requires.breadth
+pub returns-in_err-key-clause-expanding : goal.returns-in_err-key-clause-expanding
+returns-in_err-key-clause-expanding g c =
+    stays_expanding c.args.self.now (space_of c.self.inside.image.now c.self.inside.begin.items c.self.inside.links.items c.self.inside.edges.items)
+    c.args.frontier.now.items c.args.frontier.now.items c.args.link.from c.args.most c.self.view_is refl c.requires.expanding
 
 pub returns-in_err-next-clause-grown : goal.returns-in_err-next-clause-grown
 returns-in_err-next-clause-grown g c =
-    grown_to c.args.self.now (space_of c.self.inside.image.now c.self.inside.begin.items c.self.inside.links.items c.self.inside.edges.items)
-    c.self.view_is
+    grown_to c.args.self.now (space_of c.self.inside.image.now c.self.inside.begin.items c.self.inside.links.items c.self.inside.edges.items) c.self.view_is
 
-pub returns-in_err-next-clause-within : goal.returns-in_err-next-clause-within
-returns-in_err-next-clause-within g c =
-    stays_within c.args.self.now (space_of c.self.inside.image.now c.self.inside.begin.items c.self.inside.links.items c.self.inside.edges.items)
-    c.args.most c.self.view_is c.requires.within
-
-pub returns-in_err-next-clause-frontier : goal.returns-in_err-next-clause-frontier
-returns-in_err-next-clause-frontier g c =
-    stays_frontier c.args.self.now (space_of c.self.inside.image.now c.self.inside.begin.items c.self.inside.links.items c.self.inside.edges.items)
-    c.args.frontier.now.items c.args.frontier.now.items (c.args.link.from + 1) c.self.view_is refl c.requires.frontier
-
-pub returns-in_err-next-clause-breadth : goal.returns-in_err-next-clause-breadth
-returns-in_err-next-clause-breadth g c =
-    stays_breadth c.args.self.now (space_of c.self.inside.image.now c.self.inside.begin.items c.self.inside.links.items c.self.inside.edges.items)
-    c.args.link.from c.self.view_is c.requires.breadth
-
-pub returns-in_err-fate-clause-grown : goal.returns-in_err-fate-clause-grown
-returns-in_err-fate-clause-grown g c =
-    grown_to c.args.self.now (space_of c.self.inside.image.now c.self.inside.begin.items c.self.inside.links.items c.self.inside.edges.items)
-    c.self.view_is
-
-pub returns-in_err-fate-clause-within : goal.returns-in_err-fate-clause-within
-returns-in_err-fate-clause-within g c =
-    stays_within c.args.self.now (space_of c.self.inside.image.now c.self.inside.begin.items c.self.inside.links.items c.self.inside.edges.items)
-    c.args.most c.self.view_is c.requires.within
-
-pub returns-in_err-fate-clause-frontier : goal.returns-in_err-fate-clause-frontier
-returns-in_err-fate-clause-frontier g c =
-    stays_frontier c.args.self.now (space_of c.self.inside.image.now c.self.inside.begin.items c.self.inside.links.items c.self.inside.edges.items)
-    c.args.frontier.now.items c.args.frontier.now.items (c.args.link.from + 1) c.self.view_is refl c.requires.frontier
-
-pub returns-in_err-fate-clause-breadth : goal.returns-in_err-fate-clause-breadth
-returns-in_err-fate-clause-breadth g c =
-    stays_breadth c.args.self.now (space_of c.self.inside.image.now c.self.inside.begin.items c.self.inside.links.items c.self.inside.edges.items)
-    c.args.link.from c.self.view_is c.requires.breadth
+pub returns-in_err-next-clause-expanding : goal.returns-in_err-next-clause-expanding
+returns-in_err-next-clause-expanding g c =
+    stays_expanding c.args.self.now (space_of c.self.inside.image.now c.self.inside.begin.items c.self.inside.links.items c.self.inside.edges.items)
+    c.args.frontier.now.items c.args.frontier.now.items c.args.link.from c.args.most c.self.view_is refl c.requires.expanding
 
 pub returns-then-place-most : goal.returns-then-place-most
 returns-then-place-most g c =
     let v = c.args.self.now in
     let w = space_of c.self.inside.image.now c.self.inside.begin.items c.self.inside.links.items c.self.inside.edges.items in
-    let n = c.args.link.from + 1 in
     record {
       grown = grown_to v w c.self.view_is;
-      within = stays_within v w c.args.most c.self.view_is c.requires.within;
+      expanding =
+          stays_expanding v w c.args.frontier.now.items c.args.frontier.now.items c.args.link.from c.args.most
+          c.self.view_is refl c.requires.expanding;
       there = tt;
       is = tt;
-      frontier = stays_frontier v w c.args.frontier.now.items c.args.frontier.now.items n c.self.view_is refl c.requires.frontier;
-      breadth = stays_breadth v w c.args.link.from c.self.view_is c.requires.breadth;
     }
 
 pub returns-in-Some : goal.returns-in-Some
@@ -251,13 +195,11 @@ returns-in-Some g c =
     c.in_ok-key.ensures.is (ap (λ (x : MachineValue). x.image) c.requires.machine) at has in
     record {
       grown = grown_to v w c.self.view_is;
-      within = stays_within v w c.args.most c.self.view_is c.requires.within;
+      expanding =
+          stays_expanding v w c.args.frontier.now.items c.args.frontier.now.items c.args.link.from c.args.most
+          c.self.view_is refl c.requires.expanding;
       there = subst (λ (x : SpaceValue). c.in-Some.place < count x) (sym c.self.view_is) here.0;
       is = subst (λ (x : SpaceValue). world_of x c.in-Some.place ≡ n.world) (sym c.self.view_is) here.1;
-      frontier =
-          stays_frontier v w c.args.frontier.now.items c.args.frontier.now.items (c.args.link.from + 1) c.self.view_is
-          refl c.requires.frontier;
-      breadth = stays_breadth v w c.args.link.from c.self.view_is c.requires.breadth;
     }
 
 pub returns-in_err-push_world-clause-grown : goal.returns-in_err-push_world-clause-grown
@@ -269,33 +211,15 @@ returns-in_err-push_world-clause-grown g c =
     c.self.view_is c.in_err-push_world.ensures.links in
     grown_to v w is
 
-pub returns-in_err-push_world-clause-within : goal.returns-in_err-push_world-clause-within
-returns-in_err-push_world-clause-within g c =
+pub returns-in_err-push_world-clause-expanding : goal.returns-in_err-push_world-clause-expanding
+returns-in_err-push_world-clause-expanding g c =
     let v = c.args.self.now in
     let w = space_of c.self.inside.image.now c.self.inside.begin.items c.push_world.new.links.items c.self.inside.edges.items in
     let is =
     kept_view c.self.inside.image.now c.self.inside.begin.items c.self.inside.links.items c.push_world.new.links.items c.self.inside.edges.items v
     c.self.view_is c.in_err-push_world.ensures.links in
-    stays_within v w c.args.most is c.requires.within
-
-pub returns-in_err-push_world-clause-frontier : goal.returns-in_err-push_world-clause-frontier
-returns-in_err-push_world-clause-frontier g c =
-    let v = c.args.self.now in
-    let w = space_of c.self.inside.image.now c.self.inside.begin.items c.push_world.new.links.items c.self.inside.edges.items in
-    let is =
-    kept_view c.self.inside.image.now c.self.inside.begin.items c.self.inside.links.items c.push_world.new.links.items c.self.inside.edges.items v
-    c.self.view_is c.in_err-push_world.ensures.links in
-    stays_frontier v w c.args.frontier.now.items c.push_world.new.frontier.items (c.args.link.from + 1) is
-    c.in_err-push_world.ensures.machines c.requires.frontier
-
-pub returns-in_err-push_world-clause-breadth : goal.returns-in_err-push_world-clause-breadth
-returns-in_err-push_world-clause-breadth g c =
-    let v = c.args.self.now in
-    let w = space_of c.self.inside.image.now c.self.inside.begin.items c.push_world.new.links.items c.self.inside.edges.items in
-    let is =
-    kept_view c.self.inside.image.now c.self.inside.begin.items c.self.inside.links.items c.push_world.new.links.items c.self.inside.edges.items v
-    c.self.view_is c.in_err-push_world.ensures.links in
-    stays_breadth v w c.args.link.from is c.requires.breadth
+    stays_expanding v w c.args.frontier.now.items c.push_world.new.frontier.items c.args.link.from c.args.most is
+    c.in_err-push_world.ensures.machines c.requires.expanding
 
 pub returns : goal.returns
 returns g c =
@@ -315,11 +239,10 @@ returns g c =
     let at : c.len-place.result + 1 ≡ count v = omega (arith, many, ap count c.self.view_is) in
     record {
       grown = placed_grown v w l is;
-      within = omega (arith, ap count is, count-link v l, at);
+      expanding =
+          placed_expanding v w c.args.frontier.now.items c.push_world.new.frontier.items n l c.args.most is
+          (omega (arith, ap count is, count-link v l, at)) image world c.in_ok-push_world.ensures.machine
+          c.requires.expanding;
       there = placed_there v w l (c.len-place.result + 1) is at;
       is = placed_is v w l n (c.len-place.result + 1) is at world ∙ c.in_ok-next.ensures.world;
-      frontier =
-          placed_frontier v w c.args.frontier.now.items c.push_world.new.frontier.items (l.from + 1) n l is
-          c.requires.frontier (omega (arith, c.requires.from)) image world c.in_ok-push_world.ensures.machine;
-      breadth = placed_breadth v w l is c.requires.from c.requires.breadth;
     }

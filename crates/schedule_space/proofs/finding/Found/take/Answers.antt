@@ -1,11 +1,11 @@
-use Rattle.std.proofs.Common.{◌≡◌, ◌+◌, ap, sym, subst, arith, rules, inl, refl}
+use Rattle.std.proofs.Common.{◌≡◌, ap, sym, subst, rules, inl, refl}
 use Rattle.machine.specs.MachineValue.{MachineValue}
 use Rattle.processor.specs.World.{after}
 use Rattle.schedule_space.specs.declared.links.Edge.{Edge}
-use Rattle.schedule_space.specs.Spaces.{SpaceValue, count}
+use Rattle.schedule_space.specs.Spaces.{SpaceValue}
 use Rattle.schedule_space.specs.Finding.{IsGrown, IsTaken}
 use Rattle.schedule_space.proofs.Growing.{grown_trans, with_edge_grown}
-use Rattle.schedule_space.proofs.Placing.{edge_frontier, edge_breadth, stays_within, stays_frontier, stays_breadth}
+use Rattle.schedule_space.proofs.Placing.{edge_expanding, stays_expanding}
 use Rattle.schedule_space.proofs.Taking.{taken_to, taken_edge, edge_to}
 use Rattle.schedule_space.proofs.finding.Found.take.Goals as goal
 
@@ -13,7 +13,7 @@ pub add_edge-requires : goal.add_edge-requires
 add_edge-requires g c =
     let m = c.args.machine.now in
     edge_to c.args.self.now c.place.new.self c.args.from c.in_ok-to.to c.args.step (after m.image m.world c.args.step)
-    c.place.ensures.grown c.requires.from c.in_ok-to.ensures.there c.in_ok-to.ensures.is
+    c.place.ensures.grown c.requires.expanding.there c.in_ok-to.ensures.there c.in_ok-to.ensures.is
     (ap (λ (x : MachineValue). after x.image x.world c.args.step) c.requires.machine) (search rules)
 
 pub returns-then-to-from : goal.returns-then-to-from
@@ -21,44 +21,23 @@ returns-then-to-from g c =
     let m = c.args.machine.now in
     record {
       grown = c.place.ensures.grown;
+      expanding = c.place.ensures.expanding;
       taken =
           taken_to c.args.self.now c.place.new.self c.args.from c.in_ok-to.to c.args.step
-          (after m.image m.world c.args.step) c.place.ensures.grown c.requires.from c.in_ok-to.ensures.there
+          (after m.image m.world c.args.step) c.place.ensures.grown c.requires.expanding.there c.in_ok-to.ensures.there
           c.in_ok-to.ensures.is (ap (λ (x : MachineValue). after x.image x.world c.args.step) c.requires.machine)
-          c.place.ensures.breadth (inl (search rules));
-      within = c.place.ensures.within;
-      frontier = c.place.ensures.frontier;
-      breadth = c.place.ensures.breadth;
+          c.place.ensures.expanding.breadth (inl (search rules));
     }
 
 pub returns-in_err-add_edge-clause-grown : goal.returns-in_err-add_edge-clause-grown
 returns-in_err-add_edge-clause-grown g c =
-    let here = c.place.new.self in
-    let new = c.add_edge.new.self in
-    let same : new ≡ here = c.in_err-add_edge.ensures.stays in
+    let same : c.add_edge.new.self ≡ c.place.new.self = c.in_err-add_edge.ensures.stays in
     subst (λ (x : SpaceValue). IsGrown c.args.self.now x) (sym same) c.place.ensures.grown
 
-pub returns-in_err-add_edge-clause-within : goal.returns-in_err-add_edge-clause-within
-returns-in_err-add_edge-clause-within g c =
-    let here = c.place.new.self in
-    let new = c.add_edge.new.self in
-    let same : new ≡ here = c.in_err-add_edge.ensures.stays in
-    stays_within here new c.args.most same c.place.ensures.within
-
-pub returns-in_err-add_edge-clause-frontier : goal.returns-in_err-add_edge-clause-frontier
-returns-in_err-add_edge-clause-frontier g c =
-    let here = c.place.new.self in
-    let new = c.add_edge.new.self in
-    let same : new ≡ here = c.in_err-add_edge.ensures.stays in
-    stays_frontier here new c.place.new.frontier.items c.place.new.frontier.items (c.args.from + 1) same refl
-    c.place.ensures.frontier
-
-pub returns-in_err-add_edge-clause-breadth : goal.returns-in_err-add_edge-clause-breadth
-returns-in_err-add_edge-clause-breadth g c =
-    let here = c.place.new.self in
-    let new = c.add_edge.new.self in
-    let same : new ≡ here = c.in_err-add_edge.ensures.stays in
-    stays_breadth here new c.args.from same c.place.ensures.breadth
+pub returns-in_err-add_edge-clause-expanding : goal.returns-in_err-add_edge-clause-expanding
+returns-in_err-add_edge-clause-expanding g c =
+    stays_expanding c.place.new.self c.add_edge.new.self c.place.new.frontier.items c.place.new.frontier.items
+    c.args.from c.args.most c.in_err-add_edge.ensures.stays refl c.place.ensures.expanding
 
 pub returns : goal.returns
 returns g c =
@@ -72,13 +51,12 @@ returns g c =
       grown =
           grown_trans v here new c.place.ensures.grown
           (subst (λ (x : SpaceValue). IsGrown here x) (sym is) (with_edge_grown here e));
+      expanding =
+          edge_expanding here new e c.place.new.frontier.items c.args.from c.args.most is c.place.ensures.expanding;
       taken =
           subst (λ (x : SpaceValue). IsTaken x c.args.from c.args.step) (sym is)
           (taken_edge v here c.args.from c.in_ok-to.to c.args.step (after m.image m.world c.args.step) e
-          c.place.ensures.grown c.requires.from c.in_ok-to.ensures.there c.in_ok-to.ensures.is
+          c.place.ensures.grown c.requires.expanding.there c.in_ok-to.ensures.there c.in_ok-to.ensures.is
           (ap (λ (x : MachineValue). after x.image x.world c.args.step) c.requires.machine)
-          c.place.ensures.breadth refl);
-      within = omega (arith, ap count is, c.place.ensures.within);
-      frontier = edge_frontier here new e c.place.new.frontier.items (c.args.from + 1) is c.place.ensures.frontier;
-      breadth = edge_breadth here new e c.args.from is c.place.ensures.breadth;
+          c.place.ensures.expanding.breadth refl);
     }

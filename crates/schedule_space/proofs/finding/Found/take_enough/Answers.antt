@@ -1,0 +1,83 @@
+use Rattle.std.proofs.Common.{◌≡◌, arith, rules, inr, subst, get_or}
+use Rattle.std.specs.Prelude.{OnOk, List}
+use Rattle.processor.specs.declared.steps.Step.{Step}
+use Rattle.schedule_space.specs.Spaces.{schedule_of, machine_after}
+use Rattle.schedule_space.specs.Finding.{IsExpanding}
+use Rattle.schedule_space.proofs.Growing.{grown_refl, grown_trans}
+use Rattle.schedule_space.proofs.Taking.{AreAllTaken, IsTakenOrWaits, waits_next, machine_grown}
+use Rattle.schedule_space.proofs.Alone.{expanded_if, followed_if, waiting_taken}
+use Rattle.schedule_space.proofs.finding.Found.take_enough.Goals as goal
+
+pub take_local-requires : goal.take_local-requires
+take_local-requires g c =
+    let expanding : IsExpanding c.loop-step.self c.loop-step.frontier.items c.args.from c.args.most =
+    c.loop-step.invariant.expanding in
+    let machine : c.args.machine.now ≡ machine_after c.loop-step.self.image (schedule_of c.loop-step.self c.args.from) =
+    machine_grown c.args.self.now c.loop-step.self c.args.from c.args.machine.now c.loop-step.invariant.grown
+    c.requires.expanding.there c.requires.machine in
+    search rules
+
+pub take_all-requires : goal.take_all-requires
+take_all-requires g c =
+    let expanding : IsExpanding c.loop-step.self c.loop-step.frontier.items c.args.from c.args.most =
+    c.loop-step.invariant.expanding in
+    let machine : c.args.machine.now ≡ machine_after c.loop-step.self.image (schedule_of c.loop-step.self c.args.from) =
+    machine_grown c.args.self.now c.loop-step.self c.args.from c.args.machine.now c.loop-step.invariant.grown
+    c.requires.expanding.there c.requires.machine in
+    search rules
+
+pub loop-step-init : goal.loop-step-init
+loop-step-init g c = record {
+  grown = grown_refl c.args.self.now;
+  expanding = c.requires.expanding;
+  waits = λ k d below. absurd (omega arith);
+}
+
+pub returns-in_err-is_later-clause-grown : goal.returns-in_err-is_later-clause-grown
+returns-in_err-is_later-clause-grown g c =
+    grown_trans c.args.self.now c.loop-step.self c.take_local.new.self c.loop-step.invariant.grown
+    c.take_local.ensures.grown
+
+pub returns-then-is_later : goal.returns-then-is_later
+returns-then-is_later g c = record {
+  grown =
+      grown_trans c.args.self.now c.loop-step.self c.take_local.new.self c.loop-step.invariant.grown
+      c.take_local.ensures.grown;
+  expanding = c.take_local.ensures.expanding;
+  followed = inr (c.in_ok-is_later.ensures.alone c.if-is_later.true);
+}
+
+pub loop-step-preserved : goal.loop-step-preserved
+loop-step-preserved g c =
+    let here = c.loop-step.self in
+    let new = c.take_local.new.self in
+    let ts = c.args.running.now in
+    let n = c.loop-step.step-index in
+    let none : Step = record { p = 0; s = 0 } in
+    let last : IsTakenOrWaits new c.args.from c.take_local.new.others.items (get_or ts n none) =
+    c.in_ok-is_later.ensures.left c.if-is_later.false in
+    record {
+      grown = grown_trans c.args.self.now here new c.loop-step.invariant.grown c.take_local.ensures.grown;
+      expanding = c.take_local.ensures.expanding;
+      waits =
+          waits_next here new c.args.from n c.loop-step.others.items c.take_local.new.others.items ts none
+          c.take_local.ensures.grown c.loop-step.invariant.expanding.there (omega arith) c.take_local.ensures.others
+          c.loop-step.invariant.waits last;
+    }
+
+pub returns : goal.returns
+returns g c = record {
+  grown =
+      grown_trans c.args.self.now c.loop-step.self c.take_all.new.self c.loop-step.invariant.grown c.take_all.ensures.grown;
+  expanding = c.take_all.ensures.expanding;
+  followed =
+      followed_if c.take_all.result c.take_all.new.self c.args.from
+      (expanded_if c.take_all.result c.args.self.now c.take_all.new.self c.args.from c.args.machine.now c.args.running.now
+      (grown_trans c.args.self.now c.loop-step.self c.take_all.new.self c.loop-step.invariant.grown c.take_all.ensures.grown)
+      c.requires.expanding.there c.requires.machine c.requires.running
+      (waiting_taken c.take_all.result c.loop-step.self c.take_all.new.self c.args.from c.loop-step.step-index
+      c.loop-step.others.items c.args.running.now c.take_all.ensures.grown c.loop-step.invariant.expanding.there
+      (omega arith) c.loop-step.invariant.waits
+      (subst (λ (ts : List Step). OnOk c.take_all.result (AreAllTaken c.take_all.new.self c.args.from ts))
+      c.deref.ensures.value c.take_all.ensures.taken)));
+}

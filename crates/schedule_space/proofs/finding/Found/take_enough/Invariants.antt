@@ -1,0 +1,11 @@
+-- the steps so far are taken, or wait among the others, and the space has grown by them
+use Rattle.schedule_space.specs.Finding.{IsGrown, IsExpanding}
+use Rattle.schedule_space.proofs.Taking.{AreTakenOrWait}
+use Rattle.schedule_space.proofs.finding.Found.take_enough.Given as goal
+
+abbrev pub invariant-loop-step : goal.invariant-loop-step
+invariant-loop-step g l = record {
+  grown : IsGrown l.fn.self l.self;
+  expanding : IsExpanding l.self l.frontier.items l.from l.most;
+  waits : AreTakenOrWait l.self l.from l.others.items l.running l.step-index;
+}
