@@ -63,6 +63,10 @@ pub struct SpaceEnd {
     pub schedule: Vec<Step>,
     /// The first finding of that schedule's run, and how many more there are; empty where there is none.
     pub finding: String,
+    /// The steps of a shortest way round from there; empty where it does not go round.
+    pub round: Vec<Step>,
+    /// The same in words.
+    pub round_words: String,
 }
 
 /// The ends of a space by the names of its program, in the order of their shortest schedules; then, where the space is
@@ -193,6 +197,8 @@ pub(crate) fn new_end(
         sources: 0,
         schedule,
         finding: String::new(alloc),
+        round: Vec::new(alloc),
+        round_words: String::new(alloc),
     })
 }
 

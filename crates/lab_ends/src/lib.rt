@@ -9,6 +9,7 @@ mod every_end;
 mod expected_traps;
 mod findings;
 mod machines;
+mod rounds;
 mod spinning;
 mod strong_sets;
 mod wishes;

@@ -2,6 +2,7 @@
 
 use crate::every_end::{SpaceEnd, SpaceEndKind, new_end};
 use crate::machines::machine_at;
+use crate::rounds::{round_of, round_words};
 use crate::strong_sets::{SetNumbers, closed_sets};
 use lab_texts::{NumberStyle, ProgramNames, push_changed_words, push_part_of, push_stream};
 use machine::Machine;
@@ -69,9 +70,16 @@ fn add_set<const S: usize>(
             end.places.extend_from_slice(places)?;
         }
         None => {
-            let mut end = new_end(alloc, space, first, SpaceEndKind::Spinning, text)?;
-            end.places = Vec::from_slice(alloc, places)?;
-            ends.push(end)?;
+            let machine = machine_at::<S>(alloc, space, first)?;
+            let round = round_of(alloc, space, &machine, first)?;
+            let round_words = round_words(alloc, names, machine, &round)?;
+            let end = new_end(alloc, space, first, SpaceEndKind::Spinning, text)?;
+            ends.push(SpaceEnd {
+                places: Vec::from_slice(alloc, places)?,
+                round,
+                round_words,
+                ..end
+            })?;
         }
     }
     Ok(())

@@ -82,7 +82,11 @@ pub(crate) fn closed_sets(
 }
 
 /// Where the edges of each place begin, and at the end how many there are.
-fn first_edges_of(alloc: Global, edges: &[Edge], count: usize) -> Result<Vec<usize>, AllocError> {
+pub(crate) fn first_edges_of(
+    alloc: Global,
+    edges: &[Edge],
+    count: usize,
+) -> Result<Vec<usize>, AllocError> {
     let mut firsts = Vec::with_capacity(alloc, count)?;
     let mut next = 0;
     for (index, edge) in edges.iter().enumerate() {
@@ -175,7 +179,7 @@ impl Walk {
 }
 
 /// A number of a list; 0 where the list does not have it.
-fn get(numbers: &[usize], place: usize) -> usize {
+pub(crate) fn get(numbers: &[usize], place: usize) -> usize {
     numbers.get(place).copied().unwrap_or(0)
 }
 

@@ -285,11 +285,16 @@ fn push_end_line(
     }
     push_missed(out, expected, end)?;
     out.push_str("\n")?;
-    if end.finding.is_empty() {
+    push_note(out, width, &end.finding)?;
+    push_note(out, width, &end.round_words)
+}
+
+/// Adds a line below that of an end, unless it is empty.
+fn push_note(out: &mut String, width: usize, note: &str) -> Result<(), AllocError> {
+    if note.is_empty() {
         return Ok(());
     }
-    let finding = end.finding.as_str();
-    write!(out, "{:>width$}  {finding}\n", "")
+    write!(out, "{:>width$}  {note}\n", "")
 }
 
 /// Adds in what an end is not as expected, where something is.
@@ -341,9 +346,12 @@ fn push_end_object(
         None => Value::Null,
     };
     let finding = end.finding.as_str();
+    let round = write_schedule(alloc, &end.round)?;
+    let round = round.as_str();
     let value = json!(in alloc; {
         "version": VERSION, "end": kind, "worlds": worlds, "sets": sets, "words": words, "from": sources,
-        "shortest": shortest, "schedule": schedule, "expected": is_as_expected, "missed": missed, "finding": finding
+        "shortest": shortest, "schedule": schedule, "expected": is_as_expected, "missed": missed, "finding": finding,
+        "round": round
     })?;
     push_object(alloc, out, &value)
 }

@@ -81,8 +81,8 @@ breadth_begun v none = record {
       subst (λ (n : ℕ). depth v n ≤ depth v 0 + 1) at (omega arith);
 }
 
--- Where the worlds below a place are expanded, the world after a schedule is one of the space, at a place whose schedule
--- is no longer, or the schedule is longer than that of the place.
+-- Where the worlds below a place are expanded, the world after a schedule is one of the space, at a place whose
+-- schedule is no longer, or the schedule is longer than that of the place.
 
 pub record IsNear (v : SpaceValue) (ts : List Step) : Type 0 where
   pub place : ℕ

@@ -133,7 +133,8 @@ module _ (v : SpaceValue) (all : AllFollowed v) where
 
   -- Where an end can be reached from each world of the space.
 
-  -- from a place, by a schedule: what is known of each shorter schedule, and of the same one from where an end is nearer
+  -- from a place, by a schedule: what is known of each shorter schedule, and of the same one from where an end is
+  -- nearer
   onward_by : (k : ℕ) (ts es : List Step) → IsFollowed v k → (t : Step) (rest : List Step) → ts ≡ t ∷ rest
       → IsEnd v.image (steps v.image (world_of v k) es)
       → ((j : ℕ) (us : List Step) → suc (length us) ≡ length ts → j < count v

@@ -10,7 +10,8 @@ use Rattle.schedule_space.specs.declared.fates.Fate.TheVariants as fate
 abbrev pub IsFinished : World → Type 0
 IsFinished w = ¬ (SomeRuns w)
 
--- the fate is that of the world: finished where no stream runs, a deadlock where it is a standstill, and else it goes on
+-- the fate is that of the world: finished where no stream runs, a deadlock where it is a standstill, and else it goes
+-- on
 abbrev pub IsFate : ImageValue → World → Fate → Type 0
 IsFate image w fate.Finished = IsFinished w
 IsFate image w fate.Deadlock = IsStandstill image w

@@ -1,5 +1,5 @@
--- What steps left. A step changes its processor and the memory alone, and what it leaves there is told by what both held
--- and by the number of its stream.
+-- What steps left. A step changes its processor and the memory alone, and what it leaves there is told by what both
+-- held and by the number of its stream.
 use Rattle.std.specs.Prelude.{◌≡◌, ℕ, ◌<◌, Some, List, [], ◌∷◌, length, slice_get, slice_index_or}
 use Rattle.tag_memory.specs.Storage.{TaggedMemory}
 use Rattle.image_file.specs.ImageValue.{ImageValue}

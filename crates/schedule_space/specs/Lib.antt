@@ -1,5 +1,5 @@
--- What public contracts promise: worlds with links and edges between them, and when they are all that schedules lead to,
--- or all ends.
+-- What public contracts promise: worlds with links and edges between them, and when they are all that schedules lead
+-- to, or all ends.
 pub mod Spaces
 pub mod Fates
 pub mod Reaching

@@ -26,8 +26,8 @@ pub(crate) enum Wanted {
 
 impl<'i> Found<'i> {
     /// Takes steps of the world at a place, from its machine, unless there would be more than `most` worlds: each one,
-    /// or where ends are wanted and a step that concerns its own stream alone leads to a later place, that one. New worlds
-    /// are put behind the frontier.
+    /// or where ends are wanted and a step that concerns its own stream alone leads to a later place, that one. New
+    /// worlds are put behind the frontier.
     pub(crate) fn expand<const S: usize>(
         &mut self,
         frontier: &mut VecDeque<Machine<'i, S>>,
@@ -50,8 +50,9 @@ impl<'i> Found<'i> {
         }
     }
 
-    /// Takes steps of the streams that run, first those that concern their own stream alone: where one of these leads to
-    /// a later place the others wait. What goes round by such steps has one that leads back, so nobody waits for ever.
+    /// Takes steps of the streams that run, first those that concern their own stream alone: where one of these leads
+    /// to a later place the others wait. What goes round by such steps has one that leads back, so nobody waits for
+    /// ever.
     fn take_enough<const S: usize>(
         &mut self,
         frontier: &mut VecDeque<Machine<'i, S>>,
@@ -77,8 +78,8 @@ impl<'i> Found<'i> {
         self.take_all(frontier, machine, from, &others, most)
     }
 
-    /// Takes one step if it concerns its own stream alone, and says whether it does and leads to a later place; else puts
-    /// it behind the others.
+    /// Takes one step if it concerns its own stream alone, and says whether it does and leads to a later place; else
+    /// puts it behind the others.
     fn take_local<const S: usize>(
         &mut self,
         frontier: &mut VecDeque<Machine<'i, S>>,

@@ -26,8 +26,8 @@ pub enum Exploration<'i> {
 }
 
 /// Looks for the worlds that schedules of an image lead to which begin with `begin`, those of fewer steps first, until
-/// there are no more or `most` are found. With no step in `begin` these are all schedules. `S` is for how many streams a
-/// processor the machines of the search have room.
+/// there are no more or `most` are found. With no step in `begin` these are all schedules. `S` is for how many streams
+/// a processor the machines of the search have room.
 ///
 /// `Streams` exactly where the image's slim is above `S`; `NoMemory` where there was not even room for the first world.
 pub fn explore<'i, const S: usize>(
@@ -49,9 +49,9 @@ pub fn explore<'i, const S: usize>(
     search::<S>(alloc, image, begin, Wanted::Worlds, most)
 }
 
-/// Looks for the ends of an image, worlds from which nothing goes on, that schedules lead to which begin with `begin`, in
-/// the same way, but of fewer worlds: where a step concerns its own stream alone and leads to a later place, only that one
-/// is taken. Where the search is complete, each end is there, by a schedule that is as short as any.
+/// Looks for the ends of an image, worlds from which nothing goes on, that schedules lead to which begin with `begin`,
+/// in the same way, but of fewer worlds: where a step concerns its own stream alone and leads to a later place, only
+/// that one is taken. Where the search is complete, each end is there, by a schedule that is as short as any.
 pub fn explore_ends<'i, const S: usize>(
     alloc: Global,
     image: &'i Image,

@@ -123,8 +123,8 @@ impl<'i> Found<'i> {
         Ok(())
     }
 
-    /// The place of the world to which a step leads from the world at a place, the machine's. A new world is put behind the
-    /// others, and its machine behind the frontier.
+    /// The place of the world to which a step leads from the world at a place, the machine's. A new world is put behind
+    /// the others, and its machine behind the frontier.
     pub(crate) fn place<const S: usize>(
         &mut self,
         frontier: &mut VecDeque<Machine<'i, S>>,

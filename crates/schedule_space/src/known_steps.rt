@@ -8,7 +8,7 @@ use std::alloc::{AllocError, Global};
 use std::marker::Model;
 use world_keys::Table;
 
-/// How many steps are kept: 16 megabytes of them.
+/// How many steps are kept, in some 12 megabytes: a program whose processors have one stream each needs far fewer.
 const MOST_STEPS: usize = 1 << 17;
 
 /// Where a table has what a processor holds, and what the memory holds.

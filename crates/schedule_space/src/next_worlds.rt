@@ -13,8 +13,8 @@ use processor::Step;
 use std::alloc::{AllocError, Global};
 use world_keys::{Table, next_key};
 
-/// The key of the world to which a step leads from a machine's world, from the key `before` the step. Only a step of which
-/// it is not known what it leaves is taken, on a copy of the machine.
+/// The key of the world to which a step leads from a machine's world, from the key `before` the step. Only a step of
+/// which it is not known what it leaves is taken, on a copy of the machine.
 pub(crate) fn key_after<const S: usize>(
     alloc: Global,
     contents: &mut Table,

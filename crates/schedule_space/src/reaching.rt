@@ -14,8 +14,8 @@ impl Space<'_> {
     /// For the world at each place, whether some schedule leads from it to an end, a world in which no stream runs or
     /// none that runs can go on. From those where this is false each schedule goes on for ever.
     ///
-    /// Of a complete space, also of one for ends, each answer is exact; of one that was bounded only those that are true
-    /// are known.
+    /// Of a complete space, also of one for ends, each answer is exact; of one that was bounded only those that are
+    /// true are known.
     pub fn can_end(&self, alloc: Global) -> Result<Vec<bool>, AllocError>
         ensures len { IfOk result (λ v. length v.items ≡ count self.now) }
         ensures reach { IfOk result (λ v. (k : ℕ) → k < count self.now → IsMarked v.items k

@@ -14,9 +14,9 @@ use processor::Step;
 use std::alloc::{AllocError, Global};
 use std::marker::Model;
 
-/// Worlds of an image, each once, that schedules lead to: the first is that of the schedule with which all begin, and each
-/// other one has a link, which says by which step from which earlier world it was found. Contracts see the image, the
-/// beginning, the links and the edges; the worlds are those that the schedules of the links lead to.
+/// Worlds of an image, each once, that schedules lead to: the first is that of the schedule with which all begin, and
+/// each other one has a link, which says by which step from which earlier world it was found. Contracts see the image,
+/// the beginning, the links and the edges; the worlds are those that the schedules of the links lead to.
 #[derive(Drop)]
 pub struct Space<'i> {
     image: &'i Image,
