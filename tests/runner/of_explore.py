@@ -1,6 +1,7 @@
 """Every schedule: programs whose worlds are counted by hand, and others beside a search that runs mta_sim for each step."""
 
 import collections
+import itertools
 import json
 import os
 import random
@@ -77,6 +78,20 @@ class Searched:
                     waiting.append(world)
         return found
 
+    def shortest_round(self, world):
+        """How many steps the shortest way from a world back to it has, or a step that stays there."""
+        after = collections.defaultdict(set)
+        for before, to in self.steps:
+            after[before].add(to)
+        if not after[world]:
+            return 1
+        found, reached = set(), {world}
+        for count in itertools.count(1):
+            reached = {to for here in reached for to in after[here]} - found
+            found |= reached
+            if world in found or not reached:
+                return count
+
     def spinning(self):
         """The sets of worlds that no step leads out of, and in which no world is an end."""
         after = collections.defaultdict(set)
@@ -150,8 +165,7 @@ def ends_in(ends):
 def in_end(searched, sets, end):
     """What is wrong with a line of explore; None where nothing is. A line that does not say from how many worlds a
     schedule leads there has None for it."""
-    steps = tuple((int(p), int(s)) for p, s, count in (line.split() for line in end["schedule"].splitlines())
-                  for _ in range(int(count)))
+    steps = steps_of(end["schedule"])
     world, _ = searched.after(steps)
     spins = [found for found in sets if world in found]
     kind = "spinning" if spins else searched.kind(world)
@@ -163,6 +177,21 @@ def in_end(searched, sets, end):
         return f"from {len(searched.sources([world]))} worlds: {end}"
     if spins and end["sets"] == 1 and len(searched.sources(spins[0])) != end["from"]:
         return f"from {len(searched.sources(spins[0]))} worlds: {end}"
+    return in_round(searched, world, steps, end) if spins else None
+
+
+def steps_of(schedule):
+    """The steps of a schedule's text."""
+    return tuple((int(p), int(s)) for p, s, count in (line.split() for line in schedule.splitlines())
+                 for _ in range(int(count)))
+
+
+def in_round(searched, world, steps, end):
+    """What is wrong with the steps that go round from a world that a schedule leads to; None where nothing is."""
+    way = steps_of(end["round"])
+    back, outcome = searched.after((*steps, *way))
+    if back != world or outcome == b"BLOCKED" and len(way) == 1 or len(way) != searched.shortest_round(world):
+        return f"it does not go round in {searched.shortest_round(world)} steps: {end}"
     return None
 
 
