@@ -37,15 +37,15 @@ at_kept image old new proc m l grown is = record {
   known = processor_kept old new image proc grown is.known;
   of = is.of;
   has = has_extended old new (memory_numbers image m) grown is.has;
-  processor = is.processor ∙ sym (place_kept old new image proc grown is.known);
+  content = is.content ∙ sym (place_kept old new image proc grown is.known);
   memory = is.memory ∙ sym (place_extended old new (memory_numbers image m) grown is.has);
 }
 
 -- at the same places the same is held
 at_same : (image : ImageValue) (t : List (List ℕ)) (a b : ProcessorValue) (m n : TaggedMemory) (l k : Places)
-    → l.processor ≡ k.processor → l.memory ≡ k.memory → IsAt image t a m l → IsAt image t b n k → (a ≡ b) × (m ≡ n)
-at_same image t a b m n l k processor memory one other = (
-  same_processor t image a b one.known other.known (sym one.processor ∙ processor ∙ other.processor),
+    → l.content ≡ k.content → l.memory ≡ k.memory → IsAt image t a m l → IsAt image t b n k → (a ≡ b) × (m ≡ n)
+at_same image t a b m n l k content memory one other = (
+  same_processor t image a b one.known other.known (sym one.content ∙ content ∙ other.content),
   same_memory image m n one.of other.of
       (place_same t (memory_numbers image m) (memory_numbers image n) one.has other.has
       (sym one.memory ∙ memory ∙ other.memory)),
@@ -53,16 +53,16 @@ at_same image t a b m n l k processor memory one other = (
 
 -- the places that the key of a world has
 pub at_key : (image : ImageValue) (t : List (List ℕ)) (w : World) (p : ℕ) (key : List ℕ) (l : Places)
-    → IsKnown t image w → p < length w.processors → key ≡ key_of t image w → l.processor ≡ get_or key (p + 1) 0
+    → IsKnown t image w → p < length w.processors → key ≡ key_of t image w → l.content ≡ get_or key (p + 1) 0
     → l.memory ≡ get_or key 0 0 → IsAt image t (processor_in w p) w.memory l
-at_key image t w p key l known there is processor memory =
+at_key image t w p key l known there is content memory =
     let next : p + 1 ≡ suc p = omega arith in
     record {
       known = known.processors p there;
       of = known.memory;
       has = known.numbers;
-      processor =
-          processor
+      content =
+          content
           ∙ ap (λ xs. get_or xs (p + 1) 0) is
           ∙ ap (λ k. get_or (key_of t image w) k 0) next
           ∙ get_or-map (processor_place t) w.processors p no_processor 0 there;
@@ -77,7 +77,7 @@ key_many image t w key is = omega (arith, ap length is, length-map w.processors 
 -- Steps.
 
 -- what a step leaves is told by its processor and the memory
-after_parts : (image : ImageValue) (w : World) (t : Step) → t.p < length w.processors
+pub after_parts : (image : ImageValue) (w : World) (t : Step) → t.p < length w.processors
     → (row_over_memory image (processor_in w t.p) t.s w.memory).0.0 ≡ processor_in (after image w t) t.p
     × ((row_over_memory image (processor_in w t.p) t.s w.memory).1 ≡ (after image w t).memory)
 unfolding world_step
@@ -97,11 +97,11 @@ pub left_again : (image : ImageValue) (t : List (List ℕ)) (w : World) (u : Ste
     → IsLeft image t asked l → IsAt image t (processor_in (after image w u) u.p) (after image w u).memory l
 left_again image t w u before l asked there asked_is at is =
     let same : step_numbers is.before is.s ≡ step_numbers before u.s = sym is.is_asked ∙ asked_is in
-    let processor : is.before.processor ≡ before.processor = cc in
+    let content : is.before.content ≡ before.content = cc in
     let memory : is.before.memory ≡ before.memory = cc in
     let s : is.s ≡ u.s = cc in
     let held =
-    at_same image t is.processor (processor_in w u.p) is.memory w.memory is.before before processor memory is.at at in
+    at_same image t is.processor (processor_in w u.p) is.memory w.memory is.before before content memory is.at at in
     let parts = after_parts image w u there in
     let e = row_over_memory image (processor_in w u.p) u.s w.memory in
     let here : IsAt image t e.0.0 e.1 l =
@@ -168,21 +168,21 @@ key_from image t w u key n c known is there image_is world step memory others = 
 -- the places that its key has
 pub at_next : (image : ImageValue) (t : List (List ℕ)) (w : World) (u : Step) (n : MachineValue) (key : List ℕ) (l : Places)
     → n.image ≡ image → n.world ≡ after image w u → u.p < length w.processors → IsKnown t n.image n.world
-    → key ≡ key_of t n.image n.world → l.processor ≡ get_or key (u.p + 1) 0 → l.memory ≡ get_or key 0 0
+    → key ≡ key_of t n.image n.world → l.content ≡ get_or key (u.p + 1) 0 → l.memory ≡ get_or key 0 0
     → IsAt image t (processor_in (after image w u) u.p) (after image w u).memory l
-at_next image t w u n key l image_is world there known is processor memory =
+at_next image t w u n key l image_is world there known is content memory =
     subst (λ (x : World). IsAt image t (processor_in x u.p) x.memory l) world
     (subst (λ (i : ImageValue). IsAt i t (processor_in n.world u.p) n.world.memory l) image_is
-    (at_key n.image t n.world u.p key l known (there_next image w u n there world) is processor memory))
+    (at_key n.image t n.world u.p key l known (there_next image w u n there world) is content memory))
 
 -- where the step leaves all, those of the key before
 pub at_stays : (image : ImageValue) (t : List (List ℕ)) (w : World) (u : Step) (key : List ℕ) (l : Places)
     → after image w u ≡ w → u.p < length w.processors → IsKnown t image w → key ≡ key_of t image w
-    → l.processor ≡ get_or key (u.p + 1) 0 → l.memory ≡ get_or key 0 0
+    → l.content ≡ get_or key (u.p + 1) 0 → l.memory ≡ get_or key 0 0
     → IsAt image t (processor_in (after image w u) u.p) (after image w u).memory l
-at_stays image t w u key l stays there known is processor memory =
+at_stays image t w u key l stays there known is content memory =
     subst (λ (x : World). IsAt image t (processor_in x u.p) x.memory l) (sym stays)
-    (at_key image t w u.p key l known there is processor memory)
+    (at_key image t w u.p key l known there is content memory)
 
 -- Lists of steps.
 
@@ -290,11 +290,11 @@ key_before image t w u key known is there = record {
 pub key_is : (image : ImageValue) (old new : List (List ℕ)) (w : World) (u : Step) (key more : List ℕ) (l : Places)
     → IsKnown old image w → key ≡ key_of old image w → u.p < length w.processors → Extends old new
     → IsAt image new (processor_in (after image w u) u.p) (after image w u).memory l
-    → more ≡ set (set key 0 l.memory) (u.p + 1) l.processor
+    → more ≡ set (set key 0 l.memory) (u.p + 1) l.content
     → more ≡ key_of new image (after image w u)
 key_is image old new w u key more l known is there grown at made =
-    next_is old new new image (after image w u) l.memory l.processor (any_change u) key more
-    (key_before image old w u key known is there) grown (extends_refl new) at.memory at.has at.processor made
+    next_is old new new image (after image w u) l.memory l.content (any_change u) key more
+    (key_before image old w u key known is there) grown (extends_refl new) at.memory at.has at.content made
 
 pub key_known : (image : ImageValue) (old new : List (List ℕ)) (w : World) (u : Step) (key : List ℕ) (l : Places)
     → IsKnown old image w → key ≡ key_of old image w → u.p < length w.processors → Extends old new

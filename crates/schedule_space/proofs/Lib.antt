@@ -4,6 +4,8 @@ pub mod Resting
 pub mod Reaches
 pub mod Others
 pub mod KnownSteps
+pub mod PlainSteps
+pub mod StreamSteps
 pub mod Growing
 pub mod Parts
 pub mod Keys

@@ -13,7 +13,8 @@ use Rattle.schedule_space.specs.declared.links.Edge.{Edge}
 use Rattle.schedule_space.specs.declared.fates.Fate.{Fate}
 use Rattle.schedule_space.specs.Spaces.{SpaceValue, count, schedule_of, world_of, machine_after, IsEdge}
 use Rattle.schedule_space.specs.Fates.{IsFate}
-use Rattle.schedule_space.specs.KnownSteps.{StepList, AreLeft}
+use Rattle.schedule_space.specs.declared.known_steps.StepsSeen.{StepsSeen}
+use Rattle.schedule_space.specs.StreamSteps.{AreAllLeft}
 use Rattle.schedule_space.specs.Finding.{space_of, with_link, with_edge, IsKeyed, IsFound, IsGrown, IsFrontier, IsBreadthFirst, IsExpanding}
 use Rattle.schedule_space.proofs.Growing.{last_world, with_link_grown, count-link}
 use Rattle.schedule_space.proofs.Parts.{key_at, keys_many, keyed_later, frontier_more, frontier_stays}
@@ -47,15 +48,15 @@ image_at : (v w : SpaceValue) (k : ℕ) (m : MachineValue) → v ≡ w → m ≡
 image_at v w k m view at =
     ap (λ (x : SpaceValue). x.image) view ∙ sym (ap (λ (x : MachineValue). x.image) at)
 
-pub steps_at : (v w : SpaceValue) (table : List (List ℕ)) (steps : StepList) (k : ℕ) (m : MachineValue)
-    → AreLeft v.image table steps → v ≡ w → m ≡ machine_after w.image (schedule_of w k) → AreLeft m.image table steps
+pub steps_at : (v w : SpaceValue) (table : List (List ℕ)) (steps : StepsSeen) (k : ℕ) (m : MachineValue)
+    → AreAllLeft v.image table steps → v ≡ w → m ≡ machine_after w.image (schedule_of w k) → AreAllLeft m.image table steps
 steps_at v w table steps k m all view at =
-    subst (λ (i : ImageValue). AreLeft i table steps) (image_at v w k m view at) all
+    subst (λ (i : ImageValue). AreAllLeft i table steps) (image_at v w k m view at) all
 
-pub steps_back : (v w : SpaceValue) (table : List (List ℕ)) (steps : StepList) (k : ℕ) (m : MachineValue)
-    → AreLeft m.image table steps → v ≡ w → m ≡ machine_after w.image (schedule_of w k) → AreLeft v.image table steps
+pub steps_back : (v w : SpaceValue) (table : List (List ℕ)) (steps : StepsSeen) (k : ℕ) (m : MachineValue)
+    → AreAllLeft m.image table steps → v ≡ w → m ≡ machine_after w.image (schedule_of w k) → AreAllLeft v.image table steps
 steps_back v w table steps k m all view at =
-    subst (λ (i : ImageValue). AreLeft i table steps) (sym (image_at v w k m view at)) all
+    subst (λ (i : ImageValue). AreAllLeft i table steps) (sym (image_at v w k m view at)) all
 
 -- The machine after a step of it.
 

@@ -12,7 +12,8 @@ use Rattle.schedule_space.specs.declared.fates.Fate.TheVariants as fate
 use Rattle.schedule_space.specs.Spaces.{schedules, SpaceValue, count, schedule_of, world_of, machine_after, IsEdge}
 use Rattle.schedule_space.specs.Spaces.{IsDistinct}
 use Rattle.schedule_space.specs.Fates.{IsFate}
-use Rattle.schedule_space.specs.KnownSteps.{StepList, AreLeft}
+use Rattle.schedule_space.specs.declared.known_steps.StepsSeen.{StepsSeen}
+use Rattle.schedule_space.specs.StreamSteps.{AreAllLeft}
 
 -- the space of these parts
 abbrev pub space_of : ImageValue → List Step → List Link → List Edge → SpaceValue
@@ -45,10 +46,10 @@ pub record IsFound (v : SpaceValue) (fates : List Fate) (table keys : List (List
   pub keyed : IsKeyed v table keys
 
 -- the same, and what steps of its worlds left
-pub record IsInTheMaking (v : SpaceValue) (fates : List Fate) (table keys : List (List ℕ)) (steps : StepList)
+pub record IsInTheMaking (v : SpaceValue) (fates : List Fate) (table keys : List (List ℕ)) (steps : StepsSeen)
     : Type 0 where
   pub found : IsFound v fates table keys
-  pub left : AreLeft v.image table steps
+  pub left : AreAllLeft v.image table steps
 
 -- the machines are those of the worlds from this place on, in order
 abbrev pub IsFrontier : SpaceValue → List MachineValue → ℕ → Type 0

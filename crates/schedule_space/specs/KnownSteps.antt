@@ -29,12 +29,12 @@ pub record IsAt (image : ImageValue) (table : List (List ℕ)) (proc : Processor
   pub known : IsKnownProcessor table image proc
   pub of : IsMemoryOf image m
   pub has : Has table (memory_numbers image m)
-  pub processor : l.processor ≡ processor_place table proc
+  pub content : l.content ≡ processor_place table proc
   pub memory : l.memory ≡ place_in table (memory_numbers image m)
 
 -- a step, told by the places of what its processor and the memory hold before it, and by its stream
 abbrev pub step_numbers : Places → ℕ → List ℕ
-step_numbers before s = before.processor ∷ s ∷ before.memory ∷ []
+step_numbers before s = before.content ∷ s ∷ before.memory ∷ []
 
 -- the step leaves these places, of some processor and memory that hold what is at the places before it
 pub record IsLeft (image : ImageValue) (table : List (List ℕ)) (asked : List ℕ) (l : Places) : Type 0 where

@@ -5,5 +5,6 @@ pub mod Fates
 pub mod Reaching
 pub mod Answers
 pub mod KnownSteps
+pub mod StreamSteps
 pub mod Finding
 pub mod Followed

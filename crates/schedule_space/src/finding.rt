@@ -10,7 +10,7 @@ ghost use Rattle.schedule_space.specs.Finding.{space_of, with_edge, IsGrown, IsE
 ghost use Rattle.schedule_space.specs.declared.finding.Stop.TheVariants.{NoMemory};
 
 use crate::fates::{Fate, fate_of};
-use crate::known_steps::KnownSteps;
+use crate::known_steps::StepsSeen;
 use crate::links::{Edge, Link};
 use crate::next_worlds::key_after;
 use crate::spaces::Space;
@@ -34,7 +34,7 @@ pub(crate) struct Found<'i> {
     fates: Vec<Fate>,
     contents: Table,
     keys: Table,
-    steps: KnownSteps,
+    steps: StepsSeen,
 }
 
 impl<'i> Model for Found<'i> {
@@ -100,7 +100,7 @@ impl<'i> Found<'i> {
             fates,
             contents,
             keys,
-            steps: KnownSteps::new(alloc),
+            steps: StepsSeen::new(alloc),
         })
     }
 

@@ -11,10 +11,10 @@ use world_keys::Table;
 /// How many steps are kept, in some 12 megabytes: a program whose processors have one stream each needs far fewer.
 const MOST_STEPS: usize = 1 << 17;
 
-/// Where a table has what a processor holds, and what the memory holds.
+/// Where a table has what a processor or a stream holds, and what the memory holds.
 #[derive(Clone, Copy, Debug, PartialEq, Eq)]
 pub(crate) struct Places {
-    pub(crate) processor: u32,
+    pub(crate) content: u32,
     pub(crate) memory: u32,
 }
 
@@ -71,5 +71,24 @@ impl KnownSteps {
         self.asked.push(Vec::from_slice(alloc, asked)?)?;
         self.left.push_reserved(left);
         Ok(())
+    }
+}
+
+/// Steps that are known by what their processor holds, and such by what their stream holds.
+#[derive(Drop)]
+pub(crate) struct StepsSeen {
+    pub(crate) by_processor: KnownSteps,
+    pub(crate) by_stream: KnownSteps,
+}
+
+impl StepsSeen {
+    /// No step.
+    pub(crate) fn new(alloc: Global) -> StepsSeen
+        ensures { result ≡ record { by_processor = no_steps; by_stream = no_steps } }
+    {
+        StepsSeen {
+            by_processor: KnownSteps::new(alloc),
+            by_stream: KnownSteps::new(alloc),
+        }
     }
 }

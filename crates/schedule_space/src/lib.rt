@@ -7,6 +7,7 @@ mod fates;
 mod finding;
 mod known_steps;
 mod links;
+mod marks;
 mod next_worlds;
 mod reaching;
 mod spaces;

@@ -4,9 +4,11 @@ ghost use Rattle.std.specs.Prelude.{◌≡◌, ◌<◌, ◌+◌, ◌∷◌, [], 
 ghost use Rattle.processor.specs.World.{after};
 ghost use Rattle.world_keys.specs.Tables.{Extends};
 ghost use Rattle.world_keys.specs.WorldKeys.{processor_in, key_of, IsKnown};
-ghost use Rattle.schedule_space.specs.KnownSteps.{IsAt, AreLeft};
+ghost use Rattle.schedule_space.specs.KnownSteps.{IsAt};
+ghost use Rattle.schedule_space.specs.StreamSteps.{AreStreamsLeft, AreAllLeft, IsStreamAsked};
 
-use crate::known_steps::{KnownSteps, Places};
+use crate::known_steps::{KnownSteps, Places, StepsSeen};
+use crate::marks::{is_plain, mark_in, place_with};
 use crate::stepping::{Reach, change_of, reach_of, stepped};
 use machine::Machine;
 use processor::Step;
@@ -18,18 +20,18 @@ use world_keys::{Table, next_key};
 pub(crate) fn key_after<const S: usize>(
     alloc: Global,
     contents: &mut Table,
-    steps: &mut KnownSteps,
+    steps: &mut StepsSeen,
     before: &[u32],
     machine: &Machine<'_, S>,
     step: Step,
 ) -> Result<Vec<u32>, AllocError>
     requires known { IsKnown contents.old machine.now.image machine.now.world }
     requires before { before.now ≡ key_of contents.old machine.now.image machine.now.world }
-    requires steps { AreLeft machine.now.image contents.old steps.old }
+    requires steps { AreAllLeft machine.now.image contents.old steps.old }
     ensures is { IfOk result (λ v. v.items
         ≡ key_of contents.new machine.now.image (after machine.now.image machine.now.world step)) }
     ensures known { OnOk result (IsKnown contents.new machine.now.image (after machine.now.image machine.now.world step)) }
-    ensures steps { AreLeft machine.now.image contents.new steps.new }
+    ensures steps { AreAllLeft machine.now.image contents.new steps.new }
     ensures grown { Extends contents.old contents.new }
 {
     let here = usize::from(step.p) + 1;
@@ -39,12 +41,44 @@ pub(crate) fn key_after<const S: usize>(
     }
     let left = left_by(alloc, contents, steps, before, machine, step)?;
     key[0] = left.memory;
-    key[here] = left.processor;
+    key[here] = left.content;
     Ok(key)
 }
 
 /// What a step leaves of its processor and of the memory.
 fn left_by<const S: usize>(
+    alloc: Global,
+    contents: &mut Table,
+    steps: &mut StepsSeen,
+    before: &[u32],
+    machine: &Machine<'_, S>,
+    step: Step,
+) -> Result<Places, AllocError>
+    requires there { step.p < length machine.now.world.processors }
+    requires known { IsKnown contents.old machine.now.image machine.now.world }
+    requires before { before.now ≡ key_of contents.old machine.now.image machine.now.world }
+    requires steps { AreAllLeft machine.now.image contents.old steps.old }
+    ensures left { IfOk result (λ l. IsAt machine.now.image contents.new
+        (processor_in (after machine.now.image machine.now.world step) step.p)
+        (after machine.now.image machine.now.world step).memory l) }
+    ensures steps { AreAllLeft machine.now.image contents.new steps.new }
+    ensures grown { Extends contents.old contents.new }
+{
+    let asked = [
+        before[usize::from(step.p) + 1],
+        u32::from(step.s),
+        before[0],
+    ];
+    if let Some(left) = steps.by_processor.find(&asked) {
+        return Ok(left);
+    }
+    let left = left_anew(alloc, contents, &mut steps.by_stream, before, machine, step)?;
+    steps.by_processor.keep(alloc, &asked, left)?;
+    Ok(left)
+}
+
+/// The same, by what the step of a stream that held the same left, or by taking it.
+fn left_anew<const S: usize>(
     alloc: Global,
     contents: &mut Table,
     steps: &mut KnownSteps,
@@ -55,24 +89,53 @@ fn left_by<const S: usize>(
     requires there { step.p < length machine.now.world.processors }
     requires known { IsKnown contents.old machine.now.image machine.now.world }
     requires before { before.now ≡ key_of contents.old machine.now.image machine.now.world }
-    requires steps { AreLeft machine.now.image contents.old steps.old }
+    requires steps { AreStreamsLeft machine.now.image contents.old steps.old }
     ensures left { IfOk result (λ l. IsAt machine.now.image contents.new
         (processor_in (after machine.now.image machine.now.world step) step.p)
         (after machine.now.image machine.now.world step).memory l) }
-    ensures steps { AreLeft machine.now.image contents.new steps.new }
+    ensures steps { AreStreamsLeft machine.now.image contents.new steps.new }
     ensures grown { Extends contents.old contents.new }
 {
-    let asked = [
-        before[usize::from(step.p) + 1],
-        u32::from(step.s),
-        before[0],
-    ];
+    let here = places_in(before, step.p);
+    let Some(mark) = mark_in(contents, here.content, step.s) else {
+        return places_after(alloc, contents, before, machine, step);
+    };
+    let asked = [mark.content, here.memory];
     if let Some(left) = steps.find(&asked) {
-        return Ok(left);
+        let content = place_with(alloc, contents, here.content, step.s, mark, left.content)?;
+        return Ok(Places { content, ..left });
     }
     let left = places_after(alloc, contents, before, machine, step)?;
-    steps.keep(alloc, &asked, left)?;
+    keep_stream(alloc, contents, steps, &asked, machine, step, left)?;
     Ok(left)
+}
+
+/// Keeps what a step left that was taken, where it changed its stream and the memory alone.
+fn keep_stream<const S: usize>(
+    alloc: Global,
+    contents: &Table,
+    steps: &mut KnownSteps,
+    asked: &[u32],
+    machine: &Machine<'_, S>,
+    step: Step,
+    left: Places,
+) -> Result<(), AllocError>
+    requires there { step.p < length machine.now.world.processors }
+    requires steps { AreStreamsLeft machine.now.image contents.now steps.old }
+    requires asked { IsStreamAsked machine.now.image contents.now machine.now.world step asked.now }
+    requires left { IsAt machine.now.image contents.now
+        (processor_in (after machine.now.image machine.now.world step) step.p)
+        (after machine.now.image machine.now.world step).memory left }
+    ensures { AreStreamsLeft machine.now.image contents.now steps.new }
+{
+    if !is_plain(machine, step) {
+        return Ok(());
+    }
+    let Some(mark) = mark_in(contents, left.content, step.s) else {
+        return Ok(());
+    };
+    let content = mark.content;
+    steps.keep(alloc, asked, Places { content, ..left })
 }
 
 /// The same, by taking the step.
@@ -104,11 +167,11 @@ fn places_after<const S: usize>(
 /// The places that a key has of a processor and of the memory.
 fn places_in(key: &[u32], p: u8) -> Places
     requires { p + 1 < length key.now }
-    ensures processor { result.processor ≡ slice_index_or key.now (p + 1) 0 }
+    ensures content { result.content ≡ slice_index_or key.now (p + 1) 0 }
     ensures memory { result.memory ≡ slice_index_or key.now 0 0 }
 {
     Places {
-        processor: key[usize::from(p) + 1],
+        content: key[usize::from(p) + 1],
         memory: key[0],
     }
 }

@@ -34,7 +34,7 @@ one_mark n q ms true off = absurd cc
 one_mark n q ms false off = refl
 
 -- the streams are numbered from n on
-from_first : (t : List (List ℕ)) (n : ℕ) (ss : List StreamValue) (k a : ℕ)
+pub from_first : (t : List (List ℕ)) (n : ℕ) (ss : List StreamValue) (k a : ℕ)
     → slice_get (stream_marks t n ss) (2 * k) ≡ Some a → n ≤ a
 unfolding stream_marks
 from_first t n [] k a is = absurd cc

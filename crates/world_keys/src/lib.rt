@@ -12,5 +12,5 @@ mod tables;
 
 pub use keys::world_key;
 pub use laws::keys_tell_worlds_apart;
-pub use next_keys::{Change, next_key};
+pub use next_keys::{Change, mark_of, next_key};
 pub use tables::Table;

@@ -140,8 +140,9 @@ fn changed_numbers<const S: usize>(
     Ok(Some(numbers))
 }
 
-/// Which of the marks in a processor's numbers, which stand in twos behind the first number, is that of this stream.
-fn mark_of(numbers: &[u32], s: u8) -> Option<usize>
+/// Which of the marks in a processor's numbers, which stand in twos behind the first number, is that of this stream; None
+/// where it has none, since the stream is idle. A mark is the stream's number and the place of what it holds.
+pub fn mark_of(numbers: &[u32], s: u8) -> Option<usize>
     ensures within { IfSome result (λ k. 2 * k + 2 < length numbers.now) }
     ensures mark { IfSome result (λ k. slice_get numbers.now (2 * k + 1) ≡ Some s) }
 {

@@ -37,9 +37,9 @@ returns g c =
     record {
       is =
           key_is m.image old new m.world u key
-          (set (set c.in_ok-key.key.items 0 l.memory) (c.from-here.result + 1) l.processor) l c.requires.known
+          (set (set c.in_ok-key.key.items 0 l.memory) (c.from-here.result + 1) l.content) l c.requires.known
           c.requires.before there c.in_ok-left.ensures.grown c.in_ok-left.ensures.left
-          (λ i. set (set (items i) 0 l.memory) (c.from-here.ensures i + 1) l.processor);
+          (λ i. set (set (items i) 0 l.memory) (c.from-here.ensures i + 1) l.content);
       known =
           key_known m.image old new m.world u key l c.requires.known c.requires.before there
           c.in_ok-left.ensures.grown c.in_ok-left.ensures.left;

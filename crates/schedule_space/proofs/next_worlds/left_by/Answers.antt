@@ -9,20 +9,23 @@ returns-in-Some-clause-left g c =
     let m = c.args.machine.now in
     let u = c.args.step in
     let key = c.args.before.now in
-    let b : Places = record { processor = get_or key (u.p + 1) 0; memory = get_or key 0 0 } in
+    let b : Places = record { content = get_or key (u.p + 1) 0; memory = get_or key 0 0 } in
     let l = c.in-Some.left in
     let asked : List ℕ = get_or key (c.from.result + 1) 0 ∷ c.from-2.result ∷ get_or key 0 0 ∷ [] in
     let same : asked ≡ step_numbers b u.s =
     λ i. get_or key (c.from.ensures i + 1) 0 ∷ c.from-2.ensures i ∷ get_or key 0 0 ∷ [] in
-    let seen : IsSeen c.args.steps.now asked l = search rules in
+    let seen : IsSeen c.args.steps.now.by_processor asked l = search rules in
     left_again m.image c.args.contents.now m.world u b l asked c.requires.there same
     (at_key m.image c.args.contents.now m.world u.p key b c.requires.known c.requires.there c.requires.before refl refl)
-    (c.requires.steps asked l seen)
+    (c.requires.steps.by_processor asked l seen)
 
 pub returns-in_err-left-clause-steps : goal.returns-in_err-left-clause-steps
-returns-in_err-left-clause-steps g c =
-    left_kept c.args.machine.now.image c.args.contents.now c.places_after.new.contents c.args.steps.now
-    c.places_after.ensures.grown c.requires.steps
+returns-in_err-left-clause-steps g c = record {
+  by_processor =
+      left_kept c.args.machine.now.image c.args.contents.now c.left_anew.new.contents c.args.steps.now.by_processor
+      c.left_anew.ensures.grown c.requires.steps.by_processor;
+  by_stream = c.left_anew.ensures.steps;
+}
 
 pub returns-in_err-keep-clause-steps : goal.returns-in_err-keep-clause-steps
 returns-in_err-keep-clause-steps g c =
@@ -30,17 +33,21 @@ returns-in_err-keep-clause-steps g c =
     let u = c.args.step in
     let key = c.args.before.now in
     let old = c.args.contents.now in
-    let new = c.places_after.new.contents in
-    let b : Places = record { processor = get_or key (u.p + 1) 0; memory = get_or key 0 0 } in
+    let new = c.left_anew.new.contents in
+    let b : Places = record { content = get_or key (u.p + 1) 0; memory = get_or key 0 0 } in
     let l = c.in_ok-left.left in
     let asked : List ℕ = get_or key (c.from.result + 1) 0 ∷ c.from-2.result ∷ get_or key 0 0 ∷ [] in
     let same : asked ≡ step_numbers b u.s =
     λ i. get_or key (c.from.ensures i + 1) 0 ∷ c.from-2.ensures i ∷ get_or key 0 0 ∷ [] in
-    left_more m.image new c.args.steps.now c.keep.new.self asked l c.keep.ensures
-    (left_kept m.image old new c.args.steps.now c.in_ok-left.ensures.grown c.requires.steps)
-    (left_now m.image old new m.world u b l asked c.in_ok-left.ensures.grown c.requires.there same
-    (at_key m.image old m.world u.p key b c.requires.known c.requires.there c.requires.before refl refl)
-    c.in_ok-left.ensures.left)
+    record {
+      by_processor =
+          left_more m.image new c.args.steps.now.by_processor c.keep.new.self asked l c.keep.ensures
+          (left_kept m.image old new c.args.steps.now.by_processor c.in_ok-left.ensures.grown c.requires.steps.by_processor)
+          (left_now m.image old new m.world u b l asked c.in_ok-left.ensures.grown c.requires.there same
+          (at_key m.image old m.world u.p key b c.requires.known c.requires.there c.requires.before refl refl)
+          c.in_ok-left.ensures.left);
+      by_stream = c.left_anew.ensures.steps;
+    }
 
 pub returns-clause-steps : goal.returns-clause-steps
 returns-clause-steps g c =
@@ -48,14 +55,18 @@ returns-clause-steps g c =
     let u = c.args.step in
     let key = c.args.before.now in
     let old = c.args.contents.now in
-    let new = c.places_after.new.contents in
-    let b : Places = record { processor = get_or key (u.p + 1) 0; memory = get_or key 0 0 } in
+    let new = c.left_anew.new.contents in
+    let b : Places = record { content = get_or key (u.p + 1) 0; memory = get_or key 0 0 } in
     let l = c.in_ok-left.left in
     let asked : List ℕ = get_or key (c.from.result + 1) 0 ∷ c.from-2.result ∷ get_or key 0 0 ∷ [] in
     let same : asked ≡ step_numbers b u.s =
     λ i. get_or key (c.from.ensures i + 1) 0 ∷ c.from-2.ensures i ∷ get_or key 0 0 ∷ [] in
-    left_more m.image new c.args.steps.now c.keep.new.self asked l c.keep.ensures
-    (left_kept m.image old new c.args.steps.now c.in_ok-left.ensures.grown c.requires.steps)
-    (left_now m.image old new m.world u b l asked c.in_ok-left.ensures.grown c.requires.there same
-    (at_key m.image old m.world u.p key b c.requires.known c.requires.there c.requires.before refl refl)
-    c.in_ok-left.ensures.left)
+    record {
+      by_processor =
+          left_more m.image new c.args.steps.now.by_processor c.keep.new.self asked l c.keep.ensures
+          (left_kept m.image old new c.args.steps.now.by_processor c.in_ok-left.ensures.grown c.requires.steps.by_processor)
+          (left_now m.image old new m.world u b l asked c.in_ok-left.ensures.grown c.requires.there same
+          (at_key m.image old m.world u.p key b c.requires.known c.requires.there c.requires.before refl refl)
+          c.in_ok-left.ensures.left);
+      by_stream = c.left_anew.ensures.steps;
+    }

@@ -3,7 +3,7 @@ use Rattle.machine.specs.MachineValue.{MachineValue}
 use Rattle.schedule_space.specs.Spaces.{machine_after}
 use Rattle.world_keys.specs.WorldKeys.{IsMemoryOf}
 use Rattle.schedule_space.proofs.Memories.{memory_of_run}
-use Rattle.schedule_space.proofs.KnownSteps.{none_left}
+use Rattle.schedule_space.proofs.StreamSteps.{all_none}
 use Rattle.schedule_space.proofs.Keys.{found_begun}
 use Rattle.schedule_space.proofs.finding.Found.begin.Goals as goal
 
@@ -22,5 +22,5 @@ invariant_of-result g c = record {
       c.new.ensures.items c.new-2.ensures.items
       (c.requires ∙ ap (machine_after c.args.first.now.image) (sym c.in_ok-from_slice.ensures.items)) c.fate_of-fate.ensures (search rules)
       c.in_ok-key.ensures.known c.in_ok-key.ensures.is (search rules);
-  left = none_left c.image.result.now c.world_key.new.contents c.new-3.result c.new-3.ensures;
+  left = all_none c.image.result.now c.world_key.new.contents c.new-3.result c.new-3.ensures;
 }
