@@ -8,7 +8,8 @@ use std::alloc::{AllocError, Global};
 use std::marker::Model;
 use world_keys::Table;
 
-/// How many steps are kept, in some 12 megabytes: a program whose processors have one stream each needs far fewer.
+/// How many steps are kept of a kind, in some 12 megabytes: a program whose processors have one stream each needs far
+/// fewer.
 const MOST_STEPS: usize = 1 << 17;
 
 /// Where a table has what a processor or a stream holds, and what the memory holds.
@@ -18,7 +19,7 @@ pub(crate) struct Places {
     pub(crate) memory: u32,
 }
 
-/// Steps that were taken, each told by the places before it and the number of its stream, with the places behind it.
+/// Steps that were taken, each told by numbers, with the places behind it.
 #[derive(Drop)]
 pub(crate) struct KnownSteps {
     asked: Table,
@@ -74,10 +75,13 @@ impl KnownSteps {
     }
 }
 
-/// Steps that are known by what their processor holds, and such by what their stream holds.
+/// What steps left that a search has seen, in two tables.
 #[derive(Drop)]
 pub(crate) struct StepsSeen {
+    /// By the place of what their processor holds, the number of their stream, and the place of what the memory holds.
     pub(crate) by_processor: KnownSteps,
+    /// By the places of what their stream and the memory hold: those whose instruction neither reserves nor starts nor
+    /// ends a stream, so that the rest of their processor stays as it is.
     pub(crate) by_stream: KnownSteps,
 }
 

@@ -1,6 +1,6 @@
 //! The key of a machine's world after a step, from the key before it.
 
-ghost use Rattle.std.specs.Prelude.{◌≡◌, ◌<◌, ◌+◌, ◌*◌, true, Some, length, slice_get, slice_index_or};
+ghost use Rattle.std.specs.Prelude.{◌≡◌, ◌≢◌, ◌<◌, ◌+◌, ◌*◌, ℕ, true, Some, None, length, slice_get, slice_index_or};
 ghost use Rattle.std.specs.Prelude.{IfOk, OnOk, IfSome};
 ghost use Rattle.world_keys.specs.Tables.{place_in, Has, Extends};
 ghost use Rattle.world_keys.specs.MemoryNumbers.{memory_numbers};
@@ -140,11 +140,13 @@ fn changed_numbers<const S: usize>(
     Ok(Some(numbers))
 }
 
-/// Which of the marks in a processor's numbers, which stand in twos behind the first number, is that of this stream; None
-/// where it has none, since the stream is idle. A mark is the stream's number and the place of what it holds.
+/// Which of the marks in a processor's numbers, which stand in twos behind the first number, is that of this stream;
+/// None where it has none, since the stream is idle. A mark is the stream's number and the place of what it holds.
 pub fn mark_of(numbers: &[u32], s: u8) -> Option<usize>
     ensures within { IfSome result (λ k. 2 * k + 2 < length numbers.now) }
     ensures mark { IfSome result (λ k. slice_get numbers.now (2 * k + 1) ≡ Some s) }
+    ensures none { result ≡ None → (k : ℕ) → 2 * k + 2 < length numbers.now
+        → slice_get numbers.now (2 * k + 1) ≢ Some s }
 {
     let marks = numbers.len().saturating_sub(1) / 2;
     for mark in 0..marks {
