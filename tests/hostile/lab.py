@@ -20,6 +20,11 @@ NOT_ALL = re.compile(rb"some schedules: |\"complete\":false|\tran out of steps\t
 # how many damaged images and texts are tried
 DAMAGED, TEXTS = 400, 400
 LARGEST = 33_554_432
+# two streams that hand a word on and back for ever, and two of one processor that add
+ROUND = b".entry give\n.entry take\n.data 0\ngive: STORE.S r0, r0, 0\nSKIP ALWAYS, 0, give\n" \
+        b"take: LOAD.S r1, r0, 0\nSKIP ALWAYS, 0, take\n"
+SHARED = b".slim 2\n.entry go\n.data 0\ngo: LIT r2, 1\nRESERVE r3, r2\nTLIT t1, add\nCREATE t1, r2\n" \
+         b"add: LIT r1, 1\nFADD.N r1, r0, 0\nQUIT\n"
 
 
 def lab(words, text=b"", **how):
@@ -49,6 +54,8 @@ def commands(folder):
         ["survey", lock, "--seeds", "5", "--json"],
         ["explore", racing],
         ["explore", racing, "--json"],
+        ["explore", write(folder, "round.asm", ROUND)],
+        ["explore", "--plain", write(folder, "shared.asm", SHARED)],
         ["grade", "--explore", "--expect", wishes, racing],
         ["grade", "--expect", wishes, "--seeds", "5", *sorted(os.path.join(GRADED, it) for it in os.listdir(GRADED))],
     ]
