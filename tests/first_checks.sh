@@ -1,7 +1,7 @@
 #!/usr/bin/env bash
 # What can be seen before any proof, in seconds: the layout of code and definitions, texts that speak of what a reader has
-# not, links, the counts and the kit's identity that README.md names, the version, the names that editors know, and that
-# each must-fail edit can be applied. A line says what is not so; the last one counts the checks.
+# not, links, the counts and the kit's identity that README.md names, the version, the names of wrong bodies, those that
+# editors know, and that each must-fail edit can be applied. A line says what is not so; the last one counts the checks.
 set -u
 cd "$(dirname "$0")/.." || exit 1
 passed=0
@@ -76,6 +76,16 @@ described() {
   done
 }
 
+# wrong_bodies: edits that make test tries, and that docs/PROMISES.md does not name for their crate
+wrong_bodies() {
+  local file crate name
+  for file in crates/*/must-fail/*.edit; do
+    crate=$(echo "$file" | cut -d / -f 2)
+    name=$(basename "$file" .edit)
+    grep "^| \`$crate\` | " docs/PROMISES.md | grep -qF "\`$name\`" || echo "docs/PROMISES.md: no $name of $crate"
+  done
+}
+
 # about_crates: crates without a README.md, names in one that are not in the crate's src, and calls that do not stand in
 # the file that it names
 about_crates() {
@@ -112,6 +122,7 @@ verdict "another kit" < <(kit)
 verdict "versions" < <(version)
 verdict "crates without a line" < <(described)
 verdict "documents of crates" < <(about_crates)
+verdict "wrong bodies without a name" < <(wrong_bodies)
 verdict "the operation table, in docs/MACHINE.md (<) and in Row.antt (>)" < <(operation_table)
 verdict "what to trust" < <(python3 tests/trust --check 2>&1)
 verdict "counts" < <(counts)
