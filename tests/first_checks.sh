@@ -57,15 +57,21 @@ counts() {
   named "rows of tables" "$(cases)"
 }
 
+# kit: the logic in which all is proved; kits of other names have the same
 kit() {
-  grep -qF "\`$(rt version)\`" README.md || echo "rt version says '$(rt version)', and README.md names another kit"
+  local logic
+  logic=$(rt version | sed -n 's/^.* \(logic [0-9a-f]*\)$/\1/p')
+  grep -qF "\`$logic\`" README.md || echo "rt version says '$(rt version)', and README.md names another logic"
 }
 
+# version: that of each program is the newest of CHANGELOG.md
 version() {
-  local named newest
-  named=$(sed -n 's/^pub const VERSION: &str = "\([0-9.]*\)";$/\1/p' crates/command_line/src/lib.rt)
+  local file named newest
   newest=$(sed -n 's/^## //p' CHANGELOG.md | head -n 1)
-  [ "$named" = "$newest" ] || echo "the program's version is '$named', CHANGELOG.md has '$newest'"
+  for file in crates/command_line/src/lib.rt crates/lab_command_line/src/lib.rt; do
+    named=$(sed -n 's/^pub const VERSION: &str = "\([0-9.]*\)";$/\1/p' "$file")
+    [ "$named" = "$newest" ] || echo "$file has version '$named', CHANGELOG.md has '$newest'"
+  done
 }
 
 # crates that ARCHITECTURE.md has no line for
@@ -118,7 +124,7 @@ operation_table() {
 verdict "files in another layout than rt fmt's" < <(sources | xargs "$(rattle)" fmt --check 2>&1)
 verdict "texts that cite what a reader has not" < <(citations)
 verdict "links that lead nowhere" < <(links)
-verdict "another kit" < <(kit)
+verdict "another logic" < <(kit)
 verdict "versions" < <(version)
 verdict "crates without a line" < <(described)
 verdict "documents of crates" < <(about_crates)

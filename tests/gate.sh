@@ -36,6 +36,7 @@ finish() {
   exit
 }
 
+echo "== $(rt version), on $(nproc) processors"
 part "what needs no proof" tests/first_checks.sh || finish
 part "proofs, must-fail edits and tests in Rattle" tests/proofs.sh
 part "cases on the built program" python3 tests/runner

@@ -2,7 +2,7 @@
 """What a reader has to trust: follows the words of contracts to their definitions. Without an argument it writes
 docs/TRUST.md; with --check it says whether that is what it would write; with --unreached it names the definitions of
 specs/ that no public contract reaches; with --unsaid those that docs/TRUST.md has no sentence for, since no comment
-stands above them. Needs Python 3, and rt for the kit's name."""
+stands above them. Needs Python 3, and rt for the logic's name."""
 
 import sys
 
@@ -19,18 +19,20 @@ import specs
 PAGE = "docs/TRUST.md"
 
 
-def kit():
-    return subprocess.run(["rt", "version"], capture_output=True, text=True, check=True).stdout.strip()
+def logic():
+    """The logic of the kit that is here, which kits of other names have too."""
+    said = subprocess.run(["rt", "version"], capture_output=True, text=True, check=True).stdout
+    return said.strip().rpartition(" ")[2]
 
 
 def write():
     with open(PAGE, "w", encoding="utf-8") as page:
-        page.write(document.document(kit()))
+        page.write(document.document(logic()))
 
 
 def check():
     with open(PAGE, encoding="utf-8") as page:
-        if page.read() != document.document(kit()):
+        if page.read() != document.document(logic()):
             print(f"{PAGE} is not what make trust writes now")
             return 1
     return 0

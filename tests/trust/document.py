@@ -19,7 +19,7 @@ functions below, and the definitions that their words stand for.
 
 What has to be trusted:
 
-- **The toolchain**: the prover and compiler of the Rattle kit, `{kit}`, and the compiler and
+- **The toolchain**: the prover and compiler of a Rattle kit whose logic is `{logic}`, and the compiler and
   linker behind them.
 - **The C library**, and the operating system below it: files, terminals, memory and threads.
 - **The kit's statements**: what the contracts of its libraries say of their functions, and what the words mean that the
@@ -124,12 +124,12 @@ def kit_part(reaches):
     return lines + table(("module", "words"), rows)
 
 
-def document(kit):
+def document(logic):
     functions = {name: root(name) for name in ROOTS}
     reaches = {name: reach.of([function]) for name, function in functions.items()}
     with open("HANDLES", encoding="utf-8") as text:
         handles = text.read().strip()
-    lines = INTRODUCTION.format(kit=kit, handles=handles).splitlines()
+    lines = INTRODUCTION.format(logic=logic, handles=handles).splitlines()
     lines += ["", "## How much it is", ""] + sum_table(reaches, functions)
     listed = set()
     for name, function in functions.items():

@@ -1,19 +1,19 @@
 //! The parsers of the commands.
 
-use crate::help;
 use crate::options::{
     MOST_SEEDS, MOST_STEPS, MOST_WORLDS, files, flag, needed, number_option, option, optional,
 };
+use crate::{VERSION, help};
 use clap::{Arg, Command};
 use std::alloc::{AllocError, Global};
 
 /// The parser of the command lines, with the texts that it prints.
-pub(crate) fn lab_parser<'a>(alloc: Global, version: &'a str) -> Result<Command<'a>, AllocError> {
+pub(crate) fn lab_parser<'a>(alloc: Global) -> Result<Command<'a>, AllocError> {
     Command::new(alloc, "mta_lab")
         .about("Shows what programs of the Tera MTA do")
         .long_about(help::TOOL)
         .after_help(help::STATUSES)
-        .version(version)
+        .version(VERSION)
         .subcommand_required(true)
         .subcommand(check_parser(alloc)?)?
         .subcommand(schedule_parser(alloc)?)?

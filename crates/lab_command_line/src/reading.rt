@@ -1,12 +1,12 @@
 //! The command line, read.
 
-use crate::commands::{
-    CheckRequest, ExploreRequest, FileKind, GradeRequest, LabCommand, Maker, PageRequest,
-    RunChoice, Shown, SurveyRequest, ViewRequest,
-};
 use crate::options::{USUAL_SEEDS, USUAL_STEPS, USUAL_WORLDS, count, number, text, word, words};
 use crate::parsers::lab_parser;
 use clap::{ArgMatches, Error};
+use lab_requests::{
+    CheckRequest, ExploreRequest, FileKind, GradeRequest, LabCommand, Maker, PageRequest,
+    RunChoice, Shown, SurveyRequest, ViewRequest,
+};
 use std::alloc::{AllocError, Global};
 use std::convert::AsStr;
 
@@ -15,10 +15,9 @@ use std::convert::AsStr;
 /// The error has the text for the user, also where help or the version was asked for, or memory was refused.
 pub fn read_lab_command<'a, S: AsStr>(
     alloc: Global,
-    version: &'a str,
     line: &'a [S],
 ) -> Result<LabCommand<'a>, Error> {
-    let matches = lab_parser(alloc, version)?.try_get_matches_from(line)?;
+    let matches = lab_parser(alloc)?.try_get_matches_from(line)?;
     Ok(command_of(alloc, &matches)?)
 }
 

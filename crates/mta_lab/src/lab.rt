@@ -1,21 +1,15 @@
 //! The program, from its command line to its status.
 
-use crate::adapting::adapt;
-use crate::answer::{Answer, Status};
-use crate::assembling::assemble_file;
-use crate::checking::check;
-use crate::comparing::compare;
-use crate::debugging::{Screen, debug};
-use crate::exploring::explore;
-use crate::grading::grade;
-use crate::inputs::Inputs;
-use crate::lab_fault::LabFault;
-use crate::paging::write_page;
-use crate::picturing::write_picture;
-use crate::scheduling::make_schedule;
-use crate::surveying::survey;
-use crate::viewing::view;
-use lab_command_line::{LabCommand, read_lab_command};
+use command_parts::{Answer, Inputs, LabFault, Status};
+use lab_adapter::adapt;
+use lab_checks::{assemble_file, check, make_schedule};
+use lab_command_line::read_lab_command;
+use lab_debugger::{Screen, debug};
+use lab_explorer::explore;
+use lab_grades::{grade, survey};
+use lab_pages::{write_page, write_picture};
+use lab_requests::LabCommand;
+use lab_views::{compare, view};
 use std::alloc::Global;
 use std::convert::AsStr;
 use std::io::{Error, ErrorKind, Read, Write};
@@ -23,9 +17,6 @@ use std::marker::Send;
 use std::rt::Files;
 use std::sync::Wait;
 use std::thread::Threads;
-
-/// The program's version; CHANGELOG.md says what each brought.
-const VERSION: &str = "0.3.0";
 
 /// Runs the command of a command line, whose first word is the program's name, on these files and standard streams,
 /// and gives the exit status ("Exit statuses", docs/LAB.md). All is composed before anything is written. `is_terminal`:
@@ -47,7 +38,7 @@ pub(crate) fn run_lab<
     errors: &mut E,
     is_terminal: bool,
 ) -> u8 {
-    let command = match read_lab_command(alloc, VERSION, words) {
+    let command = match read_lab_command(alloc, words) {
         Ok(command) => command,
         Err(error) if error.use_stderr() => {
             let _ = write!(errors, "{error}");

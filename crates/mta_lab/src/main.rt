@@ -1,33 +1,7 @@
 //! The program for people: words for faults, schedules, views, grades (docs/LAB.md).
 #![tactic(auto)]
 
-mod adapting;
-mod answer;
-mod assembling;
-mod checking;
-mod comparing;
-mod debug_desk;
-mod debug_lines;
-mod debug_points;
-mod debug_shows;
-mod debug_words;
-mod debugging;
-mod explored_grades;
-mod exploring;
-mod grading;
-mod inputs;
-mod json;
 mod lab;
-mod lab_fault;
-mod loose_schedules;
-mod outcomes;
-mod paging;
-mod picturing;
-mod programs;
-mod scheduling;
-mod surveying;
-mod viewing;
-mod wished;
 
 use lab::run_lab;
 use std::env;

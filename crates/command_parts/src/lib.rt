@@ -1,0 +1,22 @@
+//! What the commands of the lab have in common: what they read, how they run a program, what they answer.
+#![tactic(auto)]
+
+mod answer;
+mod inputs;
+mod json_lines;
+mod lab_fault;
+mod loose_schedules;
+mod number_styles;
+mod outputs;
+mod programs;
+mod runs;
+
+pub use answer::{Answer, Status};
+pub use inputs::Inputs;
+pub use json_lines::push_object;
+pub use lab_fault::LabFault;
+pub use loose_schedules::{check_loose_schedule, read_loose_schedule};
+pub use number_styles::style_of;
+pub use outputs::write_file;
+pub use programs::{Program, is_image, program_of, read_program};
+pub use runs::{loaded, made_by, read_steps, steps_of};

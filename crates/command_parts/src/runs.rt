@@ -1,0 +1,93 @@
+//! By which steps a program runs: those of a schedule's file, or of a schedule that is made.
+
+use crate::inputs::Inputs;
+use crate::lab_fault::LabFault;
+use crate::loose_schedules::{check_loose_schedule, read_loose_schedule};
+use crate::programs::Program;
+use image_file::Image;
+use lab_requests::{Maker, RunChoice};
+use machine::{LoadFault, Machine};
+use processor::Step;
+use schedule_makers::{MadeSchedule, fair, random, rounds};
+use source_faults::push_message;
+use std::alloc::{AllocError, Global};
+use std::io::Read;
+use std::rt::Files;
+use trace_text::{ScheduleFault, ScheduleFaultKind};
+
+/// The schedule that a rule makes of an image.
+pub fn made_by(
+    alloc: Global,
+    image: &Image,
+    maker: Maker,
+    most: usize,
+) -> Result<MadeSchedule, AllocError> {
+    if image.slim() <= 8 {
+        made_on(&mut loaded::<8>(alloc, image)?, alloc, maker, most)
+    } else {
+        made_on(&mut loaded::<128>(alloc, image)?, alloc, maker, most)
+    }
+}
+
+/// The machine of an image, whose streams a processor has `S` places at least.
+pub fn loaded<const S: usize>(alloc: Global, image: &Image) -> Result<Machine<'_, S>, AllocError> {
+    match Machine::load(alloc, image) {
+        Ok(machine) => Ok(machine),
+        Err(LoadFault::NoMemory | LoadFault::Streams) => Err(AllocError),
+    }
+}
+
+/// The schedule that a rule makes on a machine.
+fn made_on<const S: usize>(
+    machine: &mut Machine<'_, S>,
+    alloc: Global,
+    maker: Maker,
+    most: usize,
+) -> Result<MadeSchedule, AllocError> {
+    match maker {
+        Maker::Rounds => rounds(alloc, machine, most),
+        Maker::Fair => fair(alloc, machine, most),
+        Maker::Random { seed } => random(alloc, machine, seed, most),
+    }
+}
+
+/// The steps by which a program is to run.
+pub fn steps_of<F: Files, R: Read>(
+    alloc: Global,
+    inputs: &mut Inputs<'_, F, R>,
+    program: &Program,
+    run: RunChoice,
+) -> Result<Vec<Step>, LabFault> {
+    match run {
+        RunChoice::File(path) => read_steps(alloc, inputs, program, path),
+        RunChoice::Made { maker, most } => {
+            Ok(made_by(alloc, &program.image, maker, most)?.steps)
+        }
+    }
+}
+
+/// The steps of a schedule's file.
+pub fn read_steps<F: Files, R: Read>(
+    alloc: Global,
+    inputs: &mut Inputs<'_, F, R>,
+    program: &Program,
+    path: &str,
+) -> Result<Vec<Step>, LabFault> {
+    let text = inputs.read(alloc, path)?;
+    match read_loose_schedule(alloc, &text) {
+        Ok(steps) => Ok(steps),
+        Err(
+            ScheduleFault {
+                kind: ScheduleFaultKind::NoMemory,
+                ..
+            },
+        ) => Err(LabFault::NoMemory),
+        Err(_) => {
+            let mut lines = String::new(alloc);
+            for message in &check_loose_schedule(alloc, &text, Some(&program.image))? {
+                push_message(&mut lines, path, &text, message)?;
+            }
+            Err(LabFault::Lines(lines))
+        }
+    }
+}

@@ -1,0 +1,339 @@
+//! The command `dap`: requests of an editor from standard input, answers on standard output.
+
+use command_parts::{Inputs, LabFault, Program, Status, is_image, program_of, steps_of};
+use crossbeam_channel::{Receiver, Sender};
+use debug_adapter::{
+    Adapter, Client, Connection, Frame, Frames, Json, LaunchRequest, Origin, Request,
+    ScheduleChoice, Turn, greet, launch_of, read_request,
+};
+use lab_requests::{Maker, RunChoice};
+use lab_texts::ProgramNames;
+use named_session::NamedSession;
+use processor::Step;
+use replay_debugger::Session;
+use source_places::SourcePlaces;
+use std::alloc::Global;
+use std::io::{ErrorKind, Read, Write};
+use std::marker::Send;
+use std::rt::Files;
+use std::sync::Wait;
+use std::thread;
+use std::thread::Threads;
+
+/// The bytes that one read asks for.
+const CHUNK: usize = 65_536;
+
+/// How many messages wait at most while another is answered.
+const WAITING: usize = 4;
+
+/// Answers the requests on standard input. A thread reads them, so that one is seen while a search is under way.
+pub fn adapt<X: Threads + Wait + Sync, F: Files, R: Read + Send, W: Write>(
+    rt: &X,
+    alloc: Global,
+    files: &F,
+    input: &mut R,
+    output: &mut W,
+) -> Result<Status, LabFault> {
+    let (sender, receiver) = crossbeam_channel::bounded(alloc, WAITING)?;
+    let (_, served) = thread::join(
+        rt,
+        || read_frames(rt, alloc, input, sender),
+        || serve_all(rt, alloc, files, receiver, output),
+    );
+    served
+}
+
+/// Reads messages and passes them on, up to one that asks for the end, or to the end of the input.
+fn read_frames<X: Wait, R: Read>(
+    rt: &X,
+    alloc: Global,
+    input: &mut R,
+    sender: Sender<Frame, Global>,
+) {
+    let mut frames = Frames::new(alloc);
+    let mut chunk = [0u8; CHUNK];
+    for _ in 0..u64::MAX {
+        let Ok(count) = input.read(&mut chunk) else {
+            return;
+        };
+        if count == 0 {
+            return;
+        }
+        for byte in chunk.get(..count).unwrap_or(b"") {
+            if !pass_on(rt, alloc, &mut frames, *byte, &sender) {
+                return;
+            }
+        }
+    }
+}
+
+/// Takes a byte, and passes on what ends with it. Whether more is to be read.
+fn pass_on<X: Wait>(
+    rt: &X,
+    alloc: Global,
+    frames: &mut Frames,
+    byte: u8,
+    sender: &Sender<Frame, Global>,
+) -> bool {
+    match frames.take(byte) {
+        Ok(None) => true,
+        Ok(Some(frame)) => {
+            let is_last = asks_for_end(alloc, &frame);
+            sender.send(rt, frame).is_ok() && !is_last
+        }
+        Err(_) => false,
+    }
+}
+
+/// Whether a message asks for the end.
+fn asks_for_end(alloc: Global, frame: &Frame) -> bool {
+    match frame {
+        Frame::Message(bytes) => match read_request(alloc, bytes) {
+            Ok(request) => request.command.as_str() == "disconnect",
+            Err(_) => true,
+        },
+        Frame::TooLong | Frame::NoMessage => false,
+    }
+}
+
+/// Answers the messages that come, up to one that asks for the end, or to the last.
+fn serve_all<X: Wait, F: Files, W: Write>(
+    rt: &X,
+    alloc: Global,
+    files: &F,
+    receiver: Receiver<Frame, Global>,
+    output: &mut W,
+) -> Result<Status, LabFault> {
+    let mut line = Line {
+        receiver,
+        connection: Connection::new(alloc),
+        output,
+    };
+    serve(rt, alloc, files, &mut line)
+}
+
+/// The same on a line.
+fn serve<X: Wait, F: Files, W: Write>(
+    rt: &X,
+    alloc: Global,
+    files: &F,
+    line: &mut Line<'_, W>,
+) -> Result<Status, LabFault> {
+    let mut client = Client::usual();
+    for _ in rt.forever() {
+        let Some(request) = line.next(rt, alloc)? else {
+            return Ok(Status::Done);
+        };
+        let turn = if request.command.as_str() == "launch" {
+            launch_by(rt, alloc, files, &request, client, line)?
+        } else {
+            greet(alloc, &mut line.connection, &mut client, &request)?
+        };
+        if turn == Turn::End {
+            line.flush()?;
+            return Ok(Status::Done);
+        }
+    }
+    unreachable!()
+}
+
+/// Answers a request to launch a program, and where it can be launched all requests up to the end.
+fn launch_by<X: Wait, F: Files, W: Write>(
+    rt: &X,
+    alloc: Global,
+    files: &F,
+    request: &Request,
+    client: Client,
+    line: &mut Line<'_, W>,
+) -> Result<Turn, LabFault> {
+    let launch = match launch_of(alloc, request)? {
+        Ok(launch) => launch,
+        Err(words) => {
+            line.connection.refuse(alloc, request.seq, "launch", words)?;
+            return Ok(Turn::On);
+        }
+    };
+    match load(alloc, files, &launch) {
+        Ok(loaded) => {
+            launch_on(rt, alloc, &loaded, &launch, client, line)?;
+            Ok(Turn::End)
+        }
+        Err(LabFault::Words(words) | LabFault::Lines(words)) => {
+            line.connection
+                .refuse(alloc, launch.seq, "launch", words.trim())?;
+            Ok(Turn::On)
+        }
+        Err(fault) => Err(fault),
+    }
+}
+
+/// Launches a program, and answers requests up to the end.
+fn launch_on<X: Wait, W: Write>(
+    rt: &X,
+    alloc: Global,
+    loaded: &Loaded,
+    launch: &LaunchRequest,
+    client: Client,
+    line: &mut Line<'_, W>,
+) -> Result<(), LabFault> {
+    let text = &loaded.program.text;
+    let names = ProgramNames::of(alloc, text)?;
+    let places = SourcePlaces::of(alloc, text)?;
+    let steps = Vec::from_slice(alloc, &loaded.steps)?;
+    let Ok(session) = Session::<128>::begin(alloc, &loaded.program.image, steps) else {
+        return Err(LabFault::NoMemory);
+    };
+    let origin = Origin {
+        path: launch.program.as_str(),
+        listing: if loaded.is_image {
+            Some(std::str::from_utf8(text).unwrap_or(""))
+        } else {
+            None
+        },
+        stops_on_entry: launch.stops_on_entry,
+        client,
+    };
+    let named = NamedSession::new(session, places);
+    let mut adapter = Adapter::new(alloc, named, &names, origin);
+    let empty = Json::new(alloc);
+    line.connection
+        .respond(alloc, launch.seq, "launch", &empty)?;
+    line.connection.outbox.tell(alloc, "initialized", &empty)?;
+    answer_all(rt, alloc, &mut adapter, line)
+}
+
+/// Answers messages over a launched program, and goes on with what is under way between them.
+fn answer_all<X: Wait, W: Write>(
+    rt: &X,
+    alloc: Global,
+    adapter: &mut Adapter<'_, '_, '_>,
+    line: &mut Line<'_, W>,
+) -> Result<(), LabFault> {
+    for _ in rt.forever() {
+        let request = if adapter.is_under_way() {
+            line.next_there(rt, alloc)?
+        } else {
+            match line.next(rt, alloc)? {
+                Some(request) => Some(request),
+                None => return Ok(()),
+            }
+        };
+        match request {
+            Some(request) => {
+                if adapter.handle(&mut line.connection, &request)? == Turn::End {
+                    return line.flush();
+                }
+            }
+            None => adapter.go_on(&mut line.connection)?,
+        }
+    }
+    unreachable!()
+}
+
+/// A program that was launched, and its schedule.
+#[derive(Drop)]
+struct Loaded {
+    program: Program,
+    is_image: bool,
+    steps: Vec<Step>,
+}
+
+/// Reads what is to be launched.
+fn load<F: Files>(alloc: Global, files: &F, launch: &LaunchRequest) -> Result<Loaded, LabFault> {
+    let mut none: &'static [u8] = b"";
+    load_from(alloc, files, &mut none, launch)
+}
+
+/// The same, with a standard input that has nothing.
+fn load_from<'a, F: Files>(
+    alloc: Global,
+    files: &'a F,
+    none: &'a mut &'static [u8],
+    launch: &LaunchRequest,
+) -> Result<Loaded, LabFault> {
+    let mut inputs = Inputs { files, input: none };
+    let path = launch.program.as_str();
+    if path == "-" {
+        return Err(LabFault::Words(String::from_str(
+            alloc,
+            "standard input has the requests, and no program",
+        )?));
+    }
+    let bytes = inputs.read(alloc, path)?;
+    let is_image = is_image(&bytes);
+    let program = program_of(alloc, path, bytes)?;
+    let most = launch.steps;
+    let run = match &launch.schedule {
+        ScheduleChoice::File(path) => RunChoice::File(path.as_str()),
+        ScheduleChoice::Fair => RunChoice::Made {
+            maker: Maker::Fair,
+            most,
+        },
+        ScheduleChoice::Rounds => RunChoice::Made {
+            maker: Maker::Rounds,
+            most,
+        },
+        ScheduleChoice::Random(seed) => RunChoice::Made {
+            maker: Maker::Random { seed: *seed },
+            most,
+        },
+    };
+    let steps = steps_of(alloc, &mut inputs, &program, run)?;
+    Ok(Loaded {
+        program,
+        is_image,
+        steps,
+    })
+}
+
+/// Where messages come from, and where they go.
+#[derive(Drop)]
+struct Line<'a, W> {
+    receiver: Receiver<Frame, Global>,
+    connection: Connection,
+    output: &'a mut W,
+}
+
+impl<W: Write> Line<'_, W> {
+    /// Writes what is to be sent.
+    fn flush(&mut self) -> Result<(), LabFault> {
+        let wrote = self
+            .output
+            .write_all(self.connection.outbox.out.as_bytes())
+            .and_then(|()| self.output.flush());
+        self.connection.outbox.out.clear();
+        match wrote {
+            Ok(()) => Ok(()),
+            Err(error) if error.kind() == ErrorKind::BrokenPipe => Err(LabFault::Closed),
+            Err(_) => Err(LabFault::Write),
+        }
+    }
+
+    /// Writes what is to be sent, and waits for the next request; None at the end of the input. What is no request is
+    /// one of an empty command.
+    fn next<X: Wait>(&mut self, rt: &X, alloc: Global) -> Result<Option<Request>, LabFault> {
+        self.flush()?;
+        match self.receiver.recv(rt) {
+            Ok(frame) => Ok(Some(request_of(alloc, &frame)?)),
+            Err(_) => Ok(None),
+        }
+    }
+
+    /// The same where one has come already, and else None.
+    fn next_there<X: Wait>(&mut self, rt: &X, alloc: Global) -> Result<Option<Request>, LabFault> {
+        self.flush()?;
+        match self.receiver.try_recv(rt) {
+            Ok(frame) => Ok(Some(request_of(alloc, &frame)?)),
+            Err(_) => Ok(None),
+        }
+    }
+}
+
+/// The request of a frame.
+fn request_of(alloc: Global, frame: &Frame) -> Result<Request, LabFault> {
+    let bytes = match frame {
+        Frame::Message(bytes) => bytes.as_slice(),
+        Frame::TooLong | Frame::NoMessage => b"",
+    };
+    Ok(read_request(alloc, bytes)?)
+}

@@ -1,0 +1,47 @@
+//! The command `asm`.
+
+use command_parts::{Answer, Inputs, LabFault, Status, is_image, program_of, write_file};
+use image_file::write_image;
+use std::alloc::Global;
+use std::fs;
+use std::io::{Read, Write};
+use std::rt::Files;
+
+/// Assembles a source text. The image is written beside its place and renamed to there, so what was there is kept
+/// until the new one is whole.
+pub fn assemble_file<F: Files, R: Read>(
+    alloc: Global,
+    inputs: &mut Inputs<'_, F, R>,
+    source: &str,
+    image: Option<&str>,
+) -> Result<Answer, LabFault> {
+    let bytes = inputs.read(alloc, source)?;
+    if is_image(&bytes) {
+        return Err(LabFault::Words(format!(in alloc;
+            "{source}: this is an image, and no source text"
+        )?));
+    }
+    let program = program_of(alloc, source, bytes)?;
+    let place = match image {
+        Some(path) => String::from_str(alloc, path)?,
+        None => image_path(alloc, source)?,
+    };
+    if place.as_str() == source {
+        return Err(LabFault::Words(format!(in alloc;
+            "{source}: the image would be written over its source"
+        )?));
+    }
+    let written = write_image(alloc, &program.image)?;
+    write_file(alloc, inputs.files, &place, &written)?;
+    Ok(Answer {
+        output: String::new(alloc),
+        errors: String::new(alloc),
+        status: Status::Done,
+    })
+}
+
+/// The path of a source's image: its name with `.image` in place of `.asm`.
+fn image_path(alloc: Global, source: &str) -> Result<String, LabFault> {
+    let stem = source.strip_suffix(".asm").unwrap_or(source);
+    Ok(format!(in alloc; "{stem}.image")?)
+}

@@ -1,0 +1,95 @@
+//! The command `check`.
+
+use crate::messages::push_message_object;
+use command_parts::{
+    Answer, Inputs, LabFault, Status, check_loose_schedule, is_image, read_program,
+};
+use image_file::{Image, ImageFault, read_image};
+use lab_requests::{CheckRequest, FileKind};
+use source_faults::{Message, Severity, check_source, image_fault_words, push_message};
+use std::alloc::Global;
+use std::io::Read;
+use std::rt::Files;
+
+/// Judges files: their faults and warnings.
+pub fn check<F: Files, R: Read>(
+    alloc: Global,
+    inputs: &mut Inputs<'_, F, R>,
+    request: &CheckRequest,
+) -> Result<Answer, LabFault> {
+    let program = match request.program {
+        Some(path) => Some(read_program(alloc, inputs, path)?.image),
+        None => None,
+    };
+    let mut told = String::new(alloc);
+    let mut status = Status::Done;
+    for path in &request.files {
+        let bytes = inputs.read(alloc, path)?;
+        let kind = kind_of(request.kind, path, &bytes);
+        let messages = messages_of(alloc, kind, &bytes, program.as_ref())?;
+        for message in &messages {
+            if request.json {
+                push_message_object(alloc, &mut told, path, message)?;
+            } else {
+                push_message(&mut told, path, shown_text(kind, &bytes), message)?;
+            }
+            if message.severity == Severity::Error || request.strict {
+                status = Status::Fault;
+            }
+        }
+    }
+    let empty = String::new(alloc);
+    Ok(if request.json {
+        Answer {
+            output: told,
+            errors: empty,
+            status,
+        }
+    } else {
+        Answer {
+            output: empty,
+            errors: told,
+            status,
+        }
+    })
+}
+
+/// The kind of a file: as it was said, or by its first bytes and its name.
+fn kind_of(said: Option<FileKind>, path: &str, bytes: &[u8]) -> FileKind {
+    match said {
+        Some(kind) => kind,
+        None if is_image(bytes) => FileKind::Image,
+        None if path.ends_with(".schedule") => FileKind::Schedule,
+        None => FileKind::Source,
+    }
+}
+
+/// The text whose lines are shown; an image has none.
+fn shown_text(kind: FileKind, bytes: &[u8]) -> &[u8] {
+    match kind {
+        FileKind::Source | FileKind::Schedule => bytes,
+        FileKind::Image => b"",
+    }
+}
+
+/// What is to be said of a file.
+fn messages_of(
+    alloc: Global,
+    kind: FileKind,
+    bytes: &[u8],
+    program: Option<&Image>,
+) -> Result<Vec<Message>, LabFault> {
+    match kind {
+        FileKind::Source => Ok(check_source(alloc, bytes)?),
+        FileKind::Schedule => Ok(check_loose_schedule(alloc, bytes, program)?),
+        FileKind::Image => {
+            let mut messages = Vec::new(alloc);
+            match read_image(alloc, bytes) {
+                Ok(_) => {}
+                Err(ImageFault::NoMemory) => return Err(LabFault::NoMemory),
+                Err(fault) => messages.push(image_fault_words(alloc, bytes, fault)?)?,
+            }
+            Ok(messages)
+        }
+    }
+}

@@ -1,0 +1,33 @@
+//! The command `schedule`.
+
+use command_parts::{Answer, Inputs, LabFault, Status, made_by, read_program};
+use lab_requests::Maker;
+use schedule_makers::MadeEnd;
+use std::alloc::Global;
+use std::io::Read;
+use std::rt::Files;
+use trace_text::write_schedule;
+
+/// Makes a schedule of a program. Why it ends stands in the answer's errors.
+pub fn make_schedule<F: Files, R: Read>(
+    alloc: Global,
+    inputs: &mut Inputs<'_, F, R>,
+    path: &str,
+    maker: Maker,
+    most: usize,
+) -> Result<Answer, LabFault> {
+    let program = read_program(alloc, inputs, path)?;
+    let made = made_by(alloc, &program.image, maker, most)?;
+    let steps = made.steps.len();
+    let plural = if steps == 1 { "" } else { "s" };
+    let why = match made.end {
+        MadeEnd::NobodyRuns => "nobody runs",
+        MadeEnd::Standstill => "deadlock",
+        MadeEnd::OutOfSteps => "ran out of steps",
+    };
+    Ok(Answer {
+        output: write_schedule(alloc, &made.steps)?,
+        errors: format!(in alloc; "after {steps} step{plural}: {why}\n")?,
+        status: Status::Done,
+    })
+}

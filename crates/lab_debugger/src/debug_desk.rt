@@ -1,0 +1,249 @@
+//! A session of `debug`, and what its lines ask for.
+
+use crate::debug_words::{DebugWord, debug_word, push_help, push_no_word};
+use command_parts::LabFault;
+use debug_commands::{Answer, Command, DebugFault, Why};
+use lab_texts::{Columns, NumberStyle, ProgramNames, push_step_line, push_stream};
+use named_session::{NamedSession, UserName, read_name};
+use processor::Step;
+use std::alloc::Global;
+use step_views::take_step;
+use stream_core::Status;
+
+/// A session with the names that its answers tell.
+#[derive(Drop)]
+pub(crate) struct Desk<'a, 'i, 't, const S: usize> {
+    pub alloc: Global,
+    pub named: NamedSession<'i, 't, S>,
+    pub names: &'a ProgramNames<'t>,
+    pub columns: Columns,
+}
+
+/// What comes behind an answer.
+#[derive(Clone, Copy, Debug)]
+pub(crate) enum Turn<'l> {
+    /// The next line.
+    On,
+    /// The schedule is written into the file of this path.
+    Save(&'l str),
+    /// The end.
+    Quit,
+}
+
+impl<'a, 'i, 't, const S: usize> Desk<'a, 'i, 't, S> {
+    /// Adds the answer to a line, and says what comes behind it.
+    pub(crate) fn answer<'l>(
+        &mut self,
+        line: &'l str,
+        out: &mut String,
+    ) -> Result<Turn<'l>, LabFault> {
+        let (first, rest) = match line.trim().split_once(' ') {
+            Some((first, rest)) => (first, rest.trim()),
+            None => (line.trim(), ""),
+        };
+        if first.is_empty() {
+            return Ok(Turn::On);
+        }
+        match debug_word(first) {
+            None => push_no_word(out, first)?,
+            Some(DebugWord::Quit) => return Ok(Turn::Quit),
+            Some(DebugWord::Save) => return Ok(Turn::Save(rest)),
+            Some(word) => self.answer_word(word, rest, out)?,
+        }
+        Ok(Turn::On)
+    }
+
+    /// Adds the answer to a word with what stands behind it.
+    fn answer_word(
+        &mut self,
+        word: DebugWord,
+        rest: &str,
+        out: &mut String,
+    ) -> Result<(), LabFault> {
+        match word {
+            DebugWord::Step => self.step(rest, out),
+            DebugWord::Next => self.next(out),
+            DebugWord::Back => self.back(rest, out),
+            DebugWord::Continue => self.go(&Command::Continue, out),
+            DebugWord::ReverseContinue => self.go(&Command::Back, out),
+            DebugWord::Until => self.until(rest, out),
+            DebugWord::Break => self.break_at(rest, out),
+            DebugWord::Watch => self.watch(rest, out),
+            DebugWord::Delete => self.delete(rest, out),
+            DebugWord::Info => self.info(rest, out),
+            DebugWord::Print => self.print(rest, out),
+            DebugWord::List => self.list(rest, out),
+            DebugWord::Why => self.why(rest, out),
+            DebugWord::Try => self.take(rest, out),
+            DebugWord::Help | DebugWord::Save | DebugWord::Quit => Ok(push_help(out, rest)?),
+        }
+    }
+
+    /// The stream that a text names, or where there is no text the one that is looked at; None of another text.
+    pub(crate) fn stream_of(&self, text: &str) -> Option<Step> {
+        if text.is_empty() {
+            return Some(self.stream_here());
+        }
+        match read_name(text) {
+            Some(UserName::Stream(step)) => Some(step),
+            _ => None,
+        }
+    }
+
+    /// The stream that is looked at: the one of the next step, or else of the last one.
+    pub(crate) fn stream_here(&self) -> Step {
+        match self.named.session.next_step() {
+            Some(step) => step,
+            None => self
+                .named
+                .session
+                .last_step()
+                .unwrap_or(Step { p: 0, s: 0 }),
+        }
+    }
+
+    /// So many steps forward, as far as the schedule goes.
+    fn step(&mut self, rest: &str, out: &mut String) -> Result<(), LabFault> {
+        let Some(count) = count_of(rest) else {
+            return Ok(out.push_str("step takes a number of steps, as 5\n")?);
+        };
+        let steps = self.named.session.schedule().len() as u64;
+        let left = steps.saturating_sub(self.named.session.position());
+        if left == 0 {
+            return Ok(out.push_str("the schedule ends here\n")?);
+        }
+        self.go(&Command::Forward(count.min(left)), out)
+    }
+
+    /// On until the stream of the next step has stepped.
+    fn next(&mut self, out: &mut String) -> Result<(), LabFault> {
+        let stream = self.stream_here();
+        match self.named.session.next_of(stream.p, stream.s) {
+            Some(position) => self.go(&Command::Go(position), out),
+            None => Ok(out.push_str("the schedule ends here\n")?),
+        }
+    }
+
+    /// So many steps back, as far as the start.
+    fn back(&mut self, rest: &str, out: &mut String) -> Result<(), LabFault> {
+        let Some(count) = count_of(rest) else {
+            return Ok(out.push_str("back takes a number of steps, as 5\n")?);
+        };
+        let position = self.named.session.position().saturating_sub(count);
+        self.go(&Command::Go(position), out)
+    }
+
+    /// Goes where a command leads, and tells which step led there, where that is, and what comes next.
+    pub(crate) fn go(&mut self, command: &Command, out: &mut String) -> Result<(), LabFault> {
+        match self.named.session.command(command) {
+            Ok(Answer::At(_, why)) => {
+                self.push_last_step(out)?;
+                self.push_why_here(why, out)?;
+                self.push_where(out)
+            }
+            Ok(_) => Ok(()),
+            Err(fault) => refuse(fault, out),
+        }
+    }
+
+    /// Adds the line of the step that led to the session's position, where there is one: it is taken once more.
+    fn push_last_step(&mut self, out: &mut String) -> Result<(), LabFault> {
+        let Some(step) = self.named.session.last_step() else {
+            return Ok(());
+        };
+        let position = self.named.session.position();
+        if self.to(position.saturating_sub(1)).is_err() {
+            return Err(LabFault::NoMemory);
+        }
+        let mut machine = self.named.session.machine().try_clone()?;
+        if self.to(position).is_err() {
+            return Err(LabFault::NoMemory);
+        }
+        let view = take_step(self.alloc, &mut machine, step)?;
+        let style = NumberStyle::Decimal;
+        let number = position as usize;
+        Ok(push_step_line(
+            out,
+            self.names,
+            style,
+            self.columns,
+            number,
+            &view,
+            &machine,
+        )?)
+    }
+
+    /// Goes to a position.
+    fn to(&mut self, position: u64) -> Result<Answer, DebugFault> {
+        self.named.session.command(&Command::Go(position))
+    }
+
+    /// Adds why the session came to its position, where a point, the end or the start is the reason.
+    fn push_why_here(&mut self, why: Why, out: &mut String) -> Result<(), LabFault> {
+        match why {
+            Why::Moved => Ok(()),
+            Why::End => Ok(out.push_str("the end. ")?),
+            Why::Start => Ok(out.push_str("the start. ")?),
+            Why::Stop => {
+                out.push_str("stopped by point")?;
+                for (index, key) in self
+                    .named
+                    .session
+                    .stopping_points(self.alloc)?
+                    .iter()
+                    .enumerate()
+                {
+                    out.push_str(if index == 0 { " " } else { ", " })?;
+                    write!(out, "{key}")?;
+                }
+                Ok(out.push_str(". ")?)
+            }
+        }
+    }
+
+    /// A step of a stream in place of the schedule's next; the schedule from there on goes.
+    fn take(&mut self, rest: &str, out: &mut String) -> Result<(), LabFault> {
+        let Some(UserName::Stream(step)) = read_name(rest) else {
+            return Ok(out.push_str("try takes a stream, as 2.0\n")?);
+        };
+        if !self.runs(step) {
+            push_stream(out, step.p, step.s)?;
+            return Ok(out.push_str(" does not run\n")?);
+        }
+        let position = self.named.session.position();
+        let steps = [step];
+        match self.named.session.replace_schedule_from(position, &steps) {
+            Ok(()) => self.go(&Command::Forward(1), out),
+            Err(fault) => refuse(fault, out),
+        }
+    }
+
+    /// Whether a stream runs.
+    fn runs(&self, step: Step) -> bool {
+        match self.named.session.machine().stream(step.p, step.s) {
+            Some(stream) => matches!(stream.status(), Status::Running),
+            None => false,
+        }
+    }
+}
+
+/// The count that a text is, 1 where there is no text; None where it is another text.
+fn count_of(text: &str) -> Option<u64> {
+    if text.is_empty() {
+        return Some(1);
+    }
+    text.parse::<u64>().ok()
+}
+
+/// Adds why a command was refused.
+pub(crate) fn refuse(fault: DebugFault, out: &mut String) -> Result<(), LabFault> {
+    let words = match fault {
+        DebugFault::Syntax => "this cannot be read",
+        DebugFault::NoSuchStream => "there is no such stream",
+        DebugFault::NoSuchWord => "there is no word at this address",
+        DebugFault::NoSuchPoint => "there is no point of this number",
+        DebugFault::Past => "the schedule has no such position",
+        DebugFault::NoMemory => return Err(LabFault::NoMemory),
+    };
+    Ok(writeln!(out, "{words}")?)
+}

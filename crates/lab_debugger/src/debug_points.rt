@@ -1,0 +1,125 @@
+//! The points of `debug`.
+
+use crate::debug_desk::{Desk, refuse};
+use command_parts::LabFault;
+use debug_commands::{Answer, Command};
+use named_session::{UserName, read_name};
+use replay_debugger::Point;
+
+impl<'a, 'i, 't, const S: usize> Desk<'a, 'i, 't, S> {
+    /// On until a stream is to step at a place.
+    pub(crate) fn until(&mut self, rest: &str, out: &mut String) -> Result<(), LabFault> {
+        let Some(word) = self.program_word(rest) else {
+            return Ok(out.push_str("until takes a label or a line\n")?);
+        };
+        let mut added = Vec::new(self.alloc);
+        let mut ignored = String::new(self.alloc);
+        for p in 0..self.named.session.machine().image().processors() {
+            if let Some(key) = self.add(&Command::Break(p as u8, word), &mut ignored)? {
+                added.push(key)?;
+            }
+        }
+        self.go(&Command::Continue, out)?;
+        for key in added.iter() {
+            let _ = self.named.session.command(&Command::Delete(*key));
+        }
+        Ok(())
+    }
+
+    /// A breakpoint of one processor or of all.
+    pub(crate) fn break_at(&mut self, rest: &str, out: &mut String) -> Result<(), LabFault> {
+        let (processor, place) = match rest.split_once(' ') {
+            Some((first, place)) => (first.parse::<u8>().ok(), place.trim()),
+            None => (None, rest),
+        };
+        let Some(word) = self.program_word(place) else {
+            return Ok(out.push_str("break takes a label or a line, perhaps behind a processor\n")?);
+        };
+        if let Some(p) = processor {
+            return self.add_point(&Command::Break(p, word), out);
+        }
+        for p in 0..self.named.session.machine().image().processors() {
+            self.add_point(&Command::Break(p as u8, word), out)?;
+        }
+        Ok(())
+    }
+
+    /// A watched word.
+    pub(crate) fn watch(&mut self, rest: &str, out: &mut String) -> Result<(), LabFault> {
+        let (name, what) = match rest.split_once(' ') {
+            Some((name, what)) => (name, what.trim()),
+            None => (rest, ""),
+        };
+        let command = match (read_name(name), what) {
+            (Some(UserName::Word(address)), "") => Command::Watch(address),
+            (Some(UserName::Word(address)), "tags") => Command::WatchTags(address),
+            _ => return Ok(out.push_str("watch takes a word, as [8], or [8] tags\n")?),
+        };
+        self.add_point(&command, out)
+    }
+
+    /// A point less.
+    pub(crate) fn delete(&mut self, rest: &str, out: &mut String) -> Result<(), LabFault> {
+        let Ok(key) = rest.parse::<u64>() else {
+            return Ok(out.push_str("delete takes the number of a point\n")?);
+        };
+        match self.named.session.command(&Command::Delete(key)) {
+            Ok(_) => Ok(writeln!(out, "point {key} is gone")?),
+            Err(fault) => refuse(fault, out),
+        }
+    }
+
+    /// Adds the points.
+    pub(crate) fn push_points(&self, out: &mut String) -> Result<(), LabFault> {
+        for (key, point) in self.named.session.points(self.alloc)?.iter() {
+            self.push_point(*key, *point, out)?;
+        }
+        Ok(())
+    }
+
+    /// Adds a point's key, and where it stops.
+    fn push_point(&self, key: u64, point: Point, out: &mut String) -> Result<(), LabFault> {
+        write!(out, "point {key}: ")?;
+        match point {
+            Point::Break(p, word) => {
+                write!(out, "processor {p} at ")?;
+                self.names.push_place(out, word)?;
+            }
+            Point::Watch(address) => write!(out, "a change of [{address}]")?,
+            Point::WatchTags(address) => write!(out, "a change of the tags of [{address}]")?,
+        }
+        Ok(out.push_str("\n")?)
+    }
+
+    /// Makes a point, and adds which; or adds why it is refused.
+    fn add_point(&mut self, command: &Command, out: &mut String) -> Result<(), LabFault> {
+        let Some(key) = self.add(command, out)? else {
+            return Ok(());
+        };
+        match self.named.session.point(key) {
+            Some(point) => self.push_point(key, point, out),
+            None => Ok(()),
+        }
+    }
+
+    /// Makes a point, and gives its key; or adds why it is refused.
+    fn add(&mut self, command: &Command, out: &mut String) -> Result<Option<u64>, LabFault> {
+        match self.named.session.command(command) {
+            Ok(Answer::Point(key)) => Ok(Some(key)),
+            Ok(_) => Ok(None),
+            Err(fault) => {
+                refuse(fault, out)?;
+                Ok(None)
+            }
+        }
+    }
+
+    /// The program word that a label or a line means.
+    fn program_word(&self, text: &str) -> Option<u32> {
+        match read_name(text) {
+            Some(UserName::Label(name)) => self.named.word_of_label(name),
+            Some(UserName::Line(line)) => self.named.word_of_line(line),
+            _ => None,
+        }
+    }
+}

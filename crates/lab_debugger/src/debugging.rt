@@ -1,0 +1,128 @@
+//! The command `debug`.
+
+use crate::debug_desk::{Desk, Turn};
+use crate::debug_lines::Lines;
+use command_parts::{Inputs, LabFault, Program, Status, read_program, steps_of, write_file};
+use lab_requests::RunChoice;
+use lab_texts::{Columns, ProgramNames};
+use named_session::NamedSession;
+use processor::Step;
+use replay_debugger::Session;
+use source_places::SourcePlaces;
+use std::alloc::Global;
+use std::io::{ErrorKind, Read, Write};
+use std::rt::Files;
+use trace_text::write_schedule;
+
+/// What a person is prompted with.
+const PROMPT: &str = "(mta) ";
+
+/// Where the answers go.
+#[derive(Drop)]
+pub struct Screen<'a, W, E> {
+    /// Standard output, for the answers.
+    pub output: &'a mut W,
+    /// Standard error, for the prompt.
+    pub errors: &'a mut E,
+    /// Whether there is a prompt.
+    pub is_prompted: bool,
+}
+
+/// Answers the lines of standard input over a run of a program, each before the next is read.
+pub fn debug<F: Files, R: Read, W: Write, E: Write>(
+    alloc: Global,
+    inputs: &mut Inputs<'_, F, R>,
+    program: &str,
+    run: RunChoice,
+    screen: &mut Screen<'_, W, E>,
+) -> Result<Status, LabFault> {
+    let program = read_program(alloc, inputs, program)?;
+    let steps = steps_of(alloc, inputs, &program, run)?;
+    if program.image.slim() <= 8 {
+        debug_on::<8, F, R, W, E>(alloc, inputs, &program, steps, screen)
+    } else {
+        debug_on::<128, F, R, W, E>(alloc, inputs, &program, steps, screen)
+    }
+}
+
+/// The same in a session with room for `S` streams a processor.
+fn debug_on<const S: usize, F: Files, R: Read, W: Write, E: Write>(
+    alloc: Global,
+    inputs: &mut Inputs<'_, F, R>,
+    program: &Program,
+    steps: Vec<Step>,
+    screen: &mut Screen<'_, W, E>,
+) -> Result<Status, LabFault> {
+    let names = ProgramNames::of(alloc, &program.text)?;
+    let places = SourcePlaces::of(alloc, &program.text)?;
+    let columns = Columns::of(&names, steps.len());
+    let Ok(session) = Session::<S>::begin(alloc, &program.image, steps) else {
+        return Err(LabFault::NoMemory);
+    };
+    let mut desk = Desk {
+        alloc,
+        named: NamedSession::new(session, places),
+        names: &names,
+        columns,
+    };
+    let mut lines = Lines::new(alloc);
+    let mut line = String::new(alloc);
+    let mut out = String::new(alloc);
+    desk.push_where(&mut out)?;
+    for _ in 0..u64::MAX {
+        screen.show(&out)?;
+        out.clear();
+        let Some(next) = lines.next(alloc, inputs.input)? else {
+            break;
+        };
+        if !next.as_str().trim().is_empty() {
+            line = next;
+        }
+        match desk.answer(line.as_str(), &mut out)? {
+            Turn::On => {}
+            Turn::Save(path) => save(alloc, inputs.files, path, &desk, &mut out)?,
+            Turn::Quit => break,
+        }
+    }
+    Ok(Status::Done)
+}
+
+/// Writes the schedule of a session into a file, and adds that it did, or why not.
+fn save<const S: usize, F: Files>(
+    alloc: Global,
+    files: &F,
+    path: &str,
+    desk: &Desk<'_, '_, '_, S>,
+    out: &mut String,
+) -> Result<(), LabFault> {
+    if path.is_empty() {
+        return Ok(out.push_str("save takes a file\n")?);
+    }
+    let schedule = write_schedule(alloc, desk.named.session.schedule())?;
+    match write_file(alloc, files, path, schedule.as_bytes()) {
+        Ok(()) => {
+            let steps = desk.named.session.schedule().len();
+            Ok(writeln!(out, "{path} has the {steps} steps of the schedule")?)
+        }
+        Err(LabFault::Words(words)) => Ok(writeln!(out, "{words}")?),
+        Err(fault) => Err(fault),
+    }
+}
+
+impl<W: Write, E: Write> Screen<'_, W, E> {
+    /// Writes an answer, and a prompt where a person types, before the next line is read.
+    fn show(&mut self, text: &String) -> Result<(), LabFault> {
+        let wrote = self
+            .output
+            .write_all(text.as_bytes())
+            .and_then(|()| self.output.flush());
+        if self.is_prompted {
+            let _ = write!(self.errors, "{PROMPT}").and_then(|()| self.errors.flush());
+        }
+        match wrote {
+            Ok(()) => Ok(()),
+            Err(error) if error.kind() == ErrorKind::BrokenPipe => Err(LabFault::Closed),
+            Err(_) => Err(LabFault::Write),
+        }
+    }
+}

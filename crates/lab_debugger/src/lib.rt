@@ -1,0 +1,11 @@
+//! The command `debug`: to and fro in a run, by the lines of standard input.
+#![tactic(auto)]
+
+mod debug_desk;
+mod debug_lines;
+mod debug_points;
+mod debug_shows;
+mod debug_words;
+mod debugging;
+
+pub use debugging::{Screen, debug};

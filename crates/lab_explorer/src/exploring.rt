@@ -1,0 +1,353 @@
+//! The command `explore`.
+
+use crate::expectation_texts::push_expectation;
+use crate::widths::digits_of;
+use crate::wished::wishes_of;
+use command_parts::{
+    Answer, Inputs, LabFault, Program, Status, push_object, read_program, read_steps, style_of,
+    write_file,
+};
+use expectations::Expectation;
+use image_file::Image;
+use lab_ends::{SpaceEnd, SpaceEndKind, Wishes, space_ends};
+use lab_json::VERSION;
+use lab_requests::ExploreRequest;
+use lab_texts::{NumberStyle, ProgramNames};
+use machine::LoadFault;
+use processor::Step;
+use schedule_space::{Exploration, Space, explore as explore_image, explore_ends};
+use serde_json::{Value, json};
+use std::alloc::{AllocError, Global};
+use std::io::Read;
+use std::rt::Files;
+use trace_text::write_schedule;
+
+/// What is looked for among the schedules of a program.
+#[derive(Clone, Copy)]
+pub struct Search<'a> {
+    /// What is wished of the program.
+    pub wishes: &'a Wishes,
+    /// The schedule that all begin with.
+    pub begin: &'a [Step],
+    /// The most worlds, at least 1.
+    pub most: usize,
+    /// Whether all worlds are looked for, also where the ends need fewer.
+    pub is_plain: bool,
+    /// How the numbers of ends are told.
+    pub style: NumberStyle,
+}
+
+impl Search<'_> {
+    /// Whether all worlds are looked for: where it is asked for, and where something is claimed of them.
+    fn is_of_all_worlds(&self) -> bool {
+        self.is_plain || !self.wishes.claims.is_empty()
+    }
+}
+
+/// What a search came to.
+#[derive(Drop)]
+pub struct Explored {
+    /// How many worlds it found.
+    pub worlds: usize,
+    /// How many steps lead from one of them to another.
+    pub steps: usize,
+    /// Whether they are all, or all that the ends need.
+    pub is_complete: bool,
+    /// Whether all worlds were looked for.
+    pub is_of_all_worlds: bool,
+    /// Their ends.
+    pub ends: Vec<SpaceEnd>,
+}
+
+/// Shows every end that schedules of a program come to.
+pub fn explore<F: Files, R: Read>(
+    alloc: Global,
+    inputs: &mut Inputs<'_, F, R>,
+    request: &ExploreRequest,
+) -> Result<Answer, LabFault> {
+    let program = read_program(alloc, inputs, request.program)?;
+    let names = ProgramNames::of(alloc, &program.text)?;
+    let wishes = match request.expected {
+        Some(path) => {
+            let text = inputs.read(alloc, path)?;
+            wishes_of(alloc, path, &text, &names)?
+        }
+        None => Wishes::none(alloc),
+    };
+    let begin = match request.from {
+        Some(path) => read_steps(alloc, inputs, &program, path)?,
+        None => Vec::new(alloc),
+    };
+    let asked = Search {
+        wishes: &wishes,
+        begin: &begin,
+        most: request.most,
+        is_plain: request.is_plain,
+        style: style_of(request.shown),
+    };
+    let found = explore_program(alloc, &program, &names, &asked)?;
+    let answer = answer_of(alloc, request, &wishes.ends, &found)?;
+    if let Some(folder) = request.keep {
+        keep_schedules(alloc, inputs, folder, &found.ends)?;
+    }
+    Ok(answer)
+}
+
+/// Writes a shortest schedule to each end into a folder, as `1.schedule` and so on.
+fn keep_schedules<F: Files, R: Read>(
+    alloc: Global,
+    inputs: &mut Inputs<'_, F, R>,
+    folder: &str,
+    ends: &[SpaceEnd],
+) -> Result<(), LabFault> {
+    for (index, end) in ends.iter().enumerate() {
+        let number = index.saturating_add(1);
+        let path = format!(in alloc; "{folder}/{number}.schedule")?;
+        let text = write_schedule(alloc, &end.schedule)?;
+        write_file(alloc, inputs.files, &path, text.as_bytes())?;
+    }
+    Ok(())
+}
+
+/// What a search among the schedules of a program comes to.
+pub fn explore_program(
+    alloc: Global,
+    program: &Program,
+    names: &ProgramNames<'_>,
+    asked: &Search<'_>,
+) -> Result<Explored, AllocError> {
+    match program.image.slim() {
+        0 | 1 => explore_on::<1>(alloc, program, names, asked),
+        2..=4 => explore_on::<4>(alloc, program, names, asked),
+        5..=16 => explore_on::<16>(alloc, program, names, asked),
+        _ => explore_on::<128>(alloc, program, names, asked),
+    }
+}
+
+/// The same on machines with room for `S` streams a processor.
+fn explore_on<const S: usize>(
+    alloc: Global,
+    program: &Program,
+    names: &ProgramNames<'_>,
+    asked: &Search<'_>,
+) -> Result<Explored, AllocError> {
+    let (space, is_complete) = space_of::<S>(alloc, &program.image, asked)?;
+    let ends = space_ends::<S>(alloc, names, asked.style, asked.wishes, &space, is_complete)?;
+    Ok(Explored {
+        worlds: space.len(),
+        steps: space.step_count(),
+        is_complete,
+        is_of_all_worlds: asked.is_of_all_worlds(),
+        ends,
+    })
+}
+
+/// The space of an image, and whether it is complete.
+fn space_of<'i, const S: usize>(
+    alloc: Global,
+    image: &'i Image,
+    asked: &Search<'_>,
+) -> Result<(Space<'i>, bool), AllocError> {
+    let most = asked.most.max(1);
+    let explored = if asked.is_of_all_worlds() {
+        explore_image::<S>(alloc, image, asked.begin, most)
+    } else {
+        explore_ends::<S>(alloc, image, asked.begin, most)
+    };
+    match explored {
+        Ok(Exploration::Complete(space)) => Ok((space, true)),
+        Ok(Exploration::Bounded(space)) => Ok((space, false)),
+        Err(LoadFault::NoMemory | LoadFault::Streams) => Err(AllocError),
+    }
+}
+
+/// What is told of a search.
+fn answer_of(
+    alloc: Global,
+    request: &ExploreRequest,
+    expected: &[Expectation],
+    found: &Explored,
+) -> Result<Answer, AllocError> {
+    let mut status = if found.is_complete {
+        Status::Done
+    } else {
+        Status::OutOfSteps
+    };
+    let mut output = String::new(alloc);
+    push_head(alloc, &mut output, request.shown.json, found)?;
+    let width = digits_of(widest(&found.ends));
+    for end in found.ends.iter() {
+        status = status.worse(status_of_end(end, request.expected.is_some()));
+        if request.shown.json {
+            push_end_object(alloc, &mut output, expected, end)?;
+        } else {
+            push_end_line(&mut output, width, expected, end)?;
+        }
+    }
+    Ok(Answer {
+        output,
+        errors: String::new(alloc),
+        status,
+    })
+}
+
+/// The greatest count of worlds of an end.
+fn widest(ends: &[SpaceEnd]) -> usize {
+    ends.iter().map(|end| end.places.len()).max().unwrap_or(0)
+}
+
+/// How an end counts for the exit status.
+pub fn status_of_end(end: &SpaceEnd, is_judged: bool) -> Status {
+    match end.kind {
+        SpaceEndKind::Deadlock => Status::Deadlock,
+        SpaceEndKind::Spinning => Status::OutOfSteps,
+        SpaceEndKind::Broken => Status::Unexpected,
+        SpaceEndKind::Stopped | SpaceEndKind::Finished => {
+            let is_unexpected = end.is_trapped || is_judged && end.missed.is_some();
+            if is_unexpected {
+                Status::Unexpected
+            } else {
+                Status::Done
+            }
+        }
+    }
+}
+
+/// Adds how much was found.
+fn push_head(
+    alloc: Global,
+    out: &mut String,
+    is_json: bool,
+    found: &Explored,
+) -> Result<(), AllocError> {
+    let worlds = found.worlds;
+    let steps = found.steps;
+    let complete = found.is_complete;
+    let is_plain = found.is_of_all_worlds;
+    if is_json {
+        let value = json!(in alloc; {
+            "version": VERSION, "worlds": worlds, "steps": steps, "complete": complete, "plain": is_plain
+        })?;
+        return push_object(alloc, out, &value);
+    }
+    let (which, end) = if complete {
+        ("every schedule", "complete")
+    } else {
+        (
+            "some schedules",
+            "not complete: nothing is said of the others",
+        )
+    };
+    let some_worlds = plural(worlds);
+    let some_steps = plural(steps);
+    let looked_at = if is_plain { "" } else { " looked at" };
+    write!(
+        out,
+        "{which}: {worlds} world{some_worlds}{looked_at}, {steps} step{some_steps}, {end}\n"
+    )
+}
+
+/// What stands behind a word that is counted.
+fn plural(count: usize) -> &'static str {
+    if count == 1 { "" } else { "s" }
+}
+
+/// Adds the line of an end.
+fn push_end_line(
+    out: &mut String,
+    width: usize,
+    expected: &[Expectation],
+    end: &SpaceEnd,
+) -> Result<(), AllocError> {
+    let worlds = end.places.len();
+    let kind = end.kind.name();
+    let steps = end.schedule.len();
+    let sources = end.sources;
+    write!(out, "{worlds:>width$}  {kind}")?;
+    if end.kind == SpaceEndKind::Spinning {
+        let sets = end.sets;
+        let some_sets = plural(sets);
+        write!(out, " in {sets} set{some_sets}")?;
+    }
+    let some_steps = plural(steps);
+    let some_sources = plural(sources);
+    write!(
+        out,
+        "  {steps} step{some_steps}, from {sources} world{some_sources}"
+    )?;
+    if !end.text.is_empty() {
+        let text = end.text.as_str();
+        write!(out, "   {text}")?;
+    }
+    push_missed(out, expected, end)?;
+    out.push_str("\n")?;
+    push_note(out, width, &end.finding)?;
+    push_note(out, width, &end.round_words)
+}
+
+/// Adds a line below that of an end, unless it is empty.
+fn push_note(out: &mut String, width: usize, note: &str) -> Result<(), AllocError> {
+    if note.is_empty() {
+        return Ok(());
+    }
+    write!(out, "{:>width$}  {note}\n", "")
+}
+
+/// Adds in what an end is not as expected, where something is.
+fn push_missed(
+    out: &mut String,
+    expected: &[Expectation],
+    end: &SpaceEnd,
+) -> Result<(), AllocError> {
+    if expected.is_empty() || !end.is_trapped && end.missed.is_none() {
+        return Ok(());
+    }
+    out.push_str("   NOT as expected")?;
+    match missed_of(expected, end) {
+        Some(expectation) => {
+            out.push_str(": ")?;
+            push_expectation(out, expectation)
+        }
+        None => Ok(()),
+    }
+}
+
+/// The first expectation that an end does not meet.
+fn missed_of<'e>(expected: &'e [Expectation], end: &SpaceEnd) -> Option<&'e Expectation> {
+    end.missed.and_then(|place| expected.get(place))
+}
+
+/// Adds the object of an end.
+fn push_end_object(
+    alloc: Global,
+    out: &mut String,
+    expected: &[Expectation],
+    end: &SpaceEnd,
+) -> Result<(), AllocError> {
+    let kind = end.kind.name();
+    let worlds = end.places.len();
+    let sets = end.sets;
+    let words = end.text.as_str();
+    let sources = end.sources;
+    let shortest = end.schedule.len();
+    let schedule = write_schedule(alloc, &end.schedule)?;
+    let schedule = schedule.as_str();
+    let is_as_expected = end.missed.is_none() && !end.is_trapped;
+    let missed = match missed_of(expected, end) {
+        Some(expectation) => {
+            let mut words = String::new(alloc);
+            push_expectation(&mut words, expectation)?;
+            Value::String(words)
+        }
+        None => Value::Null,
+    };
+    let finding = end.finding.as_str();
+    let round = write_schedule(alloc, &end.round)?;
+    let round = round.as_str();
+    let value = json!(in alloc; {
+        "version": VERSION, "end": kind, "worlds": worlds, "sets": sets, "words": words, "from": sources,
+        "shortest": shortest, "schedule": schedule, "expected": is_as_expected, "missed": missed, "finding": finding,
+        "round": round
+    })?;
+    push_object(alloc, out, &value)
+}

@@ -1,0 +1,12 @@
+//! The command `explore`: every end that schedules of a program come to, judged by what is wished.
+#![tactic(auto)]
+
+mod expectation_texts;
+mod exploring;
+mod widths;
+mod wished;
+
+pub use expectation_texts::push_expectation;
+pub use exploring::{Explored, Search, explore, explore_program, status_of_end};
+pub use widths::digits_of;
+pub use wished::{expectations_of, expected_of, wishes_of};

@@ -1,0 +1,73 @@
+//! What is wished of a program, from files.
+
+use command_parts::{Inputs, LabFault};
+use expectations::{Expectation, ExpectationFault, ExpectationFaultKind, read_expectations};
+use lab_ends::{WishFault, Wishes};
+use lab_texts::ProgramNames;
+use std::alloc::{AllocError, Global};
+use std::io::Read;
+use std::rt::Files;
+
+/// The expectations of a file.
+pub fn expected_of<F: Files, R: Read>(
+    alloc: Global,
+    inputs: &mut Inputs<'_, F, R>,
+    path: &str,
+) -> Result<Vec<Expectation>, LabFault> {
+    let text = inputs.read(alloc, path)?;
+    expectations_of(alloc, path, &text)
+}
+
+/// The expectations of the text of a path.
+pub fn expectations_of(
+    alloc: Global,
+    path: &str,
+    text: &[u8],
+) -> Result<Vec<Expectation>, LabFault> {
+    match read_expectations(alloc, text) {
+        Ok(expected) => Ok(expected),
+        Err(fault) => Err(expectation_fault(alloc, path, fault)?),
+    }
+}
+
+/// The wishes of the text of a path, by the names of a program.
+pub fn wishes_of(
+    alloc: Global,
+    path: &str,
+    text: &[u8],
+    names: &ProgramNames<'_>,
+) -> Result<Wishes, LabFault> {
+    match Wishes::of(alloc, text, names) {
+        Ok(wishes) => Ok(wishes),
+        Err(WishFault::NoMemory) => Err(LabFault::NoMemory),
+        Err(WishFault::Expectation(fault)) => Err(expectation_fault(alloc, path, fault)?),
+        Err(WishFault::Claim { line }) => {
+            Err(LabFault::Lines(format!(in alloc;
+                "{path}:{line}:1: error: behind always or never stands word ADDRESS is|above|below VALUE, word ADDRESS full|empty, or at most N of P.S .. in FIRST..LAST\n"
+            )?))
+        }
+    }
+}
+
+/// What is said of a file with a fault in its expectations.
+fn expectation_fault(
+    alloc: Global,
+    path: &str,
+    fault: ExpectationFault,
+) -> Result<LabFault, AllocError> {
+    let words = match fault.kind {
+        ExpectationFaultKind::NoMemory => return Ok(LabFault::NoMemory),
+        ExpectationFaultKind::Form => {
+            "a line is word ADDRESS VALUE [full|empty], register P.S rN VALUE, finished, or stopped P.S TRAP; of every schedule also always .. or never .."
+        }
+        ExpectationFaultKind::Address =>
+            "no memory has a word at this address: multiples of 8 below 2097152",
+        ExpectationFaultKind::Stream => "a stream is P.S, P 0 to 15 and S 0 to 127",
+        ExpectationFaultKind::Register => "a register is r0 to r31",
+        ExpectationFaultKind::Number => "this is no number of 64 bits",
+        ExpectationFaultKind::Trap => "a trap is a number from 1 to 10",
+        ExpectationFaultKind::Empty => "nothing is expected here, so nothing can be judged",
+    };
+    let line = fault.line.max(1);
+    Ok(LabFault::Lines(format!(in alloc; "{path}:{line}:1: error: {words}\n")?))
+}

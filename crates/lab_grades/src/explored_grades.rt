@@ -1,0 +1,129 @@
+//! What every schedule says of a submission.
+
+use crate::grading::{Verdict, push_why};
+use command_parts::{LabFault, Program, Status, style_of};
+use expectations::Expectation;
+use lab_ends::{SpaceEnd, SpaceEndKind};
+use lab_explorer::{Explored, Search, explore_program, status_of_end, wishes_of};
+use lab_requests::GradeRequest;
+use lab_texts::ProgramNames;
+use std::alloc::{AllocError, Global};
+use trace_text::write_schedule;
+
+/// What is said of a submission: the first that holds of any of its ends of a trap, a deadlock, a wrong end, a broken
+/// claim, a set of worlds that spin; where it has none of them, whether there are more worlds than were looked for.
+pub(crate) fn explored_verdict(
+    alloc: Global,
+    request: &GradeRequest,
+    wishes: &[u8],
+    program: &Program,
+    most: usize,
+) -> Result<Verdict, LabFault> {
+    let names = ProgramNames::of(alloc, &program.text)?;
+    let wishes = wishes_of(alloc, request.expected, wishes, &names)?;
+    let begin = Vec::new(alloc);
+    let asked = Search {
+        wishes: &wishes,
+        begin: &begin,
+        most,
+        is_plain: false,
+        style: style_of(request.shown),
+    };
+    let found = explore_program(alloc, program, &names, &asked)?;
+    Ok(verdict_of_ends(alloc, &wishes.ends, &found)?)
+}
+
+/// What is said of a submission with these ends of all schedules.
+fn verdict_of_ends(
+    alloc: Global,
+    expected: &[Expectation],
+    found: &Explored,
+) -> Result<Verdict, AllocError> {
+    for flaw in [
+        EndFlaw::Trap,
+        EndFlaw::Deadlock,
+        EndFlaw::Wrong,
+        EndFlaw::Broken,
+        EndFlaw::Spinning,
+    ] {
+        if let Some(end) = found.ends.iter().find(|end| flaw.is_of(end)) {
+            return Ok(Verdict {
+                word: flaw.word(),
+                why: why_of_end(alloc, expected, end)?,
+                status: status_of_end(end, true),
+            });
+        }
+    }
+    let worlds = found.worlds;
+    if !found.is_complete {
+        return Ok(Verdict {
+            word: "ran out of steps",
+            why: format!(in alloc; "more than {worlds} worlds")?,
+            status: Status::OutOfSteps,
+        });
+    }
+    Ok(Verdict {
+        word: "right",
+        why: format!(in alloc; "every schedule, {worlds} worlds")?,
+        status: Status::Done,
+    })
+}
+
+/// What an end of a submission can show against it.
+#[derive(Clone, Copy, Debug)]
+enum EndFlaw {
+    /// A trap that nobody expected stopped a stream.
+    Trap,
+    /// Nobody can go on.
+    Deadlock,
+    /// The end is not as expected.
+    Wrong,
+    /// A claim does not hold of some world on the way.
+    Broken,
+    /// It can go on for ever.
+    Spinning,
+}
+
+impl EndFlaw {
+    /// The word of the table.
+    fn word(self) -> &'static str {
+        match self {
+            EndFlaw::Trap => "trap",
+            EndFlaw::Deadlock => "deadlock",
+            EndFlaw::Wrong | EndFlaw::Broken => "wrong",
+            EndFlaw::Spinning => "ran out of steps",
+        }
+    }
+
+    /// Whether an end shows it.
+    fn is_of(self, end: &SpaceEnd) -> bool {
+        match self {
+            EndFlaw::Trap => end.is_trapped,
+            EndFlaw::Deadlock => end.kind == SpaceEndKind::Deadlock,
+            EndFlaw::Wrong => end.missed.is_some(),
+            EndFlaw::Broken => end.kind == SpaceEndKind::Broken,
+            EndFlaw::Spinning => end.kind == SpaceEndKind::Spinning,
+        }
+    }
+}
+
+/// Why an end is wrong: a shortest schedule to it, and what is told of it.
+fn why_of_end(
+    alloc: Global,
+    expected: &[Expectation],
+    end: &SpaceEnd,
+) -> Result<String, AllocError> {
+    if end.schedule.is_empty() {
+        let mut why = String::from_str(alloc, "at the start")?;
+        push_why(&mut why, expected, end.missed, &end.text, &end.finding)?;
+        return Ok(why);
+    }
+    let mut why = String::from_str(alloc, "schedule ")?;
+    let schedule = write_schedule(alloc, &end.schedule)?;
+    for (index, line) in schedule.trim().split('\n').enumerate() {
+        why.push_str(if index == 0 { "" } else { ", " })?;
+        why.push_str(line)?;
+    }
+    push_why(&mut why, expected, end.missed, &end.text, &end.finding)?;
+    Ok(why)
+}

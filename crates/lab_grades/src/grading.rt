@@ -1,0 +1,236 @@
+//! The command `grade`.
+
+use crate::explored_grades::explored_verdict;
+use crate::outcomes::{Outcome, OutcomeKind, Seeds, outcomes_of};
+use crate::surveying::status_of;
+use command_parts::{Answer, Inputs, LabFault, Program, Status, program_of, push_object, style_of};
+use expectations::Expectation;
+use lab_explorer::{expectations_of, push_expectation};
+use lab_json::VERSION;
+use lab_requests::GradeRequest;
+use serde_json::json;
+use std::alloc::{AllocError, Global};
+use std::io::Read;
+use std::rt::Files;
+use std::thread::Threads;
+
+/// What is said of a submission.
+#[derive(Drop)]
+pub(crate) struct Verdict {
+    /// The word of the table.
+    pub word: &'static str,
+    /// Why, and by which seed or schedule.
+    pub why: String,
+    /// What it means for the exit status.
+    pub status: Status,
+}
+
+/// Judges submissions, each by the same seeds or by every schedule.
+pub fn grade<X: Threads + Sync, F: Files, R: Read>(
+    rt: &X,
+    alloc: Global,
+    inputs: &mut Inputs<'_, F, R>,
+    request: &GradeRequest,
+) -> Result<Answer, LabFault> {
+    let wishes = inputs.read(alloc, request.expected)?;
+    // with every schedule there are claims too, which are read by the names of each submission
+    let expected = if request.explored.is_some() {
+        Vec::new(alloc)
+    } else {
+        expectations_of(alloc, request.expected, &wishes)?
+    };
+    let mut output = String::new(alloc);
+    let mut status = Status::Done;
+    for path in &request.submissions {
+        let program = match submission(alloc, inputs, path)? {
+            Ok(program) => program,
+            Err(verdict) => {
+                status = status.worse(verdict.status);
+                push_verdict(alloc, &mut output, request.shown.json, path, &verdict)?;
+                continue;
+            }
+        };
+        let verdict = match request.explored {
+            Some(most) => explored_verdict(alloc, request, &wishes, &program, most)?,
+            None => sampled_verdict(rt, alloc, request, &expected, &program)?,
+        };
+        status = status.worse(verdict.status);
+        push_verdict(alloc, &mut output, request.shown.json, path, &verdict)?;
+    }
+    Ok(Answer {
+        output,
+        errors: String::new(alloc),
+        status,
+    })
+}
+
+/// The program of a submission, or what is said where it is none.
+fn submission<F: Files, R: Read>(
+    alloc: Global,
+    inputs: &mut Inputs<'_, F, R>,
+    path: &str,
+) -> Result<Result<Program, Verdict>, LabFault> {
+    match inputs
+        .read(alloc, path)
+        .and_then(|bytes| program_of(alloc, path, bytes))
+    {
+        Ok(program) => Ok(Ok(program)),
+        Err(LabFault::Words(why) | LabFault::Lines(why)) => Ok(Err(Verdict {
+            word: "source fault",
+            why: short_fault(alloc, path, &why)?,
+            status: Status::Fault,
+        })),
+        Err(other) => Err(other),
+    }
+}
+
+/// What random schedules say of a submission: the first that holds of any of its runs of a trap, a deadlock, a wrong
+/// end, a bound.
+fn sampled_verdict<X: Threads + Sync>(
+    rt: &X,
+    alloc: Global,
+    request: &GradeRequest,
+    expected: &[Expectation],
+    program: &Program,
+) -> Result<Verdict, AllocError> {
+    let seeds = Seeds {
+        first: 0,
+        count: request.seeds,
+        most: request.most,
+        style: style_of(request.shown),
+    };
+    let outcomes = outcomes_of(rt, alloc, program, expected, seeds)?;
+    verdict_of_outcomes(alloc, expected, &outcomes, request.seeds)
+}
+
+/// What is said of a submission with these outcomes.
+fn verdict_of_outcomes(
+    alloc: Global,
+    expected: &[Expectation],
+    outcomes: &[Outcome],
+    seeds: usize,
+) -> Result<Verdict, AllocError> {
+    let mut status = Status::Done;
+    for outcome in outcomes {
+        status = status.worse(status_of(outcome));
+    }
+    for flaw in [Flaw::Trap, Flaw::Deadlock, Flaw::Wrong, Flaw::OutOfSteps] {
+        if let Some(outcome) = outcomes.iter().find(|outcome| flaw.is_of(outcome)) {
+            return Ok(Verdict {
+                word: flaw.word(),
+                why: why_of(alloc, expected, outcome)?,
+                status,
+            });
+        }
+    }
+    Ok(Verdict {
+        word: "right",
+        why: format!(in alloc; "{seeds} seeds")?,
+        status,
+    })
+}
+
+/// What a run of a submission can show against it.
+#[derive(Clone, Copy, Debug)]
+enum Flaw {
+    /// A trap that nobody expected stopped a stream.
+    Trap,
+    /// The end is a deadlock.
+    Deadlock,
+    /// The end is not as expected.
+    Wrong,
+    /// The bound came first.
+    OutOfSteps,
+}
+
+impl Flaw {
+    /// The word of the table.
+    fn word(self) -> &'static str {
+        match self {
+            Flaw::Trap => "trap",
+            Flaw::Deadlock => "deadlock",
+            Flaw::Wrong => "wrong",
+            Flaw::OutOfSteps => "ran out of steps",
+        }
+    }
+
+    /// Whether an outcome shows it.
+    fn is_of(self, outcome: &Outcome) -> bool {
+        match (self, outcome.kind) {
+            (Flaw::Trap, _) => outcome.is_trapped,
+            (Flaw::Wrong, OutcomeKind::Finished | OutcomeKind::Stopped) => outcome.missed.is_some(),
+            (Flaw::Deadlock, kind) => kind == OutcomeKind::Deadlock,
+            (Flaw::OutOfSteps, kind) => kind == OutcomeKind::OutOfSteps,
+            (Flaw::Wrong, OutcomeKind::Deadlock | OutcomeKind::OutOfSteps) => false,
+        }
+    }
+}
+
+/// Why an outcome is wrong: the seed, the expectation that it misses, who was stopped, and the words that changed.
+fn why_of(
+    alloc: Global,
+    expected: &[Expectation],
+    outcome: &Outcome,
+) -> Result<String, AllocError> {
+    let seed = outcome.seed;
+    let mut why = format!(in alloc; "seed {seed}")?;
+    push_why(
+        &mut why,
+        expected,
+        outcome.missed,
+        &outcome.text,
+        &outcome.finding,
+    )?;
+    Ok(why)
+}
+
+/// Adds the expectation that an end misses, what is told of it, and the first finding on the way to it.
+pub(crate) fn push_why(
+    why: &mut String,
+    expected: &[Expectation],
+    missed: Option<usize>,
+    text: &str,
+    finding: &str,
+) -> Result<(), AllocError> {
+    if let Some(expectation) = missed.and_then(|place| expected.get(place)) {
+        why.push_str(": not ")?;
+        push_expectation(why, expectation)?;
+    }
+    if !text.is_empty() {
+        write!(why, ": {text}")?;
+    }
+    if !finding.is_empty() {
+        write!(why, "; {finding}")?;
+    }
+    Ok(())
+}
+
+/// The first line of what is wrong with a file, without its path: `8:9: no operation is called load.N`.
+fn short_fault(alloc: Global, path: &str, lines: &str) -> Result<String, AllocError> {
+    let line = lines.split('\n').next().unwrap_or("");
+    let line = line.strip_prefix(path).unwrap_or(line);
+    let line = line.strip_prefix(':').unwrap_or(line);
+    match line.split_once(" error: ") {
+        Some((place, words)) => format!(in alloc; "{place} {words}"),
+        None => String::from_str(alloc, line.trim()),
+    }
+}
+
+/// Adds the line of a submission, or its object.
+fn push_verdict(
+    alloc: Global,
+    out: &mut String,
+    json: bool,
+    path: &str,
+    verdict: &Verdict,
+) -> Result<(), AllocError> {
+    let word = verdict.word;
+    let why = verdict.why.as_str();
+    if json {
+        let value = json!(in alloc; {
+            "version": VERSION, "submission": path, "verdict": word, "why": why
+        })?;
+        return push_object(alloc, out, &value);
+    }
+    write!(out, "{path}\t{word}\t{why}\n")
+}

@@ -1,0 +1,10 @@
+//! The commands `survey` and `grade`: many runs of a program, counted and judged.
+#![tactic(auto)]
+
+mod explored_grades;
+mod grading;
+mod outcomes;
+mod surveying;
+
+pub use grading::grade;
+pub use surveying::survey;

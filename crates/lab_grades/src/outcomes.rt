@@ -1,0 +1,237 @@
+//! Ends of random schedules, and what they are counted by.
+
+use command_parts::{Program, loaded};
+use expectations::{Expectation, FullEmpty, first_missed};
+use lab_ends::{end_words_of, first_finding, is_expected_trap};
+use lab_texts::{NumberStyle, ProgramNames, push_value};
+use machine::LoadFault;
+use rayon::prelude::*;
+use schedule_makers::{MadeEnd, random};
+use schedule_survey::{SeedEnd, grouped, survey};
+use std::alloc::{AllocError, Global};
+use std::thread::Threads;
+
+/// How many seeds are run before their ends are counted: so the memory of a survey is bounded.
+const AT_ONCE: usize = 1024;
+
+/// Which seeds are run, for how many steps at most, and how their ends are told.
+#[derive(Clone, Copy, Debug)]
+pub(crate) struct Seeds {
+    /// The first seed.
+    pub first: u64,
+    /// How many there are.
+    pub count: usize,
+    /// The most steps of each schedule.
+    pub most: usize,
+    /// How the numbers of their ends are told.
+    pub style: NumberStyle,
+}
+
+/// How a run ended, as it is counted.
+#[derive(Clone, Copy, Debug, PartialEq, Eq)]
+pub(crate) enum OutcomeKind {
+    /// No stream runs, and none was stopped.
+    Finished,
+    /// No stream runs, and some was stopped by a trap.
+    Stopped,
+    /// Nobody can go on.
+    Deadlock,
+    /// The bound came first.
+    OutOfSteps,
+}
+
+impl OutcomeKind {
+    /// Its name in tables.
+    pub(crate) fn name(self) -> &'static str {
+        match self {
+            OutcomeKind::Finished => "finished",
+            OutcomeKind::Stopped => "stopped",
+            OutcomeKind::Deadlock => "deadlock",
+            OutcomeKind::OutOfSteps => "out of steps",
+        }
+    }
+
+    /// Its name in JSON, which is that of the end of a run.
+    pub(crate) fn short_name(self) -> &'static str {
+        match self {
+            OutcomeKind::OutOfSteps => "steps",
+            _ => self.name(),
+        }
+    }
+}
+
+/// Ends that agree in their kind, in the words that changed, in who waits or was stopped, and in what is not as
+/// expected.
+#[derive(Drop)]
+pub(crate) struct Outcome {
+    /// The kind.
+    pub kind: OutcomeKind,
+    /// Who was stopped, who waits, and the words that changed.
+    pub text: String,
+    /// The place of the first expectation that is not met.
+    pub missed: Option<usize>,
+    /// Whether a trap that nobody expected stopped a stream.
+    pub is_trapped: bool,
+    /// The first seed that leads there.
+    pub seed: u64,
+    /// How many steps its schedule has.
+    pub steps: usize,
+    /// How many seeds lead there.
+    pub runs: usize,
+    /// The first finding of that run, and how many more there are; empty where there is none.
+    pub finding: String,
+}
+
+impl Outcome {
+    /// Whether all expectations are met, and nobody was stopped of whom that is not expected.
+    pub(crate) fn is_as_expected(&self) -> bool {
+        self.missed.is_none() && !self.is_trapped
+    }
+}
+
+/// The outcomes of the random schedules of these seeds, in the order of their first seeds.
+pub(crate) fn outcomes_of<X: Threads + Sync>(
+    rt: &X,
+    alloc: Global,
+    program: &Program,
+    expected: &[Expectation],
+    seeds: Seeds,
+) -> Result<Vec<Outcome>, AllocError> {
+    if program.image.slim() <= 8 {
+        outcomes_on::<X, 8>(rt, alloc, program, expected, seeds)
+    } else {
+        outcomes_on::<X, 128>(rt, alloc, program, expected, seeds)
+    }
+}
+
+/// The same on machines with room for `S` streams a processor.
+fn outcomes_on<X: Threads + Sync, const S: usize>(
+    rt: &X,
+    alloc: Global,
+    program: &Program,
+    expected: &[Expectation],
+    seeds: Seeds,
+) -> Result<Vec<Outcome>, AllocError> {
+    let names = ProgramNames::of(alloc, &program.text)?;
+    let mut outcomes = Vec::new(alloc);
+    for begin in (0..seeds.count).step_by(AT_ONCE) {
+        let first = seeds.first.wrapping_add(begin as u64);
+        let count = AT_ONCE.min(seeds.count.saturating_sub(begin));
+        let ends = match survey::<X, S>(rt, alloc, &program.image, first, count, seeds.most) {
+            Ok(ends) => ends,
+            Err(LoadFault::NoMemory | LoadFault::Streams) => return Err(AllocError),
+        };
+        for outcome in told::<X, S>(rt, alloc, program, &names, expected, &ends, seeds)? {
+            add_outcome(&mut outcomes, outcome)?;
+        }
+    }
+    add_findings::<X, S>(rt, alloc, program, &names, &mut outcomes, seeds)?;
+    Ok(outcomes)
+}
+
+/// The outcomes of ends, of those that are the same world one, over all cores.
+fn told<X: Threads + Sync, const S: usize>(
+    rt: &X,
+    alloc: Global,
+    program: &Program,
+    names: &ProgramNames,
+    expected: &[Expectation],
+    ends: &[SeedEnd],
+    seeds: Seeds,
+) -> Result<Vec<Outcome>, AllocError> {
+    let groups = grouped(alloc, ends)?;
+    let told = (0..groups.len())
+        .into_par_iter()
+        .map(|place: usize| -> Result<Outcome, AllocError> {
+            let group = groups.get(place).ok_or(AllocError)?;
+            let end = ends.get(group.first).ok_or(AllocError)?;
+            outcome_of::<S>(alloc, program, names, expected, end.seed, group.runs, seeds)
+        })
+        .with_min_len(1)
+        .collect::<Result<Vec<Outcome>, AllocError>>(rt, alloc);
+    match told {
+        Ok(Ok(told)) => Ok(told),
+        Ok(Err(_)) | Err(_) => Err(AllocError),
+    }
+}
+
+/// The outcome of so many ends that are the same world: the schedule of a seed that leads there is run again.
+fn outcome_of<const S: usize>(
+    alloc: Global,
+    program: &Program,
+    names: &ProgramNames,
+    expected: &[Expectation],
+    seed: u64,
+    runs: usize,
+    seeds: Seeds,
+) -> Result<Outcome, AllocError> {
+    let mut machine = loaded::<S>(alloc, &program.image)?;
+    let made = random(alloc, &mut machine, seed, seeds.most)?;
+    let words = end_words_of(alloc, &machine, names, seeds.style)?;
+    let is_trapped = words
+        .stopped
+        .iter()
+        .any(|stream| !is_expected_trap(expected, stream));
+    let kind = match made.end {
+        MadeEnd::NobodyRuns if !words.stopped.is_empty() => OutcomeKind::Stopped,
+        MadeEnd::NobodyRuns => OutcomeKind::Finished,
+        MadeEnd::Standstill => OutcomeKind::Deadlock,
+        MadeEnd::OutOfSteps => OutcomeKind::OutOfSteps,
+    };
+    Ok(Outcome {
+        kind,
+        text: words.text,
+        missed: first_missed(&machine, expected),
+        is_trapped,
+        seed,
+        steps: made.steps.len(),
+        runs,
+        finding: String::new(alloc),
+    })
+}
+
+/// Adds the first finding of each outcome's run, over all cores.
+fn add_findings<X: Threads + Sync, const S: usize>(
+    rt: &X,
+    alloc: Global,
+    program: &Program,
+    names: &ProgramNames,
+    outcomes: &mut [Outcome],
+    seeds: Seeds,
+) -> Result<(), AllocError> {
+    let known = &*outcomes;
+    let found = (0..known.len())
+        .into_par_iter()
+        .map(|place: usize| -> Result<String, AllocError> {
+            let seed = known.get(place).ok_or(AllocError)?.seed;
+            let mut machine = loaded::<S>(alloc, &program.image)?;
+            let made = random(alloc, &mut machine, seed, seeds.most)?;
+            first_finding::<S>(alloc, names, &program.image, &made.steps)
+        })
+        .with_min_len(1)
+        .collect::<Result<Vec<String>, AllocError>>(rt, alloc);
+    let Ok(Ok(found)) = found else {
+        return Err(AllocError);
+    };
+    for (outcome, finding) in outcomes.iter_mut().zip(found) {
+        outcome.finding = finding;
+    }
+    Ok(())
+}
+
+/// Adds an outcome to those that are known.
+fn add_outcome(outcomes: &mut Vec<Outcome>, outcome: Outcome) -> Result<(), AllocError> {
+    match outcomes
+        .iter_mut()
+        .find(|known| is_same_outcome(known, &outcome))
+    {
+        Some(known) => known.runs = known.runs.saturating_add(outcome.runs),
+        None => outcomes.push(outcome)?,
+    }
+    Ok(())
+}
+
+/// Whether two outcomes are told alike.
+fn is_same_outcome(one: &Outcome, other: &Outcome) -> bool {
+    one.kind == other.kind && one.missed == other.missed && one.text == other.text
+}

@@ -1,0 +1,210 @@
+//! The command `survey`.
+
+use crate::outcomes::{Outcome, OutcomeKind, Seeds, outcomes_of};
+use command_parts::{
+    Answer, Inputs, LabFault, Program, Status, push_object, read_program, style_of,
+};
+use expectations::Expectation;
+use lab_ends::{SpaceEnd, SpaceEndKind, Wishes};
+use lab_explorer::{Explored, Search, digits_of, expected_of, explore_program, push_expectation};
+use lab_json::{VERSION, digits};
+use lab_requests::SurveyRequest;
+use lab_texts::{NumberStyle, ProgramNames};
+use serde_json::{Value, json};
+use std::alloc::{AllocError, Global};
+use std::io::Read;
+use std::rt::Files;
+use std::thread::Threads;
+
+/// Runs a program by many random schedules, and counts their ends.
+pub fn survey<X: Threads + Sync, F: Files, R: Read>(
+    rt: &X,
+    alloc: Global,
+    inputs: &mut Inputs<'_, F, R>,
+    request: &SurveyRequest,
+) -> Result<Answer, LabFault> {
+    let expected = match request.expected {
+        Some(path) => expected_of(alloc, inputs, path)?,
+        None => Vec::new(alloc),
+    };
+    let program = read_program(alloc, inputs, request.program)?;
+    let seeds = Seeds {
+        first: request.first,
+        count: request.seeds,
+        most: request.most,
+        style: style_of(request.shown),
+    };
+    let mut outcomes = outcomes_of(rt, alloc, &program, &expected, seeds)?;
+    outcomes.sort_by_key(|outcome: &Outcome| usize::MAX - outcome.runs)?;
+    let mut status = Status::Done;
+    let mut output = String::new(alloc);
+    let width = digits_of(
+        outcomes
+            .iter()
+            .map(|outcome| outcome.runs)
+            .max()
+            .unwrap_or(0),
+    );
+    for outcome in &outcomes {
+        status = status.worse(status_of(outcome));
+        if request.shown.json {
+            push_outcome_object(alloc, &mut output, &expected, outcome)?;
+        } else {
+            push_outcome(&mut output, width, &expected, outcome)?;
+        }
+    }
+    if let Some(most) = request.explored {
+        let found = every_end(alloc, &program, expected, seeds.style, most)?;
+        push_met(alloc, &mut output, request.shown.json, &found, &outcomes)?;
+    }
+    Ok(Answer {
+        output,
+        errors: String::new(alloc),
+        status,
+    })
+}
+
+/// The ends of every schedule of a program.
+fn every_end(
+    alloc: Global,
+    program: &Program,
+    expected: Vec<Expectation>,
+    style: NumberStyle,
+    most: usize,
+) -> Result<Explored, AllocError> {
+    let names = ProgramNames::of(alloc, &program.text)?;
+    let wishes = Wishes {
+        ends: expected,
+        claims: Vec::new(alloc),
+    };
+    let begin = Vec::new(alloc);
+    let asked = Search {
+        wishes: &wishes,
+        begin: &begin,
+        most,
+        is_plain: false,
+        style,
+    };
+    explore_program(alloc, program, &names, &asked)
+}
+
+/// Adds how many of the ends of every schedule were met.
+fn push_met(
+    alloc: Global,
+    out: &mut String,
+    is_json: bool,
+    found: &Explored,
+    outcomes: &[Outcome],
+) -> Result<(), AllocError> {
+    let ends = found.ends.len();
+    let met = found
+        .ends
+        .iter()
+        .filter(|end| outcomes.iter().any(|outcome| is_met_by(end, outcome)))
+        .count();
+    let worlds = found.worlds;
+    let complete = found.is_complete;
+    if is_json {
+        let value = json!(in alloc; {
+            "version": VERSION, "ends": ends, "met": met, "worlds": worlds, "complete": complete
+        })?;
+        return push_object(alloc, out, &value);
+    }
+    let which = if complete {
+        "every schedule"
+    } else {
+        "some schedules"
+    };
+    write!(
+        out,
+        "met {met} of the {ends} ends of {which} ({worlds} worlds)\n"
+    )
+}
+
+/// Whether an outcome is an end of all schedules.
+fn is_met_by(end: &SpaceEnd, outcome: &Outcome) -> bool {
+    let is_kind = match outcome.kind {
+        OutcomeKind::Finished => end.kind == SpaceEndKind::Finished,
+        OutcomeKind::Stopped => end.kind == SpaceEndKind::Stopped,
+        OutcomeKind::Deadlock => end.kind == SpaceEndKind::Deadlock,
+        OutcomeKind::OutOfSteps => false,
+    };
+    is_kind && end.missed == outcome.missed && end.text == outcome.text
+}
+
+/// How an outcome counts for the exit status.
+pub(crate) fn status_of(outcome: &Outcome) -> Status {
+    match outcome.kind {
+        OutcomeKind::Deadlock => Status::Deadlock,
+        _ if outcome.is_trapped => Status::Unexpected,
+        OutcomeKind::OutOfSteps => Status::OutOfSteps,
+        OutcomeKind::Stopped | OutcomeKind::Finished if outcome.missed.is_some() => {
+            Status::Unexpected
+        }
+        OutcomeKind::Stopped | OutcomeKind::Finished => Status::Done,
+    }
+}
+
+/// Adds the line of an outcome, which is judged where something is expected.
+fn push_outcome(
+    out: &mut String,
+    width: usize,
+    expected: &[Expectation],
+    outcome: &Outcome,
+) -> Result<(), AllocError> {
+    let runs = outcome.runs;
+    let kind = outcome.kind.name();
+    let text = outcome.text.as_str();
+    let seed = outcome.seed;
+    write!(out, "{runs:>width$}  {kind}  seed {seed}")?;
+    if !text.is_empty() {
+        write!(out, "   {text}")?;
+    }
+    if !expected.is_empty() && !outcome.is_as_expected() {
+        out.push_str("   NOT as expected")?;
+    }
+    if let Some(expectation) = missed_of(expected, outcome) {
+        out.push_str(": ")?;
+        push_expectation(out, expectation)?;
+    }
+    out.push_str("\n")?;
+    if outcome.finding.is_empty() {
+        return Ok(());
+    }
+    let finding = outcome.finding.as_str();
+    write!(out, "{:>width$}  {finding}\n", "")
+}
+
+/// The first expectation that an outcome does not meet.
+fn missed_of<'e>(expected: &'e [Expectation], outcome: &Outcome) -> Option<&'e Expectation> {
+    outcome.missed.and_then(|place| expected.get(place))
+}
+
+/// Adds the object of an outcome.
+fn push_outcome_object(
+    alloc: Global,
+    out: &mut String,
+    expected: &[Expectation],
+    outcome: &Outcome,
+) -> Result<(), AllocError> {
+    let runs = outcome.runs;
+    let kind = outcome.kind.short_name();
+    let text = outcome.text.as_str();
+    let seed = digits(alloc, outcome.seed)?;
+    let steps = outcome.steps;
+    let finding = outcome.finding.as_str();
+    let is_as_expected = outcome.is_as_expected();
+    let missed = match missed_of(expected, outcome) {
+        Some(expectation) => {
+            let mut words = String::new(alloc);
+            push_expectation(&mut words, expectation)?;
+            Value::String(words)
+        }
+        None => Value::Null,
+    };
+    let value = json!(in alloc; {
+        "version": VERSION, "runs": runs, "end": kind, "words": text, "seed": seed, "steps": steps,
+        "expected": is_as_expected, "missed": missed, "finding": finding
+    })?;
+    push_object(alloc, out, &value)
+}

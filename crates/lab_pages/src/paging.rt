@@ -1,0 +1,121 @@
+//! The command `page`.
+
+use command_parts::{
+    Answer, Inputs, LabFault, Program, Status, loaded, read_program, steps_of, write_file,
+};
+use lab_requests::{Maker, PageRequest, RunChoice};
+use processor::Step;
+use replay_page::{MOST_STEPS, RunNames, page_of, run_json};
+use std::alloc::{AllocError, Global};
+use std::io::Read;
+use std::rt::Files;
+
+/// Writes a page that shows a run, beside its place, and renames it to there.
+pub fn write_page<F: Files, R: Read>(
+    alloc: Global,
+    inputs: &mut Inputs<'_, F, R>,
+    request: &PageRequest,
+) -> Result<Answer, LabFault> {
+    let run = run_to_show(alloc, inputs, request, MOST_STEPS)?;
+    let schedule = schedule_words(alloc, request.run)?;
+    let names = RunNames {
+        program: program_name(request),
+        schedule: &schedule,
+    };
+    let program = names.program;
+    let title = format!(in alloc; "{program}, {schedule}")?;
+    let json = json_of(alloc, names, &run)?;
+    let page = page_of(alloc, &title, &json)?;
+    write_file(alloc, inputs.files, request.out, page.as_bytes())?;
+    Ok(Answer {
+        output: String::new(alloc),
+        errors: String::new(alloc),
+        status: Status::Done,
+    })
+}
+
+/// A program and the steps by which it runs.
+#[derive(Drop)]
+pub(crate) struct RunToShow {
+    pub program: Program,
+    pub steps: Vec<Step>,
+}
+
+/// The run that is asked for; a fault where it has more than so many steps, or where its own file would be written over.
+pub(crate) fn run_to_show<F: Files, R: Read>(
+    alloc: Global,
+    inputs: &mut Inputs<'_, F, R>,
+    request: &PageRequest,
+    most: usize,
+) -> Result<RunToShow, LabFault> {
+    let out = request.out;
+    let is_input = match request.run {
+        RunChoice::File(path) => path == out,
+        RunChoice::Made { .. } => false,
+    };
+    if is_input || request.program == out {
+        return Err(LabFault::Words(format!(in alloc;
+            "{out}: this would be written over what is read"
+        )?));
+    }
+    let program = read_program(alloc, inputs, request.program)?;
+    let steps = steps_of(alloc, inputs, &program, request.run)?;
+    let count = steps.len();
+    if count > most {
+        return Err(LabFault::Words(format!(in alloc;
+            "{out}: a run of {count} steps, and no more than {most} are shown; --steps makes fewer"
+        )?));
+    }
+    Ok(RunToShow { program, steps })
+}
+
+/// The run as JSON.
+fn json_of(alloc: Global, names: RunNames, run: &RunToShow) -> Result<String, AllocError> {
+    if run.program.image.slim() <= 8 {
+        json_on::<8>(alloc, names, run)
+    } else {
+        json_on::<128>(alloc, names, run)
+    }
+}
+
+/// The same on a machine with room for `S` streams a processor.
+fn json_on<const S: usize>(
+    alloc: Global,
+    names: RunNames,
+    run: &RunToShow,
+) -> Result<String, AllocError> {
+    let machine = loaded::<S>(alloc, &run.program.image)?;
+    run_json(alloc, names, &run.program.text, &machine, &run.steps)
+}
+
+/// What the program is called: as was asked, or by its file's name.
+pub(crate) fn program_name<'a>(request: &PageRequest<'a>) -> &'a str {
+    if let Some(title) = request.title {
+        return title;
+    }
+    let name = file_name(request.program);
+    match name.rsplit_once('.') {
+        Some((stem, _)) if !stem.is_empty() => stem,
+        _ => name,
+    }
+}
+
+/// What the schedule is called.
+pub(crate) fn schedule_words(alloc: Global, run: RunChoice) -> Result<String, AllocError> {
+    match run {
+        RunChoice::File(path) => String::from_str(alloc, file_name(path)),
+        RunChoice::Made { maker, .. } => match maker {
+            Maker::Rounds => String::from_str(alloc, "rounds"),
+            Maker::Fair => String::from_str(alloc, "a fair schedule"),
+            Maker::Random { seed } => format!(in alloc; "the random schedule of seed {seed}"),
+        },
+    }
+}
+
+/// A path's last name.
+fn file_name(path: &str) -> &str {
+    match path.rsplit_once('/') {
+        Some((_, name)) => name,
+        None => path,
+    }
+}

@@ -1,0 +1,9 @@
+//! What a command line of `mta_lab` can ask for.
+#![tactic(auto)]
+
+mod requests;
+
+pub use requests::{
+    CheckRequest, ExploreRequest, FileKind, GradeRequest, LabCommand, Maker, PageRequest,
+    RunChoice, Shown, SurveyRequest, ViewRequest,
+};

@@ -1,0 +1,8 @@
+//! The commands `view` and `compare`: runs in words.
+#![tactic(auto)]
+
+mod comparing;
+mod viewing;
+
+pub use comparing::compare;
+pub use viewing::view;

@@ -1,0 +1,15 @@
+//! The same of runs on threads, sessions and engines.
+#![tactic(auto)]
+
+mod alternating;
+mod calls;
+mod debugging;
+mod engines;
+mod gate;
+mod kept;
+mod one_machine;
+mod sessions;
+mod threads;
+mod turns;
+
+pub use calls::{make_engines, make_runs, make_sessions};
