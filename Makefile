@@ -7,12 +7,12 @@ CALLS = crates/library_calls/out/library_calls
 # what make try shows: a source text, and a schedule of it
 SOURCE ?= examples/lock.asm
 SCHEDULE ?= examples/lock.lost_update.schedule
-# the crates whose edits make edits tries; without any, all of them
+# the crates whose edits make edits tries, all of them without any; those that make affected is asked of
 CRATES ?=
 # how many of them are tried side by side
 JOBS ?= $(shell nproc)
 
-.PHONY: help run try test cases checks trust edits refuse hostile pages editors documents bench build dist check-dist install uninstall clean
+.PHONY: help run run-lab try test cases checks trust minutes affected edits refuse hostile pages editors documents bench build dist check-dist install uninstall clean
 
 # the targets, each with what it does and how long it takes
 help:
@@ -35,13 +35,19 @@ help:
 	@echo "make uninstall  takes away what make install has put there (a second)"
 	@echo "make clean      removes all that was built, and what checks keep of it in the crates (a second)"
 
-# proves and builds the programs, and shows a first run
+# proves and builds mta_sim, and shows a first run
 run:
-	@tests/build.sh
+	@tests/build.sh mta_sim
 	@echo "== first run: mta_sim words, on these program words (LIT r1, 5 and ADD r2, r1, 3)"
 	@cat crates/mta_sim/stdin
 	@echo "== the stream after two steps"
 	@$(PROGRAM) words < crates/mta_sim/stdin
+
+# proves and builds mta_lab, and shows the run of an example in words
+run-lab:
+	@tests/build.sh mta_lab
+	@echo "== first run: mta_lab view, on the lock example and a schedule by which an update is lost"
+	@$(LAB) view examples/lock.asm examples/lock.lost_update.schedule
 
 # runs a source text by a schedule, and two program words, unproved
 try:
@@ -58,6 +64,14 @@ checks:
 # writes docs/TRUST.md: which definitions a reader of the contracts has to trust
 trust:
 	@python3 tests/trust
+
+# writes the table of what a check costs into docs/ARCHITECTURE.md, of what make test has left in out/
+minutes:
+	@python3 tests/minutes.py table
+
+# which crates a change of the CRATES proves again, and how long that takes
+affected:
+	@python3 tests/minutes.py affected $(CRATES)
 
 # proves and builds the programs, where one is not built yet
 build:

@@ -15,7 +15,7 @@ use lab_requests::ExploreRequest;
 use lab_texts::{NumberStyle, ProgramNames};
 use machine::LoadFault;
 use processor::Step;
-use schedule_space::{Exploration, Space, explore as explore_image, explore_ends};
+use schedule_space::{Exploration, Space, explore, explore_ends};
 use serde_json::{Value, json};
 use std::alloc::{AllocError, Global};
 use std::io::Read;
@@ -60,7 +60,7 @@ pub struct Explored {
 }
 
 /// Shows every end that schedules of a program come to.
-pub fn explore<F: Files, R: Read>(
+pub fn show_every_end<F: Files, R: Read>(
     alloc: Global,
     inputs: &mut Inputs<'_, F, R>,
     request: &ExploreRequest,
@@ -150,7 +150,7 @@ fn space_of<'i, const S: usize>(
 ) -> Result<(Space<'i>, bool), AllocError> {
     let most = asked.most.max(1);
     let explored = if asked.is_of_all_worlds() {
-        explore_image::<S>(alloc, image, asked.begin, most)
+        explore::<S>(alloc, image, asked.begin, most)
     } else {
         explore_ends::<S>(alloc, image, asked.begin, most)
     };

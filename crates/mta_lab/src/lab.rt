@@ -5,7 +5,7 @@ use lab_adapter::adapt;
 use lab_checks::{assemble_file, check, make_schedule};
 use lab_command_line::read_lab_command;
 use lab_debugger::{Screen, debug};
-use lab_explorer::explore;
+use lab_explorer::show_every_end;
 use lab_grades::{grade, survey};
 use lab_pages::{write_page, write_picture};
 use lab_requests::LabCommand;
@@ -100,7 +100,7 @@ fn answer_to<X: Threads + Sync, F: Files, R: Read>(
         // (these have their own way of writing)
         LabCommand::Debug { .. } | LabCommand::Adapt => Err(LabFault::Closed),
         LabCommand::Survey(request) => survey(rt, alloc, inputs, request),
-        LabCommand::Explore(request) => explore(alloc, inputs, request),
+        LabCommand::Explore(request) => show_every_end(alloc, inputs, request),
         LabCommand::Grade(request) => grade(rt, alloc, inputs, request),
         LabCommand::Page(request) => write_page(alloc, inputs, request),
         LabCommand::Picture(request) => write_picture(alloc, inputs, request),
