@@ -106,9 +106,9 @@ def lay_out(room, names, lines):
 
 
 def rt(folder, *words):
-    """Whether rt ended well in the folder, and what it printed."""
+    """Whether rt ended well in the folder, and what it printed. It tries one edit at a time: crates are side by side."""
     ran = subprocess.run(["rt", *words], cwd=folder, stdin=subprocess.DEVNULL, stdout=subprocess.PIPE,
-                         stderr=subprocess.STDOUT, errors="replace", check=False)
+                         stderr=subprocess.STDOUT, errors="replace", check=False, env={**os.environ, "RT_JOBS": "1"})
     return ran.returncode == 0, ran.stdout
 
 
@@ -161,8 +161,9 @@ def main():
         print(f"{edit}: {fault}")
     if asked.apply:
         sys.exit(1 if faults else 0)
-    count = sum(len(edits_of(crate)) for crate in names)
+    count, begin = sum(len(edits_of(crate)) for crate in names), time.monotonic()
     passed = 0 if faults else try_all(names, lines, asked.jobs)
+    print(f"{count} edits of {len(names)} crates in {(time.monotonic() - begin) / 60:.0f} minutes")
     print(f"{passed} passed, {count - passed} failed")
     sys.exit(0 if passed == count else 1)
 

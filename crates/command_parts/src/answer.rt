@@ -1,5 +1,7 @@
 //! What a command answers.
 
+use std::alloc::Global;
+
 /// How a command ended ("Exit statuses", docs/LAB.md).
 #[derive(Clone, Copy, Debug, PartialEq, Eq)]
 pub enum Status {
@@ -62,4 +64,20 @@ pub struct Answer {
     pub errors: String,
     /// How it ended.
     pub status: Status,
+}
+
+impl Answer {
+    /// An answer that has nothing for standard error.
+    pub fn printed(alloc: Global, output: String, status: Status) -> Answer {
+        Answer {
+            output,
+            errors: String::new(alloc),
+            status,
+        }
+    }
+
+    /// An answer that prints nothing, and all is done.
+    pub fn silent(alloc: Global) -> Answer {
+        Answer::printed(alloc, String::new(alloc), Status::Done)
+    }
 }

@@ -33,11 +33,7 @@ pub fn assemble_file<F: Files, R: Read>(
     }
     let written = write_image(alloc, &program.image)?;
     write_file(alloc, inputs.files, &place, &written)?;
-    Ok(Answer {
-        output: String::new(alloc),
-        errors: String::new(alloc),
-        status: Status::Done,
-    })
+    Ok(Answer::silent(alloc))
 }
 
 /// The path of a source's image: its name with `.image` in place of `.asm`.

@@ -24,33 +24,44 @@ pub fn check<F: Files, R: Read>(
     let mut told = String::new(alloc);
     let mut status = Status::Done;
     for path in &request.files {
-        let bytes = inputs.read(alloc, path)?;
-        let kind = kind_of(request.kind, path, &bytes);
-        let messages = messages_of(alloc, kind, &bytes, program.as_ref())?;
-        for message in &messages {
-            if request.json {
-                push_message_object(alloc, &mut told, path, message)?;
-            } else {
-                push_message(&mut told, path, shown_text(kind, &bytes), message)?;
-            }
-            if message.severity == Severity::Error || request.strict {
-                status = Status::Fault;
-            }
+        let found = check_file(alloc, inputs, request, program.as_ref(), path, &mut told)?;
+        status = status.worse(found);
+    }
+    if request.json {
+        return Ok(Answer::printed(alloc, told, status));
+    }
+    Ok(Answer {
+        output: String::new(alloc),
+        errors: told,
+        status,
+    })
+}
+
+/// Adds what is to be said of a file, and says whether it is right.
+fn check_file<F: Files, R: Read>(
+    alloc: Global,
+    inputs: &mut Inputs<'_, F, R>,
+    request: &CheckRequest,
+    program: Option<&Image>,
+    path: &str,
+    told: &mut String,
+) -> Result<Status, LabFault> {
+    let bytes = inputs.read(alloc, path)?;
+    let kind = kind_of(request.kind, path, &bytes);
+    let messages = messages_of(alloc, kind, &bytes, program)?;
+    for message in &messages {
+        if request.json {
+            push_message_object(alloc, told, path, message)?;
+        } else {
+            push_message(told, path, shown_text(kind, &bytes), message)?;
         }
     }
-    let empty = String::new(alloc);
-    Ok(if request.json {
-        Answer {
-            output: told,
-            errors: empty,
-            status,
-        }
+    let is_right = messages.iter().all(|message| message.severity != Severity::Error
+        && !request.strict);
+    Ok(if is_right {
+        Status::Done
     } else {
-        Answer {
-            output: empty,
-            errors: told,
-            status,
-        }
+        Status::Fault
     })
 }
 

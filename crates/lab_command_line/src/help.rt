@@ -114,6 +114,8 @@ Example:
 
 pub(crate) const PROGRAM: &str = "the program: a source text or an image";
 
+pub(crate) const FAIR: &str = "the processors step in turn, and within each its streams";
+
 pub(crate) const SCHEDULE_FILE: &str =
     "its schedule: lines of processor, stream and number of steps";
 

@@ -4,6 +4,8 @@
 /// The version of `mta_lab`; CHANGELOG.md says what each brought.
 pub const VERSION: &str = "0.3.0";
 
+mod arguments;
+mod commands;
 mod help;
 mod options;
 mod parsers;

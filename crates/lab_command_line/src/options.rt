@@ -1,7 +1,6 @@
-//! Arguments and options, and how their values are read.
+//! The values of arguments: how they are read, their bounds, and what stands for those that are left out.
 
-use clap::builder::ValueParser;
-use clap::{Arg, ArgAction, ArgMatches};
+use clap::ArgMatches;
 use std::alloc::{AllocError, Global};
 
 /// The most steps that a schedule may have.
@@ -21,57 +20,6 @@ pub(crate) const USUAL_WORLDS: usize = 20_000_000;
 
 /// How many seeds `grade` tries, where none are said.
 pub(crate) const USUAL_SEEDS: usize = 200;
-
-/// An argument that has to be there: a file, or a word.
-pub(crate) fn needed<'a>(alloc: Global, name: &'a str, text: &'a str) -> Arg<'a> {
-    Arg::new(alloc, name)
-        .help(text)
-        .required(true)
-        .action(ArgAction::Set)
-}
-
-/// An argument that may be left out.
-pub(crate) fn optional<'a>(alloc: Global, name: &'a str, text: &'a str) -> Arg<'a> {
-    Arg::new(alloc, name).help(text).action(ArgAction::Set)
-}
-
-/// One or more files.
-pub(crate) fn files<'a>(alloc: Global, name: &'a str, text: &'a str) -> Arg<'a> {
-    Arg::new(alloc, name)
-        .help(text)
-        .required(true)
-        .num_args(1..)
-        .action(ArgAction::Append)
-}
-
-/// An option with a value, `--name VALUE`.
-pub(crate) fn option<'a>(alloc: Global, name: &'a str, value: &'a str, text: &'a str) -> Arg<'a> {
-    Arg::new(alloc, name)
-        .long(name)
-        .value_name(value)
-        .help(text)
-        .action(ArgAction::Set)
-}
-
-/// An option whose value is a number in a range.
-pub(crate) fn number_option<'a>(
-    alloc: Global,
-    name: &'a str,
-    value: &'a str,
-    text: &'a str,
-    least: u64,
-    most: u64,
-) -> Arg<'a> {
-    option(alloc, name, value, text).value_parser(ValueParser::unsigned(least, most))
-}
-
-/// An option without a value.
-pub(crate) fn flag<'a>(alloc: Global, name: &'a str, text: &'a str) -> Arg<'a> {
-    Arg::new(alloc, name)
-        .long(name)
-        .help(text)
-        .action(ArgAction::SetTrue)
-}
 
 /// The text that an argument has, or none.
 pub(crate) fn text<'a>(matches: &ArgMatches<'a>, name: &str) -> Option<&'a str> {

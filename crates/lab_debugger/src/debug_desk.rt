@@ -4,6 +4,7 @@ use crate::debug_words::{DebugWord, debug_word, push_help, push_no_word};
 use command_parts::LabFault;
 use debug_commands::{Answer, Command, DebugFault, Why};
 use lab_texts::{Columns, NumberStyle, ProgramNames, push_step_line, push_stream};
+use machine::Machine;
 use named_session::{NamedSession, UserName, read_name};
 use processor::Step;
 use std::alloc::Global;
@@ -152,13 +153,7 @@ impl<'a, 'i, 't, const S: usize> Desk<'a, 'i, 't, S> {
             return Ok(());
         };
         let position = self.named.session.position();
-        if self.to(position.saturating_sub(1)).is_err() {
-            return Err(LabFault::NoMemory);
-        }
-        let mut machine = self.named.session.machine().try_clone()?;
-        if self.to(position).is_err() {
-            return Err(LabFault::NoMemory);
-        }
+        let mut machine = self.machine_before(position)?;
         let view = take_step(self.alloc, &mut machine, step)?;
         let style = NumberStyle::Decimal;
         let number = position as usize;
@@ -171,6 +166,17 @@ impl<'a, 'i, 't, const S: usize> Desk<'a, 'i, 't, S> {
             &view,
             &machine,
         )?)
+    }
+
+    /// The machine before the step that led to the session's position.
+    fn machine_before(&mut self, position: u64) -> Result<Machine<'i, S>, LabFault> {
+        let went = self.to(position.saturating_sub(1)).is_ok();
+        let machine = self.named.session.machine().try_clone()?;
+        if went && self.to(position).is_ok() {
+            Ok(machine)
+        } else {
+            Err(LabFault::NoMemory)
+        }
     }
 
     /// Goes to a position.

@@ -54,17 +54,37 @@ fn debug_on<const S: usize, F: Files, R: Read, W: Write, E: Write>(
     screen: &mut Screen<'_, W, E>,
 ) -> Result<Status, LabFault> {
     let names = ProgramNames::of(alloc, &program.text)?;
-    let places = SourcePlaces::of(alloc, &program.text)?;
     let columns = Columns::of(&names, steps.len());
-    let Ok(session) = Session::<S>::begin(alloc, &program.image, steps) else {
-        return Err(LabFault::NoMemory);
-    };
     let mut desk = Desk {
         alloc,
-        named: NamedSession::new(session, places),
+        named: named_of::<S>(alloc, program, steps)?,
         names: &names,
         columns,
     };
+    talk(alloc, inputs, &mut desk, screen)?;
+    Ok(Status::Done)
+}
+
+/// The session of a program's run, with the names of its text.
+fn named_of<const S: usize>(
+    alloc: Global,
+    program: &Program,
+    steps: Vec<Step>,
+) -> Result<NamedSession<'_, '_, S>, LabFault> {
+    let places = SourcePlaces::of(alloc, &program.text)?;
+    match Session::begin(alloc, &program.image, steps) {
+        Ok(session) => Ok(NamedSession::new(session, places)),
+        Err(_) => Err(LabFault::NoMemory),
+    }
+}
+
+/// Answers the lines of standard input at a desk, up to one that asks for the end, or to the last.
+fn talk<const S: usize, F: Files, R: Read, W: Write, E: Write>(
+    alloc: Global,
+    inputs: &mut Inputs<'_, F, R>,
+    desk: &mut Desk<'_, '_, '_, S>,
+    screen: &mut Screen<'_, W, E>,
+) -> Result<(), LabFault> {
     let mut lines = Lines::new(alloc);
     let mut line = String::new(alloc);
     let mut out = String::new(alloc);
@@ -72,19 +92,32 @@ fn debug_on<const S: usize, F: Files, R: Read, W: Write, E: Write>(
     for _ in 0..u64::MAX {
         screen.show(&out)?;
         out.clear();
-        let Some(next) = lines.next(alloc, inputs.input)? else {
-            break;
-        };
-        if !next.as_str().trim().is_empty() {
-            line = next;
+        if !read_line(alloc, &mut lines, inputs.input, &mut line)? {
+            return Ok(());
         }
         match desk.answer(line.as_str(), &mut out)? {
             Turn::On => {}
-            Turn::Save(path) => save(alloc, inputs.files, path, &desk, &mut out)?,
-            Turn::Quit => break,
+            Turn::Save(path) => save(alloc, inputs.files, path, desk, &mut out)?,
+            Turn::Quit => return Ok(()),
         }
     }
-    Ok(Status::Done)
+    Ok(())
+}
+
+/// Reads the next line in place of the last one, which an empty line leaves as it is; whether there was one.
+fn read_line<R: Read>(
+    alloc: Global,
+    lines: &mut Lines,
+    input: &mut R,
+    line: &mut String,
+) -> Result<bool, LabFault> {
+    let Some(next) = lines.next(alloc, input)? else {
+        return Ok(false);
+    };
+    if !next.as_str().trim().is_empty() {
+        *line = next;
+    }
+    Ok(true)
 }
 
 /// Writes the schedule of a session into a file, and adds that it did, or why not.

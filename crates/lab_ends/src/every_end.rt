@@ -106,39 +106,75 @@ fn add_end<const S: usize>(
     space: &Space<'_>,
     place: usize,
 ) -> Result<(), AllocError> {
-    let machine = machine_at::<S>(alloc, space, place)?;
-    let EndWords { text, stopped } = end_words_of(alloc, &machine, names, style)?;
-    let fate = if place < space.len() {
-        space.fate(place)
-    } else {
-        Fate::GoesOn
-    };
-    let kind = match fate {
-        Fate::Deadlock => SpaceEndKind::Deadlock,
-        _ if !stopped.is_empty() => SpaceEndKind::Stopped,
-        _ => SpaceEndKind::Finished,
-    };
-    let missed = first_missed(&machine, expected);
-    let is_trapped = stopped
-        .iter()
-        .any(|stream| !is_expected_trap(expected, stream));
-    let known = ends.iter_mut().find(|end| end.kind == kind
-        && end.missed == missed
-        && end.text == text);
-    match known {
+    let told = told_at::<S>(alloc, names, style, expected, space, place)?;
+    match ends.iter_mut().find(|end| is_told_alike(end, &told)) {
         Some(end) => {
             end.sets = end.sets.saturating_add(1);
             Ok(end.places.push(place)?)
         }
-        None => {
-            let end = new_end(alloc, space, place, kind, text)?;
-            let end = SpaceEnd {
-                missed,
-                is_trapped,
-                ..end
-            };
-            Ok(ends.push(end)?)
+        None => Ok(ends.push(new_end(alloc, space, place, told)?)?),
+    }
+}
+
+/// What ends are told by.
+#[derive(Drop)]
+pub(crate) struct EndTold {
+    /// The kind.
+    pub kind: SpaceEndKind,
+    /// Who was stopped, who waits or goes on for ever, and the words that changed. The claim, where it is broken.
+    pub text: String,
+    /// The place of the first expectation that is not met.
+    pub missed: Option<usize>,
+    /// Whether a trap that nobody expected stopped a stream.
+    pub is_trapped: bool,
+}
+
+impl EndTold {
+    /// Of this kind and text, and nothing is missed.
+    pub(crate) fn of(kind: SpaceEndKind, text: String) -> EndTold {
+        EndTold {
+            kind,
+            text,
+            missed: None,
+            is_trapped: false,
         }
+    }
+}
+
+/// Whether an end is one that is told by these.
+fn is_told_alike(end: &SpaceEnd, told: &EndTold) -> bool {
+    end.kind == told.kind && end.missed == told.missed && end.text == told.text
+}
+
+/// What the end at a place is told by.
+fn told_at<const S: usize>(
+    alloc: Global,
+    names: &ProgramNames<'_>,
+    style: NumberStyle,
+    expected: &[Expectation],
+    space: &Space<'_>,
+    place: usize,
+) -> Result<EndTold, AllocError> {
+    let machine = machine_at::<S>(alloc, space, place)?;
+    let EndWords { text, stopped } = end_words_of(alloc, &machine, names, style)?;
+    Ok(EndTold {
+        kind: kind_of(space, place, !stopped.is_empty()),
+        text,
+        missed: first_missed(&machine, expected),
+        is_trapped: stopped
+            .iter()
+            .any(|stream| !is_expected_trap(expected, stream)),
+    })
+}
+
+/// The kind of the end at a place, where some stream was stopped or none.
+fn kind_of(space: &Space<'_>, place: usize, is_stopped: bool) -> SpaceEndKind {
+    if place < space.len() && space.fate(place) == Fate::Deadlock {
+        SpaceEndKind::Deadlock
+    } else if is_stopped {
+        SpaceEndKind::Stopped
+    } else {
+        SpaceEndKind::Finished
     }
 }
 
@@ -150,56 +186,59 @@ fn add_broken<const S: usize>(
     space: &Space<'_>,
 ) -> Result<(), AllocError> {
     for claim in claims {
-        let mut places = Vec::new(alloc);
-        for place in 0..space.len() {
-            let machine = machine_at::<S>(alloc, space, place)?;
-            if !claim.holds(&machine) {
-                places.push(place)?;
-            }
+        let places = places_that_break::<S>(alloc, claim, space)?;
+        if let Some(first) = places.first().copied() {
+            let told = EndTold::of(SpaceEndKind::Broken, claim.text.clone()?);
+            let mut end = new_end(alloc, space, first, told)?;
+            end.sets = places.len();
+            end.places = places;
+            ends.push(end)?;
         }
-        let Some(first) = places.first().copied() else {
-            continue;
-        };
-        let text = claim.text.clone()?;
-        let sets = places.len();
-        let end = new_end(alloc, space, first, SpaceEndKind::Broken, text)?;
-        ends.push(SpaceEnd {
-            places,
-            sets,
-            ..end
-        })?;
     }
     Ok(())
 }
 
-/// An end of which this is the first world.
+/// The places of the worlds of which a claim does not hold.
+fn places_that_break<const S: usize>(
+    alloc: Global,
+    claim: &Claim,
+    space: &Space<'_>,
+) -> Result<Vec<usize>, AllocError> {
+    let mut places = Vec::new(alloc);
+    for place in 0..space.len() {
+        let machine = machine_at::<S>(alloc, space, place)?;
+        if !claim.holds(&machine) {
+            places.push(place)?;
+        }
+    }
+    Ok(places)
+}
+
+/// An end of which this is the first world, and what it is told by.
 pub(crate) fn new_end(
     alloc: Global,
     space: &Space<'_>,
     place: usize,
-    kind: SpaceEndKind,
-    text: String,
+    told: EndTold,
 ) -> Result<SpaceEnd, AllocError> {
-    let mut places = Vec::new(alloc);
-    places.push(place)?;
-    let schedule = if place < space.len() {
-        space.schedule(alloc, place)?
-    } else {
-        Vec::new(alloc)
-    };
-    Ok(SpaceEnd {
-        kind,
-        text,
-        missed: None,
-        is_trapped: false,
-        places,
+    let mut end = SpaceEnd {
+        kind: told.kind,
+        text: told.text,
+        missed: told.missed,
+        is_trapped: told.is_trapped,
+        places: Vec::new(alloc),
         sets: 1,
         sources: 0,
-        schedule,
+        schedule: Vec::new(alloc),
         finding: String::new(alloc),
         round: Vec::new(alloc),
         round_words: String::new(alloc),
-    })
+    };
+    end.places.push(place)?;
+    if place < space.len() {
+        end.schedule = space.schedule(alloc, place)?;
+    }
+    Ok(end)
 }
 
 /// From how many worlds of a space some schedule leads to one of these places.

@@ -104,34 +104,43 @@ fn steps_back(
     Ok(steps)
 }
 
-/// These steps of a machine in words, each by its stream and the place in the program where it stands.
-pub(crate) fn round_words<const S: usize>(
-    alloc: Global,
+/// Adds these steps of a machine, each by its stream and the place in the program where it stands; nothing of none.
+pub(crate) fn push_round<const S: usize>(
+    words: &mut String,
     names: &ProgramNames<'_>,
-    mut machine: Machine<'_, S>,
+    machine: &mut Machine<'_, S>,
     steps: &[Step],
-) -> Result<String, AllocError> {
-    let mut words = String::new(alloc);
+) -> Result<(), AllocError> {
     if steps.is_empty() {
-        return Ok(words);
+        return Ok(());
     }
     let count = steps.len();
     let some_steps = if count == 1 { "" } else { "s" };
     write!(words, "goes round in {count} step{some_steps}: ")?;
     for (number, step) in steps.iter().enumerate() {
         if number >= MOST_TOLD {
-            words.push_str(", ..")?;
-            break;
+            return words.push_str(", ..");
         }
         if number > 0 {
             words.push_str(", ")?;
         }
-        push_stream(&mut words, step.p, step.s)?;
-        words.push_str(" ")?;
-        if let Some(stream) = machine.stream(step.p, step.s) {
-            names.push_place(&mut words, stream.ssw().pc)?;
-        }
+        push_place_of(words, names, machine, *step)?;
         machine.step(step.p, step.s);
     }
-    Ok(words)
+    Ok(())
+}
+
+/// Adds a stream and the place where it stands.
+fn push_place_of<const S: usize>(
+    words: &mut String,
+    names: &ProgramNames<'_>,
+    machine: &Machine<'_, S>,
+    step: Step,
+) -> Result<(), AllocError> {
+    push_stream(words, step.p, step.s)?;
+    words.push_str(" ")?;
+    match machine.stream(step.p, step.s) {
+        Some(stream) => names.push_place(words, stream.ssw().pc),
+        None => Ok(()),
+    }
 }

@@ -1,8 +1,8 @@
 //! Sets of worlds that no step leads out of, and in which it goes on for ever.
 
-use crate::every_end::{SpaceEnd, SpaceEndKind, new_end};
+use crate::every_end::{EndTold, SpaceEnd, SpaceEndKind, new_end};
 use crate::machines::machine_at;
-use crate::rounds::{round_of, round_words};
+use crate::rounds::{push_round, round_of};
 use crate::strong_sets::{SetNumbers, closed_sets};
 use lab_texts::{NumberStyle, ProgramNames, push_changed_words, push_part_of, push_stream};
 use machine::Machine;
@@ -59,56 +59,83 @@ fn add_set<const S: usize>(
     space: &Space<'_>,
     places: &[usize],
 ) -> Result<(), AllocError> {
-    let Some(first) = places.first().copied() else {
+    let Some((first, others)) = places.split_first() else {
         return Ok(());
     };
-    let text = set_text::<S>(alloc, names, style, space, places)?;
-    let known = ends.iter_mut().find(|end| end.kind == SpaceEndKind::Spinning && end.text == text);
-    match known {
+    let mut text = String::new(alloc);
+    push_set::<S>(alloc, &mut text, names, style, space, *first, others)?;
+    match ends.iter_mut().find(|end| end.kind == SpaceEndKind::Spinning && end.text == text) {
         Some(end) => {
             end.sets = end.sets.saturating_add(1);
-            end.places.extend_from_slice(places)?;
+            end.places.extend_from_slice(places)
         }
         None => {
-            let machine = machine_at::<S>(alloc, space, first)?;
-            let round = round_of(alloc, space, &machine, first)?;
-            let round_words = round_words(alloc, names, machine, &round)?;
-            let end = new_end(alloc, space, first, SpaceEndKind::Spinning, text)?;
-            ends.push(SpaceEnd {
-                places: Vec::from_slice(alloc, places)?,
-                round,
-                round_words,
-                ..end
-            })?;
+            let end = new_set::<S>(alloc, names, space, *first, text)?;
+            Ok(ends.push(with_places(end, others)?)?)
         }
+    }
+}
+
+/// An end with these worlds too.
+fn with_places(end: SpaceEnd, places: &[usize]) -> Result<SpaceEnd, AllocError> {
+    let mut end = end;
+    end.places.extend_from_slice(places)?;
+    Ok(end)
+}
+
+/// A set of worlds of which this is the first, with the way round from there.
+fn new_set<const S: usize>(
+    alloc: Global,
+    names: &ProgramNames<'_>,
+    space: &Space<'_>,
+    first: usize,
+    text: String,
+) -> Result<SpaceEnd, AllocError> {
+    let told = EndTold::of(SpaceEndKind::Spinning, text);
+    let mut end = new_end(alloc, space, first, told)?;
+    let mut machine = machine_at::<S>(alloc, space, first)?;
+    end.round = round_of(alloc, space, &machine, first)?;
+    push_round(&mut end.round_words, names, &mut machine, &end.round)?;
+    Ok(end)
+}
+
+/// Adds who runs in a set of worlds, the words that differ from the image in its first one, and those that change in it.
+fn push_set<const S: usize>(
+    alloc: Global,
+    text: &mut String,
+    names: &ProgramNames<'_>,
+    style: NumberStyle,
+    space: &Space<'_>,
+    first: usize,
+    others: &[usize],
+) -> Result<(), AllocError> {
+    let machine = machine_at::<S>(alloc, space, first)?;
+    push_running(alloc, text, &machine)?;
+    push_changed_words(text, names, style, &machine)?;
+    push_changing(text, &changing_words::<S>(alloc, space, &machine, others)?)
+}
+
+/// Adds the streams that run.
+fn push_running<const S: usize>(
+    alloc: Global,
+    text: &mut String,
+    machine: &Machine<'_, S>,
+) -> Result<(), AllocError> {
+    for stream in &running_streams(alloc, machine)? {
+        push_part_of(text, 0, "")?;
+        push_stream(text, stream.p, stream.s)?;
+        text.push_str(" runs")?;
     }
     Ok(())
 }
 
-/// Who runs in a set of worlds, the words that differ from the image in its first one, and those that change in it.
-fn set_text<const S: usize>(
-    alloc: Global,
-    names: &ProgramNames<'_>,
-    style: NumberStyle,
-    space: &Space<'_>,
-    places: &[usize],
-) -> Result<String, AllocError> {
-    let mut text = String::new(alloc);
-    let Some((first, others)) = places.split_first() else {
-        return Ok(text);
-    };
-    let machine = machine_at::<S>(alloc, space, *first)?;
-    for stream in &running_streams(alloc, &machine)? {
-        push_part_of(&mut text, 0, "")?;
-        push_stream(&mut text, stream.p, stream.s)?;
-        text.push_str(" runs")?;
-    }
-    push_changed_words(&mut text, names, style, &machine)?;
-    for address in &changing_words::<S>(alloc, space, &machine, others)? {
-        push_part_of(&mut text, 0, "")?;
+/// Adds the words at these byte addresses, as ones that change.
+fn push_changing(text: &mut String, addresses: &[u64]) -> Result<(), AllocError> {
+    for address in addresses {
+        push_part_of(text, 0, "")?;
         write!(text, "[{address}] goes on changing")?;
     }
-    Ok(text)
+    Ok(())
 }
 
 /// The byte addresses of the words that are not the same in all these worlds and in that of a machine.
@@ -122,15 +149,29 @@ fn changing_words<const S: usize>(
     let mut is_changing = vec![in alloc; false; count]?;
     for place in places {
         let other = machine_at::<S>(alloc, space, *place)?;
-        for (index, mark) in is_changing.iter_mut().enumerate() {
-            let address = (index as u64).saturating_mul(8);
-            if !is_same(machine.word(address), other.word(address)) {
-                *mark = true;
-            }
+        mark_differing(machine, &other, &mut is_changing);
+    }
+    addresses_of(alloc, &is_changing)
+}
+
+/// Marks the words in which two machines differ.
+fn mark_differing<const S: usize>(
+    one: &Machine<'_, S>,
+    other: &Machine<'_, S>,
+    marks: &mut [bool],
+) {
+    for (index, mark) in marks.iter_mut().enumerate() {
+        let address = (index as u64).saturating_mul(8);
+        if !is_same(one.word(address), other.word(address)) {
+            *mark = true;
         }
     }
+}
+
+/// The byte addresses of the words that are marked.
+fn addresses_of(alloc: Global, marks: &[bool]) -> Result<Vec<u64>, AllocError> {
     let mut addresses = Vec::new(alloc);
-    for (index, mark) in is_changing.iter().enumerate() {
+    for (index, mark) in marks.iter().enumerate() {
         if *mark {
             addresses.push((index as u64).saturating_mul(8))?;
         }

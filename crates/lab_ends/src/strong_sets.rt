@@ -41,34 +41,15 @@ pub(crate) fn closed_sets(
     edges: &[Edge],
     marks: &[bool],
 ) -> Result<SetNumbers, AllocError> {
-    let count = marks.len();
-    let mut walk = Walk {
-        first_edges: first_edges_of(alloc, edges, count)?,
-        order: vec![in alloc; 0; count]?,
-        low: vec![in alloc; 0; count]?,
-        sets: vec![in alloc; None; count]?,
-        open: Vec::new(alloc),
-        path: Vec::new(alloc),
-        reached: 0,
-        closed: 0,
-    };
+    let mut walk = Walk::new(alloc, edges, marks.len())?;
     for (place, mark) in marks.iter().enumerate() {
         if !*mark && get(&walk.order, place) == 0 {
             walk.go_from(edges, place)?;
         }
     }
-    let mut is_left = vec![in alloc; false; walk.closed]?;
-    for edge in edges {
-        let from = set_at(&walk.sets, edge.from as usize);
-        if from != set_at(&walk.sets, edge.to as usize)
-            && let Some(from) = from
-            && let Some(mark) = is_left.get_mut(from)
-        {
-            *mark = true;
-        }
-    }
-    let mut sets = walk.sets;
-    for set in sets.iter_mut() {
+    let is_left = sets_left(alloc, edges, &walk.sets, walk.closed)?;
+    let mut number_of = walk.sets;
+    for set in number_of.iter_mut() {
         if let Some(number) = *set
             && is_left.get(number).copied().unwrap_or(true)
         {
@@ -76,9 +57,29 @@ pub(crate) fn closed_sets(
         }
     }
     Ok(SetNumbers {
-        number_of: sets,
+        number_of,
         count: walk.closed,
     })
+}
+
+/// For each set whether an edge leads out of it.
+fn sets_left(
+    alloc: Global,
+    edges: &[Edge],
+    sets: &[Option<usize>],
+    count: usize,
+) -> Result<Vec<bool>, AllocError> {
+    let mut is_left = vec![in alloc; false; count]?;
+    for edge in edges {
+        let from = set_at(sets, edge.from as usize);
+        if from != set_at(sets, edge.to as usize)
+            && let Some(from) = from
+            && let Some(mark) = is_left.get_mut(from)
+        {
+            *mark = true;
+        }
+    }
+    Ok(is_left)
 }
 
 /// Where the edges of each place begin, and at the end how many there are.
@@ -102,6 +103,20 @@ pub(crate) fn first_edges_of(
 }
 
 impl Walk {
+    /// A walk through so many places, which has not begun.
+    fn new(alloc: Global, edges: &[Edge], count: usize) -> Result<Walk, AllocError> {
+        Ok(Walk {
+            first_edges: first_edges_of(alloc, edges, count)?,
+            order: vec![in alloc; 0; count]?,
+            low: vec![in alloc; 0; count]?,
+            sets: vec![in alloc; None; count]?,
+            open: Vec::new(alloc),
+            path: Vec::new(alloc),
+            reached: 0,
+            closed: 0,
+        })
+    }
+
     /// Walks from a place until all that it leads to is in a set.
     fn go_from(&mut self, edges: &[Edge], place: usize) -> Result<(), AllocError> {
         self.come_to(place)?;

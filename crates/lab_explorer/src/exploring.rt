@@ -67,30 +67,49 @@ pub fn show_every_end<F: Files, R: Read>(
 ) -> Result<Answer, LabFault> {
     let program = read_program(alloc, inputs, request.program)?;
     let names = ProgramNames::of(alloc, &program.text)?;
-    let wishes = match request.expected {
-        Some(path) => {
-            let text = inputs.read(alloc, path)?;
-            wishes_of(alloc, path, &text, &names)?
-        }
-        None => Wishes::none(alloc),
+    let wishes = wishes_asked(alloc, inputs, request, &names)?;
+    let found = found_by(alloc, inputs, request, &program, &names, &wishes)?;
+    if let Some(folder) = request.keep {
+        keep_schedules(alloc, inputs, folder, &found.ends)?;
+    }
+    Ok(answer_of(alloc, request, &wishes.ends, &found)?)
+}
+
+/// What is wished of the program; nothing where no file says it.
+fn wishes_asked<F: Files, R: Read>(
+    alloc: Global,
+    inputs: &mut Inputs<'_, F, R>,
+    request: &ExploreRequest,
+    names: &ProgramNames<'_>,
+) -> Result<Wishes, LabFault> {
+    let Some(path) = request.expected else {
+        return Ok(Wishes::none(alloc));
     };
+    let text = inputs.read(alloc, path)?;
+    wishes_of(alloc, path, &text, names)
+}
+
+/// What the search that is asked for comes to.
+fn found_by<F: Files, R: Read>(
+    alloc: Global,
+    inputs: &mut Inputs<'_, F, R>,
+    request: &ExploreRequest,
+    program: &Program,
+    names: &ProgramNames<'_>,
+    wishes: &Wishes,
+) -> Result<Explored, LabFault> {
     let begin = match request.from {
-        Some(path) => read_steps(alloc, inputs, &program, path)?,
+        Some(path) => read_steps(alloc, inputs, program, path)?,
         None => Vec::new(alloc),
     };
     let asked = Search {
-        wishes: &wishes,
+        wishes,
         begin: &begin,
         most: request.most,
         is_plain: request.is_plain,
         style: style_of(request.shown),
     };
-    let found = explore_program(alloc, &program, &names, &asked)?;
-    let answer = answer_of(alloc, request, &wishes.ends, &found)?;
-    if let Some(folder) = request.keep {
-        keep_schedules(alloc, inputs, folder, &found.ends)?;
-    }
-    Ok(answer)
+    Ok(explore_program(alloc, program, names, &asked)?)
 }
 
 /// Writes a shortest schedule to each end into a folder, as `1.schedule` and so on.
@@ -184,11 +203,7 @@ fn answer_of(
             push_end_line(&mut output, width, expected, end)?;
         }
     }
-    Ok(Answer {
-        output,
-        errors: String::new(alloc),
-        status,
-    })
+    Ok(Answer::printed(alloc, output, status))
 }
 
 /// The greatest count of worlds of an end.

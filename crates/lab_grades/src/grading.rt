@@ -42,26 +42,31 @@ pub fn grade<X: Threads + Sync, F: Files, R: Read>(
     let mut output = String::new(alloc);
     let mut status = Status::Done;
     for path in &request.submissions {
-        let program = match submission(alloc, inputs, path)? {
-            Ok(program) => program,
-            Err(verdict) => {
-                status = status.worse(verdict.status);
-                push_verdict(alloc, &mut output, request.shown.json, path, &verdict)?;
-                continue;
-            }
-        };
-        let verdict = match request.explored {
-            Some(most) => explored_verdict(alloc, request, &wishes, &program, most)?,
-            None => sampled_verdict(rt, alloc, request, &expected, &program)?,
-        };
+        let verdict = verdict_on(rt, alloc, inputs, request, &wishes, &expected, path)?;
         status = status.worse(verdict.status);
         push_verdict(alloc, &mut output, request.shown.json, path, &verdict)?;
     }
-    Ok(Answer {
-        output,
-        errors: String::new(alloc),
-        status,
-    })
+    Ok(Answer::printed(alloc, output, status))
+}
+
+/// What is said of the submission of a path: by every schedule, where that is asked for, or by seeds.
+fn verdict_on<X: Threads + Sync, F: Files, R: Read>(
+    rt: &X,
+    alloc: Global,
+    inputs: &mut Inputs<'_, F, R>,
+    request: &GradeRequest,
+    wishes: &[u8],
+    expected: &[Expectation],
+    path: &str,
+) -> Result<Verdict, LabFault> {
+    let program = match submission(alloc, inputs, path)? {
+        Ok(program) => program,
+        Err(verdict) => return Ok(verdict),
+    };
+    match request.explored {
+        Some(most) => explored_verdict(alloc, request, wishes, &program, most),
+        None => Ok(sampled_verdict(rt, alloc, request, expected, &program)?),
+    }
 }
 
 /// The program of a submission, or what is said where it is none.

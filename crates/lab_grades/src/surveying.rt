@@ -28,40 +28,61 @@ pub fn survey<X: Threads + Sync, F: Files, R: Read>(
         None => Vec::new(alloc),
     };
     let program = read_program(alloc, inputs, request.program)?;
+    Ok(survey_of(rt, alloc, request, &program, expected)?)
+}
+
+/// The survey of a program, of whose ends this is expected.
+fn survey_of<X: Threads + Sync>(
+    rt: &X,
+    alloc: Global,
+    request: &SurveyRequest,
+    program: &Program,
+    expected: Vec<Expectation>,
+) -> Result<Answer, AllocError> {
     let seeds = Seeds {
         first: request.first,
         count: request.seeds,
         most: request.most,
         style: style_of(request.shown),
     };
-    let mut outcomes = outcomes_of(rt, alloc, &program, &expected, seeds)?;
+    let mut outcomes = outcomes_of(rt, alloc, program, &expected, seeds)?;
     outcomes.sort_by_key(|outcome: &Outcome| usize::MAX - outcome.runs)?;
-    let mut status = Status::Done;
     let mut output = String::new(alloc);
-    let width = digits_of(
-        outcomes
-            .iter()
-            .map(|outcome| outcome.runs)
-            .max()
-            .unwrap_or(0),
-    );
-    for outcome in &outcomes {
-        status = status.worse(status_of(outcome));
-        if request.shown.json {
-            push_outcome_object(alloc, &mut output, &expected, outcome)?;
-        } else {
-            push_outcome(&mut output, width, &expected, outcome)?;
-        }
-    }
+    push_outcomes(alloc, &mut output, request.shown.json, &expected, &outcomes)?;
     if let Some(most) = request.explored {
-        let found = every_end(alloc, &program, expected, seeds.style, most)?;
+        let found = every_end(alloc, program, expected, seeds.style, most)?;
         push_met(alloc, &mut output, request.shown.json, &found, &outcomes)?;
     }
-    Ok(Answer {
-        output,
-        errors: String::new(alloc),
-        status,
-    })
+    Ok(Answer::printed(alloc, output, worst_status(&outcomes)))
+}
+
+/// The worst of the outcomes' statuses.
+fn worst_status(outcomes: &[Outcome]) -> Status {
+    let mut status = Status::Done;
+    for outcome in outcomes {
+        status = status.worse(status_of(outcome));
+    }
+    status
+}
+
+/// Adds the lines of the outcomes, or their objects.
+fn push_outcomes(
+    alloc: Global,
+    out: &mut String,
+    is_json: bool,
+    expected: &[Expectation],
+    outcomes: &[Outcome],
+) -> Result<(), AllocError> {
+    let most_runs = outcomes.iter().map(|outcome| outcome.runs).max();
+    let width = digits_of(most_runs.unwrap_or(0));
+    for outcome in outcomes {
+        if is_json {
+            push_outcome_object(alloc, out, expected, outcome)?;
+        } else {
+            push_outcome(out, width, expected, outcome)?;
+        }
+    }
+    Ok(())
 }
 
 /// The ends of every schedule of a program.

@@ -1,7 +1,7 @@
 //! The command `page`.
 
 use command_parts::{
-    Answer, Inputs, LabFault, Program, Status, loaded, read_program, steps_of, write_file,
+    Answer, Inputs, LabFault, Program, loaded, read_program, steps_of, write_file,
 };
 use lab_requests::{Maker, PageRequest, RunChoice};
 use processor::Step;
@@ -17,21 +17,28 @@ pub fn write_page<F: Files, R: Read>(
     request: &PageRequest,
 ) -> Result<Answer, LabFault> {
     let run = run_to_show(alloc, inputs, request, MOST_STEPS)?;
+    let page = page_text(alloc, request, &run)?;
+    write_file(alloc, inputs.files, request.out, page.as_bytes())?;
+    Ok(Answer::silent(alloc))
+}
+
+/// The page of a run.
+fn page_text(alloc: Global, request: &PageRequest, run: &RunToShow) -> Result<String, AllocError> {
     let schedule = schedule_words(alloc, request.run)?;
     let names = RunNames {
         program: program_name(request),
         schedule: &schedule,
     };
+    let json = json_of(alloc, names, run)?;
+    titled_page(alloc, names, &json)
+}
+
+/// The page of a run's JSON, with its names as the title.
+fn titled_page(alloc: Global, names: RunNames, json: &str) -> Result<String, AllocError> {
     let program = names.program;
+    let schedule = names.schedule;
     let title = format!(in alloc; "{program}, {schedule}")?;
-    let json = json_of(alloc, names, &run)?;
-    let page = page_of(alloc, &title, &json)?;
-    write_file(alloc, inputs.files, request.out, page.as_bytes())?;
-    Ok(Answer {
-        output: String::new(alloc),
-        errors: String::new(alloc),
-        status: Status::Done,
-    })
+    page_of(alloc, &title, json)
 }
 
 /// A program and the steps by which it runs.
@@ -49,24 +56,33 @@ pub(crate) fn run_to_show<F: Files, R: Read>(
     most: usize,
 ) -> Result<RunToShow, LabFault> {
     let out = request.out;
-    let is_input = match request.run {
-        RunChoice::File(path) => path == out,
-        RunChoice::Made { .. } => false,
-    };
-    if is_input || request.program == out {
+    if writes_over_input(request) {
         return Err(LabFault::Words(format!(in alloc;
             "{out}: this would be written over what is read"
         )?));
     }
     let program = read_program(alloc, inputs, request.program)?;
     let steps = steps_of(alloc, inputs, &program, request.run)?;
-    let count = steps.len();
-    if count > most {
-        return Err(LabFault::Words(format!(in alloc;
-            "{out}: a run of {count} steps, and no more than {most} are shown; --steps makes fewer"
-        )?));
+    if steps.len() > most {
+        return Err(too_long(alloc, out, steps.len(), most)?);
     }
     Ok(RunToShow { program, steps })
+}
+
+/// Whether what is written would take the place of the program or its schedule.
+fn writes_over_input(request: &PageRequest) -> bool {
+    let is_schedule = match request.run {
+        RunChoice::File(path) => path == request.out,
+        RunChoice::Made { .. } => false,
+    };
+    is_schedule || request.program == request.out
+}
+
+/// What is said of a run of more steps than are shown.
+fn too_long(alloc: Global, out: &str, count: usize, most: usize) -> Result<LabFault, AllocError> {
+    Ok(LabFault::Words(format!(in alloc;
+        "{out}: a run of {count} steps, and no more than {most} are shown; --steps makes fewer"
+    )?))
 }
 
 /// The run as JSON.

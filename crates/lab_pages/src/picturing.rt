@@ -1,7 +1,7 @@
 //! The command `picture`.
 
 use crate::paging::{RunToShow, program_name, run_to_show, schedule_words};
-use command_parts::{Answer, Inputs, LabFault, Status, loaded, write_file};
+use command_parts::{Answer, Inputs, LabFault, loaded, write_file};
 use lab_requests::PageRequest;
 use replay_page::{MOST_DRAWN_STEPS, RunNames, picture_of};
 use std::alloc::{AllocError, Global};
@@ -15,22 +15,27 @@ pub fn write_picture<F: Files, R: Read>(
     request: &PageRequest,
 ) -> Result<Answer, LabFault> {
     let run = run_to_show(alloc, inputs, request, MOST_DRAWN_STEPS)?;
+    let picture = picture_text(alloc, request, &run)?;
+    write_file(alloc, inputs.files, request.out, picture.as_bytes())?;
+    Ok(Answer::silent(alloc))
+}
+
+/// The picture of a run.
+fn picture_text(
+    alloc: Global,
+    request: &PageRequest,
+    run: &RunToShow,
+) -> Result<String, AllocError> {
     let schedule = schedule_words(alloc, request.run)?;
     let names = RunNames {
         program: program_name(request),
         schedule: &schedule,
     };
-    let picture = if run.program.image.slim() <= 8 {
-        picture_on::<8>(alloc, names, &run)?
+    if run.program.image.slim() <= 8 {
+        picture_on::<8>(alloc, names, run)
     } else {
-        picture_on::<128>(alloc, names, &run)?
-    };
-    write_file(alloc, inputs.files, request.out, picture.as_bytes())?;
-    Ok(Answer {
-        output: String::new(alloc),
-        errors: String::new(alloc),
-        status: Status::Done,
-    })
+        picture_on::<128>(alloc, names, run)
+    }
 }
 
 /// The picture on a machine with room for `S` streams a processor.

@@ -36,11 +36,7 @@ pub fn compare<F: Files, R: Read>(
     } else {
         compare_on::<128>(alloc, &program, &first, &second, shown)?
     };
-    Ok(Answer {
-        output,
-        errors: String::new(alloc),
-        status: Status::Done,
-    })
+    Ok(Answer::printed(alloc, output, Status::Done))
 }
 
 /// The comparison on machines with room for `S` streams a processor.
@@ -58,39 +54,23 @@ fn compare_on<const S: usize>(
         shown,
         names: &names,
     };
-    let same = first
+    let mut out = String::new(alloc);
+    runs.push_comparison(alloc, &mut out, first, second)?;
+    Ok(out)
+}
+
+/// The longest beginning that two schedules share, in steps.
+fn shared_steps(first: &[Step], second: &[Step]) -> usize {
+    first
         .iter()
         .zip(second.iter())
         .take_while(|(step, twin)| **step == **twin)
-        .count();
-    let mut out = String::new(alloc);
-    runs.take(
-        alloc,
-        first.get(..same).unwrap_or(&[]),
-        second.get(..same).unwrap_or(&[]),
-    )?;
-    let first = first.get(same..).unwrap_or(&[]);
-    let second = second.get(same..).unwrap_or(&[]);
-    let mut differ = false;
-    for index in 0..first.len().max(second.len()) {
-        let number = same.saturating_add(index).saturating_add(1);
-        let pair = (step_at(first, index), step_at(second, index));
-        runs.take(alloc, pair.0, pair.1)?;
-        if index == 0 {
-            runs.push_parting(
-                alloc,
-                &mut out,
-                number,
-                !pair.0.is_empty(),
-                !pair.1.is_empty(),
-            )?;
-        }
-        if !differ {
-            differ = runs.push_difference(alloc, &mut out, number)?;
-        }
-    }
-    runs.push_ends(alloc, &mut out)?;
-    Ok(out)
+        .count()
+}
+
+/// The first steps of a schedule, of so many at most.
+fn beginning(steps: &[Step], count: usize) -> &[Step] {
+    steps.get(..count).unwrap_or(&[])
 }
 
 /// The step of this place, as a schedule; none past the end.
@@ -164,6 +144,30 @@ struct Pair<'i, 'n, 't, const S: usize> {
 }
 
 impl<const S: usize> Pair<'_, '_, '_, S> {
+    /// Takes the steps of two schedules, one of each at a time, and adds where they part, where the worlds first differ,
+    /// and both ends.
+    fn push_comparison(
+        &mut self,
+        alloc: Global,
+        out: &mut String,
+        first: &[Step],
+        second: &[Step],
+    ) -> Result<(), AllocError> {
+        let same = shared_steps(first, second);
+        self.take(alloc, beginning(first, same), beginning(second, same))?;
+        let mut differ = false;
+        for index in same..first.len().max(second.len()) {
+            let number = index.saturating_add(1);
+            let (one, other) = (step_at(first, index), step_at(second, index));
+            self.take(alloc, one, other)?;
+            if index == same {
+                self.push_parting(alloc, out, number, !one.is_empty(), !other.is_empty())?;
+            }
+            differ = differ || self.push_difference(alloc, out, number)?;
+        }
+        self.push_ends(alloc, out)
+    }
+
     /// Takes steps of both.
     fn take(&mut self, alloc: Global, one: &[Step], other: &[Step]) -> Result<(), AllocError> {
         self.one.take(alloc, one)?;

@@ -6,10 +6,10 @@ use command_parts::{
 };
 use lab_ends::push_findings_of_run;
 use lab_json::{end_value, head_value, step_value};
-use lab_requests::{RunChoice, Shown, ViewRequest};
+use lab_requests::{RunChoice, ViewRequest};
 use lab_texts::{
-    Columns, EndKind, NumberStyle, ProgramNames, RunEnd, end_of, push_differing_words, push_end,
-    push_lane_head, push_lane_line, push_step_line,
+    Columns, EndKind, ProgramNames, RunEnd, end_of, push_differing_words, push_end, push_lane_head,
+    push_lane_line, push_step_line,
 };
 use machine::Machine;
 use processor::Step;
@@ -35,11 +35,7 @@ pub fn view<F: Files, R: Read>(
     } else {
         view_on::<128>(alloc, &program, &steps, request, only)?
     };
-    Ok(Answer {
-        output,
-        errors: String::new(alloc),
-        status,
-    })
+    Ok(Answer::printed(alloc, output, status))
 }
 
 /// What an end means for the exit status.
@@ -73,44 +69,16 @@ fn view_on<const S: usize>(
     only: Option<Step>,
 ) -> Result<(String, Status), AllocError> {
     let names = ProgramNames::of(alloc, &program.text)?;
-    let mut machine = loaded::<S>(alloc, &program.image)?;
     let layout = Layout {
         names: &names,
-        shown: request.shown,
+        request: *request,
+        only,
         columns: Columns::of(&names, steps.len()),
         lanes: lanes_of(alloc, request, steps)?,
     };
     let mut out = String::new(alloc);
-    if request.shown.json {
-        let schedule = schedule_name(request.run);
-        let head = head_value(
-            alloc,
-            request.program,
-            schedule,
-            &program.text,
-            &names,
-            &machine,
-        )?;
-        push_object(alloc, &mut out, &head)?;
-    } else if !layout.lanes.is_empty() {
-        push_lane_head(&mut out, layout.columns, &layout.lanes)?;
-    }
-    let mut views = Vec::with_capacity(alloc, steps.len())?;
-    for (index, step) in steps.iter().enumerate() {
-        let view = take_step(alloc, &mut machine, *step)?;
-        let number = index.saturating_add(1);
-        if is_shown(request, only, number, &view) {
-            layout.push_step(alloc, &mut out, number, &view, &machine)?;
-        }
-        views.push(view)?;
-    }
-    let end = end_of(alloc, &machine, &views)?;
-    layout.push_run_end(alloc, &mut out, &machine, views.len(), &end)?;
-    if !request.shown.json {
-        let style = style_of(request.shown);
-        push_findings_of_run::<S>(alloc, &mut out, &names, style, &program.image, steps)?;
-    }
-    Ok((out, status_of_end(&end)))
+    let status = layout.push_run::<S>(alloc, &mut out, program, steps)?;
+    Ok((out, status))
 }
 
 /// The streams of a schedule in the order of processor and stream, where each is to have a column.
@@ -168,12 +136,73 @@ fn meets(view: &StepView, address: u64) -> bool {
 #[derive(Drop)]
 struct Layout<'a, 't> {
     names: &'a ProgramNames<'t>,
-    shown: Shown,
+    request: ViewRequest<'a>,
+    only: Option<Step>,
     columns: Columns,
     lanes: Vec<Step>,
 }
 
 impl Layout<'_, '_> {
+    /// Adds a run on a machine with room for `S` streams a processor, and says how it ended.
+    fn push_run<const S: usize>(
+        &self,
+        alloc: Global,
+        out: &mut String,
+        program: &Program,
+        steps: &[Step],
+    ) -> Result<Status, AllocError> {
+        let mut machine = loaded::<S>(alloc, &program.image)?;
+        self.push_head(alloc, out, program, &machine)?;
+        let views = self.push_steps(alloc, out, &mut machine, steps)?;
+        let status = self.push_run_end(alloc, out, &machine, &views)?;
+        if !self.request.shown.json {
+            let style = style_of(self.request.shown);
+            push_findings_of_run::<S>(alloc, out, self.names, style, &program.image, steps)?;
+        }
+        Ok(status)
+    }
+
+    /// Adds what stands above the steps: the program and the world at the start as JSON, or the heads of the columns.
+    fn push_head<const S: usize>(
+        &self,
+        alloc: Global,
+        out: &mut String,
+        program: &Program,
+        machine: &Machine<'_, S>,
+    ) -> Result<(), AllocError> {
+        if !self.request.shown.json {
+            return if self.lanes.is_empty() {
+                Ok(())
+            } else {
+                push_lane_head(out, self.columns, &self.lanes)
+            };
+        }
+        let schedule = schedule_name(self.request.run);
+        let name = self.request.program;
+        let head = head_value(alloc, name, schedule, &program.text, self.names, machine)?;
+        push_object(alloc, out, &head)
+    }
+
+    /// Takes the steps, adds those that are shown, and gives what each did.
+    fn push_steps<const S: usize>(
+        &self,
+        alloc: Global,
+        out: &mut String,
+        machine: &mut Machine<'_, S>,
+        steps: &[Step],
+    ) -> Result<Vec<StepView>, AllocError> {
+        let mut views = Vec::with_capacity(alloc, steps.len())?;
+        for (index, step) in steps.iter().enumerate() {
+            let view = take_step(alloc, machine, *step)?;
+            let number = index.saturating_add(1);
+            if is_shown(&self.request, self.only, number, &view) {
+                self.push_step(alloc, out, number, &view, machine)?;
+            }
+            views.push(view)?;
+        }
+        Ok(views)
+    }
+
     /// Adds a step, as text or as JSON.
     fn push_step<const S: usize>(
         &self,
@@ -183,8 +212,8 @@ impl Layout<'_, '_> {
         view: &StepView,
         machine: &Machine<'_, S>,
     ) -> Result<(), AllocError> {
-        let style = style_of(self.shown);
-        if self.shown.json {
+        let style = style_of(self.request.shown);
+        if self.request.shown.json {
             let value = step_value(alloc, view)?;
             return push_object(alloc, out, &value);
         }
@@ -204,20 +233,23 @@ impl Layout<'_, '_> {
         )
     }
 
-    /// Adds how a run of so many steps ended, and the words that it changed.
+    /// Adds how a run ended, and the words that it changed.
     fn push_run_end<const S: usize>(
         &self,
         alloc: Global,
         out: &mut String,
         machine: &Machine<'_, S>,
-        steps: usize,
-        end: &RunEnd,
-    ) -> Result<(), AllocError> {
-        if self.shown.json {
-            let value = end_value(alloc, end)?;
-            return push_object(alloc, out, &value);
+        views: &[StepView],
+    ) -> Result<Status, AllocError> {
+        let end = end_of(alloc, machine, views)?;
+        let shown = self.request.shown;
+        if shown.json {
+            let value = end_value(alloc, &end)?;
+            push_object(alloc, out, &value)?;
+        } else {
+            push_end(out, self.names, views.len(), &end)?;
+            push_differing_words(out, self.names, style_of(shown), machine)?;
         }
-        push_end(out, self.names, steps, end)?;
-        push_differing_words(out, self.names, style_of(self.shown), machine)
+        Ok(status_of_end(&end))
     }
 }

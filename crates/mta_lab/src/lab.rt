@@ -38,41 +38,63 @@ pub(crate) fn run_lab<
     errors: &mut E,
     is_terminal: bool,
 ) -> u8 {
-    let command = match read_lab_command(alloc, words) {
-        Ok(command) => command,
+    match read_lab_command(alloc, words) {
+        Ok(command) => {
+            let mut inputs = Inputs { files, input };
+            let ended = run_command(
+                rt,
+                alloc,
+                &command,
+                &mut inputs,
+                output,
+                errors,
+                is_terminal,
+            );
+            status_told(ended, errors)
+        }
         Err(error) if error.use_stderr() => {
             let _ = write!(errors, "{error}");
-            return Status::NoCommand.number();
+            Status::NoCommand.number()
         }
         Err(help) => {
             let wrote = write!(output, "{help}").and_then(|()| output.flush());
-            return match written(wrote) {
-                Ok(()) => Status::Done.number(),
-                Err(fault) => tell_fault(&fault, errors),
-            };
+            status_told(written(wrote).map(|()| Status::Done), errors)
         }
-    };
-    if let LabCommand::Adapt = &command {
-        return match adapt(rt, alloc, files, input, output) {
-            Ok(status) => status.number(),
-            Err(fault) => tell_fault(&fault, errors),
-        };
     }
-    let mut inputs = Inputs { files, input };
-    if let LabCommand::Debug { program, run } = &command {
-        let mut screen = Screen {
-            output,
-            errors,
-            is_prompted: is_terminal,
-        };
-        return match debug(alloc, &mut inputs, program, *run, &mut screen) {
-            Ok(status) => status.number(),
-            Err(fault) => tell_fault(&fault, errors),
-        };
-    }
-    match answer_to(rt, alloc, &command, &mut inputs) {
-        Ok(answer) => tell(&answer, output, errors),
+}
+
+/// The number of a command's status; why it gave up, where it did, is written first.
+fn status_told<E: Write>(ended: Result<Status, LabFault>, errors: &mut E) -> u8 {
+    match ended {
+        Ok(status) => status.number(),
         Err(fault) => tell_fault(&fault, errors),
+    }
+}
+
+/// Runs a command.
+fn run_command<X: Threads + Wait + Sync, F: Files, R: Read + Send, W: Write, E: Write>(
+    rt: &X,
+    alloc: Global,
+    command: &LabCommand,
+    inputs: &mut Inputs<'_, F, R>,
+    output: &mut W,
+    errors: &mut E,
+    is_terminal: bool,
+) -> Result<Status, LabFault> {
+    match command {
+        LabCommand::Adapt => adapt(rt, alloc, inputs.files, inputs.input, output),
+        LabCommand::Debug { program, run } => {
+            let mut screen = Screen {
+                output,
+                errors,
+                is_prompted: is_terminal,
+            };
+            debug(alloc, inputs, program, *run, &mut screen)
+        }
+        _ => {
+            let answer = answer_to(rt, alloc, command, inputs)?;
+            tell(&answer, output, errors)
+        }
     }
 }
 
@@ -109,13 +131,14 @@ fn answer_to<X: Threads + Sync, F: Files, R: Read>(
 }
 
 /// Writes an answer, and gives its status.
-fn tell<W: Write, E: Write>(answer: &Answer, output: &mut W, errors: &mut E) -> u8 {
-    let status = match write_whole(output, answer.output.as_bytes()) {
-        Ok(()) => answer.status.number(),
-        Err(fault) => return tell_fault(&fault, errors),
-    };
+fn tell<W: Write, E: Write>(
+    answer: &Answer,
+    output: &mut W,
+    errors: &mut E,
+) -> Result<Status, LabFault> {
+    write_whole(output, answer.output.as_bytes())?;
     let _ = write_whole(errors, answer.errors.as_bytes());
-    status
+    Ok(answer.status)
 }
 
 /// Writes why a command gave up, and gives its status.

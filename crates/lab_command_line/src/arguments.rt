@@ -1,0 +1,95 @@
+//! The arguments and options of commands, as data, and the parser's form of them.
+
+use clap::builder::ValueParser;
+use clap::{Arg, ArgAction};
+use std::alloc::{AllocError, Global};
+
+/// How an argument stands on a line.
+#[derive(Clone, Copy)]
+pub(crate) enum Form {
+    /// A word that has to be there.
+    Needed,
+    /// A word that may be left out, and does not go with the options of these names.
+    Optional(&'static [&'static str]),
+    /// One or more files.
+    Files,
+    /// `--name`, which does not go with the options of these names.
+    Flag(&'static [&'static str]),
+    /// `--name VALUE`.
+    Option(&'static str),
+    /// `--name VALUE`, which has to be there.
+    NeededOption(&'static str),
+    /// `--name VALUE`, a number in a range.
+    Number(&'static str, u64, u64),
+    /// The same, which has to be there.
+    NeededNumber(&'static str, u64, u64),
+}
+
+/// An argument of a command: its name, what help says of it, and how it stands on a line.
+#[derive(Clone, Copy)]
+pub(crate) struct Argument(pub &'static str, pub &'static str, pub Form);
+
+/// The parser of an argument.
+pub(crate) fn parser_of<'a>(alloc: Global, argument: &Argument) -> Result<Arg<'a>, AllocError> {
+    let Argument(name, about, form) = *argument;
+    match form {
+        Form::Needed => Ok(word(alloc, name, about).required(true)),
+        Form::Optional(excluded) => excluding(word(alloc, name, about), excluded),
+        Form::Files => Ok(files(alloc, name, about)),
+        Form::Flag(excluded) => excluding(flag(alloc, name, about), excluded),
+        Form::Option(value) => Ok(option(alloc, name, value, about)),
+        Form::NeededOption(value) => Ok(option(alloc, name, value, about).required(true)),
+        Form::Number(value, least, most) => {
+            let range = ValueParser::unsigned(least, most);
+            Ok(option(alloc, name, value, about).value_parser(range))
+        }
+        Form::NeededNumber(value, least, most) => {
+            let range = ValueParser::unsigned(least, most);
+            Ok(
+                option(alloc, name, value, about)
+                    .value_parser(range)
+                    .required(true),
+            )
+        }
+    }
+}
+
+/// An argument that does not go with the options of these names.
+fn excluding<'a>(argument: Arg<'a>, names: &[&'static str]) -> Result<Arg<'a>, AllocError> {
+    let mut argument = argument;
+    for name in names.iter() {
+        argument = argument.conflicts_with(*name)?;
+    }
+    Ok(argument)
+}
+
+/// A word.
+fn word<'a>(alloc: Global, name: &'a str, about: &'a str) -> Arg<'a> {
+    Arg::new(alloc, name).help(about).action(ArgAction::Set)
+}
+
+/// One or more files.
+fn files<'a>(alloc: Global, name: &'a str, about: &'a str) -> Arg<'a> {
+    Arg::new(alloc, name)
+        .help(about)
+        .required(true)
+        .num_args(1..)
+        .action(ArgAction::Append)
+}
+
+/// An option with a value.
+fn option<'a>(alloc: Global, name: &'a str, value: &'a str, about: &'a str) -> Arg<'a> {
+    Arg::new(alloc, name)
+        .long(name)
+        .value_name(value)
+        .help(about)
+        .action(ArgAction::Set)
+}
+
+/// An option without a value.
+fn flag<'a>(alloc: Global, name: &'a str, about: &'a str) -> Arg<'a> {
+    Arg::new(alloc, name)
+        .long(name)
+        .help(about)
+        .action(ArgAction::SetTrue)
+}
