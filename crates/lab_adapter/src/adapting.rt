@@ -6,13 +6,11 @@ use debug_adapter::{
     Adapter, Client, Connection, Frame, Frames, Json, LaunchRequest, Origin, Request,
     ScheduleChoice, Turn, greet, launch_of, read_request,
 };
+use lab_debugger::named_of;
 use lab_requests::{Maker, RunChoice};
 use lab_texts::ProgramNames;
-use named_session::NamedSession;
 use processor::Step;
-use replay_debugger::Session;
-use source_places::SourcePlaces;
-use std::alloc::Global;
+use std::alloc::{AllocError, Global};
 use std::io::{ErrorKind, Read, Write};
 use std::marker::Send;
 use std::rt::Files;
@@ -176,30 +174,34 @@ fn launch_on<X: Wait, W: Write>(
     client: Client,
     line: &mut Line<'_, W>,
 ) -> Result<(), LabFault> {
-    let text = &loaded.program.text;
-    let names = ProgramNames::of(alloc, text)?;
-    let places = SourcePlaces::of(alloc, text)?;
+    let names = ProgramNames::of(alloc, &loaded.program.text)?;
     let steps = Vec::from_slice(alloc, &loaded.steps)?;
-    let Ok(session) = Session::<128>::begin(alloc, &loaded.program.image, steps) else {
-        return Err(LabFault::NoMemory);
-    };
-    let origin = Origin {
+    let named = named_of::<128>(alloc, &loaded.program, steps)?;
+    let origin = origin_of(loaded, launch, client);
+    let mut adapter = Adapter::new(alloc, named, &names, origin);
+    say_launched(alloc, &mut line.connection, launch.seq)?;
+    answer_all(rt, alloc, &mut adapter, line)
+}
+
+/// Where a launched program came from, and how its session begins.
+fn origin_of<'a>(loaded: &'a Loaded, launch: &'a LaunchRequest, client: Client) -> Origin<'a> {
+    Origin {
         path: launch.program.as_str(),
         listing: if loaded.is_image {
-            Some(std::str::from_utf8(text).unwrap_or(""))
+            Some(std::str::from_utf8(&loaded.program.text).unwrap_or(""))
         } else {
             None
         },
         stops_on_entry: launch.stops_on_entry,
         client,
-    };
-    let named = NamedSession::new(session, places);
-    let mut adapter = Adapter::new(alloc, named, &names, origin);
+    }
+}
+
+/// Answers the request of this number, that a program is launched, and says that breakpoints can be set.
+fn say_launched(alloc: Global, connection: &mut Connection, number: u64) -> Result<(), AllocError> {
     let empty = Json::new(alloc);
-    line.connection
-        .respond(alloc, launch.seq, "launch", &empty)?;
-    line.connection.outbox.tell(alloc, "initialized", &empty)?;
-    answer_all(rt, alloc, &mut adapter, line)
+    connection.respond(alloc, number, "launch", &empty)?;
+    connection.outbox.tell(alloc, "initialized", &empty)
 }
 
 /// Answers messages over a launched program, and goes on with what is under way between them.
@@ -262,28 +264,26 @@ fn load_from<'a, F: Files>(
     let bytes = inputs.read(alloc, path)?;
     let is_image = is_image(&bytes);
     let program = program_of(alloc, path, bytes)?;
-    let most = launch.steps;
-    let run = match &launch.schedule {
-        ScheduleChoice::File(path) => RunChoice::File(path.as_str()),
-        ScheduleChoice::Fair => RunChoice::Made {
-            maker: Maker::Fair,
-            most,
-        },
-        ScheduleChoice::Rounds => RunChoice::Made {
-            maker: Maker::Rounds,
-            most,
-        },
-        ScheduleChoice::Random(seed) => RunChoice::Made {
-            maker: Maker::Random { seed: *seed },
-            most,
-        },
-    };
-    let steps = steps_of(alloc, &mut inputs, &program, run)?;
+    let steps = steps_of(alloc, &mut inputs, &program, run_asked(launch))?;
     Ok(Loaded {
         program,
         is_image,
         steps,
     })
+}
+
+/// By which schedule the program is to run.
+fn run_asked(launch: &LaunchRequest) -> RunChoice<'_> {
+    let maker = match &launch.schedule {
+        ScheduleChoice::File(path) => return RunChoice::File(path.as_str()),
+        ScheduleChoice::Fair => Maker::Fair,
+        ScheduleChoice::Rounds => Maker::Rounds,
+        ScheduleChoice::Random(seed) => Maker::Random { seed: *seed },
+    };
+    RunChoice::Made {
+        maker,
+        most: launch.steps,
+    }
 }
 
 /// Where messages come from, and where they go.

@@ -24,37 +24,41 @@ pub fn read_lab_command<'a, S: AsStr>(
 /// The command that stood on the line, with all its arguments.
 fn command_of<'a>(alloc: Global, matches: &ArgMatches<'a>) -> Result<LabCommand<'a>, AllocError> {
     match matches.subcommand() {
-        Some(("schedule", found)) => Ok(LabCommand::Schedule {
+        Some(("check", found)) => Ok(LabCommand::Check(check_of(alloc, found)?)),
+        Some(("grade", found)) => Ok(LabCommand::Grade(grade_of(alloc, found)?)),
+        Some(("survey", found)) => Ok(LabCommand::Survey(survey_of(found))),
+        Some(("explore", found)) => Ok(LabCommand::Explore(explore_of(found))),
+        Some((name, found)) => Ok(command_of_runs(name, found)),
+        None => Ok(LabCommand::Adapt),
+    }
+}
+
+/// A command of one program and one or two runs of it.
+fn command_of_runs<'a>(name: &str, found: &ArgMatches<'a>) -> LabCommand<'a> {
+    match name {
+        "schedule" => LabCommand::Schedule {
             program: word(found, "PROGRAM"),
             maker: maker_of(found),
             most: count(found, "steps", USUAL_STEPS),
-        }),
-        Some(("view", found)) => Ok(LabCommand::View(view_of(found))),
-        Some(("debug", found)) => Ok(LabCommand::Debug {
+        },
+        "view" => LabCommand::View(view_of(found)),
+        "debug" => LabCommand::Debug {
             program: word(found, "PROGRAM"),
             run: run_of(found),
-        }),
-        Some(("dap", _)) => Ok(LabCommand::Adapt),
-        Some(("compare", found)) => Ok(LabCommand::Compare {
+        },
+        "compare" => LabCommand::Compare {
             program: word(found, "PROGRAM"),
             one: word(found, "ONE"),
             other: word(found, "OTHER"),
             shown: shown_of(found),
-        }),
-        Some(("survey", found)) => Ok(LabCommand::Survey(survey_of(found))),
-        Some(("explore", found)) => Ok(LabCommand::Explore(explore_of(found))),
-        Some(("grade", found)) => Ok(LabCommand::Grade(grade_of(alloc, found)?)),
-        Some(("page", found)) => Ok(LabCommand::Page(page_of(found))),
-        Some(("picture", found)) => Ok(LabCommand::Picture(page_of(found))),
-        Some(("asm", found)) => Ok(LabCommand::Assemble {
+        },
+        "page" => LabCommand::Page(page_of(found)),
+        "picture" => LabCommand::Picture(page_of(found)),
+        "asm" => LabCommand::Assemble {
             source: word(found, "SOURCE"),
             image: text(found, "out"),
-        }),
-        Some((_, found)) => Ok(LabCommand::Check(check_of(alloc, found)?)),
-        None => Ok(LabCommand::Assemble {
-            source: "",
-            image: None,
-        }),
+        },
+        _ => LabCommand::Adapt,
     }
 }
 

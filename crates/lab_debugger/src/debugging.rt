@@ -2,13 +2,11 @@
 
 use crate::debug_desk::{Desk, Turn};
 use crate::debug_lines::Lines;
+use crate::sessions::named_of;
 use command_parts::{Inputs, LabFault, Program, Status, read_program, steps_of, write_file};
 use lab_requests::RunChoice;
 use lab_texts::{Columns, ProgramNames};
-use named_session::NamedSession;
 use processor::Step;
-use replay_debugger::Session;
-use source_places::SourcePlaces;
 use std::alloc::Global;
 use std::io::{ErrorKind, Read, Write};
 use std::rt::Files;
@@ -63,19 +61,6 @@ fn debug_on<const S: usize, F: Files, R: Read, W: Write, E: Write>(
     };
     talk(alloc, inputs, &mut desk, screen)?;
     Ok(Status::Done)
-}
-
-/// The session of a program's run, with the names of its text.
-fn named_of<const S: usize>(
-    alloc: Global,
-    program: &Program,
-    steps: Vec<Step>,
-) -> Result<NamedSession<'_, '_, S>, LabFault> {
-    let places = SourcePlaces::of(alloc, &program.text)?;
-    match Session::begin(alloc, &program.image, steps) {
-        Ok(session) => Ok(NamedSession::new(session, places)),
-        Err(_) => Err(LabFault::NoMemory),
-    }
 }
 
 /// Answers the lines of standard input at a desk, up to one that asks for the end, or to the last.

@@ -7,5 +7,7 @@ mod debug_points;
 mod debug_shows;
 mod debug_words;
 mod debugging;
+mod sessions;
 
 pub use debugging::{Screen, debug};
+pub use sessions::named_of;
