@@ -1,38 +1,67 @@
 //! The end of a run.
 
 use crate::VERSION;
+use crate::fields::{Fields, put_number, put_text};
 use lab_texts::{EndKind, RunEnd, StoppedStream, StreamWait};
 use processor::Step;
-use serde_json::{Value, json};
+use serde_json::{Map, Value, json};
 use std::alloc::{AllocError, Global};
 use waiting::Wanted;
 
 /// How a run ended: its kind, who waits for what, a circle, who could go on, who has quit, who was stopped.
 pub fn end_value(alloc: Global, end: &RunEnd) -> Result<Value, AllocError> {
-    let kind = match end.kind {
+    let mut fields = Map::new(alloc);
+    put_number(alloc, &mut fields, "version", VERSION)?;
+    put_text(alloc, &mut fields, "kind", kind_name(end.kind))?;
+    put_waits(alloc, &mut fields, &end.waits)?;
+    put_streams(alloc, &mut fields, "circle", &end.circle)?;
+    put_streams(alloc, &mut fields, "able", &end.able)?;
+    put_streams(alloc, &mut fields, "fresh", &end.fresh)?;
+    put_streams(alloc, &mut fields, "quit", &end.quit)?;
+    put_stopped(alloc, &mut fields, &end.stopped)?;
+    Ok(Value::Object(fields))
+}
+
+/// The name of a kind of end.
+fn kind_name(kind: EndKind) -> &'static str {
+    match kind {
         EndKind::Finished => "finished",
         EndKind::Stopped => "stopped",
         EndKind::Deadlock => "deadlock",
         EndKind::OutOfSteps => "steps",
-    };
-    let mut waiting = Vec::new(alloc);
-    for wait in &end.waits {
+    }
+}
+
+/// Puts the streams that wait.
+fn put_waits(alloc: Global, fields: &mut Fields, waits: &[StreamWait]) -> Result<(), AllocError> {
+    let mut waiting = Vec::with_capacity(alloc, waits.len())?;
+    for wait in waits {
         waiting.push(wait_value(alloc, wait)?)?;
     }
-    let waiting = Value::Array(waiting);
-    let mut stopped = Vec::new(alloc);
-    for stream in &end.stopped {
+    serde_json::put(fields, alloc, "waiting", Value::Array(waiting))
+}
+
+/// Puts the streams that traps stopped.
+fn put_stopped(
+    alloc: Global,
+    fields: &mut Fields,
+    streams: &[StoppedStream],
+) -> Result<(), AllocError> {
+    let mut stopped = Vec::with_capacity(alloc, streams.len())?;
+    for stream in streams {
         stopped.push(stopped_value(alloc, stream)?)?;
     }
-    let stopped = Value::Array(stopped);
-    let circle = streams_value(alloc, &end.circle)?;
-    let able = streams_value(alloc, &end.able)?;
-    let fresh = streams_value(alloc, &end.fresh)?;
-    let quit = streams_value(alloc, &end.quit)?;
-    json!(in alloc; {
-        "version": VERSION, "kind": kind, "waiting": waiting, "circle": circle, "able": able, "fresh": fresh, "quit": quit,
-        "stopped": stopped
-    })
+    serde_json::put(fields, alloc, "stopped", Value::Array(stopped))
+}
+
+/// Puts streams by their names.
+fn put_streams(
+    alloc: Global,
+    fields: &mut Fields,
+    name: &str,
+    streams: &[Step],
+) -> Result<(), AllocError> {
+    serde_json::put(fields, alloc, name, streams_value(alloc, streams)?)
 }
 
 /// The name of a stream.

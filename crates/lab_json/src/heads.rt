@@ -1,6 +1,7 @@
 //! The head of a run: its program and the world at the start.
 
 use crate::VERSION;
+use crate::fields::{put_number, put_text};
 use crate::places::{content_value, digits, place_name};
 use lab_texts::ProgramNames;
 use machine::Machine;
@@ -20,15 +21,27 @@ pub fn head_value<const S: usize>(
     names: &ProgramNames,
     machine: &Machine<'_, S>,
 ) -> Result<Value, AllocError> {
-    let source = source_value(alloc, text)?;
-    let program = program_value(alloc, names)?;
-    let data = data_value(alloc, names)?;
-    let places = places_value(alloc, machine)?;
+    let mut fields = Map::new(alloc);
+    put_number(alloc, &mut fields, "version", VERSION)?;
+    put_text(alloc, &mut fields, "name", name)?;
+    put_text(alloc, &mut fields, "schedule", schedule)?;
+    serde_json::put(&mut fields, alloc, "source", source_value(alloc, text)?)?;
+    serde_json::put(&mut fields, alloc, "program", program_value(alloc, names)?)?;
+    serde_json::put(&mut fields, alloc, "data", data_value(alloc, names)?)?;
+    serde_json::put(&mut fields, alloc, "start", start_value(alloc, machine)?)?;
+    Ok(Value::Object(fields))
+}
+
+/// The world at the start.
+fn start_value<const S: usize>(
+    alloc: Global,
+    machine: &Machine<'_, S>,
+) -> Result<Value, AllocError> {
+    let mut fields = Map::new(alloc);
+    serde_json::put(&mut fields, alloc, "places", places_value(alloc, machine)?)?;
     let memory = memory_value(alloc, machine.image().cells())?;
-    json!(in alloc; {
-        "version": VERSION, "name": name, "schedule": schedule, "source": source, "program": program, "data": data,
-        "start": {"places": places, "memory": memory}
-    })
+    serde_json::put(&mut fields, alloc, "memory", memory)?;
+    Ok(Value::Object(fields))
 }
 
 /// The lines of a text; a line that is no UTF-8 is empty.

@@ -4,6 +4,7 @@
 
 mod differences;
 mod ends;
+mod fields;
 mod heads;
 mod places;
 mod steps;

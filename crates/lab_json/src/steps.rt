@@ -1,41 +1,51 @@
 //! Steps.
 
 use crate::VERSION;
+use crate::fields::put_number;
 use crate::places::{content_value, digits, outcome_name, place_name};
-use serde_json::{Value, json};
+use serde_json::{Map, Value, json};
 use std::alloc::{AllocError, Global};
 use step_views::{Change, Reference, StepView};
 use tag_memory::{Acc, MemOp, Reply};
 
 /// A step: `p`, `s`, `pc`, the outcome `o`, `ref` where the memory was asked, and the changes `ch`.
 pub fn step_value(alloc: Global, view: &StepView) -> Result<Value, AllocError> {
-    let outcome = outcome_name(alloc, view.outcome)?;
-    let mut changes = Vec::with_capacity(alloc, view.changes.len())?;
-    for change in &view.changes {
-        changes.push(change_value(alloc, change)?)?;
+    let mut fields = Map::new(alloc);
+    put_number(alloc, &mut fields, "version", VERSION)?;
+    put_number(alloc, &mut fields, "p", u64::from(view.step.p))?;
+    put_number(alloc, &mut fields, "s", u64::from(view.step.s))?;
+    put_number(alloc, &mut fields, "pc", u64::from(view.pc))?;
+    let outcome = Value::String(outcome_name(alloc, view.outcome)?);
+    serde_json::put(&mut fields, alloc, "o", outcome)?;
+    if let Some(reference) = view.reference {
+        let asked = reference_value(alloc, &reference)?;
+        serde_json::put(&mut fields, alloc, "ref", asked)?;
     }
-    let changes = Value::Array(changes);
-    let p = view.step.p;
-    let s = view.step.s;
-    let pc = view.pc;
-    match view.reference {
-        None =>
-            json!(in alloc; {"version": VERSION, "p": p, "s": s, "pc": pc, "o": outcome, "ch": changes}),
-        Some(reference) => {
-            let asked = reference_value(alloc, &reference)?;
-            json!(in alloc; {
-                "version": VERSION, "p": p, "s": s, "pc": pc, "o": outcome, "ref": asked, "ch": changes
-            })
-        }
+    serde_json::put(
+        &mut fields,
+        alloc,
+        "ch",
+        changes_value(alloc, &view.changes)?,
+    )?;
+    Ok(Value::Object(fields))
+}
+
+/// Changes, a list a change.
+pub(crate) fn changes_value(alloc: Global, changes: &[Change]) -> Result<Value, AllocError> {
+    let mut values = Vec::with_capacity(alloc, changes.len())?;
+    for change in changes {
+        values.push(change_value(alloc, change)?)?;
     }
+    Ok(Value::Array(values))
 }
 
 /// A change: the place, what was, what is.
 fn change_value(alloc: Global, change: &Change) -> Result<Value, AllocError> {
-    let place = place_name(alloc, change.place)?;
-    let before = content_value(alloc, change.place, change.before)?;
-    let after = content_value(alloc, change.place, change.after)?;
-    json!(in alloc; [place, before, after])
+    let mut parts = Vec::with_capacity(alloc, 3)?;
+    parts.push(Value::String(place_name(alloc, change.place)?))?;
+    parts.push(content_value(alloc, change.place, change.before)?)?;
+    parts.push(content_value(alloc, change.place, change.after)?)?;
+    Ok(Value::Array(parts))
 }
 
 /// A reference: operation, control, the address asked, that of the word that answered, the value given, the reply.

@@ -29,18 +29,24 @@ impl WholeRun {
         start: &Machine<'_, S>,
         schedule: &[Step],
     ) -> Result<WholeRun, AllocError> {
-        let mut machine = start.try_clone()?;
-        let views = run_views(alloc, &mut machine, schedule)?;
-        let end = end_of(alloc, &machine, &views)?;
-        let mut machine = start.try_clone()?;
-        let waits = run_waits(alloc, &mut machine, &views)?;
-        let mut machine = start.try_clone()?;
-        let actions = run_actions(alloc, &mut machine, schedule)?;
+        let (views, end) = views_and_end(alloc, start, schedule)?;
         Ok(WholeRun {
+            waits: run_waits(alloc, &mut start.try_clone()?, &views)?,
+            actions: run_actions(alloc, &mut start.try_clone()?, schedule)?,
             views,
-            actions,
-            waits,
             end,
         })
     }
+}
+
+/// What the steps of a machine's run did, and how it ended.
+fn views_and_end<const S: usize>(
+    alloc: Global,
+    start: &Machine<'_, S>,
+    schedule: &[Step],
+) -> Result<(Vec<StepView>, RunEnd), AllocError> {
+    let mut machine = start.try_clone()?;
+    let views = run_views(alloc, &mut machine, schedule)?;
+    let end = end_of(alloc, &machine, &views)?;
+    Ok((views, end))
 }
