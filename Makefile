@@ -16,13 +16,16 @@ JOBS ?= $(shell nproc)
 
 # the targets, each with what it does and how long it takes
 help:
-	@echo "make try        runs a SOURCE by a SCHEDULE, unproved (about a minute); examples/lock.asm where none is named"
-	@echo "make run        proves what the programs need, builds them, and shows a first run (37 minutes on four slow cores beside other work)"
-	@echo "make test       proves everything from nothing, tries the edits in must-fail/, runs all tests (30 minutes on four slow cores)"
+	@echo "make try        runs a SOURCE by a SCHEDULE with both programs, unproved (two minutes); examples/lock.asm where none is named"
+	@echo "make run        proves and builds mta_sim, and shows a first run (53 processor minutes)"
+	@echo "make run-lab    the same of mta_lab (146 processor minutes)"
+	@echo "make test       proves everything, tries the edits in must-fail/, runs all tests (235 processor minutes from nothing; ANEW=1: nothing that is kept counts)"
 	@echo "make checks     what make test looks at before any proof (seconds)"
 	@echo "make trust      writes docs/TRUST.md, the definitions that a reader has to trust (seconds)"
 	@echo "make cases      runs the cases below tests/cases on the built program (seconds)"
 	@echo "make documents  runs the commands of the documents and compares what they print (seconds)"
+	@echo "make minutes    writes the table of what a check costs into docs/ARCHITECTURE.md, of what make test left in out/ (a second)"
+	@echo "make affected   which crates a change of the CRATES proves again, and their minutes (a second)"
 	@echo "make edits      tries the edits of the CRATES that the prover has to refuse, of all crates where none is named (some minutes a crate)"
 	@echo "make dist       packs the built programs as an archive and a Debian package, in out/dist (seconds)"
 	@echo "make check-dist unpacks them where nothing but the C library is, and runs the examples there (seconds)"
