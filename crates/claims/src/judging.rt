@@ -1,0 +1,131 @@
+//! Whether a claim holds of the world of a machine.
+
+ghost use Rattle.std.specs.Prelude.{◌≡◌};
+ghost use Rattle.std.specs.List.{count_by};
+ghost use Rattle.std.specs.Option.{option_copied};
+ghost use Rattle.processor.specs.Records.{is_running_status};
+ghost use Rattle.claims.specs.Holding.{holds, form_holds, word_holds, is_so, is_less, stream_at};
+ghost use Rattle.claims.specs.Holding.{runs_at_places, count_at_places, holds_by};
+
+use crate::claim::{Claim, ClaimForm, NumberOrder, Scope, WordTest};
+use machine::Machine;
+use processor::Step;
+use stream_core::{Status, Stream};
+use tag_memory::Word;
+
+impl Claim {
+    /// Whether it holds of the world of a machine. Of a word that the machine does not have no test holds, and a stream
+    /// that it does not have runs nowhere: [`Claim::missing_in`] says of which programs that is so.
+    pub fn holds<const S: usize>(&self, machine: &Machine<'_, S>) -> bool
+        ensures { result ≡ holds machine.now.world self.now }
+    {
+        let is_so = self.form.holds(machine);
+        match self.scope {
+            Scope::Always => is_so,
+            Scope::Never => !is_so,
+        }
+    }
+}
+
+impl ClaimForm {
+    /// Whether it holds of the world of a machine.
+    fn holds<const S: usize>(&self, machine: &Machine<'_, S>) -> bool
+        ensures { result ≡ form_holds machine.now.world self.now }
+    {
+        match self {
+            ClaimForm::Word { address, test } => word_holds(machine.word(*address), *test),
+            ClaimForm::AtMost {
+                most,
+                streams,
+                first,
+                last,
+            } => count_at_places(machine, streams, *first, *last) <= *most,
+        }
+    }
+}
+
+/// Whether a word is there, and is so.
+fn word_holds(word: Option<Word>, test: WordTest) -> bool
+    ensures { result ≡ word_holds test word }
+{
+    match word {
+        Some(word) => is_so(word, test),
+        None => false,
+    }
+}
+
+/// Whether a word is so.
+fn is_so(word: Word, test: WordTest) -> bool
+    ensures { result ≡ is_so test word }
+{
+    match test {
+        WordTest::Is(value) => word.value() == value,
+        WordTest::Above(value, order) => is_less(order, value, word.value()),
+        WordTest::Below(value, order) => is_less(order, word.value(), value),
+        WordTest::Full => word.is_full(),
+        WordTest::Empty => !word.is_full(),
+    }
+}
+
+/// Whether a number is less than another.
+fn is_less(order: NumberOrder, one: u64, other: u64) -> bool
+    ensures { result ≡ is_less order one other }
+{
+    match order {
+        NumberOrder::Unsigned => one < other,
+        NumberOrder::Signed => one.cast_signed() < other.cast_signed(),
+    }
+}
+
+/// How many of some streams run at places of a range.
+fn count_at_places<const S: usize>(
+    machine: &Machine<'_, S>,
+    streams: &[Step],
+    first: u32,
+    last: u32,
+) -> usize
+    ensures { result ≡ count_at_places machine.now.world first last streams.now }
+{
+    streams
+        .iter()
+        .copied()
+        .filter(
+            |step: &Step| -> bool
+                ensures { result ≡ runs_at_places first last (stream_at machine.entry.now.world step.now) }
+            { runs_at_places(stream(machine, *step), first, last) },
+        )
+        .count()
+}
+
+/// The stream that a step names, where the machine has it.
+fn stream<'m, const S: usize>(machine: &'m Machine<'_, S>, step: Step) -> Option<&'m Stream>
+    ensures { option_copied result ≡ stream_at machine.now.world step }
+{
+    if u16::from(step.s) >= machine.image().slim() {
+        return None;
+    }
+    machine.stream(step.p, step.s)
+}
+
+/// Whether a stream is there, runs, and is to step at a place of a range.
+fn runs_at_places(stream: Option<&Stream>, first: u32, last: u32) -> bool
+    ensures { result ≡ runs_at_places first last (option_copied stream.entry) }
+{
+    match stream {
+        Some(stream) => {
+            let place = stream.ssw().pc;
+            is_running(stream.status()) && first <= place && place <= last
+        }
+        None => false,
+    }
+}
+
+/// Whether a stream of this status runs.
+fn is_running(status: Status) -> bool
+    ensures { result ≡ is_running_status status }
+{
+    match status {
+        Status::Running => true,
+        Status::Idle | Status::Stopped(_) => false,
+    }
+}

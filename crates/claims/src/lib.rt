@@ -1,0 +1,9 @@
+//! Claims about every world that a program comes to, and whether they hold of one ("Claims", docs/LAB.md).
+#![tactic(auto)]
+
+mod claim;
+mod judging;
+mod missing;
+
+pub use claim::{Claim, ClaimForm, NumberOrder, Scope, WordTest};
+pub use missing::Missing;
