@@ -17,7 +17,13 @@ KINDS = (b"lost ", b"torn ", b"unread ")
 SCHEDULES, LONGEST = 200, "600"
 # how many random programs there are, by how many schedules each of them runs, and the longest of these
 PROGRAMS, RUNS, STEPS = 60, 5, "120"
-WORDS = 3
+WORDS = 2
+# what a processor of such a program does: all operations, mostly reads, or mostly writes
+MIXES = (
+    ["LOAD"] * 14 + ["STORE"] * 12 + ["FADD"] * 4 + ["TAGGET", "TAGSET", "PURGE"],
+    ["LOAD"] * 14 + ["STORE", "FADD"],
+    ["STORE"] * 14 + ["LOAD", "FADD"],
+)
 
 
 def told(source, *words):
@@ -72,32 +78,42 @@ def random_source(rng):
     """A program of two or three processors that read, compute and write a few words in a loop."""
     count = rng.choice((2, 2, 3))
     lines = [".profile 2", *(f".entry go{p}" for p in range(count))]
-    lines += [f".data {rng.randrange(3)}, {rng.choice((0, 1, 1, 1))}" for _ in range(WORDS)]
+    lines += [f".data {rng.randrange(3)}, {rng.choice((0, 1, 1, 1, 1, 1))}" for _ in range(WORDS)]
     for p in range(count):
-        lines += [f"go{p}: LIT r7, {rng.randrange(2, 5)}", f"more{p}: NOP"]
-        lines += [random_word(rng) for _ in range(rng.randrange(3, 9))]
+        operations = rng.choice(MIXES)
+        lines += [f"go{p}: LIT r7, {rng.randrange(3, 7)}", *(f"LIT r{r}, {rng.randrange(50)}" for r in (1, 2, 3))]
+        lines += [f"more{p}: NOP"]
+        lines += [random_word(rng, operations) for _ in range(rng.randrange(3, 9))]
         lines += ["SUB.T r7, r7, 1", f"SKIP NE, 0, more{p}", "QUIT"]
     return "".join(line + "\n" if line[0].islower() else f" {line}\n" for line in lines)
 
 
-def random_word(rng):
-    """A program word with one, two or three operations."""
-    parts = [make(rng) for make, chance in ((memory_part, 0.7), (arithmetic_part, 0.5), (control_part, 0.1))
-             if rng.random() < chance]
-    return " | ".join(parts) or "LIT r%d, %d" % (rng.randrange(1, 5), rng.randrange(4))
+def random_word(rng, operations):
+    """A program word with one, two or three operations, no two of which write one register."""
+    while True:
+        made = [memory_part(rng, operations)] if rng.random() < 0.75 else []
+        made += [make(rng) for make, chance in ((arithmetic_part, 0.5), (control_part, 0.08)) if rng.random() < chance]
+        written = [register for _, register in made if register]
+        if made and len(set(written)) == len(written):
+            return " | ".join(text for text, _ in made)
 
 
-def memory_part(rng):
-    operation = rng.choice(("LOAD", "LOAD", "LOAD", "STORE", "STORE", "STORE", "FADD", "TAGGET", "TAGSET", "PURGE"))
-    control = "" if operation in ("TAGGET", "TAGSET", "PURGE") else rng.choice((".N", ".N", ".N", ".N", ".F", ".S"))
-    return f"{operation}{control} r{rng.randrange(5)}, r0, {rng.randrange(WORDS)}"
+def memory_part(rng, operations):
+    """One of these memory operations, and the register that it writes. Mostly it does not wait."""
+    operation = rng.choice(operations)
+    control = "" if operation in ("TAGGET", "TAGSET", "PURGE") else "." + rng.choice("NNNNNNNNNNNNNNFS")
+    register = rng.randrange(1, 4)
+    text = f"{operation}{control} r{register}, r0, {rng.randrange(WORDS)}"
+    return text, register if operation in ("LOAD", "FADD", "TAGGET") else None
 
 
 def arithmetic_part(rng):
-    operation = rng.choice(("ADD", "ADD", "SUB", "XOR", "AND", "LTU"))
-    second = rng.choice((f"r{rng.randrange(5)}", str(rng.randrange(3))))
-    return f"{operation}{rng.choice(('', '.T'))} r{rng.randrange(5)}, r{rng.randrange(5)}, {second}"
+    operation = rng.choice(("ADD", "ADD", "ADD", "SUB", "XOR", "LTU"))
+    second = rng.choice((f"r{rng.randrange(4)}", str(rng.randrange(1, 32))))
+    register = rng.randrange(1, 4)
+    return f"{operation}{rng.choice(('', '.T'))} r{register}, r{rng.randrange(4)}, {second}", register
 
 
 def control_part(rng):
-    return rng.choice((f"TSET t{rng.randrange(1, 3)}, r{rng.randrange(5)}", f"TGET r{rng.randrange(5)}, t{rng.randrange(1, 3)}"))
+    target, register = rng.randrange(1, 3), rng.randrange(1, 4)
+    return rng.choice(((f"TSET t{target}, r{register}", None), (f"TGET r{register}, t{target}", register)))
