@@ -17,24 +17,17 @@ pub struct FindingsOfRun {
     pub lost: Vec<LostUpdate>,
     /// Its torn reads.
     pub torn: Vec<TornRead>,
-    /// Its unread stores, without those that are the last step of a lost update.
+    /// Its unread stores.
     pub unread: Vec<UnreadStore>,
 }
 
 impl FindingsOfRun {
     /// The findings of a run with these steps.
     pub fn of(alloc: Global, actions: &[Action]) -> Result<FindingsOfRun, AllocError> {
-        let lost = lost_updates(alloc, actions)?;
-        let mut unread = Vec::new(alloc);
-        for store in &unread_stores(alloc, actions)? {
-            if !lost.iter().any(|update| update.stored == store.stored) {
-                unread.push(*store)?;
-            }
-        }
         Ok(FindingsOfRun {
-            lost,
+            lost: lost_updates(alloc, actions)?,
             torn: torn_reads(alloc, actions)?,
-            unread,
+            unread: unread_stores(alloc, actions)?,
         })
     }
 

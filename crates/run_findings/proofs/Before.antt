@@ -5,7 +5,7 @@ use Rattle.std.specs.List.{slice_get}
 use Rattle.std.proofs.lemmas.Option.{slice_get-get_or}
 use Rattle.processor.specs.declared.steps.Step.{Step}
 use Rattle.run_findings.specs.Actions.{writes, is_by}
-use Rattle.run_findings.specs.Places.{passes, last_before}
+use Rattle.run_findings.specs.Places.{passes, last_before, last_below}
 use Rattle.run_findings.specs.TornReads.{is_newer}
 use Rattle.run_findings.specs.declared.actions.Action.{Action}
 
@@ -42,6 +42,25 @@ last-is test ds (suc m) d some within passed =
     let same : m ≡ suc m - 1 = omega arith in
     let P : ℕ → Type 0 = λ k. test (get_or ds k d) ≡ true → last_before test ds (suc m) ≡ Some k in
     subst P same (last-passed test ds m d (omega arith)) passed
+
+-- The same of numbers.
+
+-- n - 1 does not pass
+pub below-failed : (test : ℕ → Bool) (n : ℕ) → 0 < n → test (n - 1) ≡ false
+    → last_below test (n - 1) ≡ last_below test n
+below-failed test zero some fails = absurd (omega arith)
+below-failed test (suc m) some fails =
+    let same : m ≡ suc m - 1 = omega arith in
+    let P : ℕ → Type 0 = λ k. test k ≡ false → last_below test k ≡ last_below test (suc m) in
+    subst P same (λ f. sym (ap (λ b. cond b (Some m) (last_below test m)) f)) fails
+
+-- n - 1 passes
+pub below-is : (test : ℕ → Bool) (n : ℕ) → 0 < n → test (n - 1) ≡ true → last_below test n ≡ Some (n - 1)
+below-is test zero some passed = absurd (omega arith)
+below-is test (suc m) some passed =
+    let same : m ≡ suc m - 1 = omega arith in
+    let P : ℕ → Type 0 = λ k. test k ≡ true → last_below test (suc m) ≡ Some k in
+    subst P same (λ f. ap (λ b. cond b (Some m) (last_below test m)) f) passed
 
 -- What is newer than a step.
 

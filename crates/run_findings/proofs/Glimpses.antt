@@ -5,7 +5,7 @@ use Rattle.std.specs.List.{slice_get}
 use Rattle.std.proofs.lemmas.Bool.{false≢true, eqb-true, eq-eqb}
 use Rattle.run_findings.specs.Actions.{writes, is_by}
 use Rattle.run_findings.specs.Places.{last_before}
-use Rattle.run_findings.specs.TornReads.{word_read, word_changed, is_change_of, glimpse_between, glimpse_of, glimpse_from}
+use Rattle.run_findings.specs.TornReads.{word_loaded, word_changed, is_change_of, glimpse_between, glimpse_of, glimpse_from}
 use Rattle.run_findings.specs.TornReads.{glimpse_word, glimpse_step, glimpse_at}
 use Rattle.run_findings.specs.declared.actions.Action.{Action}
 use Rattle.run_findings.specs.declared.torn.Glimpse.{Glimpse}
@@ -20,7 +20,7 @@ pub record IsGlimpse (ds : List Action) (j : ℕ) (g : Glimpse) : Type 0 where
   pub reader : Action
   pub writer : Action
   pub stands : slice_get ds j ≡ Some reader
-  pub reads : word_read reader.access ≡ Some g.fresh
+  pub reads : word_loaded reader.access ≡ Some g.fresh
   pub seen : last_before (writes g.fresh) ds j ≡ Some g.fresh_write
   pub stood : slice_get ds g.fresh_write ≡ Some writer
   pub changes : word_changed writer.access ≡ Some g.fresh
@@ -33,7 +33,7 @@ changed-is b (Some c) h = ap Some (eqb-true c b h)
 
 by_test : (ds : List Action) (d e : Action) (j b l : ℕ) (g : Glimpse) (t : Bool)
     → (is_change_of b (word_changed e.access) && not (is_by d.stream e)) ≡ t
-    → slice_get ds j ≡ Some d → word_read d.access ≡ Some b → last_before (writes b) ds j ≡ Some l
+    → slice_get ds j ≡ Some d → word_loaded d.access ≡ Some b → last_before (writes b) ds j ≡ Some l
     → slice_get ds l ≡ Some e → cond t (Some (glimpse_between d j b l e)) None ≡ Some g → IsGlimpse ds j g
 by_test ds d e j b l g false test stands reads seen stood is = absurd cc
 by_test ds d e j b l g true test stands reads seen stood is =
@@ -52,7 +52,7 @@ by_test ds d e j b l g true test stands reads seen stood is =
     })
 
 by_writer : (ds : List Action) (d : Action) (j b l : ℕ) (g : Glimpse) (o : Option Action)
-    → slice_get ds j ≡ Some d → word_read d.access ≡ Some b → last_before (writes b) ds j ≡ Some l
+    → slice_get ds j ≡ Some d → word_loaded d.access ≡ Some b → last_before (writes b) ds j ≡ Some l
     → slice_get ds l ≡ o → glimpse_of d j b l o ≡ Some g → IsGlimpse ds j g
 by_writer ds d j b l g None stands reads seen stood is = absurd cc
 by_writer ds d j b l g (Some e) stands reads seen stood is =
@@ -60,14 +60,14 @@ by_writer ds d j b l g (Some e) stands reads seen stood is =
     is
 
 by_write : (ds : List Action) (d : Action) (j b : ℕ) (g : Glimpse) (o : Option ℕ)
-    → slice_get ds j ≡ Some d → word_read d.access ≡ Some b → last_before (writes b) ds j ≡ o
+    → slice_get ds j ≡ Some d → word_loaded d.access ≡ Some b → last_before (writes b) ds j ≡ o
     → glimpse_from ds d j b o ≡ Some g → IsGlimpse ds j g
 by_write ds d j b g None stands reads seen is = absurd cc
 by_write ds d j b g (Some l) stands reads seen is =
     by_writer ds d j b l g (slice_get ds l) stands reads seen refl is
 
 by_word : (ds : List Action) (d : Action) (j : ℕ) (g : Glimpse) (o : Option ℕ)
-    → slice_get ds j ≡ Some d → word_read d.access ≡ o → glimpse_word ds d j o ≡ Some g → IsGlimpse ds j g
+    → slice_get ds j ≡ Some d → word_loaded d.access ≡ o → glimpse_word ds d j o ≡ Some g → IsGlimpse ds j g
 by_word ds d j g None stands reads is = absurd cc
 by_word ds d j g (Some b) stands reads is =
     by_write ds d j b g (last_before (writes b) ds j) stands reads refl is
@@ -75,7 +75,7 @@ by_word ds d j g (Some b) stands reads is =
 by_step : (ds : List Action) (j : ℕ) (g : Glimpse) (o : Option Action)
     → slice_get ds j ≡ o → glimpse_step ds j o ≡ Some g → IsGlimpse ds j g
 by_step ds j g None stands is = absurd cc
-by_step ds j g (Some d) stands is = by_word ds d j g (word_read d.access) stands refl is
+by_step ds j g (Some d) stands is = by_word ds d j g (word_loaded d.access) stands refl is
 
 pub glimpse-is : (ds : List Action) (j : ℕ) (g : Glimpse) → glimpse_at ds j ≡ Some g → IsGlimpse ds j g
 unfolding glimpse_at

@@ -1,16 +1,16 @@
 -- What is computed of lost updates is what they are.
-use Rattle.std.proofs.Common.{◌≡◌, ℕ, ◌<◌, Bool, true, false, List, length, Option, Some, None, refl, sym, ap, ◌∙◌, subst}
-use Rattle.std.proofs.Common.{nat_lt, ltb-true, lt-ltb, cond, unwrap_or, ◌&&◌}
+use Rattle.std.proofs.Common.{◌≡◌, ◌≢◌, ℕ, ◌<◌, Bool, true, false, List, length, Option, Some, None, refl, sym, ap, ◌∙◌}
+use Rattle.std.proofs.Common.{subst, cond, unwrap_or}
 use Rattle.std.specs.List.{slice_get, Contains, AllPairs}
 use Rattle.std.proofs.lemmas.Option.{slice_get_within}
-use Rattle.run_findings.specs.Actions.{read_by, written_by_other}
-use Rattle.run_findings.specs.Places.{last_before}
-use Rattle.run_findings.specs.Marks.{is_made_of}
-use Rattle.run_findings.specs.LostUpdates.{IsLostUpdate, full_store, if_lost, lost_between, lost_store, lost_by, lost_at}
+use Rattle.run_findings.specs.Actions.{is_by, written_or_read_by}
+use Rattle.run_findings.specs.Places.{last_before, last_below}
+use Rattle.run_findings.specs.LostUpdates.{IsLostUpdate, full_store, is_source, lost_from, lost_over, lost_last, lost_store}
+use Rattle.run_findings.specs.LostUpdates.{lost_by, lost_at}
 use Rattle.run_findings.specs.Found.{found_to}
 use Rattle.run_findings.specs.declared.actions.Action.{Action}
 use Rattle.run_findings.specs.declared.lost.LostUpdate.{LostUpdate}
-use Rattle.run_findings.proofs.Finding.{both_true, found-cases, found-there, found-ordered}
+use Rattle.run_findings.proofs.Finding.{found-cases, found-there, found-ordered}
 
 abbrev update : ℕ → ℕ → ℕ → ℕ → LostUpdate
 update a r o n = record { word = a; read = r; over = o; stored = n }
@@ -20,51 +20,65 @@ IsAt ds n f = IsLostUpdate ds f × (f.stored ≡ n)
 
 -- What is computed is one.
 
-by_test : (ds : List Action) (n : ℕ) (d : Action) (a r o : ℕ) (f : LostUpdate) (t : Bool)
-    → (nat_lt r o && is_made_of ds r n d) ≡ t → slice_get ds n ≡ Some d → full_store d.access ≡ Some a
-    → last_before (read_by d.stream a) ds n ≡ Some r → last_before (written_by_other d.stream a) ds n ≡ Some o
-    → cond t (Some (update a r o n)) None ≡ Some f → IsAt ds n f
-by_test ds n d a r o f false test stands stores reads writes e = absurd cc
-by_test ds n d a r o f true test stands stores reads writes e =
-    let both = both_true (nat_lt r o) (is_made_of ds r n d) test in
-    let same : update a r o n ≡ f = ap (λ x. unwrap_or x (update a r o n)) e in
+by_read : (ds : List Action) (n : ℕ) (d e : Action) (a o : ℕ) (f : LostUpdate) (read : Option ℕ)
+    → slice_get ds n ≡ Some d → full_store d.access ≡ Some a
+    → last_before (written_or_read_by d.stream a) ds n ≡ Some o → slice_get ds o ≡ Some e
+    → is_by d.stream e ≡ false → last_below (is_source ds n d a) o ≡ read
+    → lost_from n a o read ≡ Some f → IsAt ds n f
+by_read ds n d e a o f None stands stores last stood others made is = absurd cc
+by_read ds n d e a o f (Some r) stands stores last stood others made is =
+    let same : update a r o n ≡ f = ap (λ x. unwrap_or x (update a r o n)) is in
     subst (IsAt ds n) same (
       record {
         storer = d;
         stands = stands;
         stores = stores;
-        reads = reads;
-        writes = writes;
-        between = ltb-true r o both.0;
-        made = both.1;
+        last = last;
+        writer = e;
+        stood = stood;
+        others = others;
+        made = made;
       },
       refl,
     )
 
-by_places : (ds : List Action) (n : ℕ) (d : Action) (a : ℕ) (f : LostUpdate) (read over : Option ℕ)
+by_test : (ds : List Action) (n : ℕ) (d e : Action) (a o : ℕ) (f : LostUpdate) (t : Bool)
+    → is_by d.stream e ≡ t → slice_get ds n ≡ Some d → full_store d.access ≡ Some a
+    → last_before (written_or_read_by d.stream a) ds n ≡ Some o → slice_get ds o ≡ Some e
+    → cond t None (lost_from n a o (last_below (is_source ds n d a) o)) ≡ Some f → IsAt ds n f
+by_test ds n d e a o f true others stands stores last stood is = absurd cc
+by_test ds n d e a o f false others stands stores last stood is =
+    by_read ds n d e a o f (last_below (is_source ds n d a) o) stands stores last stood others refl is
+
+by_writer : (ds : List Action) (n : ℕ) (d : Action) (a o : ℕ) (f : LostUpdate) (writer : Option Action)
     → slice_get ds n ≡ Some d → full_store d.access ≡ Some a
-    → last_before (read_by d.stream a) ds n ≡ read → last_before (written_by_other d.stream a) ds n ≡ over
-    → lost_between ds n d a read over ≡ Some f → IsAt ds n f
-by_places ds n d a f None over stands stores reads writes e = absurd cc
-by_places ds n d a f (Some r) None stands stores reads writes e = absurd cc
-by_places ds n d a f (Some r) (Some o) stands stores reads writes e =
-    by_test ds n d a r o f (nat_lt r o && is_made_of ds r n d) refl stands stores reads writes e
+    → last_before (written_or_read_by d.stream a) ds n ≡ Some o → slice_get ds o ≡ writer
+    → lost_over ds n d a o writer ≡ Some f → IsAt ds n f
+by_writer ds n d a o f None stands stores last stood is = absurd cc
+by_writer ds n d a o f (Some e) stands stores last stood is =
+    by_test ds n d e a o f (is_by d.stream e) refl stands stores last stood is
+
+by_last : (ds : List Action) (n : ℕ) (d : Action) (a : ℕ) (f : LostUpdate) (over : Option ℕ)
+    → slice_get ds n ≡ Some d → full_store d.access ≡ Some a
+    → last_before (written_or_read_by d.stream a) ds n ≡ over → lost_last ds n d a over ≡ Some f → IsAt ds n f
+by_last ds n d a f None stands stores last is = absurd cc
+by_last ds n d a f (Some o) stands stores last is =
+    by_writer ds n d a o f (slice_get ds o) stands stores last refl is
 
 by_store : (ds : List Action) (n : ℕ) (d : Action) (f : LostUpdate) (word : Option ℕ)
     → slice_get ds n ≡ Some d → full_store d.access ≡ word → lost_store ds n d word ≡ Some f → IsAt ds n f
-by_store ds n d f None stands stores e = absurd cc
-by_store ds n d f (Some a) stands stores e =
-    by_places ds n d a f (last_before (read_by d.stream a) ds n) (last_before (written_by_other d.stream a) ds n)
-    stands stores refl refl e
+by_store ds n d f None stands stores is = absurd cc
+by_store ds n d f (Some a) stands stores is =
+    by_last ds n d a f (last_before (written_or_read_by d.stream a) ds n) stands stores refl is
 
 by_step : (ds : List Action) (n : ℕ) (f : LostUpdate) (step : Option Action)
     → slice_get ds n ≡ step → lost_by ds n step ≡ Some f → IsAt ds n f
-by_step ds n f None stands e = absurd cc
-by_step ds n f (Some d) stands e = by_store ds n d f (full_store d.access) stands refl e
+by_step ds n f None stands is = absurd cc
+by_step ds n f (Some d) stands is = by_store ds n d f (full_store d.access) stands refl is
 
 is_at : (ds : List Action) (n : ℕ) (f : LostUpdate) → lost_at ds n ≡ Some f → IsAt ds n f
 unfolding lost_at
-is_at ds n f e = by_step ds n f (slice_get ds n) refl e
+is_at ds n f is = by_step ds n f (slice_get ds n) refl is
 
 -- Each is computed.
 
@@ -73,11 +87,26 @@ unfolding lost_at
 computed ds f h =
     let n = f.stored in
     let d = h.storer in
-    ap (lost_by ds n) h.stands ∙ ap (lost_store ds n d) h.stores
-    ∙ ap (λ r. lost_between ds n d f.word r (last_before (written_by_other d.stream f.word) ds n)) h.reads
-    ∙ ap (lost_between ds n d f.word (Some f.read)) h.writes
-    ∙ ap (λ t. cond (t && is_made_of ds f.read n d) (Some f) None) (lt-ltb f.read f.over h.between)
-    ∙ ap (λ t. cond t (Some f) None) h.made
+    let made = last_below (is_source ds n d f.word) f.over in
+    ap (lost_by ds n) h.stands ∙ ap (lost_store ds n d) h.stores ∙ ap (lost_last ds n d f.word) h.last
+    ∙ ap (lost_over ds n d f.word f.over) h.stood
+    ∙ ap (λ t. cond t None (lost_from n f.word f.over made)) h.others
+    ∙ ap (lost_from n f.word f.over) h.made
+
+-- where none is computed there is none
+pub none_lost : (ds : List Action) (n : ℕ) → lost_at ds n ≡ None → (g : LostUpdate) → IsLostUpdate ds g → g.stored ≢ n
+none_lost ds n none g h same =
+    let there : lost_at ds n ≡ Some g = sym (ap (lost_at ds) same) ∙ computed ds g h in
+    absurd cc
+
+-- and where there is none, none is computed
+none_by : (ds : List Action) (n : ℕ) (found : Option LostUpdate) → lost_at ds n ≡ found
+    → ((g : LostUpdate) → IsLostUpdate ds g → g.stored ≢ n) → found ≡ None
+none_by ds n None is none = refl
+none_by ds n (Some g) is none = let at = is_at ds n g is in absurd (none g at.0 at.1)
+
+pub lost_none : (ds : List Action) (n : ℕ) → ((g : LostUpdate) → IsLostUpdate ds g → g.stored ≢ n) → lost_at ds n ≡ None
+lost_none ds n none = none_by ds n (lost_at ds n) refl none
 
 pub lost-exact : (ds : List Action) (found : List LostUpdate) → found ≡ found_to (lost_at ds) (length ds)
     → (f : LostUpdate) → (Contains found f → IsLostUpdate ds f) × (IsLostUpdate ds f → Contains found f)

@@ -5,12 +5,13 @@ use Rattle.std.specs.List.{slice_get, Contains}
 use Rattle.std.proofs.lemmas.Bool.{false≢true, eqb-false}
 use Rattle.std.proofs.lemmas.Option.{slice_get_within}
 use Rattle.processor.specs.declared.steps.Step.{Step}
-use Rattle.run_findings.specs.Actions.{writes, is_by, read_by}
+use Rattle.run_findings.specs.Actions.{writes, is_by}
+use Rattle.run_findings.specs.Pairs.{is_half}
 use Rattle.run_findings.specs.Places.{passes, last_before}
 use Rattle.run_findings.specs.Found.{found_to, lists_to}
 use Rattle.run_findings.specs.TornReads.{IsTornRead, word_changed, are_parted, is_other_half, half_by, half_in, other_half}
 use Rattle.run_findings.specs.TornReads.{torn_by_read, torn_by_word, torn_by_write, glimpse_at, torn_in_glimpse, torn_at}
-use Rattle.run_findings.specs.TornReads.{torn_reads}
+use Rattle.run_findings.specs.TornReads.{torn_reads, loaded_by, lets_go, is_of_later_round, is_torn_pair}
 use Rattle.run_findings.specs.declared.actions.Action.{Action}
 use Rattle.run_findings.specs.declared.parting.Meeting.TheVariants as meeting
 use Rattle.run_findings.specs.declared.torn.Glimpse.{Glimpse}
@@ -91,30 +92,42 @@ half-there ds g k a h =
 record IsOtherRead (ds : List Action) (g : Glimpse) (a k i : ℕ) : Type 0 where
   read : Action
   stands : slice_get ds i ≡ Some read
-  reads : read_by g.reader a read ≡ true
+  reads : loaded_by g.reader a read ≡ true
   unseen : i < k
   one_look : are_parted ds meeting.Reads g.reader a g.fresh i g.fresh_read ≡ false
+  one_round : is_of_later_round ds g.writer a i k g.fresh_write ≡ false
+  kept : lets_go ds g.reader g.writer a g.fresh i g.fresh_read k ≡ false
+  half : is_half ds g.reader a g.fresh i g.fresh_read ≡ true
 
 passed : (test : Action → Bool) (o : Option Action) → passes test o ≡ true → (d : Action) × (o ≡ Some d) × (test d ≡ true)
 passed test None h = absurd (false≢true h)
 passed test (Some d) h = (d, refl, h)
 
 read-by_test : (ds : List Action) (g : Glimpse) (a k i : ℕ) (f : TornRead) (t : Bool)
-    → (passes (read_by g.reader a) (slice_get ds i)
-    && (nat_lt i k && not (are_parted ds meeting.Reads g.reader a g.fresh i g.fresh_read))) ≡ t
+    → (passes (loaded_by g.reader a) (slice_get ds i)
+    && (nat_lt i k && (not (are_parted ds meeting.Reads g.reader a g.fresh i g.fresh_read) && is_torn_pair ds g a k i))) ≡ t
     → cond t (Some (torn g a k i)) None ≡ Some f → IsOtherRead ds g a k i × (torn g a k i ≡ f)
 read-by_test ds g a k i f false test is = absurd cc
 read-by_test ds g a k i f true test is =
     let parted = are_parted ds meeting.Reads g.reader a g.fresh i g.fresh_read in
-    let outer = both_true (passes (read_by g.reader a) (slice_get ds i)) (nat_lt i k && not parted) test in
-    let inner = both_true (nat_lt i k) (not parted) outer.1 in
-    let found = passed (read_by g.reader a) (slice_get ds i) outer.0 in (
+    let pair = is_torn_pair ds g a k i in
+    let late = is_of_later_round ds g.writer a i k g.fresh_write in
+    let gone = lets_go ds g.reader g.writer a g.fresh i g.fresh_read k in
+    let outer = both_true (passes (loaded_by g.reader a) (slice_get ds i)) (nat_lt i k && (not parted && pair)) test in
+    let inner = both_true (nat_lt i k) (not parted && pair) outer.1 in
+    let look = both_true (not parted) pair inner.1 in
+    let round = both_true (not late) (not gone && is_half ds g.reader a g.fresh i g.fresh_read) look.1 in
+    let hold = both_true (not gone) (is_half ds g.reader a g.fresh i g.fresh_read) round.1 in
+    let found = passed (loaded_by g.reader a) (slice_get ds i) outer.0 in (
       record {
         read = found.0;
         stands = found.1;
         reads = found.2;
         unseen = ltb-true i k inner.0;
-        one_look = not_true parted inner.1;
+        one_look = not_true parted look.0;
+        one_round = not_true late round.0;
+        kept = not_true gone hold.0;
+        half = hold.1;
       },
       ap (λ o. unwrap_or o (torn g a k i)) is,
     )
@@ -122,20 +135,27 @@ read-by_test ds g a k i f true test is =
 read-is : (ds : List Action) (g : Glimpse) (a k i : ℕ) (f : TornRead) → torn_by_read ds g a k i ≡ Some f
     → IsOtherRead ds g a k i × (torn g a k i ≡ f)
 unfolding torn_by_read
-read-is ds g a k i f is = read-by_test ds g a k i f (passes (read_by g.reader a) (slice_get ds i)
-    && (nat_lt i k && not (are_parted ds meeting.Reads g.reader a g.fresh i g.fresh_read))) refl is
+read-is ds g a k i f is = read-by_test ds g a k i f (passes (loaded_by g.reader a) (slice_get ds i)
+    && (nat_lt i k && (not (are_parted ds meeting.Reads g.reader a g.fresh i g.fresh_read) && is_torn_pair ds g a k i)))
+    refl is
 
-read_test : (a b c : Bool) → a ≡ true → b ≡ true → c ≡ false → (a && (b && not c)) ≡ true
-read_test a b c e f g = ap (λ t. t && (b && not c)) e ∙ ap (λ t. t && not c) f ∙ ap not g
+read_test : (a b c d : Bool) → a ≡ true → b ≡ true → c ≡ false → d ≡ true → (a && (b && (not c && d))) ≡ true
+read_test a b c d e f g h =
+    ap (λ t. t && (b && (not c && d))) e ∙ ap (λ t. t && (not c && d)) f ∙ ap (λ t. not t && d) g ∙ h
+
+pair_test : (a b c : Bool) → a ≡ false → b ≡ false → c ≡ true → (not a && (not b && c)) ≡ true
+pair_test a b c e f g = ap (λ t. not t && (not b && c)) e ∙ ap (λ t. not t && c) f ∙ g
 
 read-there : (ds : List Action) (g : Glimpse) (a k i : ℕ) → IsOtherRead ds g a k i
     → torn_by_read ds g a k i ≡ Some (torn g a k i)
 unfolding torn_by_read
 read-there ds g a k i h =
     ap (λ t. cond t (Some (torn g a k i)) None)
-    (read_test (passes (read_by g.reader a) (slice_get ds i)) (nat_lt i k)
-    (are_parted ds meeting.Reads g.reader a g.fresh i g.fresh_read) (ap (passes (read_by g.reader a)) h.stands ∙ h.reads)
-    (lt-ltb i k h.unseen) h.one_look)
+    (read_test (passes (loaded_by g.reader a) (slice_get ds i)) (nat_lt i k)
+    (are_parted ds meeting.Reads g.reader a g.fresh i g.fresh_read) (is_torn_pair ds g a k i)
+    (ap (passes (loaded_by g.reader a)) h.stands ∙ h.reads) (lt-ltb i k h.unseen) h.one_look
+    (pair_test (is_of_later_round ds g.writer a i k g.fresh_write) (lets_go ds g.reader g.writer a g.fresh i g.fresh_read k)
+    (is_half ds g.reader a g.fresh i g.fresh_read) h.one_round h.kept h.half))
 
 -- Both of them.
 
@@ -160,12 +180,19 @@ assembled ds g j k i a seen half read =
       by_writer = sym (ap (λ t. is_by t half.write) by_writer) ∙ half.by_writer;
       other_read = read.read;
       stands_stale_read = read.stands;
-      reads_stale = sym (ap (λ t. read_by t a read.read) by_reader) ∙ read.reads;
+      reads_stale = sym (ap (λ t. loaded_by t a read.read) by_reader) ∙ read.reads;
       two_words = half.two_words;
       unseen = read.unseen;
       one_change =
           sym (ap (λ t. are_parted ds meeting.Writes t a g.fresh k g.fresh_write) by_writer) ∙ half.one_change;
       one_look = sym (ap (λ t. are_parted ds meeting.Reads t a g.fresh i g.fresh_read) by_reader) ∙ read.one_look;
+      kept =
+          sym (ap (λ t. lets_go ds t seen.writer.stream a g.fresh i g.fresh_read k) by_reader)
+          ∙ sym (ap (λ t. lets_go ds g.reader t a g.fresh i g.fresh_read k) by_writer)
+          ∙ read.kept;
+      one_round =
+          sym (ap (λ t. is_of_later_round ds t a i k g.fresh_write) by_writer) ∙ read.one_round;
+      half = sym (ap (λ t. is_half ds t a g.fresh i g.fresh_read) by_reader) ∙ read.half;
     }
 
 nothing_in : {F : Type 0} (f : F) → Contains (let none : List F = [] in none) f → ⊥
@@ -241,6 +268,9 @@ torn-there ds f h =
       reads = h.reads_stale;
       unseen = h.unseen;
       one_look = h.one_look;
+      one_round = h.one_round;
+      kept = h.kept;
+      half = h.half;
     } in
     let in_list = there_in_write ds g f.stale_write f.stale_read f.stale
     (slice_get_within ds f.stale_read h.other_read h.stands_stale_read) half read in

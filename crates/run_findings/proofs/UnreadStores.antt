@@ -6,13 +6,17 @@ use Rattle.std.proofs.lemmas.Bool.{false≢true, eqb-false}
 use Rattle.std.proofs.lemmas.Option.{slice_get_within}
 use Rattle.run_findings.specs.Actions.{is_by, met}
 use Rattle.run_findings.specs.Places.{last_before}
-use Rattle.run_findings.specs.UnreadStores.{IsUnreadStore, store_of, is_of_other, is_unread, unread_by, unread_before}
+use Rattle.run_findings.specs.LostUpdates.{IsLostUpdate, lost_at}
+use Rattle.run_findings.specs.UnreadStores.{IsUnreadStore, store_of, is_of_other, is_unread, unless_lost, unread_by}
+use Rattle.run_findings.specs.UnreadStores.{unread_before}
 use Rattle.run_findings.specs.UnreadStores.{unread_store, unread_in, unread_at}
 use Rattle.run_findings.specs.Found.{found_to}
 use Rattle.run_findings.specs.declared.actions.Access.{Access}
 use Rattle.run_findings.specs.declared.actions.Action.{Action}
+use Rattle.run_findings.specs.declared.lost.LostUpdate.{LostUpdate}
 use Rattle.run_findings.specs.declared.unread.UnreadStore.{UnreadStore}
 use Rattle.run_findings.proofs.Finding.{found-cases, found-there, found-ordered}
+use Rattle.run_findings.proofs.LostUpdates.{none_lost, lost_none}
 
 abbrev store_at : ℕ → ℕ → ℕ → UnreadStore
 store_at a o n = record { word = a; over = o; stored = n }
@@ -33,9 +37,9 @@ other_value m n false test h = eqb-false m n test
 by_lost : (ds : List Action) (n o : ℕ) (d e : Action) (x : Access) (lost : Option Access)
     → slice_get ds n ≡ Some d → store_of d.access ≡ Some x → last_before (met x.address) ds n ≡ Some o
     → slice_get ds o ≡ Some e → store_of e.access ≡ lost → is_by d.stream e ≡ false
-    → is_of_other x.after lost ≡ true → IsUnreadStore ds (store_at x.address o n)
-by_lost ds n o d e x None stands stores last stood before by test = absurd (false≢true test)
-by_lost ds n o d e x (Some y) stands stores last stood before by test = record {
+    → is_of_other x.after lost ≡ true → lost_at ds n ≡ None → IsUnreadStore ds (store_at x.address o n)
+by_lost ds n o d e x None stands stores last stood before by test alone = absurd (false≢true test)
+by_lost ds n o d e x (Some y) stands stores last stood before by test alone = record {
   storer = d;
   store = x;
   stands = stands;
@@ -48,25 +52,34 @@ by_lost ds n o d e x (Some y) stands stores last stood before by test = record {
   stored_before = before;
   by_other = by;
   differs = other_value y.after x.after (y.after == x.after) refl test;
+  alone = none_lost ds n alone;
 }
+
+by_update : (ds : List Action) (n o : ℕ) (d e : Action) (x : Access) (f : UnreadStore) (update : Option LostUpdate)
+    → lost_at ds n ≡ update → is_unread d x e ≡ true → slice_get ds n ≡ Some d → store_of d.access ≡ Some x
+    → last_before (met x.address) ds n ≡ Some o → slice_get ds o ≡ Some e
+    → unless_lost (store_at x.address o n) update ≡ Some f → IsAt ds n f
+by_update ds n o d e x f (Some g) alone test stands stores last stood is = absurd cc
+by_update ds n o d e x f None alone test stands stores last stood is =
+    let both = apart (is_by d.stream e) (is_of_other x.after (store_of e.access)) test in
+    let same : store_at x.address o n ≡ f = ap (λ g. unwrap_or g (store_at x.address o n)) is in
+    subst (IsAt ds n) same (
+      by_lost ds n o d e x (store_of e.access) stands stores last stood refl both.0 both.1 alone,
+      refl,
+    )
 
 by_test : (ds : List Action) (n o : ℕ) (d e : Action) (x : Access) (f : UnreadStore) (t : Bool)
     → is_unread d x e ≡ t → slice_get ds n ≡ Some d → store_of d.access ≡ Some x
     → last_before (met x.address) ds n ≡ Some o → slice_get ds o ≡ Some e
-    → cond t (Some (store_at x.address o n)) None ≡ Some f → IsAt ds n f
+    → cond t (unless_lost (store_at x.address o n) (lost_at ds n)) None ≡ Some f → IsAt ds n f
 by_test ds n o d e x f false test stands stores last stood is = absurd cc
 by_test ds n o d e x f true test stands stores last stood is =
-    let both = apart (is_by d.stream e) (is_of_other x.after (store_of e.access)) test in
-    let same : store_at x.address o n ≡ f = ap (λ g. unwrap_or g (store_at x.address o n)) is in
-    subst (IsAt ds n) same (
-      by_lost ds n o d e x (store_of e.access) stands stores last stood refl both.0 both.1,
-      refl,
-    )
+    by_update ds n o d e x f (lost_at ds n) refl test stands stores last stood is
 
 by_other : (ds : List Action) (n o : ℕ) (d : Action) (x : Access) (f : UnreadStore) (other : Option Action)
     → slice_get ds n ≡ Some d → store_of d.access ≡ Some x
     → last_before (met x.address) ds n ≡ Some o → slice_get ds o ≡ other
-    → unread_by d x n o other ≡ Some f → IsAt ds n f
+    → unread_by ds d x n o other ≡ Some f → IsAt ds n f
 by_other ds n o d x f None stands stores last stood is = absurd cc
 by_other ds n o d x f (Some e) stands stores last stood is =
     by_test ds n o d e x f (is_unread d x e) refl stands stores last stood is
@@ -112,8 +125,9 @@ computed ds f h =
     let test : is_unread d x e ≡ true =
     passes_test (is_by d.stream e) (is_of_other x.after (store_of e.access)) h.by_other value in
     ap (unread_in ds n) h.stands ∙ ap (unread_store ds n d) h.stores ∙ ap (unread_before ds d x n) last
-    ∙ ap (unread_by d x n f.over) h.stood
-    ∙ ap (λ t. cond t (Some (store_at x.address f.over n)) None) test
+    ∙ ap (unread_by ds d x n f.over) h.stood
+    ∙ ap (λ t. cond t (unless_lost (store_at x.address f.over n) (lost_at ds n)) None) test
+    ∙ ap (unless_lost (store_at x.address f.over n)) (lost_none ds n h.alone)
     ∙ ap (λ a. Some (store_at a f.over n)) h.word
 
 pub unread-exact : (ds : List Action) (found : List UnreadStore) → found ≡ found_to (unread_at ds) (length ds)

@@ -5,6 +5,7 @@ pub mod Found
 pub mod Marks
 pub mod LostUpdates
 pub mod UnreadStores
+pub mod Pairs
 pub mod TornReads
 -- The aid: what the code looks for.
 pub mod Sought

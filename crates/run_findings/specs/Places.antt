@@ -12,3 +12,8 @@ passes test (Some d) = test d
 abbrev pub last_before : (Action → Bool) → List Action → ℕ → Option ℕ
 last_before test ds zero = None
 last_before test ds (suc n) = if passes test (slice_get ds n) then Some n else last_before test ds n
+
+-- the last number below n that passes a test
+abbrev pub last_below : (ℕ → Bool) → ℕ → Option ℕ
+last_below test zero = None
+last_below test (suc n) = if test n then Some n else last_below test n

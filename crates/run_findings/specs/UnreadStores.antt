@@ -1,9 +1,10 @@
 -- Unread stores.
-use Rattle.std.specs.Prelude.{◌≡◌, ◌≢◌, ℕ, ◌==◌, Bool, true, false, not, ◌&&◌, ◌||◌, if◌then◌else◌, List, Option, Some, None}
+use Rattle.std.specs.Prelude.{◌≡◌, ◌≢◌, ℕ, ◌==◌, Bool, true, false, not, ◌&&◌, if◌then◌else◌, List, Option, Some, None}
 use Rattle.std.specs.Prelude.{slice_get}
-use Rattle.run_findings.specs.Actions.{is_by, met}
+use Rattle.run_findings.specs.Actions.{is_store, is_by, met}
 use Rattle.run_findings.specs.Places.{last_before}
-use Rattle.run_findings.specs.LostUpdates.{is_store}
+use Rattle.run_findings.specs.LostUpdates.{IsLostUpdate, lost_at}
+use Rattle.run_findings.specs.declared.lost.LostUpdate.{LostUpdate}
 use Rattle.run_findings.specs.declared.actions.Access.{Access}
 use Rattle.run_findings.specs.declared.actions.Action.{Action}
 use Rattle.run_findings.specs.declared.unread.UnreadStore.{UnreadStore}
@@ -14,7 +15,7 @@ store_of None = None
 store_of (Some x) = if is_store x.op then Some x else None
 
 -- In step `stored` a stream stores into a word; the last step before that read or wrote the word is `over`, in which
--- another stream had stored another value.
+-- another stream had stored another value. No lost update ends with the same store.
 pub record IsUnreadStore (ds : List Action) (f : UnreadStore) : Type 0 where
   pub storer : Action
   pub store : Access
@@ -28,6 +29,7 @@ pub record IsUnreadStore (ds : List Action) (f : UnreadStore) : Type 0 where
   pub stored_before : store_of other.access ≡ Some lost
   pub by_other : is_by storer.stream other ≡ false
   pub differs : lost.after ≢ store.after
+  pub alone : (g : LostUpdate) → IsLostUpdate ds g → g.stored ≢ f.stored
 
 -- The same by computing, for the code.
 
@@ -39,14 +41,19 @@ is_of_other value (Some y) = not (y.after == value)
 abbrev pub is_unread : Action → Access → Action → Bool
 is_unread d x e = not (is_by d.stream e) && is_of_other x.after (store_of e.access)
 
-abbrev pub unread_by : Action → Access → ℕ → ℕ → Option Action → Option UnreadStore
-unread_by d x n o None = None
-unread_by d x n o (Some e) =
-    if is_unread d x e then Some (record { word = x.address; over = o; stored = n }) else None
+-- this, where it is no lost update
+abbrev pub unless_lost : UnreadStore → Option LostUpdate → Option UnreadStore
+unless_lost f None = Some f
+unless_lost f (Some g) = None
+
+abbrev pub unread_by : List Action → Action → Access → ℕ → ℕ → Option Action → Option UnreadStore
+unread_by ds d x n o None = None
+unread_by ds d x n o (Some e) =
+    if is_unread d x e then unless_lost (record { word = x.address; over = o; stored = n }) (lost_at ds n) else None
 
 abbrev pub unread_before : List Action → Action → Access → ℕ → Option ℕ → Option UnreadStore
 unread_before ds d x n None = None
-unread_before ds d x n (Some o) = unread_by d x n o (slice_get ds o)
+unread_before ds d x n (Some o) = unread_by ds d x n o (slice_get ds o)
 
 abbrev pub unread_store : List Action → ℕ → Action → Option Access → Option UnreadStore
 unread_store ds n d None = None

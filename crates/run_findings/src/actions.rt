@@ -1,7 +1,8 @@
 //! What the steps of a run did.
 
 ghost use Rattle.std.specs.Prelude.{◌≡◌};
-ghost use Rattle.run_findings.specs.Actions.{op_reads, op_writes, reads, writes, is_by};
+ghost use Rattle.run_findings.specs.Actions.{op_reads, op_hears, is_load, is_store, is_change, is_other_bit, is_by};
+ghost use Rattle.run_findings.specs.Actions.{reads, writes, access_changes};
 
 use insn_word::Insn;
 use processor::Step;
@@ -42,6 +43,24 @@ pub struct Access {
     pub after: u64,
     /// Whether it was full before the step.
     pub full: bool,
+    /// Whether it is full after the step.
+    pub full_after: bool,
+}
+
+impl Access {
+    /// Whether it left the word otherwise than it was: with another value, or full and not empty, or empty and not full.
+    pub fn is_change(&self) -> bool
+        ensures { result ≡ is_change self.now }
+    {
+        self.before != self.after || is_other_bit(self.full, self.full_after)
+    }
+}
+
+/// Whether the full bit is another one after.
+fn is_other_bit(before: bool, after: bool) -> bool
+    ensures { result ≡ is_other_bit before after }
+{
+    if before { !after } else { after }
 }
 
 impl Action {
@@ -55,12 +74,22 @@ impl Action {
         }
     }
 
-    /// Whether it wrote the value of the word at this address.
+    /// Whether it wrote the word at this address: one that leaves the word as it was does not.
     pub fn writes(&self, address: u64) -> bool
         ensures { result ≡ writes address self.now }
     {
         match self.access {
-            Some(access) => access.address == address && op_writes(access.op),
+            Some(access) => access.address == address && access.is_change(),
+            None => false,
+        }
+    }
+
+    /// Whether it wrote some word.
+    pub(crate) fn writes_some(&self) -> bool
+        ensures { result ≡ access_changes self.now.access }
+    {
+        match self.access {
+            Some(access) => access.is_change(),
             None => false,
         }
     }
@@ -83,12 +112,32 @@ pub(crate) fn op_reads(op: MemOp) -> bool
     }
 }
 
-/// Whether an operation writes the value of its word.
-pub(crate) fn op_writes(op: MemOp) -> bool
-    ensures { result ≡ op_writes op }
+/// Whether a stream learns by an operation what others did to its word, which was full or empty: STORE tells it that the
+/// word had been emptied, where it was.
+pub(crate) fn op_hears(op: MemOp, full: bool) -> bool
+    ensures { result ≡ op_hears op full }
 {
     match op {
-        MemOp::Store | MemOp::Fadd | MemOp::Purge => true,
-        MemOp::Load | MemOp::TagGet | MemOp::TagSet => false,
+        MemOp::Load | MemOp::Fadd | MemOp::TagGet => true,
+        MemOp::Store => !full,
+        MemOp::TagSet | MemOp::Purge => false,
+    }
+}
+
+pub(crate) fn is_load(op: MemOp) -> bool
+    ensures { result ≡ is_load op }
+{
+    match op {
+        MemOp::Load => true,
+        MemOp::Store | MemOp::Fadd | MemOp::TagGet | MemOp::TagSet | MemOp::Purge => false,
+    }
+}
+
+pub(crate) fn is_store(op: MemOp) -> bool
+    ensures { result ≡ is_store op }
+{
+    match op {
+        MemOp::Store => true,
+        MemOp::Load | MemOp::Fadd | MemOp::TagGet | MemOp::TagSet | MemOp::Purge => false,
     }
 }

@@ -5,6 +5,7 @@
 mod actions;
 mod lost;
 mod marks;
+mod pairs;
 mod parting;
 mod searching;
 mod torn;

@@ -1,24 +1,24 @@
 //! Lost updates.
 
 ghost use Rattle.std.specs.Prelude.{◌≡◌, ◌↔◌, ◌<◌, length, map, Contains, AllPairs, IfOk, slice_get};
-ghost use Rattle.run_findings.specs.LostUpdates.{IsLostUpdate, lost_at, if_lost, full_store, is_store};
+ghost use Rattle.run_findings.specs.LostUpdates.{IsLostUpdate, lost_at, full_store, is_source};
+ghost use Rattle.run_findings.specs.Places.{last_below};
 ghost use Rattle.run_findings.specs.Marks.{is_made_of};
 
-use crate::actions::{Access, Action};
+use crate::actions::{Access, Action, is_store};
 use crate::marks::Marks;
 use crate::searching::{Sought, last_before};
 use std::alloc::{AllocError, Global};
-use tag_memory::MemOp;
 
-/// That another stream's write was lost: it was stored over by a stream that had read the word before that write, and
-/// computed from this what it stored ("Lost updates", docs/FINDINGS.md). Steps count from 0.
+/// That another stream's write was lost: it was stored over by a stream that had read the word before that write and not
+/// since, and computed from this what it stored ("Lost updates", docs/FINDINGS.md). Steps count from 0.
 #[derive(Clone, Copy, Debug, PartialEq, Eq)]
 pub struct LostUpdate {
     /// The byte address of the word.
     pub word: u64,
-    /// The step in which the stream read it.
+    /// The step in which the stream read it: the last one of which this holds.
     pub read: usize,
-    /// The step in which another stream wrote it, the last such before the store.
+    /// The step in which another stream wrote it, the last write before the store.
     pub over: usize,
     /// The step in which the stream stored.
     pub stored: usize,
@@ -40,38 +40,58 @@ pub fn lost_updates(alloc: Global, actions: &[Action]) -> Result<Vec<LostUpdate>
 
 /// The lost update of a step, if it is one.
 #[tactic(auto, unfolding(crate::specs::LostUpdates::lost_at))]
-fn lost_at(actions: &[Action], stored: usize) -> Option<LostUpdate>
+pub(crate) fn lost_at(actions: &[Action], stored: usize) -> Option<LostUpdate>
     requires { stored < length actions.now }
     ensures { result ≡ lost_at actions.now stored }
 {
     let action = &actions[stored];
     let word = full_store(&action.access)?;
-    let reader = Sought::ReadBy(action.stream);
-    let read = last_before(actions, stored, word, reader)?;
-    let writer = Sought::WrittenByOther(action.stream);
-    let over = last_before(actions, stored, word, writer)?;
-    let update = LostUpdate {
+    let met = Sought::WrittenOrReadBy(action.stream);
+    let over = last_before(actions, stored, word, met)?;
+    if actions[over].is_by(action.stream) {
+        return None;
+    }
+    let read = last_source(actions, stored, action, word, over)?;
+    Some(LostUpdate {
         word,
         read,
         over,
         stored,
-    };
-    if_lost(actions, action, update)
+    })
 }
 
-/// This, if the write came after the read, and what is stored was computed from what was read.
-fn if_lost(actions: &[Action], action: &Action, update: LostUpdate) -> Option<LostUpdate>
-    requires over_in { update.over < update.stored }
-    requires stored_in { update.stored < length actions.now }
-    ensures { result ≡ if_lost actions.now action.now update }
+/// The last step before step `end` in which the stream of step `stored`, which this is, read this word and from which
+/// what it stores was computed.
+fn last_source(
+    actions: &[Action],
+    stored: usize,
+    action: &Action,
+    word: u64,
+    end: usize,
+) -> Option<usize>
+    requires end_in { end < stored }
+    requires stored_in { stored < length actions.now }
+    ensures { result ≡ last_below (is_source actions.now stored action.now word) end }
 {
-    if update.read >= update.over {
-        return None;
+    let mut place = end;
+    while place > 0 {
+        place -= 1;
+        if is_source(actions, stored, action, word, place) {
+            return Some(place);
+        }
     }
-    if !is_made_of(actions, update.read, update.stored, action) {
-        return None;
-    }
-    Some(update)
+    None
+}
+
+/// Whether the stream of step `stored`, which this is, read this word in step `place`, and what it stores was computed
+/// from what it read there.
+fn is_source(actions: &[Action], stored: usize, action: &Action, word: u64, place: usize) -> bool
+    requires place_in { place < stored }
+    requires stored_in { stored < length actions.now }
+    ensures { result ≡ is_source actions.now stored action.now word place }
+{
+    let reader = &actions[place];
+    reader.is_by(action.stream) && reader.reads(word) && is_made_of(actions, place, stored, action)
 }
 
 /// The word into which a STORE stored that found it full.
@@ -91,13 +111,4 @@ fn is_made_of(actions: &[Action], read: usize, stored: usize, action: &Action) -
     ensures { result ≡ is_made_of actions.now read stored action.now }
 {
     Marks::before(actions, action.stream, read, stored).are_stored(&action.deed)
-}
-
-pub(crate) fn is_store(op: MemOp) -> bool
-    ensures { result ≡ is_store op }
-{
-    match op {
-        MemOp::Store => true,
-        MemOp::Load | MemOp::Fadd | MemOp::TagGet | MemOp::TagSet | MemOp::Purge => false,
-    }
 }

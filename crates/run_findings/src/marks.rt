@@ -38,7 +38,7 @@ impl Marks {
     }
 
     /// The marks of a stream after a step of some stream.
-    fn past(self, stream: Step, action: &Action) -> Marks
+    pub(crate) fn past(self, stream: Step, action: &Action) -> Marks
         ensures { result ≡ marks_past stream self action.now }
     {
         if action.is_by(stream) {
@@ -107,7 +107,7 @@ impl Marks {
         }
     }
 
-    fn of_arithmetic(&self, a: &APart) -> bool
+    pub(crate) fn of_arithmetic(&self, a: &APart) -> bool
         ensures { result ≡ arithmetic_mark self.now a.now }
     {
         mark_at(&self.registers, a.ra) || (!a.imm && mark_at(&self.registers, a.rb))

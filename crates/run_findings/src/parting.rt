@@ -3,10 +3,11 @@
 ghost use Rattle.std.specs.Prelude.{◌≡◌, ◌≤◌, ◌<◌, length};
 ghost use Rattle.run_findings.specs.Actions.{writes};
 ghost use Rattle.run_findings.specs.Places.{last_before};
-ghost use Rattle.run_findings.specs.TornReads.{word_read, word_changed, meets, are_parted, is_newer, brings_news};
+ghost use Rattle.run_findings.specs.TornReads.{word_loaded, word_heard, word_changed, meets, are_parted};
+ghost use Rattle.run_findings.specs.TornReads.{is_newer, brings_news};
 ghost use Rattle.run_findings.specs.TornReads.{any_between, parts_at};
 
-use crate::actions::{Access, Action, op_reads, op_writes};
+use crate::actions::{Access, Action, is_load, op_hears};
 use processor::Step;
 
 /// How the steps that may be parted meet their words.
@@ -16,6 +17,8 @@ pub(crate) enum Meeting {
     Reads,
     /// They write them.
     Writes,
+    /// It does not matter how: they are parted by news alone.
+    News,
 }
 
 impl Meeting {
@@ -26,6 +29,7 @@ impl Meeting {
         match self {
             Meeting::Reads => action.reads(address),
             Meeting::Writes => action.writes(address),
+            Meeting::News => false,
         }
     }
 }
@@ -86,12 +90,12 @@ impl Pair {
                     self.stream,
                     first,
                     place,
-                    word_read(&action.access),
+                    word_heard(&action.access),
                 ))
     }
 }
 
-/// Whether step `place`, which reads this word, reads what another stream wrote after step `first`.
+/// Whether step `place`, which hears of this word, hears of what another stream wrote after step `first`.
 fn brings_news(
     actions: &[Action],
     stream: Step,
@@ -126,12 +130,22 @@ fn is_newer(actions: &[Action], stream: Step, first: usize, place: usize, addres
     false
 }
 
-/// The word whose value an access read, if it did.
-pub(crate) fn word_read(access: &Option<Access>) -> Option<u64>
-    ensures { result ≡ word_read access.now }
+/// The word that a LOAD read, if it did.
+pub(crate) fn word_loaded(access: &Option<Access>) -> Option<u64>
+    ensures { result ≡ word_loaded access.now }
 {
     match access {
-        Some(access) if op_reads(access.op) => Some(access.address),
+        Some(access) if is_load(access.op) => Some(access.address),
+        _ => None,
+    }
+}
+
+/// The word of which an access may bring news, if it may.
+fn word_heard(access: &Option<Access>) -> Option<u64>
+    ensures { result ≡ word_heard access.now }
+{
+    match access {
+        Some(access) if op_hears(access.op, access.full) => Some(access.address),
         _ => None,
     }
 }
@@ -141,9 +155,7 @@ pub(crate) fn word_changed(access: &Option<Access>) -> Option<u64>
     ensures { result ≡ word_changed access.now }
 {
     match access {
-        Some(access) if op_writes(access.op) && access.before != access.after && access.full => {
-            Some(access.address)
-        }
+        Some(access) if access.before != access.after && access.full => Some(access.address),
         _ => None,
     }
 }

@@ -10,10 +10,12 @@ use processor::Step;
 /// What is looked for.
 #[derive(Clone, Copy)]
 pub(crate) enum Sought {
-    /// A step of this stream that read the word.
-    ReadBy(Step),
-    /// A step of another stream that wrote it.
-    WrittenByOther(Step),
+    /// A step of any stream that wrote the word, or one of this stream that read it.
+    WrittenOrReadBy(Step),
+    /// A step of this stream that wrote it.
+    WrittenBy(Step),
+    /// A step of this stream that wrote some word.
+    WritesBy(Step),
     /// A step that wrote it.
     Written,
     /// A step that read or wrote it.
@@ -26,8 +28,11 @@ impl Sought {
         ensures { result ≡ is_sought self address action.now }
     {
         match self {
-            Sought::ReadBy(stream) => action.is_by(stream) && action.reads(address),
-            Sought::WrittenByOther(stream) => !action.is_by(stream) && action.writes(address),
+            Sought::WrittenOrReadBy(stream) => {
+                action.writes(address) || (action.is_by(stream) && action.reads(address))
+            }
+            Sought::WrittenBy(stream) => action.is_by(stream) && action.writes(address),
+            Sought::WritesBy(stream) => action.is_by(stream) && action.writes_some(),
             Sought::Written => action.writes(address),
             Sought::Met => action.reads(address) || action.writes(address),
         }

@@ -3,16 +3,20 @@
 ghost use Rattle.std.specs.Prelude.{◌≡◌, ◌↔◌, ◌<◌, ◌++◌, length, Contains, IfOk, IfSome, OnOk};
 ghost use Rattle.run_findings.specs.TornReads.{IsTornRead, torn_reads, torn_by_write, torn_by_read};
 ghost use Rattle.run_findings.specs.TornReads.{other_half, is_other_half, is_change_of, glimpse_at, word_changed};
+ghost use Rattle.run_findings.specs.TornReads.{is_load_of, word_loaded, is_torn_pair, is_of_later_round, lets_go};
+ghost use Rattle.run_findings.specs.TornReads.{is_later};
 ghost use Rattle.run_findings.specs.Found.{found_to, lists_to};
 
 use crate::actions::Action;
-use crate::parting::{Meeting, Pair, word_changed, word_read};
+use crate::pairs::{Look, is_half};
+use crate::parting::{Meeting, Pair, word_changed, word_loaded};
 use crate::searching::{Sought, last_before};
 use processor::Step;
 use std::alloc::{AllocError, Global};
 
-/// That a stream read two words on both sides of another stream's change of both: the first before it was written, the
-/// second after ("Torn reads", docs/FINDINGS.md). Steps count from 0.
+/// That a stream read two words on both sides of another stream's change of both, one before it was written, the other
+/// after, and that this pair was never there at one moment, or is used as one ("Torn reads", docs/FINDINGS.md). Steps
+/// count from 0.
 #[derive(Clone, Copy, Debug, PartialEq, Eq)]
 pub struct TornRead {
     /// The byte address of the word that was read before it was written.
@@ -63,7 +67,7 @@ fn glimpse_at(actions: &[Action], read: usize) -> Option<Glimpse>
     ensures write_in { IfSome result (λ g. g.fresh_write < length actions.now) }
 {
     let reader = &actions[read];
-    let fresh = word_read(&reader.access)?;
+    let fresh = word_loaded(&reader.access)?;
     let write = last_before(actions, read, fresh, Sought::Written)?;
     let writer = &actions[write];
     if is_change_of(fresh, writer) && !writer.is_by(reader.stream) {
@@ -173,7 +177,9 @@ fn push_torn_by_reads(
     stale: u64,
     write: usize,
 ) -> Result<(), AllocError>
-    requires { glimpse.now.fresh_read < length actions.now }
+    requires read_in { glimpse.now.fresh_read < length actions.now }
+    requires fresh_in { glimpse.now.fresh_write < length actions.now }
+    requires write_in { write < length actions.now }
     ensures { OnOk result (found.new.items
         ≡ found.old.items ++ found_to (torn_by_read actions.now glimpse.now stale write) (length actions.now)) }
 {
@@ -195,11 +201,13 @@ fn torn_by_read(
     read: usize,
 ) -> Option<TornRead>
     requires glimpse_in { glimpse.now.fresh_read < length actions.now }
+    requires fresh_in { glimpse.now.fresh_write < length actions.now }
+    requires write_in { write < length actions.now }
     requires read_in { read < length actions.now }
     ensures { result ≡ torn_by_read actions.now glimpse.now stale write read }
 {
     let action = &actions[read];
-    if !(action.is_by(glimpse.reader) && action.reads(stale)) {
+    if !(action.is_by(glimpse.reader) && is_load_of(word_loaded(&action.access), stale)) {
         return None;
     }
     if read >= write {
@@ -214,6 +222,9 @@ fn torn_by_read(
     if reads.is_parted(actions, read, glimpse.fresh_read) {
         return None;
     }
+    if !is_torn_pair(actions, glimpse, stale, write, read) {
+        return None;
+    }
     Some(TornRead {
         stale,
         fresh: glimpse.fresh,
@@ -222,4 +233,92 @@ fn torn_by_read(
         stale_write: write,
         fresh_write: glimpse.fresh_write,
     })
+}
+
+fn is_load_of(loaded: Option<u64>, address: u64) -> bool
+    ensures { result ≡ is_load_of loaded address }
+{
+    match loaded {
+        Some(word) => word == address,
+        None => false,
+    }
+}
+
+/// Whether this read of a word with this write of it makes a pair that is torn.
+fn is_torn_pair(
+    actions: &[Action],
+    glimpse: &Glimpse,
+    stale: u64,
+    write: usize,
+    read: usize,
+) -> bool
+    requires glimpse_in { glimpse.now.fresh_read < length actions.now }
+    requires fresh_in { glimpse.now.fresh_write < length actions.now }
+    requires write_in { write < length actions.now }
+    requires read_in { read < length actions.now }
+    ensures { result ≡ is_torn_pair actions.now glimpse.now stale write read }
+{
+    let one = Look {
+        word: stale,
+        step: read,
+    };
+    let other = Look {
+        word: glimpse.fresh,
+        step: glimpse.fresh_read,
+    };
+    !is_of_later_round(actions, glimpse, stale, write, read)
+        && !lets_go(actions, glimpse, stale, write, read)
+        && is_half(actions, glimpse.reader, one, other)
+}
+
+/// Whether the write of a word comes after the glimpse's, and the writer wrote the word between the read and the
+/// glimpse's write already.
+fn is_of_later_round(
+    actions: &[Action],
+    glimpse: &Glimpse,
+    stale: u64,
+    write: usize,
+    read: usize,
+) -> bool
+    requires { glimpse.now.fresh_write < length actions.now }
+    ensures { result ≡ is_of_later_round actions.now glimpse.now.writer stale read write glimpse.now.fresh_write }
+{
+    let writes = Sought::WrittenBy(glimpse.writer);
+    glimpse.fresh_write < write
+        && is_later(
+            read,
+            last_before(actions, glimpse.fresh_write, stale, writes),
+        )
+}
+
+/// Whether the reader wrote some word between its reads, and the writer, before its write, heard of what another stream
+/// wrote after the read.
+fn lets_go(actions: &[Action], glimpse: &Glimpse, stale: u64, write: usize, read: usize) -> bool
+    requires glimpse_in { glimpse.now.fresh_read < length actions.now }
+    requires write_in { write < length actions.now }
+    requires read_in { read < length actions.now }
+    ensures { result ≡ lets_go actions.now glimpse.now.reader glimpse.now.writer stale glimpse.now.fresh read
+        glimpse.now.fresh_read write }
+{
+    let writes = Sought::WritesBy(glimpse.reader);
+    let news = Pair {
+        way: Meeting::News,
+        stream: glimpse.writer,
+        one: stale,
+        other: glimpse.fresh,
+    };
+    is_later(
+        read,
+        last_before(actions, glimpse.fresh_read, stale, writes),
+    ) && news.is_parted(actions, read, write)
+}
+
+/// Whether a step, if there is one, comes after step `first`.
+fn is_later(first: usize, step: Option<usize>) -> bool
+    ensures { result ≡ is_later first step }
+{
+    match step {
+        Some(step) => first < step,
+        None => false,
+    }
 }

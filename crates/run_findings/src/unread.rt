@@ -3,13 +3,13 @@
 ghost use Rattle.std.specs.Prelude.{◌≡◌, ◌↔◌, ◌<◌, length, Contains, AllPairs, IfOk};
 ghost use Rattle.run_findings.specs.UnreadStores.{IsUnreadStore, unread_at, is_unread, store_of};
 
-use crate::actions::{Access, Action};
-use crate::lost::is_store;
+use crate::actions::{Access, Action, is_store};
+use crate::lost::lost_at;
 use crate::searching::{Sought, last_before};
 use std::alloc::{AllocError, Global};
 
-/// That a stream stored over another stream's store of another value, which nobody had read ("Unread stores",
-/// docs/FINDINGS.md). Steps count from 0.
+/// That a stream stored over another stream's store of another value, which nobody had read, and that this is not the
+/// store of a lost update ("Unread stores", docs/FINDINGS.md). Steps count from 0.
 #[derive(Clone, Copy, Debug, PartialEq, Eq)]
 pub struct UnreadStore {
     /// The byte address of the word.
@@ -43,14 +43,16 @@ fn unread_at(actions: &[Action], stored: usize) -> Option<UnreadStore>
     let action = &actions[stored];
     let store = store_of(&action.access)?;
     let over = last_before(actions, stored, store.address, Sought::Met)?;
-    if is_unread(action, &store, &actions[over]) {
-        Some(UnreadStore {
+    if !is_unread(action, &store, &actions[over]) {
+        return None;
+    }
+    match lost_at(actions, stored) {
+        Some(_) => None,
+        None => Some(UnreadStore {
             word: store.address,
             over,
             stored,
-        })
-    } else {
-        None
+        }),
     }
 }
 

@@ -48,8 +48,14 @@ word_met m (Some r) = cell_at m r.address
 abbrev pub access_between : Reference → Option Cell → Option Cell → Option Access
 access_between r None after = None
 access_between r (Some b) None = None
-access_between r (Some b) (Some a) =
-    Some (record { address = r.address; op = r.request.op; before = b.value; after = a.value; full = b.full })
+access_between r (Some b) (Some a) = Some (record {
+  address = r.address;
+  op = r.request.op;
+  before = b.value;
+  after = a.value;
+  full = b.full;
+  full_after = a.full;
+})
 
 -- none where the memory did not do what was asked
 abbrev pub access_replied : Reference → Reply → Option Cell → Option Cell → Option Access

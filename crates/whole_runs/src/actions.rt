@@ -138,6 +138,7 @@ fn access_by(
             before: before.value(),
             after: after.value(),
             full: before.is_full(),
+            full_after: after.is_full(),
         }),
         _ => None,
     }
