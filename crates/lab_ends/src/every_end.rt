@@ -59,11 +59,13 @@ pub struct SpaceEnd {
     pub sets: usize,
     /// From how many worlds of the space some schedule leads there.
     pub sources: usize,
-    /// A shortest schedule that leads there.
+    /// A schedule that leads there: a shortest one where all worlds were looked at, and to an end also where those that
+    /// the ends need were.
     pub schedule: Vec<Step>,
     /// The first finding of that schedule's run, and how many more there are; empty where there is none.
     pub finding: String,
-    /// The steps of a shortest way round from there; empty where it does not go round.
+    /// The steps of a way round from there, along the steps that were looked at a shortest one; empty where it does not
+    /// go round.
     pub round: Vec<Step>,
     /// The same in words.
     pub round_words: String,

@@ -10,8 +10,8 @@ mod expected_traps;
 mod findings;
 mod machines;
 mod rounds;
+mod set_words;
 mod spinning;
-mod strong_sets;
 mod wishes;
 
 pub use claims::Claim;

@@ -1,6 +1,6 @@
 //! The steps by which it goes round in a set of worlds that spins.
 
-use crate::strong_sets::{first_edges_of, get};
+use closed_sets::{Link, way_round};
 use lab_texts::{ProgramNames, push_stream};
 use machine::Machine;
 use processor::Step;
@@ -11,8 +11,20 @@ use waiting::{is_stuck, running_streams};
 /// The most steps that are told one by one.
 const MOST_TOLD: usize = 12;
 
-/// The steps of a shortest way round from the world at a place of a space, a machine's, back to it: where no step leads
-/// to another world, one that goes on and leaves the world as it is. Empty where there is no way back.
+/// The links between the places of a space's worlds, in the order of its edges.
+pub(crate) fn links_of(alloc: Global, edges: &[Edge]) -> Result<Vec<Link>, AllocError> {
+    let mut links = Vec::with_capacity(alloc, edges.len())?;
+    for edge in edges {
+        links.push(Link {
+            from: edge.from,
+            to: edge.to,
+        })?;
+    }
+    Ok(links)
+}
+
+/// The steps of a shortest way round along the edges of a space from the world at a place, a machine's, back to it: where
+/// none leads back, a step that goes on and leaves the world as it is. Empty where there is neither.
 pub(crate) fn round_of<const S: usize>(
     alloc: Global,
     space: &Space<'_>,
@@ -20,12 +32,22 @@ pub(crate) fn round_of<const S: usize>(
     place: usize,
 ) -> Result<Vec<Step>, AllocError> {
     let edges = space.edges();
-    let first_edges = first_edges_of(alloc, edges, space.len())?;
-    let is_alone = get(&first_edges, place) == get(&first_edges, place.saturating_add(1));
-    if is_alone {
-        return staying_step(alloc, machine);
+    let links = links_of(alloc, edges)?;
+    match way_round(alloc, space.len(), &links, place)? {
+        Some(numbers) => steps_of(alloc, edges, &numbers),
+        None => staying_step(alloc, machine),
     }
-    way_back(alloc, edges, &first_edges, place)
+}
+
+/// The steps of the edges with these numbers.
+fn steps_of(alloc: Global, edges: &[Edge], numbers: &[usize]) -> Result<Vec<Step>, AllocError> {
+    let mut steps = Vec::new(alloc);
+    for number in numbers {
+        if let Some(edge) = edges.get(*number) {
+            steps.push(edge.step)?;
+        }
+    }
+    Ok(steps)
 }
 
 /// A step that goes on, as the only one of a list; empty where there is none.
@@ -40,67 +62,6 @@ fn staying_step<const S: usize>(
             break;
         }
     }
-    Ok(steps)
-}
-
-/// The steps of a shortest way from a place back to it along edges, which are in the order of the places that they lead
-/// from.
-fn way_back(
-    alloc: Global,
-    edges: &[Edge],
-    first_edges: &[usize],
-    place: usize,
-) -> Result<Vec<Step>, AllocError> {
-    let mut came_by = vec![in alloc; None; first_edges.len()]?;
-    let mut reached = Vec::new(alloc);
-    reached.push(place)?;
-    for turn in 0..first_edges.len() {
-        let Some(here) = reached.get(turn).copied() else {
-            break;
-        };
-        let next = get(first_edges, here.saturating_add(1));
-        for index in get(first_edges, here)..next {
-            let to = match edges.get(index) {
-                Some(edge) => edge.to as usize,
-                None => break,
-            };
-            if to == place {
-                return steps_back(alloc, edges, &came_by, place, index);
-            }
-            if let Some(by) = came_by.get_mut(to)
-                && by.is_none()
-            {
-                *by = Some(index);
-                reached.push(to)?;
-            }
-        }
-    }
-    Ok(Vec::new(alloc))
-}
-
-/// The steps from a place on to the end of this edge, where it is known by which edge each place between was come to.
-fn steps_back(
-    alloc: Global,
-    edges: &[Edge],
-    came_by: &[Option<usize>],
-    place: usize,
-    last: usize,
-) -> Result<Vec<Step>, AllocError> {
-    let mut steps = Vec::new(alloc);
-    let mut next = Some(last);
-    for _ in 0..came_by.len() {
-        let Some(edge) = next.and_then(|index| edges.get(index)) else {
-            break;
-        };
-        steps.push(edge.step)?;
-        let from = edge.from as usize;
-        next = if from == place {
-            None
-        } else {
-            came_by.get(from).copied().flatten()
-        };
-    }
-    steps.reverse();
     Ok(steps)
 }
 

@@ -2,17 +2,16 @@
 
 use crate::every_end::{EndTold, SpaceEnd, SpaceEndKind, new_end};
 use crate::machines::machine_at;
-use crate::rounds::{push_round, round_of};
-use crate::strong_sets::{SetNumbers, closed_sets};
-use lab_texts::{NumberStyle, ProgramNames, push_changed_words, push_part_of, push_stream};
-use machine::Machine;
+use crate::rounds::{links_of, push_round, round_of};
+use crate::set_words::push_set;
+use closed_sets::closed_sets;
+use lab_texts::{NumberStyle, ProgramNames};
 use schedule_space::Space;
 use std::alloc::{AllocError, Global};
-use tag_memory::Word;
-use waiting::running_streams;
 
-/// Adds the sets of worlds that no step leads out of, and in which each world leads to each other one; those that are
-/// told alike as one. Every world from which no schedule comes to an end leads to such a set.
+/// Adds the sets of worlds that no step leads out of, and in which each world leads to each other one, where no schedule
+/// comes to an end from there; those that are told alike as one. Whether there is one to add, `can_end` of the space says
+/// alone.
 pub(crate) fn add_spinning<const S: usize>(
     alloc: Global,
     ends: &mut Vec<SpaceEnd>,
@@ -21,33 +20,69 @@ pub(crate) fn add_spinning<const S: usize>(
     space: &Space<'_>,
 ) -> Result<(), AllocError> {
     let can_end = space.can_end(alloc)?;
-    let sets = closed_sets(alloc, space.edges(), &can_end)?;
-    for places in &places_of_sets(alloc, &sets)? {
+    for places in &spinning_sets(alloc, space, &can_end)? {
         add_set::<S>(alloc, ends, names, style, space, places)?;
     }
     Ok(())
 }
 
-/// The places of the worlds of each set, the sets in the order of their first worlds.
-fn places_of_sets(alloc: Global, sets: &SetNumbers) -> Result<Vec<Vec<usize>>, AllocError> {
-    let mut rank_of = vec![in alloc; None; sets.count]?;
-    let mut all = Vec::new(alloc);
-    for (place, number) in sets.number_of.iter().enumerate() {
-        let Some(number) = *number else {
+/// The places of the worlds of each set, the sets in the order of their first worlds. `can_end` says of the world at each
+/// place whether some schedule leads to an end.
+fn spinning_sets(
+    alloc: Global,
+    space: &Space<'_>,
+    can_end: &[bool],
+) -> Result<Vec<Vec<usize>>, AllocError> {
+    if can_end.iter().all(|can| *can) {
+        return Ok(Vec::new(alloc));
+    }
+    let links = links_of(alloc, space.edges())?;
+    let homes = closed_sets(alloc, space.len(), &links)?;
+    let mut sets = places_of_sets(alloc, &homes, can_end)?;
+    if sets.is_empty() {
+        sets.push(places_without_end(alloc, can_end)?)?;
+    }
+    Ok(sets)
+}
+
+/// The places of each set from which no end can be reached, where the first place of each one's set is known.
+fn places_of_sets(
+    alloc: Global,
+    homes: &[Option<usize>],
+    can_end: &[bool],
+) -> Result<Vec<Vec<usize>>, AllocError> {
+    let mut rank_of = vec![in alloc; None; homes.len()]?;
+    let mut sets = Vec::new(alloc);
+    for (place, (home, can_end)) in homes.iter().zip(can_end).enumerate() {
+        let Some(home) = *home else {
             continue;
         };
-        let Some(rank) = rank_of.get_mut(number) else {
+        if *can_end {
             continue;
-        };
-        let first = *rank.get_or_insert(all.len());
-        if first == all.len() {
-            all.push(Vec::new(alloc))?;
         }
-        if let Some(places) = all.get_mut(first) {
+        let Some(rank) = rank_of.get_mut(home) else {
+            continue;
+        };
+        let rank = *rank.get_or_insert(sets.len());
+        if rank == sets.len() {
+            sets.push(Vec::new(alloc))?;
+        }
+        if let Some(places) = sets.get_mut(rank) {
             places.push(place)?;
         }
     }
-    Ok(all)
+    Ok(sets)
+}
+
+/// The places from which no end can be reached.
+fn places_without_end(alloc: Global, can_end: &[bool]) -> Result<Vec<usize>, AllocError> {
+    let mut places = Vec::new(alloc);
+    for (place, can) in can_end.iter().enumerate() {
+        if !*can {
+            places.push(place)?;
+        }
+    }
+    Ok(places)
 }
 
 /// Adds a set of worlds.
@@ -97,95 +132,4 @@ fn new_set<const S: usize>(
     end.round = round_of(alloc, space, &machine, first)?;
     push_round(&mut end.round_words, names, &mut machine, &end.round)?;
     Ok(end)
-}
-
-/// Adds who runs in a set of worlds, the words that differ from the image in its first one, and those that change in it.
-fn push_set<const S: usize>(
-    alloc: Global,
-    text: &mut String,
-    names: &ProgramNames<'_>,
-    style: NumberStyle,
-    space: &Space<'_>,
-    first: usize,
-    others: &[usize],
-) -> Result<(), AllocError> {
-    let machine = machine_at::<S>(alloc, space, first)?;
-    push_running(alloc, text, &machine)?;
-    push_changed_words(text, names, style, &machine)?;
-    push_changing(text, &changing_words::<S>(alloc, space, &machine, others)?)
-}
-
-/// Adds the streams that run.
-fn push_running<const S: usize>(
-    alloc: Global,
-    text: &mut String,
-    machine: &Machine<'_, S>,
-) -> Result<(), AllocError> {
-    for stream in &running_streams(alloc, machine)? {
-        push_part_of(text, 0, "")?;
-        push_stream(text, stream.p, stream.s)?;
-        text.push_str(" runs")?;
-    }
-    Ok(())
-}
-
-/// Adds the words at these byte addresses, as ones that change.
-fn push_changing(text: &mut String, addresses: &[u64]) -> Result<(), AllocError> {
-    for address in addresses {
-        push_part_of(text, 0, "")?;
-        write!(text, "[{address}] goes on changing")?;
-    }
-    Ok(())
-}
-
-/// The byte addresses of the words that are not the same in all these worlds and in that of a machine.
-fn changing_words<const S: usize>(
-    alloc: Global,
-    space: &Space<'_>,
-    machine: &Machine<'_, S>,
-    places: &[usize],
-) -> Result<Vec<u64>, AllocError> {
-    let count = machine.image().cells().len();
-    let mut is_changing = vec![in alloc; false; count]?;
-    for place in places {
-        let other = machine_at::<S>(alloc, space, *place)?;
-        mark_differing(machine, &other, &mut is_changing);
-    }
-    addresses_of(alloc, &is_changing)
-}
-
-/// Marks the words in which two machines differ.
-fn mark_differing<const S: usize>(
-    one: &Machine<'_, S>,
-    other: &Machine<'_, S>,
-    marks: &mut [bool],
-) {
-    for (index, mark) in marks.iter_mut().enumerate() {
-        let address = (index as u64).saturating_mul(8);
-        if !is_same(one.word(address), other.word(address)) {
-            *mark = true;
-        }
-    }
-}
-
-/// The byte addresses of the words that are marked.
-fn addresses_of(alloc: Global, marks: &[bool]) -> Result<Vec<u64>, AllocError> {
-    let mut addresses = Vec::new(alloc);
-    for (index, mark) in marks.iter().enumerate() {
-        if *mark {
-            addresses.push((index as u64).saturating_mul(8))?;
-        }
-    }
-    Ok(addresses)
-}
-
-/// Whether both words have the same value and tags.
-fn is_same(one: Option<Word>, other: Option<Word>) -> bool {
-    match (one, other) {
-        (Some(one), Some(other)) => {
-            one.value() == other.value() && one.tag_number() == other.tag_number()
-        }
-        (None, None) => true,
-        _ => false,
-    }
 }

@@ -59,6 +59,14 @@ pub struct Explored {
     pub ends: Vec<SpaceEnd>,
 }
 
+impl Explored {
+    /// Whether no schedule to an end is shorter than its own. The search for ends alone leaves out worlds, so it says so
+    /// of ends only, and only where it has all.
+    fn is_shortest(&self, end: &SpaceEnd) -> bool {
+        self.is_of_all_worlds || self.is_complete && end.kind != SpaceEndKind::Spinning
+    }
+}
+
 /// Shows every end that schedules of a program come to.
 pub fn show_every_end<F: Files, R: Read>(
     alloc: Global,
@@ -198,9 +206,9 @@ fn answer_of(
     for end in found.ends.iter() {
         status = status.worse(status_of_end(end, request.expected.is_some()));
         if request.shown.json {
-            push_end_object(alloc, &mut output, expected, end)?;
+            push_end_object(alloc, &mut output, expected, found, end)?;
         } else {
-            push_end_line(&mut output, width, expected, end)?;
+            push_end_line(&mut output, width, expected, found, end)?;
         }
     }
     Ok(Answer::printed(alloc, output, status))
@@ -272,6 +280,7 @@ fn push_end_line(
     out: &mut String,
     width: usize,
     expected: &[Expectation],
+    found: &Explored,
     end: &SpaceEnd,
 ) -> Result<(), AllocError> {
     let worlds = end.places.len();
@@ -286,9 +295,10 @@ fn push_end_line(
     }
     let some_steps = plural(steps);
     let some_sources = plural(sources);
+    let by = if found.is_shortest(end) { "" } else { "a schedule of " };
     write!(
         out,
-        "  {steps} step{some_steps}, from {sources} world{some_sources}"
+        "  {by}{steps} step{some_steps}, from {sources} world{some_sources}"
     )?;
     if !end.text.is_empty() {
         let text = end.text.as_str();
@@ -332,11 +342,21 @@ fn missed_of<'e>(expected: &'e [Expectation], end: &SpaceEnd) -> Option<&'e Expe
     end.missed.and_then(|place| expected.get(place))
 }
 
+/// How many steps a shortest schedule to an end has; null where it is not known.
+fn shortest_value(alloc: Global, found: &Explored, end: &SpaceEnd) -> Result<Value, AllocError> {
+    if !found.is_shortest(end) {
+        return Ok(Value::Null);
+    }
+    let steps = end.schedule.len();
+    json!(in alloc; steps)
+}
+
 /// Adds the object of an end.
 fn push_end_object(
     alloc: Global,
     out: &mut String,
     expected: &[Expectation],
+    found: &Explored,
     end: &SpaceEnd,
 ) -> Result<(), AllocError> {
     let kind = end.kind.name();
@@ -344,7 +364,7 @@ fn push_end_object(
     let sets = end.sets;
     let words = end.text.as_str();
     let sources = end.sources;
-    let shortest = end.schedule.len();
+    let shortest = shortest_value(alloc, found, end)?;
     let schedule = write_schedule(alloc, &end.schedule)?;
     let schedule = schedule.as_str();
     let is_as_expected = end.missed.is_none() && !end.is_trapped;

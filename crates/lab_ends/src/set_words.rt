@@ -1,0 +1,162 @@
+//! What is told of a set of worlds: which streams run in it and which only wait, and the words that change.
+
+use crate::machines::machine_at;
+use lab_texts::{NumberStyle, ProgramNames, push_changed_words, push_part_of, push_stream};
+use machine::Machine;
+use processor::Step;
+use schedule_space::Space;
+use std::alloc::{AllocError, Global};
+use tag_memory::Word;
+use waiting::{is_stuck, running_streams, wait_of};
+
+/// How a stream goes on in worlds.
+#[derive(Clone, Copy, Debug, PartialEq, Eq)]
+enum Going {
+    /// It can go on in some of them.
+    Runs,
+    /// It is stuck in each, and waits for the word at this byte address.
+    WaitsFor(u64),
+    /// It is stuck in each, and waits for one word or another.
+    Waits,
+}
+
+impl Going {
+    /// How it goes on in the worlds of both.
+    fn and(self, other: Going) -> Going {
+        if self == other {
+            return self;
+        }
+        if self == Going::Runs || other == Going::Runs {
+            return Going::Runs;
+        }
+        Going::Waits
+    }
+}
+
+/// A stream, and how it goes on.
+#[derive(Clone, Copy, Debug)]
+struct GoingStream {
+    /// The stream.
+    stream: Step,
+    /// How it goes on.
+    going: Going,
+}
+
+/// What was seen of worlds.
+#[derive(Drop)]
+struct Seen {
+    /// The streams that run in the first of them.
+    streams: Vec<GoingStream>,
+    /// For each word whether some two worlds differ in it.
+    is_changing: Vec<bool>,
+}
+
+impl Seen {
+    /// Of one world, a machine's.
+    fn of<const S: usize>(alloc: Global, machine: &Machine<'_, S>) -> Result<Seen, AllocError> {
+        let mut streams = Vec::new(alloc);
+        for stream in &running_streams(alloc, machine)? {
+            streams.push(GoingStream {
+                stream: *stream,
+                going: going_of(machine, *stream),
+            })?;
+        }
+        let words = machine.image().cells().len();
+        Ok(Seen {
+            streams,
+            is_changing: vec![in alloc; false; words]?,
+        })
+    }
+
+    /// Also of another world than that of the first machine.
+    fn add<const S: usize>(&mut self, first: &Machine<'_, S>, other: &Machine<'_, S>) {
+        for stream in self.streams.iter_mut() {
+            stream.going = stream.going.and(going_of(other, stream.stream));
+        }
+        mark_differing(first, other, &mut self.is_changing);
+    }
+}
+
+/// How a stream goes on in one world.
+fn going_of<const S: usize>(machine: &Machine<'_, S>, stream: Step) -> Going {
+    if !is_stuck(machine, stream.p, stream.s) {
+        return Going::Runs;
+    }
+    match wait_of(machine, stream.p, stream.s) {
+        Some(wait) => Going::WaitsFor(wait.address),
+        None => Going::Waits,
+    }
+}
+
+/// Adds who runs in a set of worlds and who waits in each of them, the words that differ from the image in its first
+/// world, and those that change in it.
+pub(crate) fn push_set<const S: usize>(
+    alloc: Global,
+    text: &mut String,
+    names: &ProgramNames<'_>,
+    style: NumberStyle,
+    space: &Space<'_>,
+    first: usize,
+    others: &[usize],
+) -> Result<(), AllocError> {
+    let machine = machine_at::<S>(alloc, space, first)?;
+    let mut seen = Seen::of(alloc, &machine)?;
+    for place in others {
+        let other = machine_at::<S>(alloc, space, *place)?;
+        seen.add(&machine, &other);
+    }
+    push_streams(text, &seen.streams)?;
+    push_changed_words(text, names, style, &machine)?;
+    push_changing(text, &seen.is_changing)
+}
+
+/// Adds the streams, and how they go on.
+fn push_streams(text: &mut String, streams: &[GoingStream]) -> Result<(), AllocError> {
+    for GoingStream { stream, going } in streams {
+        push_part_of(text, 0, "")?;
+        push_stream(text, stream.p, stream.s)?;
+        match going {
+            Going::Runs => text.push_str(" runs")?,
+            Going::WaitsFor(address) => write!(text, " waits for [{address}]")?,
+            Going::Waits => text.push_str(" waits")?,
+        }
+    }
+    Ok(())
+}
+
+/// Adds the words that are marked, as ones that change.
+fn push_changing(text: &mut String, is_changing: &[bool]) -> Result<(), AllocError> {
+    for (index, is_marked) in is_changing.iter().enumerate() {
+        if *is_marked {
+            let address = (index as u64).saturating_mul(8);
+            push_part_of(text, 0, "")?;
+            write!(text, "[{address}] goes on changing")?;
+        }
+    }
+    Ok(())
+}
+
+/// Marks the words in which two machines differ.
+fn mark_differing<const S: usize>(
+    one: &Machine<'_, S>,
+    other: &Machine<'_, S>,
+    marks: &mut [bool],
+) {
+    for (index, mark) in marks.iter_mut().enumerate() {
+        let address = (index as u64).saturating_mul(8);
+        if !is_same(one.word(address), other.word(address)) {
+            *mark = true;
+        }
+    }
+}
+
+/// Whether both words have the same value and tags.
+fn is_same(one: Option<Word>, other: Option<Word>) -> bool {
+    match (one, other) {
+        (Some(one), Some(other)) => {
+            one.value() == other.value() && one.tag_number() == other.tag_number()
+        }
+        (None, None) => true,
+        _ => false,
+    }
+}
