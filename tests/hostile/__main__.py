@@ -1,7 +1,7 @@
 #!/usr/bin/env python3
 """Runs the built program on hostile inputs, in parts: damaged images, random texts, inputs at and beyond their limits,
-the command threads with and without its threads, the debugger's lines, files that fail, and refused memory, in the
-commands and in single calls of the libraries. Each run has to end with the answer that the documents give, or, where only
+the command threads with and without its threads, the debugger's lines, files that fail, files that are written, and
+refused memory, in the commands and in single calls of the libraries. Each run has to end with the answer that the documents give, or, where only
 that much is known beforehand, done, or refused with one line on standard error and nothing printed; each refusal within a
 second of processor time, and within ten times its input and 40 MB. Arguments name the parts to be run; without any all of
 them are. Needs Python 3 and a C compiler."""
@@ -22,6 +22,7 @@ import files
 import images
 import lab
 import limits
+import outputs
 import program
 import texts
 import threads
@@ -36,6 +37,7 @@ PARTS = {
     "allocations": allocations.part,
     "calls": calls.part,
     "lab": lab.part,
+    "outputs": outputs.part,
 }
 # how many of the things that were not as they have to be are printed for a part
 SHOWN = 20

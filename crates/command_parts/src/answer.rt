@@ -1,5 +1,6 @@
 //! What a command answers.
 
+use crate::lab_fault::LabFault;
 use std::alloc::Global;
 
 /// How a command ended ("Exit statuses", docs/LAB.md).
@@ -64,6 +65,8 @@ pub struct Answer {
     pub errors: String,
     /// How it ended.
     pub status: Status,
+    /// Why a part of it was not done, which is told behind all else.
+    pub fault: Option<LabFault>,
 }
 
 impl Answer {
@@ -73,6 +76,7 @@ impl Answer {
             output,
             errors: String::new(alloc),
             status,
+            fault: None,
         }
     }
 

@@ -1,8 +1,10 @@
 //! Files and standard input, read whole.
 
 use crate::lab_fault::LabFault;
-use std::alloc::Global;
+use output_files::UsedFiles;
+use std::alloc::{AllocError, Global};
 use std::fs;
+use std::fs::OpenFile;
 use std::io::Read;
 use std::rt::Files;
 
@@ -12,24 +14,46 @@ const INPUT_LIMIT: usize = 33_554_432;
 /// The bytes that one read asks for.
 const CHUNK: usize = 65_536;
 
-/// Where a command's inputs come from.
+/// Where a command's inputs come from, and which files it has read: it never writes over them.
 #[derive(Drop)]
 pub struct Inputs<'a, F, R> {
     /// Where files are opened.
     pub files: &'a F,
     /// Standard input, for the path `-`.
     pub input: &'a mut R,
+    /// The files that were read.
+    pub(crate) used: UsedFiles,
 }
 
-impl<F: Files, R: Read> Inputs<'_, F, R> {
-    /// All the bytes of the file of a path, or of standard input for `-`.
+impl<'a, F: Files, R: Read> Inputs<'a, F, R> {
+    /// Those of a command that has read nothing yet.
+    pub fn new(alloc: Global, files: &'a F, input: &'a mut R) -> Inputs<'a, F, R> {
+        Inputs {
+            files,
+            input,
+            used: UsedFiles::none(alloc),
+        }
+    }
+
+    /// All the bytes of the file of a path, or of standard input for `-`. The file is remembered as read.
     pub fn read(&mut self, alloc: Global, path: &str) -> Result<Vec<u8>, LabFault> {
         if path == "-" {
             return read_whole(alloc, path, self.input);
         }
         match fs::open(self.files, path) {
-            Ok(mut file) => read_whole(alloc, path, &mut file),
+            Ok(mut file) => {
+                self.remember(alloc, path, &file)?;
+                read_whole(alloc, path, &mut file)
+            }
             Err(error) => Err(LabFault::Words(format!(in alloc; "{path}: read failed: {error}")?)),
+        }
+    }
+
+    /// Remembers a file that was opened by a path.
+    fn remember(&mut self, alloc: Global, path: &str, file: &F::File) -> Result<(), AllocError> {
+        match file.metadata() {
+            Ok(metadata) => self.used.remember(alloc, path, &metadata),
+            Err(_) => Ok(()),
         }
     }
 }

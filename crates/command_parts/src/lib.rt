@@ -17,6 +17,5 @@ pub use json_lines::push_object;
 pub use lab_fault::LabFault;
 pub use loose_schedules::{check_loose_schedule, read_loose_schedule};
 pub use number_styles::style_of;
-pub use outputs::write_file;
 pub use programs::{Program, is_image, program_of, read_program};
 pub use runs::{loaded, made_by, read_steps, steps_of};

@@ -1,19 +1,44 @@
 //! Files that commands write.
 
+use crate::inputs::Inputs;
 use crate::lab_fault::LabFault;
-use output_files::replace_file;
-use std::alloc::Global;
+use output_files::{WriteFault, make_folder, write_whole};
+use std::alloc::{AllocError, Global};
+use std::io::Read;
 use std::rt::Files;
 
-/// Writes these bytes to the file of a path, as `replace_file` does, or says in words why not.
-pub fn write_file<F: Files>(
-    alloc: Global,
-    files: &F,
-    path: &str,
-    bytes: &[u8],
-) -> Result<(), LabFault> {
-    match replace_file(alloc, files, path, bytes) {
-        Ok(()) => Ok(()),
-        Err(error) => Err(LabFault::Words(format!(in alloc; "{path}: write failed: {error}")?)),
+impl<F: Files, R: Read> Inputs<'_, F, R> {
+    /// Writes these bytes to the file of a path, as `write_whole` does, or says in words why not: a file that the command
+    /// has read, or that a standard stream goes to, is not written over.
+    pub fn write(&self, alloc: Global, path: &str, bytes: &[u8]) -> Result<(), LabFault> {
+        match write_whole(alloc, self.files, &self.used, path, bytes) {
+            Ok(()) => Ok(()),
+            Err(fault) => Err(not_written(alloc, path, &fault)?),
+        }
     }
+
+    /// Makes a folder where there is none, or says in words why not.
+    pub fn make_folder(&self, alloc: Global, path: &str) -> Result<(), LabFault> {
+        match make_folder(self.files, path) {
+            Ok(()) => Ok(()),
+            Err(error) => Err(LabFault::Words(format!(in alloc;
+                "{path}: the folder cannot be made: {error}"
+            )?)),
+        }
+    }
+}
+
+/// Why a file was not written, in words.
+fn not_written(alloc: Global, path: &str, fault: &WriteFault) -> Result<LabFault, AllocError> {
+    let words = match fault {
+        WriteFault::NoMemory => return Ok(LabFault::NoMemory),
+        WriteFault::System(error) => format!(in alloc; "{path}: write failed: {error}")?,
+        WriteFault::InUse(name) if name.as_str() == path => {
+            format!(in alloc; "{path}: not written: this command reads it")?
+        }
+        WriteFault::InUse(name) => format!(in alloc;
+            "{path}: not written: it is the same file as {name}, which this command uses"
+        )?,
+    };
+    Ok(LabFault::Words(words))
 }

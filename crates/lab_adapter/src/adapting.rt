@@ -253,7 +253,7 @@ fn load_from<'a, F: Files>(
     none: &'a mut &'static [u8],
     launch: &LaunchRequest,
 ) -> Result<Loaded, LabFault> {
-    let mut inputs = Inputs { files, input: none };
+    let mut inputs = Inputs::new(alloc, files, none);
     let path = launch.program.as_str();
     if path == "-" {
         return Err(LabFault::Words(String::from_str(

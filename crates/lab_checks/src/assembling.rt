@@ -1,6 +1,6 @@
 //! The command `asm`.
 
-use command_parts::{Answer, Inputs, LabFault, Status, is_image, program_of, write_file};
+use command_parts::{Answer, Inputs, LabFault, Status, is_image, program_of};
 use image_file::write_image;
 use std::alloc::Global;
 use std::fs;
@@ -26,13 +26,8 @@ pub fn assemble_file<F: Files, R: Read>(
         Some(path) => String::from_str(alloc, path)?,
         None => image_path(alloc, source)?,
     };
-    if place.as_str() == source {
-        return Err(LabFault::Words(format!(in alloc;
-            "{source}: the image would be written over its source"
-        )?));
-    }
     let written = write_image(alloc, &program.image)?;
-    write_file(alloc, inputs.files, &place, &written)?;
+    inputs.write(alloc, &place, &written)?;
     Ok(Answer::silent(alloc))
 }
 

@@ -34,6 +34,7 @@ pub fn check<F: Files, R: Read>(
         output: String::new(alloc),
         errors: told,
         status,
+        fault: None,
     })
 }
 

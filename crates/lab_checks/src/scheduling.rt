@@ -29,5 +29,6 @@ pub fn make_schedule<F: Files, R: Read>(
         output: write_schedule(alloc, &made.steps)?,
         errors: format!(in alloc; "after {steps} step{plural}: {why}\n")?,
         status: Status::Done,
+        fault: None,
     })
 }

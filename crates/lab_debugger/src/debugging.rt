@@ -3,7 +3,7 @@
 use crate::debug_desk::{Desk, Turn};
 use crate::debug_lines::Lines;
 use crate::sessions::named_of;
-use command_parts::{Inputs, LabFault, Program, Status, read_program, steps_of, write_file};
+use command_parts::{Inputs, LabFault, Program, Status, read_program, steps_of};
 use lab_requests::RunChoice;
 use lab_texts::{Columns, ProgramNames};
 use processor::Step;
@@ -82,7 +82,7 @@ fn talk<const S: usize, F: Files, R: Read, W: Write, E: Write>(
         }
         match desk.answer(line.as_str(), &mut out)? {
             Turn::On => {}
-            Turn::Save(path) => save(alloc, inputs.files, path, desk, &mut out)?,
+            Turn::Save(path) => save(alloc, inputs, path, desk, &mut out)?,
             Turn::Quit => return Ok(()),
         }
     }
@@ -106,9 +106,9 @@ fn read_line<R: Read>(
 }
 
 /// Writes the schedule of a session into a file, and adds that it did, or why not.
-fn save<const S: usize, F: Files>(
+fn save<const S: usize, F: Files, R: Read>(
     alloc: Global,
-    files: &F,
+    inputs: &Inputs<'_, F, R>,
     path: &str,
     desk: &Desk<'_, '_, '_, S>,
     out: &mut String,
@@ -117,7 +117,7 @@ fn save<const S: usize, F: Files>(
         return Ok(out.push_str("save takes a file\n")?);
     }
     let schedule = write_schedule(alloc, desk.named.session.schedule())?;
-    match write_file(alloc, files, path, schedule.as_bytes()) {
+    match inputs.write(alloc, path, schedule.as_bytes()) {
         Ok(()) => {
             let steps = desk.named.session.schedule().len();
             Ok(writeln!(out, "{path} has the {steps} steps of the schedule")?)

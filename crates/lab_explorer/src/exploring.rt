@@ -5,7 +5,6 @@ use crate::widths::digits_of;
 use crate::wished::wishes_of;
 use command_parts::{
     Answer, Inputs, LabFault, Program, Status, push_object, read_program, read_steps, style_of,
-    write_file,
 };
 use expectations::Expectation;
 use image_file::Image;
@@ -77,10 +76,11 @@ pub fn show_every_end<F: Files, R: Read>(
     let names = ProgramNames::of(alloc, &program.text)?;
     let wishes = wishes_asked(alloc, inputs, request, &names)?;
     let found = found_by(alloc, inputs, request, &program, &names, &wishes)?;
+    let mut answer = answer_of(alloc, request, &wishes.ends, &found)?;
     if let Some(folder) = request.keep {
-        keep_schedules(alloc, inputs, folder, &found.ends)?;
+        answer.fault = keep_schedules(alloc, inputs, folder, &found.ends).err();
     }
-    Ok(answer_of(alloc, request, &wishes.ends, &found)?)
+    Ok(answer)
 }
 
 /// What is wished of the program; nothing where no file says it.
@@ -120,18 +120,19 @@ fn found_by<F: Files, R: Read>(
     Ok(explore_program(alloc, program, names, &asked)?)
 }
 
-/// Writes a shortest schedule to each end into a folder, as `1.schedule` and so on.
+/// Writes a shortest schedule to each end into a folder, as `1.schedule` and so on. The folder is made where there is none.
 fn keep_schedules<F: Files, R: Read>(
     alloc: Global,
-    inputs: &mut Inputs<'_, F, R>,
+    inputs: &Inputs<'_, F, R>,
     folder: &str,
     ends: &[SpaceEnd],
 ) -> Result<(), LabFault> {
+    inputs.make_folder(alloc, folder)?;
     for (index, end) in ends.iter().enumerate() {
         let number = index.saturating_add(1);
         let path = format!(in alloc; "{folder}/{number}.schedule")?;
         let text = write_schedule(alloc, &end.schedule)?;
-        write_file(alloc, inputs.files, &path, text.as_bytes())?;
+        inputs.write(alloc, &path, text.as_bytes())?;
     }
     Ok(())
 }

@@ -1,8 +1,6 @@
 //! The command `page`.
 
-use command_parts::{
-    Answer, Inputs, LabFault, Program, loaded, read_program, steps_of, write_file,
-};
+use command_parts::{Answer, Inputs, LabFault, Program, loaded, read_program, steps_of};
 use lab_requests::{Maker, PageRequest, RunChoice};
 use processor::Step;
 use replay_page::{MOST_STEPS, RunNames, page_of, run_json};
@@ -10,7 +8,7 @@ use std::alloc::{AllocError, Global};
 use std::io::Read;
 use std::rt::Files;
 
-/// Writes a page that shows a run, beside its place, and renames it to there.
+/// Writes a page that shows a run.
 pub fn write_page<F: Files, R: Read>(
     alloc: Global,
     inputs: &mut Inputs<'_, F, R>,
@@ -18,7 +16,7 @@ pub fn write_page<F: Files, R: Read>(
 ) -> Result<Answer, LabFault> {
     let run = run_to_show(alloc, inputs, request, MOST_STEPS)?;
     let page = page_text(alloc, request, &run)?;
-    write_file(alloc, inputs.files, request.out, page.as_bytes())?;
+    inputs.write(alloc, request.out, page.as_bytes())?;
     Ok(Answer::silent(alloc))
 }
 
@@ -48,34 +46,19 @@ pub(crate) struct RunToShow {
     pub steps: Vec<Step>,
 }
 
-/// The run that is asked for; a fault where it has more than so many steps, or where its own file would be written over.
+/// The run that is asked for; a fault where it has more than so many steps.
 pub(crate) fn run_to_show<F: Files, R: Read>(
     alloc: Global,
     inputs: &mut Inputs<'_, F, R>,
     request: &PageRequest,
     most: usize,
 ) -> Result<RunToShow, LabFault> {
-    let out = request.out;
-    if writes_over_input(request) {
-        return Err(LabFault::Words(format!(in alloc;
-            "{out}: this would be written over what is read"
-        )?));
-    }
     let program = read_program(alloc, inputs, request.program)?;
     let steps = steps_of(alloc, inputs, &program, request.run)?;
     if steps.len() > most {
-        return Err(too_long(alloc, out, steps.len(), most)?);
+        return Err(too_long(alloc, request.out, steps.len(), most)?);
     }
     Ok(RunToShow { program, steps })
-}
-
-/// Whether what is written would take the place of the program or its schedule.
-fn writes_over_input(request: &PageRequest) -> bool {
-    let is_schedule = match request.run {
-        RunChoice::File(path) => path == request.out,
-        RunChoice::Made { .. } => false,
-    };
-    is_schedule || request.program == request.out
 }
 
 /// What is said of a run of more steps than are shown.

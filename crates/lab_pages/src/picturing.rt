@@ -1,14 +1,14 @@
 //! The command `picture`.
 
 use crate::paging::{RunToShow, program_name, run_to_show, schedule_words};
-use command_parts::{Answer, Inputs, LabFault, loaded, write_file};
+use command_parts::{Answer, Inputs, LabFault, loaded};
 use lab_requests::PageRequest;
 use replay_page::{MOST_DRAWN_STEPS, RunNames, picture_of};
 use std::alloc::{AllocError, Global};
 use std::io::Read;
 use std::rt::Files;
 
-/// Writes a picture of a run's lanes, beside its place, and renames it to there.
+/// Writes a picture of a run's lanes.
 pub fn write_picture<F: Files, R: Read>(
     alloc: Global,
     inputs: &mut Inputs<'_, F, R>,
@@ -16,7 +16,7 @@ pub fn write_picture<F: Files, R: Read>(
 ) -> Result<Answer, LabFault> {
     let run = run_to_show(alloc, inputs, request, MOST_DRAWN_STEPS)?;
     let picture = picture_text(alloc, request, &run)?;
-    write_file(alloc, inputs.files, request.out, picture.as_bytes())?;
+    inputs.write(alloc, request.out, picture.as_bytes())?;
     Ok(Answer::silent(alloc))
 }
 

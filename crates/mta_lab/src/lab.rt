@@ -40,7 +40,7 @@ pub(crate) fn run_lab<
 ) -> u8 {
     match read_lab_command(alloc, words) {
         Ok(command) => {
-            let mut inputs = Inputs { files, input };
+            let mut inputs = Inputs::new(alloc, files, input);
             let ended = run_command(
                 rt,
                 alloc,
@@ -93,7 +93,7 @@ fn run_command<X: Threads + Wait + Sync, F: Files, R: Read + Send, W: Write, E: 
         }
         _ => {
             let answer = answer_to(rt, alloc, command, inputs)?;
-            tell(&answer, output, errors)
+            tell(answer, output, errors)
         }
     }
 }
@@ -130,15 +130,20 @@ fn answer_to<X: Threads + Sync, F: Files, R: Read>(
     }
 }
 
-/// Writes an answer, and gives its status.
+/// Writes an answer, and gives its status; or its fault, where a part of it was not done.
 fn tell<W: Write, E: Write>(
-    answer: &Answer,
+    answer: Answer,
     output: &mut W,
     errors: &mut E,
 ) -> Result<Status, LabFault> {
-    write_whole(output, answer.output.as_bytes())?;
-    let _ = write_whole(errors, answer.errors.as_bytes());
-    Ok(answer.status)
+    let wrote = write_whole(output, answer.output.as_bytes());
+    if wrote.is_ok() {
+        let _ = write_whole(errors, answer.errors.as_bytes());
+    }
+    match answer.fault {
+        Some(fault) => Err(fault),
+        None => wrote.map(|()| answer.status),
+    }
 }
 
 /// Writes why a command gave up, and gives its status.
