@@ -4,12 +4,16 @@ use crate::every_end::{EndTold, SpaceEnd, SpaceEndKind, new_end};
 use crate::machines::machine_at;
 use crate::rounds::{push_round, round_of};
 use crate::strong_sets::{SetNumbers, closed_sets};
+use end_kinds::EndKind;
 use lab_texts::{NumberStyle, ProgramNames, push_changed_words, push_part_of, push_stream};
 use machine::Machine;
 use schedule_space::Space;
 use std::alloc::{AllocError, Global};
 use tag_memory::Word;
 use waiting::running_streams;
+
+/// The kind of such sets.
+const SPINNING: SpaceEndKind = SpaceEndKind::End(EndKind::Spinning);
 
 /// Adds the sets of worlds that no step leads out of, and in which each world leads to each other one; those that are
 /// told alike as one. Every world from which no schedule comes to an end leads to such a set.
@@ -64,7 +68,10 @@ fn add_set<const S: usize>(
     };
     let mut text = String::new(alloc);
     push_set::<S>(alloc, &mut text, names, style, space, *first, others)?;
-    match ends.iter_mut().find(|end| end.kind == SpaceEndKind::Spinning && end.text == text) {
+    match ends
+        .iter_mut()
+        .find(|end| end.kind == SPINNING && end.text == text)
+    {
         Some(end) => {
             end.sets = end.sets.saturating_add(1);
             end.places.extend_from_slice(places)
@@ -91,7 +98,7 @@ fn new_set<const S: usize>(
     first: usize,
     text: String,
 ) -> Result<SpaceEnd, AllocError> {
-    let told = EndTold::of(SpaceEndKind::Spinning, text);
+    let told = EndTold::of(SPINNING, text);
     let mut end = new_end(alloc, space, first, told)?;
     let mut machine = machine_at::<S>(alloc, space, first)?;
     end.round = round_of(alloc, space, &machine, first)?;
