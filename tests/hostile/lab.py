@@ -16,7 +16,7 @@ GRADED = os.path.join(EXAMPLES, "grading/submissions")
 STATUSES = {0, 1, 3, 4, 5}
 NO_MEMORY = b"mta_lab: no memory\n"
 # what stands in the answer of a search that lacked memory on its way: nothing is said of all schedules
-NOT_ALL = re.compile(rb"some schedules: |\"complete\":false|\tran out of steps\tmore than |\twrong\tschedule ")
+NOT_ALL = re.compile(rb"some schedules: |\"complete\":false|\tnot decided\tmore than |\twrong\tschedule ")
 # how many damaged images and texts are tried
 DAMAGED, TEXTS = 400, 400
 LARGEST = 33_554_432

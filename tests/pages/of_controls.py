@@ -2,6 +2,7 @@
 
 import time
 
+import made_runs
 import runs
 import tally
 from selenium.webdriver.common.keys import Keys
@@ -139,7 +140,7 @@ def waits(page):
 
 def ends(page):
     for name, title, words in (
-        ("philosophers.deadlock", "0.0, 1.0, 2.0, 3.0 and 4.0 wait for each other in a circle", "5.0 has not begun"),
+        ("philosophers.deadlock", "0.0, 1.0, 2.0, 3.0 and 4.0 wait, and nobody who has begun", "5.0 has not begun"),
         ("barrier.mixes_rounds", "2.0 and 3.0 wait, and nobody who has begun can go on", "it emptied itself"),
         ("lock.lost_update", "with a lost update", "which is lost"),
         ("lock.ends", "All who began have quit after 13 steps", "2.0 and 3.0 have not begun"),
@@ -151,7 +152,9 @@ def ends(page):
         tally.check(f"{name}: the end's title", title in page.text("h1"), page.text("h1"))
         tally.check(f"{name}: the end in words", words in page.text("#end"), page.text("#end"))
         page.quiet(name)
-    page.open("circle", runs.example(page.folder, "philosophers.deadlock"))
+    page.open("circle", runs.page(made_runs.ring(5)))
+    title = page.text("h1")
+    tally.check("a circle is of a deadlock", title.startswith("Deadlock: ") and "in a circle" in title, title)
     tally.same("the circle is drawn", (len(page.all(".ring .edge")), len(page.all(".ring .node.word"))), (5, 5))
     label = page.one(".ring").get_attribute("aria-label")
     tally.check("and told", "0.0 waits for [8] of 1.0" in label, label)

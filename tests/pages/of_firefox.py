@@ -1,6 +1,7 @@
 """Firefox, where it is there: states forwards and backwards, keys, the end in words, the signs of the lanes."""
 
 import firefox
+import made_runs
 import of_states
 import runs
 import tally
@@ -51,6 +52,8 @@ def shows(browser, name):
 
 def is_led(browser):
     """Keys and links."""
+    browser.open("circle", runs.page(made_runs.ring(5)))
+    tally.same("Firefox: the circle", browser.script("return document.querySelectorAll('.ring .edge').length"), 5)
     text = runs.example(browser.folder, "philosophers.deadlock")
     browser.open("led", text, "#17.2.0")
     kept = browser.script(WHERE), browser.script("return document.querySelector('#stream h2').textContent")
@@ -59,8 +62,7 @@ def is_led(browser):
         browser.press(key)
         tally.same(f"Firefox: a key leads to {wanted}", browser.script(WHERE), wanted)
     title = browser.script("return document.querySelector('h1').textContent")
-    tally.check("Firefox: the end in words", "wait for each other in a circle" in title, title)
-    tally.same("Firefox: the circle", browser.script("return document.querySelectorAll('.ring .edge').length"), 5)
+    tally.check("Firefox: the end in words", "nobody who has begun can go on" in title, title)
     saved = browser.script("return savedPicture()")
     tally.check("Firefox: the saved picture", saved.startswith("<svg") and "var(" not in saved, saved[:200])
     browser.script("const s = document.createElement('script'); s.textContent = 'evil = 1'; document.body.append(s)")

@@ -11,7 +11,8 @@ mod outputs;
 mod programs;
 mod runs;
 
-pub use answer::{Answer, Status};
+pub use answer::Answer;
+pub use end_kinds::Status;
 pub use inputs::Inputs;
 pub use json_lines::push_object;
 pub use lab_fault::LabFault;

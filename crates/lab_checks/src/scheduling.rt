@@ -1,6 +1,7 @@
 //! The command `schedule`.
 
 use command_parts::{Answer, Inputs, LabFault, Status, made_by, read_program};
+use end_kinds::EndKind;
 use lab_requests::Maker;
 use schedule_makers::MadeEnd;
 use std::alloc::Global;
@@ -20,15 +21,21 @@ pub fn make_schedule<F: Files, R: Read>(
     let made = made_by(alloc, &program.image, maker, most)?;
     let steps = made.steps.len();
     let plural = if steps == 1 { "" } else { "s" };
-    let why = match made.end {
-        MadeEnd::NobodyRuns => "nobody runs",
-        MadeEnd::Standstill => "deadlock",
-        MadeEnd::OutOfSteps => "ran out of steps",
-    };
+    let why = sentence_of(made.end);
     Ok(Answer {
         output: write_schedule(alloc, &made.steps)?,
         errors: format!(in alloc; "after {steps} step{plural}: {why}\n")?,
         status: Status::Done,
         fault: None,
     })
+}
+
+/// What is said of the run of a schedule that was made, and that ended so. Whether a trap stopped a stream is not said.
+fn sentence_of(end: MadeEnd) -> &'static str {
+    let kind = match end {
+        MadeEnd::NobodyRuns => EndKind::Finished,
+        MadeEnd::Standstill => EndKind::Deadlock,
+        MadeEnd::OutOfSteps => EndKind::OutOfSteps,
+    };
+    kind.sentence()
 }

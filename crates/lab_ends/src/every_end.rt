@@ -7,24 +7,19 @@ use crate::findings::first_finding;
 use crate::machines::machine_at;
 use crate::spinning::add_spinning;
 use crate::wishes::Wishes;
+use end_kinds::{EndKind, Status, end_kind_of, status_of};
 use expectations::{Expectation, first_missed};
 use lab_texts::{NumberStyle, ProgramNames};
 use processor::Step;
 use schedule_space::{Edge, Fate, Space};
 use std::alloc::{AllocError, Global};
 
-/// How a world of a space ends.
+/// What worlds of a space are.
 #[derive(Clone, Copy, Debug, PartialEq, Eq)]
 pub enum SpaceEndKind {
-    /// No stream runs, and none was stopped.
-    Finished,
-    /// No stream runs, and some was stopped by a trap.
-    Stopped,
-    /// Nobody can go on.
-    Deadlock,
-    /// Some stream goes on for ever: no schedule from here comes to an end.
-    Spinning,
-    /// A claim about all worlds does not hold.
+    /// Ends of this kind; `Spinning` where no schedule from there comes to an end.
+    End(EndKind),
+    /// Worlds of which a claim about all worlds does not hold.
     Broken,
 }
 
@@ -32,10 +27,15 @@ impl SpaceEndKind {
     /// Its name in tables.
     pub fn name(self) -> &'static str {
         match self {
-            SpaceEndKind::Finished => "finished",
-            SpaceEndKind::Stopped => "stopped",
-            SpaceEndKind::Deadlock => "deadlock",
-            SpaceEndKind::Spinning => "spinning",
+            SpaceEndKind::End(kind) => kind.name(),
+            SpaceEndKind::Broken => "broken",
+        }
+    }
+
+    /// Its name in JSON.
+    pub fn json_name(self) -> &'static str {
+        match self {
+            SpaceEndKind::End(kind) => kind.json_name(),
             SpaceEndKind::Broken => "broken",
         }
     }
@@ -69,6 +69,16 @@ pub struct SpaceEnd {
     pub round: Vec<Step>,
     /// The same in words.
     pub round_words: String,
+}
+
+impl SpaceEnd {
+    /// What it means for the exit status.
+    pub fn status(&self) -> Status {
+        match self.kind {
+            SpaceEndKind::End(kind) => status_of(kind, self.missed.is_some(), self.is_trapped),
+            SpaceEndKind::Broken => Status::Unexpected,
+        }
+    }
 }
 
 /// The ends of a space by the names of its program, in the order of their shortest schedules; then, where the space is
@@ -160,24 +170,13 @@ fn told_at<const S: usize>(
     let machine = machine_at::<S>(alloc, space, place)?;
     let EndWords { text, stopped } = end_words_of(alloc, &machine, names, style)?;
     Ok(EndTold {
-        kind: kind_of(space, place, !stopped.is_empty()),
+        kind: SpaceEndKind::End(end_kind_of(&machine)),
         text,
         missed: first_missed(&machine, expected),
         is_trapped: stopped
             .iter()
             .any(|stream| !is_expected_trap(expected, stream)),
     })
-}
-
-/// The kind of the end at a place, where some stream was stopped or none.
-fn kind_of(space: &Space<'_>, place: usize, is_stopped: bool) -> SpaceEndKind {
-    if place < space.len() && space.fate(place) == Fate::Deadlock {
-        SpaceEndKind::Deadlock
-    } else if is_stopped {
-        SpaceEndKind::Stopped
-    } else {
-        SpaceEndKind::Finished
-    }
 }
 
 /// Adds the worlds that break claims, those of each claim as one.

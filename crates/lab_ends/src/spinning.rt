@@ -5,9 +5,13 @@ use crate::machines::machine_at;
 use crate::rounds::{links_of, push_round, round_of};
 use crate::set_words::push_set;
 use closed_sets::closed_sets;
+use end_kinds::EndKind;
 use lab_texts::{NumberStyle, ProgramNames};
 use schedule_space::Space;
 use std::alloc::{AllocError, Global};
+
+/// The kind of such sets.
+const SPINNING: SpaceEndKind = SpaceEndKind::End(EndKind::Spinning);
 
 /// Adds the sets of worlds that no step leads out of, and in which each world leads to each other one, where no schedule
 /// comes to an end from there; those that are told alike as one. Whether there is one to add, `can_end` of the space says
@@ -99,7 +103,10 @@ fn add_set<const S: usize>(
     };
     let mut text = String::new(alloc);
     push_set::<S>(alloc, &mut text, names, style, space, *first, others)?;
-    match ends.iter_mut().find(|end| end.kind == SpaceEndKind::Spinning && end.text == text) {
+    match ends
+        .iter_mut()
+        .find(|end| end.kind == SPINNING && end.text == text)
+    {
         Some(end) => {
             end.sets = end.sets.saturating_add(1);
             end.places.extend_from_slice(places)
@@ -126,7 +133,7 @@ fn new_set<const S: usize>(
     first: usize,
     text: String,
 ) -> Result<SpaceEnd, AllocError> {
-    let told = EndTold::of(SpaceEndKind::Spinning, text);
+    let told = EndTold::of(SPINNING, text);
     let mut end = new_end(alloc, space, first, told)?;
     let mut machine = machine_at::<S>(alloc, space, first)?;
     end.round = round_of(alloc, space, &machine, first)?;

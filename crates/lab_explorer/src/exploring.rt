@@ -6,6 +6,7 @@ use crate::wished::wishes_of;
 use command_parts::{
     Answer, Inputs, LabFault, Program, Status, push_object, read_program, read_steps, style_of,
 };
+use end_kinds::EndKind;
 use expectations::Expectation;
 use image_file::Image;
 use lab_ends::{SpaceEnd, SpaceEndKind, Wishes, space_ends};
@@ -62,7 +63,20 @@ impl Explored {
     /// Whether no schedule to an end is shorter than its own. The search for ends alone leaves out worlds, so it says so
     /// of ends only, and only where it has all.
     fn is_shortest(&self, end: &SpaceEnd) -> bool {
-        self.is_of_all_worlds || self.is_complete && end.kind != SpaceEndKind::Spinning
+        self.is_of_all_worlds || self.is_complete && end.kind != SpaceEndKind::End(EndKind::Spinning)
+    }
+
+    /// The exit status: the worst over all ends and broken claims, and over the bound, where the search came to it.
+    pub fn status(&self) -> Status {
+        let mut status = if self.is_complete {
+            Status::Done
+        } else {
+            Status::OutOfSteps
+        };
+        for end in &self.ends {
+            status = status.worse(end.status());
+        }
+        status
     }
 }
 
@@ -196,45 +210,22 @@ fn answer_of(
     expected: &[Expectation],
     found: &Explored,
 ) -> Result<Answer, AllocError> {
-    let mut status = if found.is_complete {
-        Status::Done
-    } else {
-        Status::OutOfSteps
-    };
     let mut output = String::new(alloc);
     push_head(alloc, &mut output, request.shown.json, found)?;
     let width = digits_of(widest(&found.ends));
     for end in found.ends.iter() {
-        status = status.worse(status_of_end(end, request.expected.is_some()));
         if request.shown.json {
             push_end_object(alloc, &mut output, expected, found, end)?;
         } else {
             push_end_line(&mut output, width, expected, found, end)?;
         }
     }
-    Ok(Answer::printed(alloc, output, status))
+    Ok(Answer::printed(alloc, output, found.status()))
 }
 
 /// The greatest count of worlds of an end.
 fn widest(ends: &[SpaceEnd]) -> usize {
     ends.iter().map(|end| end.places.len()).max().unwrap_or(0)
-}
-
-/// How an end counts for the exit status.
-pub fn status_of_end(end: &SpaceEnd, is_judged: bool) -> Status {
-    match end.kind {
-        SpaceEndKind::Deadlock => Status::Deadlock,
-        SpaceEndKind::Spinning => Status::OutOfSteps,
-        SpaceEndKind::Broken => Status::Unexpected,
-        SpaceEndKind::Stopped | SpaceEndKind::Finished => {
-            let is_unexpected = end.is_trapped || is_judged && end.missed.is_some();
-            if is_unexpected {
-                Status::Unexpected
-            } else {
-                Status::Done
-            }
-        }
-    }
 }
 
 /// Adds how much was found.
@@ -289,7 +280,7 @@ fn push_end_line(
     let steps = end.schedule.len();
     let sources = end.sources;
     write!(out, "{worlds:>width$}  {kind}")?;
-    if end.kind == SpaceEndKind::Spinning {
+    if end.kind == SpaceEndKind::End(EndKind::Spinning) {
         let sets = end.sets;
         let some_sets = plural(sets);
         write!(out, " in {sets} set{some_sets}")?;
@@ -360,7 +351,7 @@ fn push_end_object(
     found: &Explored,
     end: &SpaceEnd,
 ) -> Result<(), AllocError> {
-    let kind = end.kind.name();
+    let kind = end.kind.json_name();
     let worlds = end.places.len();
     let sets = end.sets;
     let words = end.text.as_str();

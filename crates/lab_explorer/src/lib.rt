@@ -7,6 +7,6 @@ mod widths;
 mod wished;
 
 pub use expectation_texts::push_expectation;
-pub use exploring::{Explored, Search, explore_program, show_every_end, status_of_end};
+pub use exploring::{Explored, Search, explore_program, show_every_end};
 pub use widths::digits_of;
 pub use wished::{expectations_of, expected_of, wishes_of};

@@ -1,17 +1,19 @@
 //! What every schedule says of a submission.
 
 use crate::grading::{Verdict, push_why};
-use command_parts::{LabFault, Program, Status, style_of};
+use command_parts::{LabFault, Program, style_of};
+use end_kinds::EndKind;
 use expectations::Expectation;
 use lab_ends::{SpaceEnd, SpaceEndKind};
-use lab_explorer::{Explored, Search, explore_program, status_of_end, wishes_of};
+use lab_explorer::{Explored, Search, explore_program, wishes_of};
 use lab_requests::GradeRequest;
 use lab_texts::ProgramNames;
 use std::alloc::{AllocError, Global};
 use trace_text::write_schedule;
 
 /// What is said of a submission: the first that holds of any of its ends of a trap, a deadlock, a wrong end, a broken
-/// claim, a set of worlds that spin; where it has none of them, whether there are more worlds than were looked for.
+/// claim, a set of worlds that spin; where it has none of them, whether there are more worlds than were looked for. The
+/// status is the worst over all of them.
 pub(crate) fn explored_verdict(
     alloc: Global,
     request: &GradeRequest,
@@ -39,6 +41,7 @@ fn verdict_of_ends(
     expected: &[Expectation],
     found: &Explored,
 ) -> Result<Verdict, AllocError> {
+    let status = found.status();
     for flaw in [
         EndFlaw::Trap,
         EndFlaw::Deadlock,
@@ -50,22 +53,22 @@ fn verdict_of_ends(
             return Ok(Verdict {
                 word: flaw.word(),
                 why: why_of_end(alloc, expected, end)?,
-                status: status_of_end(end, true),
+                status,
             });
         }
     }
     let worlds = found.worlds;
     if !found.is_complete {
         return Ok(Verdict {
-            word: "ran out of steps",
+            word: "not decided",
             why: format!(in alloc; "more than {worlds} worlds")?,
-            status: Status::OutOfSteps,
+            status,
         });
     }
     Ok(Verdict {
         word: "right",
         why: format!(in alloc; "every schedule, {worlds} worlds")?,
-        status: Status::Done,
+        status,
     })
 }
 
@@ -91,7 +94,7 @@ impl EndFlaw {
             EndFlaw::Trap => "trap",
             EndFlaw::Deadlock => "deadlock",
             EndFlaw::Wrong | EndFlaw::Broken => "wrong",
-            EndFlaw::Spinning => "ran out of steps",
+            EndFlaw::Spinning => "spins",
         }
     }
 
@@ -99,10 +102,10 @@ impl EndFlaw {
     fn is_of(self, end: &SpaceEnd) -> bool {
         match self {
             EndFlaw::Trap => end.is_trapped,
-            EndFlaw::Deadlock => end.kind == SpaceEndKind::Deadlock,
+            EndFlaw::Deadlock => end.kind == SpaceEndKind::End(EndKind::Deadlock),
             EndFlaw::Wrong => end.missed.is_some(),
             EndFlaw::Broken => end.kind == SpaceEndKind::Broken,
-            EndFlaw::Spinning => end.kind == SpaceEndKind::Spinning,
+            EndFlaw::Spinning => end.kind == SpaceEndKind::End(EndKind::Spinning),
         }
     }
 }

@@ -1,9 +1,9 @@
 //! The command `grade`.
 
 use crate::explored_grades::explored_verdict;
-use crate::outcomes::{Outcome, OutcomeKind, Seeds, outcomes_of};
-use crate::surveying::status_of;
+use crate::outcomes::{Outcome, Seeds, outcomes_of, worst_status};
 use command_parts::{Answer, Inputs, LabFault, Program, Status, program_of, push_object, style_of};
+use end_kinds::EndKind;
 use expectations::Expectation;
 use lab_explorer::{expectations_of, push_expectation};
 use lab_json::VERSION;
@@ -115,10 +115,7 @@ fn verdict_of_outcomes(
     outcomes: &[Outcome],
     seeds: usize,
 ) -> Result<Verdict, AllocError> {
-    let mut status = Status::Done;
-    for outcome in outcomes {
-        status = status.worse(status_of(outcome));
-    }
+    let status = worst_status(outcomes);
     for flaw in [Flaw::Trap, Flaw::Deadlock, Flaw::Wrong, Flaw::OutOfSteps] {
         if let Some(outcome) = outcomes.iter().find(|outcome| flaw.is_of(outcome)) {
             return Ok(Verdict {
@@ -163,10 +160,10 @@ impl Flaw {
     fn is_of(self, outcome: &Outcome) -> bool {
         match (self, outcome.kind) {
             (Flaw::Trap, _) => outcome.is_trapped,
-            (Flaw::Wrong, OutcomeKind::Finished | OutcomeKind::Stopped) => outcome.missed.is_some(),
-            (Flaw::Deadlock, kind) => kind == OutcomeKind::Deadlock,
-            (Flaw::OutOfSteps, kind) => kind == OutcomeKind::OutOfSteps,
-            (Flaw::Wrong, OutcomeKind::Deadlock | OutcomeKind::OutOfSteps) => false,
+            (Flaw::Wrong, EndKind::Finished | EndKind::Stopped) => outcome.missed.is_some(),
+            (Flaw::Deadlock, kind) => kind == EndKind::Deadlock,
+            (Flaw::OutOfSteps, kind) => kind == EndKind::OutOfSteps,
+            (Flaw::Wrong, _) => false,
         }
     }
 }

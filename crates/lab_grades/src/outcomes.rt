@@ -1,12 +1,13 @@
 //! Ends of random schedules, and what they are counted by.
 
-use command_parts::{Program, loaded};
+use command_parts::{Program, Status, loaded};
+use end_kinds::{EndKind, end_kind_of, status_of};
 use expectations::{Expectation, FullEmpty, first_missed};
 use lab_ends::{end_words_of, first_finding, is_expected_trap};
 use lab_texts::{NumberStyle, ProgramNames, push_value};
 use machine::LoadFault;
 use rayon::prelude::*;
-use schedule_makers::{MadeEnd, random};
+use schedule_makers::random;
 use schedule_survey::{SeedEnd, grouped, survey};
 use std::alloc::{AllocError, Global};
 use std::thread::Threads;
@@ -27,45 +28,12 @@ pub(crate) struct Seeds {
     pub style: NumberStyle,
 }
 
-/// How a run ended, as it is counted.
-#[derive(Clone, Copy, Debug, PartialEq, Eq)]
-pub(crate) enum OutcomeKind {
-    /// No stream runs, and none was stopped.
-    Finished,
-    /// No stream runs, and some was stopped by a trap.
-    Stopped,
-    /// Nobody can go on.
-    Deadlock,
-    /// The bound came first.
-    OutOfSteps,
-}
-
-impl OutcomeKind {
-    /// Its name in tables.
-    pub(crate) fn name(self) -> &'static str {
-        match self {
-            OutcomeKind::Finished => "finished",
-            OutcomeKind::Stopped => "stopped",
-            OutcomeKind::Deadlock => "deadlock",
-            OutcomeKind::OutOfSteps => "out of steps",
-        }
-    }
-
-    /// Its name in JSON, which is that of the end of a run.
-    pub(crate) fn short_name(self) -> &'static str {
-        match self {
-            OutcomeKind::OutOfSteps => "steps",
-            _ => self.name(),
-        }
-    }
-}
-
 /// Ends that agree in their kind, in the words that changed, in who waits or was stopped, and in what is not as
 /// expected.
 #[derive(Drop)]
 pub(crate) struct Outcome {
     /// The kind.
-    pub kind: OutcomeKind,
+    pub kind: EndKind,
     /// Who was stopped, who waits, and the words that changed.
     pub text: String,
     /// The place of the first expectation that is not met.
@@ -87,6 +55,20 @@ impl Outcome {
     pub(crate) fn is_as_expected(&self) -> bool {
         self.missed.is_none() && !self.is_trapped
     }
+
+    /// What it means for the exit status.
+    pub(crate) fn status(&self) -> Status {
+        status_of(self.kind, self.missed.is_some(), self.is_trapped)
+    }
+}
+
+/// The exit status of outcomes: the worst over all of them.
+pub(crate) fn worst_status(outcomes: &[Outcome]) -> Status {
+    let mut status = Status::Done;
+    for outcome in outcomes {
+        status = status.worse(outcome.status());
+    }
+    status
 }
 
 /// The outcomes of the random schedules of these seeds, in the order of their first seeds.
@@ -172,14 +154,8 @@ fn outcome_of<const S: usize>(
         .stopped
         .iter()
         .any(|stream| !is_expected_trap(expected, stream));
-    let kind = match made.end {
-        MadeEnd::NobodyRuns if !words.stopped.is_empty() => OutcomeKind::Stopped,
-        MadeEnd::NobodyRuns => OutcomeKind::Finished,
-        MadeEnd::Standstill => OutcomeKind::Deadlock,
-        MadeEnd::OutOfSteps => OutcomeKind::OutOfSteps,
-    };
     Ok(Outcome {
-        kind,
+        kind: end_kind_of(&machine),
         text: words.text,
         missed: first_missed(&machine, expected),
         is_trapped,

@@ -1,9 +1,7 @@
 //! The command `survey`.
 
-use crate::outcomes::{Outcome, OutcomeKind, Seeds, outcomes_of};
-use command_parts::{
-    Answer, Inputs, LabFault, Program, Status, push_object, read_program, style_of,
-};
+use crate::outcomes::{Outcome, Seeds, outcomes_of, worst_status};
+use command_parts::{Answer, Inputs, LabFault, Program, push_object, read_program, style_of};
 use expectations::Expectation;
 use lab_ends::{SpaceEnd, SpaceEndKind, Wishes};
 use lab_explorer::{Explored, Search, digits_of, expected_of, explore_program, push_expectation};
@@ -49,20 +47,13 @@ fn survey_of<X: Threads + Sync>(
     outcomes.sort_by_key(|outcome: &Outcome| usize::MAX - outcome.runs)?;
     let mut output = String::new(alloc);
     push_outcomes(alloc, &mut output, request.shown.json, &expected, &outcomes)?;
+    let mut status = worst_status(&outcomes);
     if let Some(most) = request.explored {
         let found = every_end(alloc, program, expected, seeds.style, most)?;
         push_met(alloc, &mut output, request.shown.json, &found, &outcomes)?;
+        status = status.worse(found.status());
     }
-    Ok(Answer::printed(alloc, output, worst_status(&outcomes)))
-}
-
-/// The worst of the outcomes' statuses.
-fn worst_status(outcomes: &[Outcome]) -> Status {
-    let mut status = Status::Done;
-    for outcome in outcomes {
-        status = status.worse(status_of(outcome));
-    }
-    status
+    Ok(Answer::printed(alloc, output, status))
 }
 
 /// Adds the lines of the outcomes, or their objects.
@@ -144,26 +135,8 @@ fn push_met(
 
 /// Whether an outcome is an end of all schedules.
 fn is_met_by(end: &SpaceEnd, outcome: &Outcome) -> bool {
-    let is_kind = match outcome.kind {
-        OutcomeKind::Finished => end.kind == SpaceEndKind::Finished,
-        OutcomeKind::Stopped => end.kind == SpaceEndKind::Stopped,
-        OutcomeKind::Deadlock => end.kind == SpaceEndKind::Deadlock,
-        OutcomeKind::OutOfSteps => false,
-    };
+    let is_kind = end.kind == SpaceEndKind::End(outcome.kind);
     is_kind && end.missed == outcome.missed && end.text == outcome.text
-}
-
-/// How an outcome counts for the exit status.
-pub(crate) fn status_of(outcome: &Outcome) -> Status {
-    match outcome.kind {
-        OutcomeKind::Deadlock => Status::Deadlock,
-        _ if outcome.is_trapped => Status::Unexpected,
-        OutcomeKind::OutOfSteps => Status::OutOfSteps,
-        OutcomeKind::Stopped | OutcomeKind::Finished if outcome.missed.is_some() => {
-            Status::Unexpected
-        }
-        OutcomeKind::Stopped | OutcomeKind::Finished => Status::Done,
-    }
 }
 
 /// Adds the line of an outcome, which is judged where something is expected.
@@ -209,7 +182,7 @@ fn push_outcome_object(
     outcome: &Outcome,
 ) -> Result<(), AllocError> {
     let runs = outcome.runs;
-    let kind = outcome.kind.short_name();
+    let kind = outcome.kind.json_name();
     let text = outcome.text.as_str();
     let seed = digits(alloc, outcome.seed)?;
     let steps = outcome.steps;

@@ -2,17 +2,18 @@
 
 use crate::VERSION;
 use crate::fields::{Fields, put_number, put_text};
-use lab_texts::{EndKind, RunEnd, StoppedStream, StreamWait};
+use lab_texts::{RunEnd, StoppedStream};
 use processor::Step;
 use serde_json::{Map, Value, json};
 use std::alloc::{AllocError, Global};
+use stream_waits::StreamWait;
 use waiting::Wanted;
 
 /// How a run ended: its kind, who waits for what, a circle, who could go on, who has quit, who was stopped.
 pub fn end_value(alloc: Global, end: &RunEnd) -> Result<Value, AllocError> {
     let mut fields = Map::new(alloc);
     put_number(alloc, &mut fields, "version", VERSION)?;
-    put_text(alloc, &mut fields, "kind", kind_name(end.kind))?;
+    put_text(alloc, &mut fields, "kind", end.kind.json_name())?;
     put_waits(alloc, &mut fields, &end.waits)?;
     put_streams(alloc, &mut fields, "circle", &end.circle)?;
     put_streams(alloc, &mut fields, "able", &end.able)?;
@@ -20,16 +21,6 @@ pub fn end_value(alloc: Global, end: &RunEnd) -> Result<Value, AllocError> {
     put_streams(alloc, &mut fields, "quit", &end.quit)?;
     put_stopped(alloc, &mut fields, &end.stopped)?;
     Ok(Value::Object(fields))
-}
-
-/// The name of a kind of end.
-fn kind_name(kind: EndKind) -> &'static str {
-    match kind {
-        EndKind::Finished => "finished",
-        EndKind::Stopped => "stopped",
-        EndKind::Deadlock => "deadlock",
-        EndKind::OutOfSteps => "steps",
-    }
 }
 
 /// Puts the streams that wait.

@@ -1,27 +1,16 @@
 //! How a run ended.
 
 use crate::names::ProgramNames;
-use crate::waits::{StreamWait, circle_of, turned_word, waits_of, wanted_word};
+use crate::waits::{turned_word, wanted_word};
 use crate::words::{push_stream, push_streams, push_trap};
+use end_kinds::{EndKind, end_kind_of};
 use machine::Machine;
 use processor::Step;
 use std::alloc::{AllocError, Global};
 use step_views::StepView;
 use stream_core::{Outcome, Status, TrapKind};
-use waiting::{is_standstill, running_streams};
-
-/// The kinds of ends ("Ends", docs/LAB.md).
-#[derive(Clone, Copy, Debug, PartialEq, Eq)]
-pub enum EndKind {
-    /// No stream runs, and none was stopped by a trap.
-    Finished,
-    /// No stream runs, and some was stopped by a trap.
-    Stopped,
-    /// Some stream runs, and nobody can go on, for ever.
-    Deadlock,
-    /// Some stream can go on: the schedule ended first.
-    OutOfSteps,
-}
+use stream_waits::{StreamWait, circle_of, waits_of};
+use waiting::running_streams;
 
 /// A stream that a trap stopped.
 #[derive(Clone, Copy, Debug)]
@@ -43,7 +32,7 @@ pub struct RunEnd {
     pub kind: EndKind,
     /// Those that wait.
     pub waits: Vec<StreamWait>,
-    /// A circle among those that are stuck; empty where there is none.
+    /// A circle among them; empty where there is none, as at each end that is no deadlock.
     pub circle: Vec<Step>,
     /// Those that can go on.
     pub able: Vec<Step>,
@@ -79,30 +68,16 @@ pub fn end_of<const S: usize>(
             ready.push(*stream)?;
         }
     }
-    let stopped = stopped_streams(alloc, machine)?;
     Ok(RunEnd {
-        kind: kind_of(machine, !able.is_empty(), !stopped.is_empty()),
-        circle: circle_of(alloc, &waits)?,
+        kind: end_kind_of(machine),
+        circle: circle_of(alloc, machine, &waits)?,
         waits,
         able,
         fresh,
         ready,
         quit: quit_streams(alloc, machine, views)?,
-        stopped,
+        stopped: stopped_streams(alloc, machine)?,
     })
-}
-
-/// The kind of an end in which some stream is able to go on, or some was stopped, or neither.
-fn kind_of<const S: usize>(machine: &Machine<'_, S>, any_able: bool, any_stopped: bool) -> EndKind {
-    if any_able {
-        EndKind::OutOfSteps
-    } else if is_standstill(machine) {
-        EndKind::Deadlock
-    } else if any_stopped {
-        EndKind::Stopped
-    } else {
-        EndKind::Finished
-    }
 }
 
 /// Whether a stream has taken a step.
@@ -166,7 +141,7 @@ pub fn push_end(
 ) -> Result<(), AllocError> {
     let plural = if steps == 1 { "" } else { "s" };
     write!(out, "after {steps} step{plural}: ")?;
-    out.push_str(kind_words(end.kind))?;
+    out.push_str(end.kind.sentence())?;
     for (index, wait) in end.waits.iter().enumerate() {
         out.push_str(if index == 0 { ": " } else { "; " })?;
         push_wait(out, names, wait)?;
@@ -183,15 +158,6 @@ pub fn push_end(
     push_group(out, &end.fresh, " has not begun", " have not begun")?;
     push_group(out, &end.ready, " could go on", " could go on")?;
     out.push_str("\n")
-}
-
-/// The kind of an end, in words.
-fn kind_words(kind: EndKind) -> &'static str {
-    match kind {
-        EndKind::Finished | EndKind::Stopped => "nobody runs",
-        EndKind::Deadlock => "deadlock",
-        EndKind::OutOfSteps => "ran out of steps",
-    }
 }
 
 /// Adds a sentence about streams, where there are any.

@@ -15,9 +15,8 @@ pub use changes::{push_changes, push_part_of};
 pub use differences::{
     push_changed_words, push_differences, push_differing_words, world_differences,
 };
-pub use ends::{EndKind, RunEnd, StoppedStream, end_of, push_end};
+pub use ends::{RunEnd, StoppedStream, end_of, push_end};
 pub use findings::{FindingsOfRun, Telling, push_findings, push_first_finding};
 pub use names::ProgramNames;
 pub use step_lines::{Columns, push_lane_head, push_lane_line, push_step_line};
-pub use waits::{LastTurn, StreamWait, circle_of, waits_of};
 pub use words::{NumberStyle, push_stream, push_trap, push_value, push_word};

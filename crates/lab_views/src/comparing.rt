@@ -1,5 +1,6 @@
 //! The command `compare`.
 
+use crate::run_status::status_of_run;
 use command_parts::{
     Answer, Inputs, LabFault, Program, Status, loaded, push_object, read_program, read_steps,
     style_of,
@@ -31,12 +32,12 @@ pub fn compare<F: Files, R: Read>(
     let program = read_program(alloc, inputs, path)?;
     let first = read_steps(alloc, inputs, &program, one)?;
     let second = read_steps(alloc, inputs, &program, other)?;
-    let output = if program.image.slim() <= 8 {
+    let (output, status) = if program.image.slim() <= 8 {
         compare_on::<8>(alloc, &program, &first, &second, shown)?
     } else {
         compare_on::<128>(alloc, &program, &first, &second, shown)?
     };
-    Ok(Answer::printed(alloc, output, Status::Done))
+    Ok(Answer::printed(alloc, output, status))
 }
 
 /// The comparison on machines with room for `S` streams a processor.
@@ -46,7 +47,7 @@ fn compare_on<const S: usize>(
     first: &[Step],
     second: &[Step],
     shown: Shown,
-) -> Result<String, AllocError> {
+) -> Result<(String, Status), AllocError> {
     let names = ProgramNames::of(alloc, &program.text)?;
     let mut runs = Pair {
         one: Run::<S>::begin(alloc, program)?,
@@ -55,8 +56,8 @@ fn compare_on<const S: usize>(
         names: &names,
     };
     let mut out = String::new(alloc);
-    runs.push_comparison(alloc, &mut out, first, second)?;
-    Ok(out)
+    let status = runs.push_comparison(alloc, &mut out, first, second)?;
+    Ok((out, status))
 }
 
 /// The longest beginning that two schedules share, in steps.
@@ -145,14 +146,14 @@ struct Pair<'i, 'n, 't, const S: usize> {
 
 impl<const S: usize> Pair<'_, '_, '_, S> {
     /// Takes the steps of two schedules, one of each at a time, and adds where they part, where the worlds first differ,
-    /// and both ends.
+    /// and both ends. The exit status is the worse of theirs.
     fn push_comparison(
         &mut self,
         alloc: Global,
         out: &mut String,
         first: &[Step],
         second: &[Step],
-    ) -> Result<(), AllocError> {
+    ) -> Result<Status, AllocError> {
         let same = shared_steps(first, second);
         self.take(alloc, beginning(first, same), beginning(second, same))?;
         let mut differ = false;
@@ -220,9 +221,11 @@ impl<const S: usize> Pair<'_, '_, '_, S> {
     }
 
     /// Adds how both ended.
-    fn push_ends(&self, alloc: Global, out: &mut String) -> Result<(), AllocError> {
+    fn push_ends(&self, alloc: Global, out: &mut String) -> Result<Status, AllocError> {
+        let mut status = Status::Done;
         for (name, run) in [("one", &self.one), ("other", &self.other)] {
             let end = end_of(alloc, &run.machine, &run.views)?;
+            status = status.worse(status_of_run(&end));
             if self.shown.json {
                 let value = end_value(alloc, &end)?;
                 push_object(alloc, out, &value)?;
@@ -236,6 +239,6 @@ impl<const S: usize> Pair<'_, '_, '_, S> {
                 push_findings_of_run::<S>(alloc, out, self.names, style, image, &steps)?;
             }
         }
-        Ok(())
+        Ok(status)
     }
 }

@@ -2,6 +2,7 @@
 #![tactic(auto)]
 
 mod comparing;
+mod run_status;
 mod viewing;
 
 pub use comparing::compare;

@@ -1,5 +1,6 @@
 //! The command `view`.
 
+use crate::run_status::status_of_run;
 use command_parts::{
     Answer, Inputs, LabFault, Program, Status, loaded, push_object, read_program, steps_of,
     style_of,
@@ -8,8 +9,8 @@ use lab_ends::push_findings_of_run;
 use lab_json::{end_value, head_value, step_value};
 use lab_requests::{RunChoice, ViewRequest};
 use lab_texts::{
-    Columns, EndKind, ProgramNames, RunEnd, end_of, push_differing_words, push_end, push_lane_head,
-    push_lane_line, push_step_line,
+    Columns, ProgramNames, end_of, push_differing_words, push_end, push_lane_head, push_lane_line,
+    push_step_line,
 };
 use machine::Machine;
 use processor::Step;
@@ -36,16 +37,6 @@ pub fn view<F: Files, R: Read>(
         view_on::<128>(alloc, &program, &steps, request, only)?
     };
     Ok(Answer::printed(alloc, output, status))
-}
-
-/// What an end means for the exit status.
-fn status_of_end(end: &RunEnd) -> Status {
-    match end.kind {
-        EndKind::Deadlock => Status::Deadlock,
-        _ if !end.stopped.is_empty() => Status::Unexpected,
-        EndKind::OutOfSteps => Status::OutOfSteps,
-        EndKind::Finished | EndKind::Stopped => Status::Done,
-    }
 }
 
 /// The stream that a name such as `2.0` names.
@@ -250,6 +241,6 @@ impl Layout<'_, '_> {
             push_end(out, self.names, views.len(), &end)?;
             push_differing_words(out, self.names, style_of(shown), machine)?;
         }
-        Ok(status_of_end(&end))
+        Ok(status_of_run(&end))
     }
 }

@@ -13,7 +13,9 @@ const ROWS_MOST = 6; // of waits that are drawn without a circle
 /** Who can't go on unless another one does. */
 const stuckAtEnd = () => run.end.waiting.map((wait) => wait.stream).filter((id) => !atEnd.able.has(id));
 const begunAtEnd = () => run.end.able.filter((id) => !run.end.fresh.includes(id));
-const isStandstill = () => stuckAtEnd().length > 0 && begunAtEnd().length === 0;
+const isDeadlock = () => run.end.kind === "deadlock";
+/** Whether nobody who has begun can go on. No deadlock, as long as one that has not begun could free another. */
+const isHeldUp = () => stuckAtEnd().length > 0 && begunAtEnd().length === 0;
 
 /** `", with a lost update and a torn read"`, or nothing. */
 function foundText() {
@@ -24,15 +26,17 @@ function foundText() {
   return texts.length ? `, with ${and(texts)}` : "";
 }
 
+/** A circle of a deadlock, or no stream. */
+const circleAtEnd = () => (isDeadlock() && run.end.circle.length >= CIRCLE_LEAST ? run.end.circle : []);
+
 /** Who waits for whom, in the fewest words. */
-function standstillTitle() {
-  const { kind, circle } = run.end;
+function waitsTitle() {
+  const circle = circleAtEnd();
   const stuck = stuckAtEnd();
-  const rest = stuck.length > circle.length && circle.length >= CIRCLE_LEAST ? ", and others for them" : "";
-  const start = kind === "deadlock" ? "Deadlock: " : "";
-  if (circle.length >= CIRCLE_LEAST) return `${start}${andMore(circle)} wait for each other in a circle${rest}`;
+  const rest = stuck.length > circle.length ? ", and others for them" : "";
+  if (circle.length) return `Deadlock: ${andMore(circle)} wait for each other in a circle${rest}`;
   const waits = `${andMore(stuck)} wait${stuck.length > 1 ? "" : "s"}`;
-  return kind === "deadlock" ? `${start}${waits} for ever` : `${waits}, and nobody who has begun can go on`;
+  return isDeadlock() ? `Deadlock: ${waits} for ever` : `${waits}, and nobody who has begun can go on`;
 }
 
 /** The end in a line: its sign, and why the run ended so. */
@@ -40,7 +44,7 @@ function endTitle() {
   const { kind, stopped, quit } = run.end;
   const n = times(steps.length, "1 step", "steps");
   const found = foundText();
-  if (isStandstill()) return ["deadlock", standstillTitle() + found];
+  if (isHeldUp()) return [isDeadlock() ? "deadlock" : found ? "bad" : "steps", waitsTitle() + found];
   if (stopped.length && (kind === "stopped" || begunAtEnd().length === 0)) {
     return ["bad", `Stopped by a trap: ${andMore(stopped.map((one) => one.stream))}${found}`];
   }
@@ -62,7 +66,7 @@ function restText() {
   if (begun.length) parts.push(`${andMore(begun)} can go on`);
   if (fresh.length) parts.push(`${andMore(fresh)} ${has(fresh)} not begun`);
   if (!parts.length) return [];
-  const only = isStandstill() && able.length;
+  const only = isHeldUp() && able.length;
   const who = able.length > 1 ? "theirs" : able[0];
   return [[`${parts.join("; ")}.${only ? ` Only a step of ${who} could still free one that waits.` : ""}`]];
 }
@@ -100,9 +104,10 @@ function endItems() {
 
 /** The picture of who waits for whom: a circle where there is one, else a row each. */
 function endPicture() {
-  if (!isStandstill()) return [];
-  const { circle, waiting } = run.end;
-  if (circle.length >= CIRCLE_LEAST) return circle.length <= CIRCLE_MOST ? [drawCircle(circle, waiting)] : [];
+  if (!isHeldUp()) return [];
+  const { waiting } = run.end;
+  const circle = circleAtEnd();
+  if (circle.length) return circle.length <= CIRCLE_MOST ? [drawCircle(circle, waiting)] : [];
   const rows = waiting.filter((wait) => stuckAtEnd().includes(wait.stream));
   return rows.length <= ROWS_MOST ? [drawWaitRows(rows)] : [];
 }
