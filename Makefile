@@ -12,7 +12,7 @@ CRATES ?=
 # how many of them are tried side by side
 JOBS ?= $(shell nproc)
 
-.PHONY: help run run-lab try test cases checks trust minutes affected edits refuse hostile pages editors documents bench build dist check-dist install uninstall clean
+.PHONY: help run run-lab try test cases checks trust minutes affected edits refuse hostile spaces pages editors documents bench build dist check-dist install uninstall clean
 
 # the targets, each with what it does and how long it takes
 help:
@@ -31,6 +31,7 @@ help:
 	@echo "make check-dist unpacks them where nothing but the C library is, and runs the examples there (seconds)"
 	@echo "make hostile    hostile use of the built program; needs Python 3 and a C compiler (4 minutes on four idle cores)"
 	@echo "make refuse     the part of it that refuses each allocation of the commands in turn (some minutes)"
+	@echo "make spaces     500 random programs, all of whose worlds are searched by a machine of the tests' own beside mta_lab (a minute)"
 	@echo "make pages      the replay page in a browser; needs chromium, its driver and Python's selenium, and says what is missing (5 minutes beside other work)"
 	@echo "make editors    mta_lab dap by a client that others' library makes; needs Go and Debian's go-dap, and says what is missing (seconds)"
 	@echo "make bench      time, instructions and peak memory on the longest inputs (some minutes; valgrind counts instructions)"
@@ -112,6 +113,10 @@ refuse: build
 hostile: build
 	@test -x $(CALLS) || (cd crates/library_calls && rt run -- calls < /dev/null > /dev/null)
 	@python3 tests/hostile
+
+# random programs, all of whose worlds are searched by a machine of the tests' own, beside what explore and grade say
+spaces: build
+	@python3 tests/spaces
 
 # tries mta_lab dap by a client of the Debug Adapter Protocol on a library that others wrote
 editors:

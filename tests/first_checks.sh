@@ -21,7 +21,7 @@ verdict() {
 
 sources() { find crates -path '*/out' -prune -o \( -name '*.rt' -o -name '*.antt' \) -print; }
 texts() { git ls-files -co --exclude-standard | grep -E '\.(rt|antt|edit|md|sh|py|tsv|asm|yml)$|^Makefile$' | grep -v '^tests/first_checks.sh$'; }
-documents() { ls README.md CONTRIBUTING.md CHANGELOG.md docs/*.md crates/*/README.md; }
+documents() { ls README.md CONTRIBUTING.md CHANGELOG.md docs/*.md page/README.md crates/*/README.md; }
 
 # the program rattle of the kit whose rt is called
 rattle() { echo "$(dirname "$(readlink -f "$(command -v rt)")")/rattle"; }
@@ -64,10 +64,15 @@ kit() {
   grep -qF "\`$logic\`" README.md || echo "rt version says '$(rt version)', and README.md names another logic"
 }
 
-# version: that of each program is the newest of CHANGELOG.md
+# version: that of each program and of the editors' extension is the newest of CHANGELOG.md, and so are those in the names
+# of packages; no other file of code names one
 version() {
   local file named newest
   newest=$(sed -n 's/^## //p' CHANGELOG.md | head -n 1)
+  named=$(sed -n 's/^  "version": "\(.*\)",$/\1/p' editors/vscode/package.json)
+  [ "$named" = "$newest" ] || echo "editors/vscode/package.json has version '$named', CHANGELOG.md has '$newest'"
+  documents | xargs grep -oHE 'mta[-_]sim[-_][0-9]+\.[0-9]+\.[0-9]+' | grep -v "[-_]$newest\$" | sed "s/\$/ is not of version $newest/"
+  sources | xargs grep -nHE '"[0-9]+\.[0-9]+\.[0-9]+"' | grep -vE '^crates/(lab_)?command_line/src/lib\.rt:[0-9]+:pub const VERSION'
   for file in crates/command_line/src/lib.rt crates/lab_command_line/src/lib.rt; do
     named=$(sed -n 's/^pub const VERSION: &str = "\([0-9.]*\)";$/\1/p' "$file")
     [ "$named" = "$newest" ] || echo "$file has version '$named', CHANGELOG.md has '$newest'"

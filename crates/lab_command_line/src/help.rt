@@ -76,9 +76,14 @@ Example:
 pub(crate) const EXPLORE: &str = "\
 Shows the ends that schedules of a program lead to: how many worlds, a shortest schedule to them,
 who waits or was stopped, and the words that changed. Where it says complete, no schedule of any
-length comes to another end. A step that concerns its own stream alone is taken before the others
-where that leads to a new world, so fewer worlds are looked at; with --plain, and where something
-is claimed of all worlds, all are.
+length comes to another end. Where a step concerns its own stream alone, and leads to a world whose
+own steps are still to be looked at, the others wait: so fewer worlds are looked at. With --plain,
+and where --expect claims something of all worlds, all are.
+
+Beside lines about ends the file of --expect may have claims: always or never, and behind it
+word ADDRESS is|above|below VALUE, word ADDRESS full|empty, or at most N of P.S .. in FIRST..LAST.
+above and below compare signed where VALUE has a sign (-1, +3), or signed stands behind it
+(below 0 signed); else a word is a number from 0 on, so that -1 is above 5 and none is below 0.
 
 Example:
   mta_lab explore lock.asm";

@@ -1,12 +1,13 @@
 //! Ends of all schedules, and what they are told by.
 
-use crate::claims::Claim;
+use crate::claim_lines::ClaimLine;
 use crate::end_words::{EndWords, end_words_of};
 use crate::expected_traps::is_expected_trap;
 use crate::findings::first_finding;
-use crate::machines::machine_at;
+use crate::machines::{loaded, machine_at};
 use crate::spinning::add_spinning;
 use crate::wishes::Wishes;
+use claims::Claim;
 use end_kinds::{EndKind, Status, end_kind_of, status_of};
 use expectations::{Expectation, first_missed};
 use lab_texts::{NumberStyle, ProgramNames};
@@ -55,6 +56,8 @@ pub struct SpaceEnd {
     pub is_trapped: bool,
     /// The places of the worlds, the first of which no schedule is shorter to.
     pub places: Vec<usize>,
+    /// How many worlds on the way through the steps that all schedules begin with break the claim; 0 of other ends.
+    pub before: usize,
     /// How many sets of worlds they are that no step leads out of: each world of an end is one by itself.
     pub sets: usize,
     /// From how many worlds of the space some schedule leads there.
@@ -79,10 +82,16 @@ impl SpaceEnd {
             SpaceEndKind::Broken => Status::Unexpected,
         }
     }
+
+    /// How many worlds it has.
+    pub fn worlds(&self) -> usize {
+        self.places.len().saturating_add(self.before)
+    }
 }
 
 /// The ends of a space by the names of its program, in the order of their shortest schedules; then, where the space is
-/// complete, the sets of worlds that spin; then the worlds that break claims, those of each claim as one.
+/// complete, the sets of worlds that spin; then the worlds that break claims, those of each claim as one, also those
+/// on the way through the steps that all its schedules begin with.
 pub fn space_ends<const S: usize>(
     alloc: Global,
     names: &ProgramNames<'_>,
@@ -183,20 +192,66 @@ fn told_at<const S: usize>(
 fn add_broken<const S: usize>(
     alloc: Global,
     ends: &mut Vec<SpaceEnd>,
-    claims: &[Claim],
+    claims: &[ClaimLine],
     space: &Space<'_>,
 ) -> Result<(), AllocError> {
-    for claim in claims {
+    for ClaimLine { text, claim } in claims {
         let places = places_that_break::<S>(alloc, claim, space)?;
-        if let Some(first) = places.first().copied() {
-            let told = EndTold::of(SpaceEndKind::Broken, claim.text.clone()?);
-            let mut end = new_end(alloc, space, first, told)?;
-            end.sets = places.len();
-            end.places = places;
-            ends.push(end)?;
+        let before = breaks_before::<S>(alloc, claim, space)?;
+        if !places.is_empty() || before.count > 0 {
+            let told = EndTold::of(SpaceEndKind::Broken, text.clone()?);
+            ends.push(broken_end(alloc, space, told, places, before)?)?;
         }
     }
     Ok(())
+}
+
+/// The end that these worlds of a space are, and those on the way to its first one.
+fn broken_end(
+    alloc: Global,
+    space: &Space<'_>,
+    told: EndTold,
+    places: Vec<usize>,
+    before: BreaksBefore,
+) -> Result<SpaceEnd, AllocError> {
+    let first = places.first().copied().unwrap_or(0);
+    let mut end = new_end(alloc, space, first, told)?;
+    end.sets = places.len();
+    end.places = places;
+    end.before = before.count;
+    if before.count > 0 {
+        end.schedule.truncate(before.first);
+    }
+    Ok(end)
+}
+
+/// The worlds that break a claim on the way through the steps that all schedules of a space begin with.
+#[derive(Clone, Copy, Debug)]
+struct BreaksBefore {
+    /// How many steps lead to the first of them.
+    first: usize,
+    /// How many they are, one for each step: 0 where none breaks it.
+    count: usize,
+}
+
+/// The worlds of which a claim does not hold before some step of those that all schedules of a space begin with.
+fn breaks_before<const S: usize>(
+    alloc: Global,
+    claim: &Claim,
+    space: &Space<'_>,
+) -> Result<BreaksBefore, AllocError> {
+    let mut machine = loaded::<S>(alloc, space.image())?;
+    let mut breaks = BreaksBefore { first: 0, count: 0 };
+    for (taken, step) in space.begin().iter().enumerate() {
+        if !claim.holds(&machine) {
+            if breaks.count == 0 {
+                breaks.first = taken;
+            }
+            breaks.count += 1;
+        }
+        machine.step(step.p, step.s);
+    }
+    Ok(breaks)
 }
 
 /// The places of the worlds of which a claim does not hold.
@@ -228,6 +283,7 @@ pub(crate) fn new_end(
         missed: told.missed,
         is_trapped: told.is_trapped,
         places: Vec::new(alloc),
+        before: 0,
         sets: 1,
         sources: 0,
         schedule: Vec::new(alloc),

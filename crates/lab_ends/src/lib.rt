@@ -2,8 +2,9 @@
 //! first finding; the ends of a space, and claims about all its worlds (docs/LAB.md, "Every schedule").
 #![tactic(auto)]
 
+mod claim_fault;
+mod claim_lines;
 mod claim_words;
-mod claims;
 mod end_words;
 mod every_end;
 mod expected_traps;
@@ -14,7 +15,8 @@ mod set_words;
 mod spinning;
 mod wishes;
 
-pub use claims::Claim;
+pub use claim_fault::ClaimFault;
+pub use claim_lines::ClaimLine;
 pub use end_words::{EndWords, StoppedBy, end_words_of};
 pub use every_end::{SpaceEnd, SpaceEndKind, space_ends};
 pub use expected_traps::is_expected_trap;

@@ -1,7 +1,9 @@
 //! What is wished of a program: of its ends, and of all worlds on the way.
 
-use crate::claims::Claim;
+use crate::claim_fault::ClaimFault;
+use crate::claim_lines::ClaimLine;
 use expectations::{Expectation, ExpectationFault, read_expectations};
+use image_file::Image;
 use lab_texts::ProgramNames;
 use std::alloc::{AllocError, AllocFailed, Global};
 use std::str;
@@ -12,16 +14,18 @@ pub struct Wishes {
     /// What each end has to be.
     pub ends: Vec<Expectation>,
     /// What has to hold of each world.
-    pub claims: Vec<Claim>,
+    pub claims: Vec<ClaimLine>,
 }
 
 /// Why a text says no wishes.
 #[derive(Clone, Copy, Debug, PartialEq, Eq)]
 pub enum WishFault {
-    /// A line begins as a claim, and is none.
+    /// A line begins as a claim, and is none about the program.
     Claim {
         /// The line, counted from 1.
         line: usize,
+        /// Why it is none.
+        fault: ClaimFault,
     },
     /// Another line has a fault, or the text says nothing.
     Expectation(ExpectationFault),
@@ -50,12 +54,17 @@ impl Wishes {
         }
     }
 
-    /// The wishes of a text, by the names of a program: a line that begins with `always` or `never` is a claim, the
-    /// others are expectations.
+    /// The wishes of a text of a program, by its names and its image: a line that begins with `always` or `never` is a
+    /// claim, the others are expectations.
     ///
-    /// `Claim` at the first line that begins as a claim and is none; else `Expectation` where the others are no
-    /// expectations, or where the text says nothing.
-    pub fn of(alloc: Global, text: &[u8], names: &ProgramNames<'_>) -> Result<Wishes, WishFault> {
+    /// `Claim` at the first line that begins as a claim and is none about the program; else `Expectation` where the
+    /// others are no expectations, or where the text says nothing.
+    pub fn of(
+        alloc: Global,
+        text: &[u8],
+        names: &ProgramNames<'_>,
+        image: &Image,
+    ) -> Result<Wishes, WishFault> {
         let mut claims = Vec::new(alloc);
         let mut others = Vec::with_capacity(alloc, text.len())?;
         for (index, line) in text.split(|byte| *byte == b'\n').enumerate() {
@@ -63,14 +72,8 @@ impl Wishes {
             if words.is_empty() {
                 others.extend_from_slice(line)?;
             } else {
-                match Claim::of(alloc, names, &words)? {
-                    Some(claim) => claims.push(claim)?,
-                    None => {
-                        return Err(WishFault::Claim {
-                            line: index.saturating_add(1),
-                        });
-                    }
-                }
+                let line = index.saturating_add(1);
+                claims.push(claim_at(alloc, line, &words, names, image)?)?;
             }
             others.push(b'\n')?;
         }
@@ -80,6 +83,21 @@ impl Wishes {
             Vec::new(alloc)
         };
         Ok(Wishes { ends, claims })
+    }
+}
+
+/// The claim that the words of a line say about a program.
+fn claim_at(
+    alloc: Global,
+    line: usize,
+    words: &[&str],
+    names: &ProgramNames<'_>,
+    image: &Image,
+) -> Result<ClaimLine, WishFault> {
+    match ClaimLine::of(alloc, words, names, image) {
+        Ok(claim) => Ok(claim),
+        Err(ClaimFault::NoMemory) => Err(WishFault::NoMemory),
+        Err(fault) => Err(WishFault::Claim { line, fault }),
     }
 }
 

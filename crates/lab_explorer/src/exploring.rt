@@ -55,6 +55,8 @@ pub struct Explored {
     pub is_complete: bool,
     /// Whether all worlds were looked for.
     pub is_of_all_worlds: bool,
+    /// How many steps were given that all schedules begin with.
+    pub begin: usize,
     /// Their ends.
     pub ends: Vec<SpaceEnd>,
 }
@@ -88,7 +90,7 @@ pub fn show_every_end<F: Files, R: Read>(
 ) -> Result<Answer, LabFault> {
     let program = read_program(alloc, inputs, request.program)?;
     let names = ProgramNames::of(alloc, &program.text)?;
-    let wishes = wishes_asked(alloc, inputs, request, &names)?;
+    let wishes = wishes_asked(alloc, inputs, request, &program, &names)?;
     let found = found_by(alloc, inputs, request, &program, &names, &wishes)?;
     let mut answer = answer_of(alloc, request, &wishes.ends, &found)?;
     if let Some(folder) = request.keep {
@@ -102,13 +104,14 @@ fn wishes_asked<F: Files, R: Read>(
     alloc: Global,
     inputs: &mut Inputs<'_, F, R>,
     request: &ExploreRequest,
+    program: &Program,
     names: &ProgramNames<'_>,
 ) -> Result<Wishes, LabFault> {
     let Some(path) = request.expected else {
         return Ok(Wishes::none(alloc));
     };
     let text = inputs.read(alloc, path)?;
-    wishes_of(alloc, path, &text, names)
+    wishes_of(alloc, path, &text, names, &program.image)
 }
 
 /// What the search that is asked for comes to.
@@ -180,6 +183,7 @@ fn explore_on<const S: usize>(
         steps: space.step_count(),
         is_complete,
         is_of_all_worlds: asked.is_of_all_worlds(),
+        begin: asked.begin.len(),
         ends,
     })
 }
@@ -225,7 +229,7 @@ fn answer_of(
 
 /// The greatest count of worlds of an end.
 fn widest(ends: &[SpaceEnd]) -> usize {
-    ends.iter().map(|end| end.places.len()).max().unwrap_or(0)
+    ends.iter().map(|end| end.worlds()).max().unwrap_or(0)
 }
 
 /// Adds how much was found.
@@ -239,19 +243,19 @@ fn push_head(
     let steps = found.steps;
     let complete = found.is_complete;
     let is_plain = found.is_of_all_worlds;
+    let begin = found.begin;
     if is_json {
         let value = json!(in alloc; {
-            "version": VERSION, "worlds": worlds, "steps": steps, "complete": complete, "plain": is_plain
+            "version": VERSION, "worlds": worlds, "steps": steps, "complete": complete, "plain": is_plain,
+            "begin": begin
         })?;
         return push_object(alloc, out, &value);
     }
-    let (which, end) = if complete {
-        ("every schedule", "complete")
+    let which = schedules_of(found);
+    let end = if complete {
+        "complete"
     } else {
-        (
-            "some schedules",
-            "not complete: nothing is said of the others",
-        )
+        "not complete: nothing is said of the others"
     };
     let some_worlds = plural(worlds);
     let some_steps = plural(steps);
@@ -260,6 +264,16 @@ fn push_head(
         out,
         "{which}: {worlds} world{some_worlds}{looked_at}, {steps} step{some_steps}, {end}\n"
     )
+}
+
+/// Of which schedules a search tells.
+fn schedules_of(found: &Explored) -> &'static str {
+    match (found.is_complete, found.begin) {
+        (true, 0) => "every schedule",
+        (true, _) => "every schedule that begins so",
+        (false, 0) => "some schedules",
+        (false, _) => "some schedules that begin so",
+    }
 }
 
 /// What stands behind a word that is counted.
@@ -275,7 +289,7 @@ fn push_end_line(
     found: &Explored,
     end: &SpaceEnd,
 ) -> Result<(), AllocError> {
-    let worlds = end.places.len();
+    let worlds = end.worlds();
     let kind = end.kind.name();
     let steps = end.schedule.len();
     let sources = end.sources;
@@ -352,14 +366,15 @@ fn push_end_object(
     end: &SpaceEnd,
 ) -> Result<(), AllocError> {
     let kind = end.kind.json_name();
-    let worlds = end.places.len();
+    let worlds = end.worlds();
     let sets = end.sets;
     let words = end.text.as_str();
     let sources = end.sources;
     let shortest = shortest_value(alloc, found, end)?;
     let schedule = write_schedule(alloc, &end.schedule)?;
     let schedule = schedule.as_str();
-    let is_as_expected = end.missed.is_none() && !end.is_trapped;
+    let is_broken = end.kind == SpaceEndKind::Broken;
+    let is_as_expected = end.missed.is_none() && !end.is_trapped && !is_broken;
     let missed = match missed_of(expected, end) {
         Some(expectation) => {
             let mut words = String::new(alloc);

@@ -1,12 +1,14 @@
 //! The command `explore`: every end that schedules of a program come to, judged by what is wished.
 #![tactic(auto)]
 
+mod claim_texts;
 mod expectation_texts;
 mod exploring;
 mod widths;
 mod wished;
 
+pub use claim_texts::claim_words;
 pub use expectation_texts::push_expectation;
 pub use exploring::{Explored, Search, explore_program, show_every_end};
 pub use widths::digits_of;
-pub use wished::{expectations_of, expected_of, wishes_of};
+pub use wished::{expectations_of, expected_of, wish_fault, wishes_of};

@@ -1,7 +1,9 @@
 //! What is wished of a program, from files.
 
+use crate::claim_texts::claim_words;
 use command_parts::{Inputs, LabFault};
 use expectations::{Expectation, ExpectationFault, ExpectationFaultKind, read_expectations};
+use image_file::Image;
 use lab_ends::{WishFault, Wishes};
 use lab_texts::ProgramNames;
 use std::alloc::{AllocError, Global};
@@ -30,21 +32,33 @@ pub fn expectations_of(
     }
 }
 
-/// The wishes of the text of a path, by the names of a program.
+/// The wishes of the text of a path of a program, by its names and its image.
 pub fn wishes_of(
     alloc: Global,
     path: &str,
     text: &[u8],
     names: &ProgramNames<'_>,
+    image: &Image,
 ) -> Result<Wishes, LabFault> {
-    match Wishes::of(alloc, text, names) {
+    match Wishes::of(alloc, text, names, image) {
         Ok(wishes) => Ok(wishes),
-        Err(WishFault::NoMemory) => Err(LabFault::NoMemory),
-        Err(WishFault::Expectation(fault)) => Err(expectation_fault(alloc, path, fault)?),
-        Err(WishFault::Claim { line }) => {
-            Err(LabFault::Lines(format!(in alloc;
-                "{path}:{line}:1: error: behind always or never stands word ADDRESS is|above|below VALUE, word ADDRESS full|empty, or at most N of P.S .. in FIRST..LAST\n"
-            )?))
+        Err(fault) => Err(wish_fault(alloc, path, fault, image)?),
+    }
+}
+
+/// What is said of a file with a fault in its wishes of a program with this image.
+pub fn wish_fault(
+    alloc: Global,
+    path: &str,
+    fault: WishFault,
+    image: &Image,
+) -> Result<LabFault, AllocError> {
+    match fault {
+        WishFault::NoMemory => Ok(LabFault::NoMemory),
+        WishFault::Expectation(fault) => expectation_fault(alloc, path, fault),
+        WishFault::Claim { line, fault } => {
+            let words = claim_words(alloc, fault, image)?;
+            Ok(LabFault::Lines(format!(in alloc; "{path}:{line}:1: error: {words}\n")?))
         }
     }
 }

@@ -4,8 +4,8 @@ use crate::grading::{Verdict, push_why};
 use command_parts::{LabFault, Program, style_of};
 use end_kinds::EndKind;
 use expectations::Expectation;
-use lab_ends::{SpaceEnd, SpaceEndKind};
-use lab_explorer::{Explored, Search, explore_program, wishes_of};
+use lab_ends::{ClaimFault, SpaceEnd, SpaceEndKind, WishFault, Wishes};
+use lab_explorer::{Explored, Search, claim_words, explore_program, wish_fault};
 use lab_requests::GradeRequest;
 use lab_texts::ProgramNames;
 use std::alloc::{AllocError, Global};
@@ -22,7 +22,10 @@ pub(crate) fn explored_verdict(
     most: usize,
 ) -> Result<Verdict, LabFault> {
     let names = ProgramNames::of(alloc, &program.text)?;
-    let wishes = wishes_of(alloc, request.expected, wishes, &names)?;
+    let wishes = match wishes_for(alloc, request, wishes, program, &names)? {
+        Ok(wishes) => wishes,
+        Err(verdict) => return Ok(verdict),
+    };
     let begin = Vec::new(alloc);
     let asked = Search {
         wishes: &wishes,
@@ -33,6 +36,40 @@ pub(crate) fn explored_verdict(
     };
     let found = explore_program(alloc, program, &names, &asked)?;
     Ok(verdict_of_ends(alloc, &wishes.ends, &found)?)
+}
+
+/// What is wished of a submission, or what is said of one that has not all that a claim speaks of.
+fn wishes_for(
+    alloc: Global,
+    request: &GradeRequest,
+    text: &[u8],
+    program: &Program,
+    names: &ProgramNames<'_>,
+) -> Result<Result<Wishes, Verdict>, LabFault> {
+    match Wishes::of(alloc, text, names, &program.image) {
+        Ok(wishes) => Ok(Ok(wishes)),
+        Err(WishFault::Claim { line, fault }) if fault.is_of_program() => Ok(Err(
+            verdict_without_parts(alloc, request, program, line, fault)?,
+        )),
+        Err(fault) => Err(wish_fault(alloc, request.expected, fault, &program.image)?),
+    }
+}
+
+/// What is said of a submission that has not all that the claim of a line speaks of.
+fn verdict_without_parts(
+    alloc: Global,
+    request: &GradeRequest,
+    program: &Program,
+    line: usize,
+    fault: ClaimFault,
+) -> Result<Verdict, AllocError> {
+    let path = request.expected;
+    let words = claim_words(alloc, fault, &program.image)?;
+    Ok(Verdict {
+        word: "wrong",
+        why: format!(in alloc; "{path}:{line}: {words}")?,
+        status: Status::Unexpected,
+    })
 }
 
 /// What is said of a submission with these ends of all schedules.

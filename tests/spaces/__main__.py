@@ -1,0 +1,69 @@
+#!/usr/bin/env python3
+"""Random programs, all of whose worlds are searched by a machine of the tests' own (machine.py), beside what mta_lab says:
+the kinds of ends, how many worlds each has, the steps of shortest schedules, what spins, whether each end is as expected,
+which claims are broken, the verdict of `grade --explore`, and each status. A difference is told with its seed and its
+program. Needs Python 3.
+
+  spaces [--programs N] [--first SEED] [--program PATH]     500 programs from seed 0 on, by the program that is built here"""
+
+import sys
+
+sys.dont_write_bytecode = True
+
+import argparse
+import collections
+import concurrent.futures
+import os
+import subprocess
+import tempfile
+
+from cases import Case
+
+ROOT = os.path.dirname(os.path.dirname(os.path.dirname(os.path.abspath(__file__))))
+LAB = os.path.join(ROOT, "crates/mta_lab/out/mta_lab")
+# after so many seconds a call has failed, and how many differences are printed
+PATIENCE, SHOWN = 60, 20
+
+
+def answers_of(program, case):
+    """The status of each call of a case, and what it prints."""
+    answers = {}
+    for name, words in case.calls().items():
+        ended = subprocess.run([program, *words], capture_output=True, timeout=PATIENCE, check=False)
+        answers[name] = ended.returncode, ended.stdout.decode("utf-8", "backslashreplace")
+    return answers
+
+
+def tried(seed, program):
+    """What differs of the program that a seed makes, with its text; and how its worlds end."""
+    with tempfile.TemporaryDirectory(prefix="mta-space-") as folder:
+        case = Case(seed, folder)
+        found = case.differences(answers_of(program, case))
+    kinds = {*case.space.ends().values()} | ({"spinning"} if case.space.spinning() else set())
+    return seed, found, case.made.text.decode(), kinds, len(case.space.distance)
+
+
+def main():
+    asked = argparse.ArgumentParser(description=__doc__.partition("\n\n")[0])
+    asked.add_argument("--programs", type=int, default=500, help="how many (500)")
+    asked.add_argument("--first", type=int, default=0, help="the first seed (0)")
+    asked.add_argument("--program", default=LAB, help="the mta_lab that is tried")
+    asked = asked.parse_args()
+    if not os.access(asked.program, os.X_OK):
+        sys.exit("nothing is built yet: make run-lab proves and builds the program")
+    seeds = range(asked.first, asked.first + asked.programs)
+    wrong, worlds, kinds = 0, 0, collections.Counter()
+    with concurrent.futures.ProcessPoolExecutor(os.cpu_count()) as pool:
+        for seed, found, text, ends, count in pool.map(tried, seeds, [asked.program] * len(seeds)):
+            kinds.update(ends)
+            worlds += count
+            wrong += bool(found)
+            if found and wrong <= SHOWN:
+                print(f"seed {seed}:\n{text}" + "".join(f"not so: {what}\n" for what in found), flush=True)
+    told = ", ".join(f"{count} {kind}" for kind, count in sorted(kinds.items()))
+    print(f"{len(seeds)} programs, {worlds} worlds; programs with an end of this kind: {told}")
+    print(f"{len(seeds) - wrong} passed, {wrong} failed")
+    sys.exit(1 if wrong else 0)
+
+
+main()

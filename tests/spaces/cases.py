@@ -1,0 +1,257 @@
+"""A random program with what is asked of it, the calls of mta_lab that answer, and in what the answers differ from those
+of the search."""
+
+import json
+import os
+import random
+
+import programs
+import search
+import wishes
+
+# the most worlds of a program that is searched, and how many programs a seed tries to find a smaller one
+MOST, TRIES = 300, 40
+# the verdict of `grade --explore` where no end and no claim is against a program
+SPINS, RIGHT = "spins", "right"
+
+
+class Case:
+    """A program that a seed makes, the space of its worlds, and what is expected, claimed, and given as a beginning."""
+
+    def __init__(self, seed, folder):
+        self.seed = seed
+        chance = random.Random(seed)
+        for _ in range(TRIES):
+            self.made = programs.made(chance)
+            self.space = search.Space(self.made.program, (), MOST)
+            if self.space.is_whole:
+                break
+        else:
+            raise ValueError(f"seed {seed}: no program of at most {MOST} worlds")
+        self.expected = wishes.expectations(chance, self.made, self.space)
+        self.claims = wishes.claims(chance, self.made) if chance.random() < 0.7 else []
+        self.begin = begin_of(chance, self.space)
+        self.begun = search.Space(self.made.program, self.begin, MOST)
+        self.begun_claims = wishes.claims(chance, self.made)
+        self.paths = {name: os.path.join(folder, f"{seed}.{name}") for name in ("asm", "expect", "claims", "schedule")}
+        self.write()
+
+    def write(self):
+        """Writes the files that the calls read."""
+        texts = {
+            "asm": self.made.text,
+            "expect": lines(self.expected + self.claims),
+            "claims": lines(self.begun_claims),
+            "schedule": b"".join(b"%d %d 1\n" % step for step in self.begin),
+        }
+        for name, text in texts.items():
+            with open(self.paths[name], "wb") as file:
+                file.write(text)
+
+    def calls(self):
+        """The words of each call of mta_lab."""
+        at = self.paths
+        return {
+            "plain": ["explore", "--json", "--plain", at["asm"]],
+            "ends": ["explore", "--json", at["asm"]],
+            "wished": ["explore", "--json", at["asm"], "--expect", at["expect"]],
+            "graded": ["grade", "--explore", "--json", "--expect", at["expect"], at["asm"]],
+            "begun": ["explore", "--json", at["asm"], "--from", at["schedule"], "--expect", at["claims"]],
+        }
+
+    def differences(self, answers):
+        """In what answers differ from the search: a status and what was printed, by the names of the calls."""
+        found = []
+        for name, differ in (("plain", self.of_plain), ("ends", self.of_ends), ("wished", self.of_wished),
+                             ("graded", self.of_graded), ("begun", self.of_begun)):
+            status, printed = answers[name]
+            try:
+                objects = [json.loads(line) for line in printed.splitlines()]
+                found += [f"{name}: {what}" for what in differ(status, *objects) if what]
+            except Exception as error:  # an answer that can't be read is one that differs
+                found.append(f"{name}: {type(error).__name__} {error}: status {status}, {printed[:200]!r}")
+        return found
+
+    # Of each call.
+
+    def of_plain(self, status, head, *ends):
+        """All worlds."""
+        space = self.space
+        yield differs("head", (head["complete"], head["worlds"], head["steps"]), (True, len(space.distance), space.steps()))
+        sets = space.spinning()
+        yield differs("worlds that spin", sum(end["worlds"] for end in ends if end["end"] == "spinning"), sum(map(len, sets)))
+        yield differs("sets that spin", sum(end["sets"] for end in ends if end["end"] == "spinning"), len(sets))
+        yield from of_each_end(space, [], ends)
+        for end in ends:
+            yield of_sources(space, sets, end)
+            if end["end"] == "spinning":
+                yield of_spinning(space, sets, end)
+        yield differs("status", status, self.status([], []))
+
+    def of_ends(self, status, head, *ends):
+        """The ends alone."""
+        yield differs("complete", head["complete"], True)
+        yield differs("whether it spins", any(end["end"] == "spinning" for end in ends), bool(self.space.spinning()))
+        yield from of_each_end(self.space, [], ends)
+        yield differs("status", status, self.status([], []))
+
+    def of_wished(self, status, head, *ends):
+        """What is expected of ends, and claimed of worlds."""
+        yield differs("complete", head["complete"], True)
+        yield differs("whether all", head["plain"], bool(self.claims))
+        yield from of_each_end(self.space, self.expected, ends)
+        yield from of_claims(self.space, self.claims, ends)
+        yield differs("status", status, self.status(self.expected, self.claims))
+
+    def of_graded(self, status, graded):
+        """The verdict."""
+        yield differs("verdict", graded["verdict"], self.verdict())
+        yield differs("status", status, self.status(self.expected, self.claims))
+
+    def of_begun(self, status, head, *ends):
+        """The schedules that begin so."""
+        if not self.begun.is_whole:
+            return
+        space = self.begun
+        yield differs("head", (head["complete"], head["worlds"], head["begin"]), (True, len(space.distance), len(self.begin)))
+        yield from of_each_end(space, [], ends)
+        yield from of_claims(space, self.begun_claims, ends)
+        kinds = statuses(space, [], self.begun_claims)
+        yield differs("status", status, search.worst(kinds))
+
+    # What the search says.
+
+    def status(self, expected, claims):
+        """The worst status of all ends and claims."""
+        return search.worst(statuses(self.space, expected, claims))
+
+    def verdict(self):
+        """The word of `grade --explore`."""
+        ends = self.space.ends()
+        if any(wishes.is_trapped(self.expected, world) for world in ends):
+            return "trap"
+        if "deadlock" in ends.values():
+            return "deadlock"
+        if any(wishes.missed(self.expected, world) for world in ends) or broken(self.space, self.claims):
+            return "wrong"
+        return SPINS if self.space.spinning() else RIGHT
+
+
+def begin_of(chance, space):
+    """Some steps from the start on, of streams that run."""
+    steps, world = [], space.first
+    for _ in range(chance.randrange(1, 6)):
+        streams = search.machine.running(world)
+        if streams:
+            steps.append(chance.choice(streams))
+            world, _ = search.machine.step(space.program, world, *steps[-1])
+    return tuple(steps)
+
+
+def lines(wished):
+    """Lines of a file of expectations."""
+    return "".join(line.text + "\n" for line in wished).encode()
+
+
+def differs(what, told, wanted):
+    """That something differs; None where it does not."""
+    return None if told == wanted else f"{what}: {told}, and not {wanted}"
+
+
+def broken(space, claims):
+    """The claims that some world breaks."""
+    return [claim for claim in claims if any(not wishes.holds(claim, world) for world in [*space.before, *space.distance])]
+
+
+def statuses(space, expected, claims):
+    """The status of each end, of what spins, and of claims that are broken."""
+    for world, kind in space.ends().items():
+        if kind == "deadlock":
+            yield search.DEADLOCK
+        elif wishes.is_trapped(expected, world) or wishes.missed(expected, world):
+            yield search.UNEXPECTED
+    if space.spinning():
+        yield search.ENDLESS
+    if broken(space, claims):
+        yield search.UNEXPECTED
+
+
+def of_each_end(space, expected, ends):
+    """In what the ends differ: how many worlds each kind has, as expected or not, and each schedule."""
+    wanted, told = {}, {}
+    for world, kind in space.ends().items():
+        key = kind, wishes.missed(expected, world) is None and not wishes.is_trapped(expected, world)
+        count, least = wanted.get(key, (0, space.distance[world]))
+        wanted[key] = count + 1, min(least, space.distance[world])
+    for end in ends:
+        if end["end"] in ("spinning", "broken"):
+            continue
+        key = end["end"], end["expected"]
+        count, least = told.get(key, (0, end["shortest"]))
+        told[key] = count + end["worlds"], min(least, end["shortest"])
+        world = space.world_after(steps_of(end["schedule"]))
+        shortest = space.distance.get(world)
+        yield differs("a schedule", (space.kind(world) if shortest is not None else None, len(steps_of(end["schedule"])),
+                                     end["shortest"]), (end["end"], shortest, shortest))
+        missed = wishes.missed(expected, world)
+        yield differs("what is missed", of_missed(end["missed"]), of_missed(missed and missed.text))
+    yield differs("worlds and shortest of the ends", told, wanted)
+
+
+def of_missed(text):
+    """An expectation with its numbers read, however they are written."""
+    return text and [number(word) for word in text.split()]
+
+
+def number(word):
+    """A word that is a number as it is kept; others as they are."""
+    try:
+        return int(word, 0) % 2**64
+    except ValueError:
+        return word
+
+
+def of_claims(space, claims, ends):
+    """In what the claims that are broken differ."""
+    wanted = []
+    for claim in claims:
+        before = [at for at, world in enumerate(space.before) if not wishes.holds(claim, world)]
+        breaking = [space.distance[world] for world in space.distance if not wishes.holds(claim, world)]
+        if before or breaking:
+            wanted.append((claim.text, len(before) + len(breaking), min(before + breaking)))
+    told = [(end["words"], end["worlds"], end["shortest"]) for end in ends if end["end"] == "broken"]
+    yield differs("broken claims", told, wanted)
+    for end in ends:
+        if end["end"] == "broken":
+            world = space.world_after(steps_of(end["schedule"]))
+            claim = next(claim for claim in claims if claim.text == end["words"])
+            yield differs("a world that breaks it", wishes.holds(claim, world), False)
+
+
+def of_sources(space, sets, end):
+    """In what the number of worlds differs from which a schedule leads to an end that is one world or one set."""
+    world = space.world_after(steps_of(end["schedule"]))
+    if end["end"] == "spinning":
+        wanted = [found for found in sets if world in found]
+        if end["sets"] != 1 or not wanted:
+            return None
+        return differs("sources", end["from"], len(space.leading_to(wanted[0])))
+    return differs("sources", end["from"], len(space.leading_to([world]))) if end["worlds"] == 1 else None
+
+
+def of_spinning(space, sets, end):
+    """In what a set of worlds that spins differs."""
+    steps, way = steps_of(end["schedule"]), steps_of(end["round"])
+    world = space.world_after(steps)
+    inside = [found for found in sets if world in found]
+    if not inside:
+        return f"its schedule leads to no set that spins: {end['schedule']!r}"
+    least = min(space.distance[one] for found in inside for one in found)
+    round_ok = space.world_after((*steps, *way)) == world and len(way) == space.shortest_round(world)
+    return differs("a set that spins", (len(steps), end["shortest"], round_ok), (least, least, True))
+
+
+def steps_of(schedule):
+    """The steps of a schedule's text."""
+    return tuple((int(p), int(s)) for p, s, count in (line.split() for line in schedule.splitlines())
+                 for _ in range(int(count)))

@@ -1,0 +1,136 @@
+"""Expectations and claims: random ones, as lines, and what they say of a world."""
+
+from typing import NamedTuple
+
+import machine
+import search
+
+
+class Expectation(NamedTuple):
+    """A line about ends."""
+
+    text: str
+    form: str
+    operands: tuple
+
+
+class Claim(NamedTuple):
+    """A line about all worlds."""
+
+    text: str
+    is_always: bool
+    form: str
+    operands: tuple
+
+
+NUMBERS = (0, 0, 1, 2, 8, 2**64 - 1, 2**63, 2**63 - 1)
+
+
+def expectations(chance, made, space):
+    """A few expectations, such as some end of the program may meet."""
+    found = []
+    ends = list(space.ends())
+    world = chance.choice(ends) if ends else space.first
+    for _ in range(chance.choice((1, 1, 2))):
+        form = chance.choice(("word", "word", "word", "finished", "stopped", "register"))
+        if form == "word":
+            at = chance.randrange(made.words)
+            value = world.memory[at][0] if chance.random() < 0.8 else chance.choice(NUMBERS)
+            state = chance.choice(("", "", " full", " empty"))
+            found.append(Expectation(f"word {8 * at} {written(chance, value)}{state}", form, (at, value, state.strip())))
+        elif form == "finished":
+            found.append(Expectation("finished", form, ()))
+        elif form == "stopped":
+            p, s = chance.randrange(len(made.program.entries)), chance.randrange(made.program.slim)
+            trap = search.stopped(world).get((p, s), chance.randrange(1, 11))
+            found.append(Expectation(f"stopped {p}.{s} {trap}", form, (p, s, trap)))
+        else:
+            p, s, r = chance.randrange(len(made.program.entries)), chance.randrange(made.program.slim), chance.randrange(3)
+            value = world.processors[p].streams[s].registers[r]
+            found.append(Expectation(f"register {p}.{s} r{r} {written(chance, value)}", form, (p, s, r, value)))
+    return found
+
+
+def written(chance, value):
+    """A number of 64 bits, with a sign at times."""
+    return str(machine.signed(value)) if chance.random() < 0.4 else chance.choice((str(value), hex(value)))
+
+
+def is_met(expectation, world):
+    """Whether a world is as an expectation says."""
+    if expectation.form == "word":
+        at, value, state = expectation.operands
+        held, tags = world.memory[at]
+        return held == value and state in ("", ("empty", "full")[tags & 1])
+    if expectation.form == "register":
+        p, s, r, value = expectation.operands
+        return world.processors[p].streams[s].registers[r] == value
+    if expectation.form == "finished":
+        return all(stream.status == "idle" for processor in world.processors for stream in processor.streams)
+    p, s, trap = expectation.operands
+    return search.stopped(world).get((p, s)) == trap
+
+
+def missed(wished, world):
+    """The first expectation that a world does not meet; None where it meets all."""
+    return next((expectation for expectation in wished if not is_met(expectation, world)), None)
+
+
+def is_trapped(wished, world):
+    """Whether a trap that nobody expected stopped a stream."""
+    wanted = {expectation.operands for expectation in wished if expectation.form == "stopped"}
+    return any((p, s, trap) not in wanted for (p, s), trap in search.stopped(world).items())
+
+
+def claims(chance, made):
+    """A few claims."""
+    return [at_most(chance, made) if chance.random() < 0.35 else of_word(chance, made)
+            for _ in range(chance.choice((1, 1, 2)))]
+
+
+def of_word(chance, made):
+    """A claim about a word."""
+    scope, at = chance.choice(("always", "never")), chance.randrange(made.words)
+    form = chance.choice(("is", "above", "below", "above", "below", "full", "empty"))
+    if form in ("full", "empty"):
+        return Claim(f"{scope} word {8 * at} {form}", scope == "always", form, (at, 0, False))
+    value = chance.choice(NUMBERS)
+    number, sign, is_signed = str(value), "", False
+    if form != "is" and chance.random() < 0.6:
+        value = machine.signed(value)
+        number = f"{value:+d}" if value < 0 or chance.random() < 0.5 else str(value)
+        sign = " signed" if number[0] not in "+-" or chance.random() < 0.3 else ""
+        is_signed = True
+    return Claim(f"{scope} word {8 * at} {form} {number}{sign}", scope == "always", form, (at, value, is_signed))
+
+
+def at_most(chance, made):
+    """A claim about how many streams run at places of a range."""
+    scope = chance.choice(("always", "never"))
+    program = made.program
+    streams = [(p, s) for p in range(len(program.entries)) for s in range(program.slim)]
+    chosen = chance.sample(streams, chance.randrange(1, len(streams) + 1))
+    first = chance.randrange(len(program.words))
+    last = chance.randrange(first, len(program.words))
+    most = chance.randrange(len(chosen) + 1)
+    named = " ".join(f"{p}.{s}" for p, s in chosen)
+    text = f"{scope} at most {most} of {named} in w{first}..w{last}"
+    return Claim(text, scope == "always", "at", (most, tuple(chosen), first, last))
+
+
+def holds(claim, world):
+    """Whether a claim holds of a world."""
+    return of_form(claim, world) == claim.is_always
+
+
+def of_form(claim, world):
+    """The same without `always` or `never`."""
+    if claim.form == "at":
+        most, streams, first, last = claim.operands
+        there = [world.processors[p].streams[s] for p, s in streams]
+        return sum(stream.status == "running" and first <= stream.ssw % 2**32 <= last for stream in there) <= most
+    at, value, is_signed = claim.operands
+    held, tags = world.memory[at]
+    held = machine.signed(held) if is_signed else held
+    return {"is": held == value, "above": held > value, "below": held < value, "full": tags & 1 == 1,
+            "empty": tags & 1 == 0}[claim.form]
