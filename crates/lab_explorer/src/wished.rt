@@ -4,6 +4,7 @@ use command_parts::{Inputs, LabFault};
 use expectations::{Expectation, ExpectationFault, ExpectationFaultKind, read_expectations};
 use lab_ends::{WishFault, Wishes};
 use lab_texts::ProgramNames;
+use plain_text::plain;
 use std::alloc::{AllocError, Global};
 use std::io::Read;
 use std::rt::Files;
@@ -42,6 +43,7 @@ pub fn wishes_of(
         Err(WishFault::NoMemory) => Err(LabFault::NoMemory),
         Err(WishFault::Expectation(fault)) => Err(expectation_fault(alloc, path, fault)?),
         Err(WishFault::Claim { line }) => {
+            let path = plain(alloc, path)?;
             Err(LabFault::Lines(format!(in alloc;
                 "{path}:{line}:1: error: behind always or never stands word ADDRESS is|above|below VALUE, word ADDRESS full|empty, or at most N of P.S .. in FIRST..LAST\n"
             )?))
@@ -69,5 +71,6 @@ fn expectation_fault(
         ExpectationFaultKind::Empty => "nothing is expected here, so nothing can be judged",
     };
     let line = fault.line.max(1);
+    let path = plain(alloc, path)?;
     Ok(LabFault::Lines(format!(in alloc; "{path}:{line}:1: error: {words}\n")?))
 }
