@@ -4,6 +4,7 @@ use crate::inputs::Inputs;
 use crate::lab_fault::LabFault;
 use asm_text::{AsmFault, Fault, assemble, listing};
 use image_file::{Image, ImageFault, read_image};
+use plain_text::plain;
 use source_faults::{check_source, image_fault_words, push_message};
 use std::alloc::Global;
 use std::io::Read;
@@ -67,7 +68,7 @@ fn program_of_image(alloc: Global, path: &str, bytes: &[u8]) -> Result<Program, 
         Err(fault) => {
             let message = image_fault_words(alloc, bytes, fault)?;
             let mut lines = String::new(alloc);
-            push_message(&mut lines, path, b"", &message)?;
+            push_message(&mut lines, &plain(alloc, path)?, b"", &message)?;
             Err(LabFault::Lines(lines))
         }
     }
@@ -76,8 +77,9 @@ fn program_of_image(alloc: Global, path: &str, bytes: &[u8]) -> Result<Program, 
 /// What is wrong with a source text, in lines.
 fn source_messages(alloc: Global, path: &str, text: &[u8]) -> Result<String, LabFault> {
     let mut lines = String::new(alloc);
+    let path = plain(alloc, path)?;
     for message in &check_source(alloc, text)? {
-        push_message(&mut lines, path, text, message)?;
+        push_message(&mut lines, &path, text, message)?;
     }
     Ok(lines)
 }

@@ -7,6 +7,7 @@ use crate::programs::Program;
 use image_file::Image;
 use lab_requests::{Maker, RunChoice};
 use machine::{LoadFault, Machine};
+use plain_text::plain;
 use processor::Step;
 use schedule_makers::{MadeSchedule, fair, random, rounds};
 use source_faults::push_message;
@@ -82,12 +83,21 @@ pub fn read_steps<F: Files, R: Read>(
                 ..
             },
         ) => Err(LabFault::NoMemory),
-        Err(_) => {
-            let mut lines = String::new(alloc);
-            for message in &check_loose_schedule(alloc, &text, Some(&program.image))? {
-                push_message(&mut lines, path, &text, message)?;
-            }
-            Err(LabFault::Lines(lines))
-        }
+        Err(_) => Err(LabFault::Lines(schedule_messages(alloc, program, path, &text)?)),
     }
+}
+
+/// What is wrong with a schedule, in lines.
+fn schedule_messages(
+    alloc: Global,
+    program: &Program,
+    path: &str,
+    text: &[u8],
+) -> Result<String, AllocError> {
+    let mut lines = String::new(alloc);
+    let path = plain(alloc, path)?;
+    for message in &check_loose_schedule(alloc, text, Some(&program.image))? {
+        push_message(&mut lines, &path, text, message)?;
+    }
+    Ok(lines)
 }

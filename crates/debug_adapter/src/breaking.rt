@@ -123,7 +123,7 @@ impl<'a, 'i, 't> Adapter<'a, 'i, 't> {
         Ok(body.close()?)
     }
 
-    /// Sets the breakpoints on places by name: a label, a label and an offset, or a number of a word.
+    /// Sets the breakpoints on places by name, as `word_of_place` reads them.
     pub(crate) fn set_function_breakpoints(
         &mut self,
         request: &Request,
@@ -134,7 +134,7 @@ impl<'a, 'i, 't> Adapter<'a, 'i, 't> {
         body.open_list("breakpoints")?;
         for (index, wanted) in request.list("breakpoints").iter().enumerate() {
             let name = wanted.get("name").and_then(Value::as_str).unwrap_or("");
-            match self.names.word_at(self.alloc, name.trim())? {
+            match self.named.word_of_place(name.trim()) {
                 Some(word) if index < MOST_BREAKPOINTS => self.break_at(
                     PointKind::Function,
                     word,

@@ -2,6 +2,7 @@
 
 use crate::adapter::Adapter;
 use crate::json_text::Json;
+use crate::memory::whole_number;
 use crate::refusals::Refusal;
 use crate::requests::Request;
 use serde_json::Value;
@@ -98,14 +99,14 @@ impl<'a, 'i, 't> Adapter<'a, 'i, 't> {
         let Some(place) = request.text("memoryReference").and_then(read_reference) else {
             return Err(Refusal::Words("this is no place of the program"));
         };
-        let count = request.integer("instructionCount");
+        let count = whole_number(request, "instructionCount")?;
         if count > MOST_INSTRUCTIONS {
             return Err(Refusal::Words("at most 10000 instructions are told at once"));
         }
         let first = i64::try_from(place)
             .unwrap_or(i64::MAX)
-            .saturating_add(request.integer("offset"))
-            .saturating_add(request.integer("instructionOffset"));
+            .saturating_add(whole_number(request, "offset")?)
+            .saturating_add(whole_number(request, "instructionOffset")?);
         body.open()?;
         body.open_list("instructions")?;
         for index in 0..count {

@@ -38,8 +38,7 @@ impl<'a, 'i, 't> Adapter<'a, 'i, 't> {
                 self.push_program_word(&mut out, self.named.word_of_line(line))?;
             }
             Some(UserName::Label(name)) => {
-                let word = self.names.word_at(self.alloc, name)?;
-                self.push_program_word(&mut out, word)?;
+                self.push_program_word(&mut out, self.named.word_of_label(name))?;
             }
             None => return Err(Refusal::Words("r1, 2.0.r1, [8], 2.0, a label or a line is shown")),
         }

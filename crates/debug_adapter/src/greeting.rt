@@ -9,12 +9,6 @@ use crate::json_text::Json;
 use crate::requests::Request;
 use std::alloc::{AllocError, Global};
 
-/// How many steps a made schedule has at most, where none are said.
-const USUAL_STEPS: u64 = 10_000;
-
-/// The most steps of a made schedule.
-const MOST_STEPS: u64 = 1_000_000;
-
 /// What the client says of itself.
 #[derive(Clone, Copy)]
 pub struct Client {
@@ -22,34 +16,6 @@ pub struct Client {
     pub first_line: u64,
     /// The number of the first column.
     pub first_column: u64,
-}
-
-/// By which schedule a program is to run.
-#[derive(Drop)]
-pub enum ScheduleChoice {
-    /// By that of a file.
-    File(String),
-    /// The processors in turn, and within each its streams.
-    Fair,
-    /// The running streams in the order of processor and stream.
-    Rounds,
-    /// One of the running streams at each step, by a generator with this seed.
-    Random(u64),
-}
-
-/// What is to be launched.
-#[derive(Drop)]
-pub struct LaunchRequest {
-    /// The request's number.
-    pub seq: u64,
-    /// The program's path.
-    pub program: String,
-    /// Its schedule.
-    pub schedule: ScheduleChoice,
-    /// The most steps of a made schedule.
-    pub steps: usize,
-    /// Whether to stop at the start.
-    pub stops_on_entry: bool,
 }
 
 impl Client {
@@ -125,35 +91,6 @@ fn client_of(request: &Request) -> Client {
         first_line: first("linesStartAt1"),
         first_column: first("columnsStartAt1"),
     }
-}
-
-/// What a request to launch asks for; or why that can't be launched.
-pub fn launch_of(
-    alloc: Global,
-    request: &Request,
-) -> Result<Result<LaunchRequest, &'static str>, AllocError> {
-    let Some(program) = request.text("program") else {
-        return Ok(Err("launch takes a program: the path of a source text or an image"));
-    };
-    let schedule = match request.text("schedule").unwrap_or("fair") {
-        "fair" | "" => ScheduleChoice::Fair,
-        "rounds" => ScheduleChoice::Rounds,
-        text => match text.strip_prefix("random:") {
-            Some(seed) => match seed.parse::<u64>() {
-                Ok(seed) => ScheduleChoice::Random(seed),
-                Err(_) => return Ok(Err("random: takes a seed, as random:7")),
-            },
-            None => ScheduleChoice::File(String::from_str(alloc, text)?),
-        },
-    };
-    let steps = request.number("steps").unwrap_or(USUAL_STEPS);
-    Ok(Ok(LaunchRequest {
-        seq: request.seq,
-        program: String::from_str(alloc, program)?,
-        schedule,
-        steps: steps.clamp(1, MOST_STEPS) as usize,
-        stops_on_entry: request.truth("stopOnEntry") == Some(true),
-    }))
 }
 
 /// What can be asked for here.

@@ -16,13 +16,12 @@ impl<'a, 'i, 't> Adapter<'a, 'i, 't> {
         let Some(place) = request.text("memoryReference").and_then(read_reference) else {
             return Err(Refusal::Words("this is no address of the memory"));
         };
-        let count = request.number("count").unwrap_or(0);
-        if count > MOST_BYTES {
-            return Err(Refusal::Words("at most 2097152 bytes are told at once"));
-        }
-        let Some(first) = place.checked_add_signed(request.integer("offset")) else {
+        let count = bytes_asked(request)?;
+        let offset = whole_number(request, "offset")?;
+        let first = place.checked_add_signed(offset).unwrap_or(u64::MAX);
+        if self.byte_at(first).is_none() {
             return Err(Refusal::Words("there is no word at this address"));
-        };
+        }
         let mut bytes = Vec::new(self.alloc);
         for index in 0..count {
             let Some(byte) = self.byte_at(first.saturating_add(index)) else {
@@ -39,11 +38,28 @@ impl<'a, 'i, 't> Adapter<'a, 'i, 't> {
         Ok(body.close()?)
     }
 
-    /// The byte at a byte address.
+    /// The byte at a byte address; None where there is none.
     fn byte_at(&self, address: u64) -> Option<u8> {
         let place = address % 8;
         let word = self.named.session.machine().word(address - place)?;
         let shifted = word.value() >> (8 * (7 - place));
         Some((shifted & 0xFF) as u8)
+    }
+}
+
+/// How many bytes are asked for.
+fn bytes_asked(request: &Request) -> Result<u64, Refusal> {
+    match request.number_or("count", 0) {
+        Some(count) if count <= MOST_BYTES => Ok(count),
+        Some(_) => Err(Refusal::Words("at most 2097152 bytes are told at once")),
+        None => Err(Refusal::Words("count takes a number of bytes")),
+    }
+}
+
+/// An argument that is a whole number, 0 where it is left out.
+pub(crate) fn whole_number(request: &Request, name: &str) -> Result<i64, Refusal> {
+    match request.integer(name) {
+        Some(number) => Ok(number),
+        None => Err(Refusal::Words("offsets and counts are whole numbers within 2^63 of 0")),
     }
 }

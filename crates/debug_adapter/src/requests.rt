@@ -75,14 +75,49 @@ impl Request {
         self.argument(name)?.as_str()
     }
 
+    /// An argument, unless it is null; None where it is left out.
+    fn given(&self, name: &str) -> Option<&Value> {
+        match self.argument(name) {
+            None | Some(Value::Null) => None,
+            Some(value) => Some(value),
+        }
+    }
+
+    /// An argument that is a text, or `usual` where it is left out; None where it is something else.
+    pub fn text_or<'r>(&'r self, name: &str, usual: &'r str) -> Option<&'r str> {
+        match self.given(name) {
+            Some(value) => value.as_str(),
+            None => Some(usual),
+        }
+    }
+
+    /// An argument that is a natural number, or `usual` where it is left out; None where it is something else.
+    pub fn number_or(&self, name: &str, usual: u64) -> Option<u64> {
+        match self.given(name) {
+            Some(value) => value.as_u64(),
+            None => Some(usual),
+        }
+    }
+
+    /// An argument that is true or false, or false where it is left out; None where it is something else.
+    pub fn is_true(&self, name: &str) -> Option<bool> {
+        match self.given(name) {
+            Some(value) => value.as_bool(),
+            None => Some(false),
+        }
+    }
+
     /// An argument that is a natural number.
     pub fn number(&self, name: &str) -> Option<u64> {
         self.argument(name)?.as_u64()
     }
 
-    /// An argument that is a whole number; 0 where there is none.
-    pub fn integer(&self, name: &str) -> i64 {
-        self.argument(name).and_then(Value::as_i64).unwrap_or(0)
+    /// An argument that is a whole number within 2^63 of 0, or 0 where it is left out; None where it is something else.
+    pub fn integer(&self, name: &str) -> Option<i64> {
+        match self.given(name) {
+            Some(value) => value.as_i64(),
+            None => Some(0),
+        }
     }
 
     /// An argument that is true or false; None where there is none.

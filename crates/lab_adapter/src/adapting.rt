@@ -19,10 +19,13 @@ use std::thread;
 use std::thread::Threads;
 
 /// The bytes that one read asks for.
-const CHUNK: usize = 65_536;
+const CHUNK: usize = 4_096;
 
 /// How many messages wait at most while another is answered.
 const WAITING: usize = 4;
+
+/// Why nothing is answered where the system starts no thread.
+const NO_THREAD: &str = "dap takes a second thread, and the system starts none";
 
 /// Answers the requests on standard input. A thread reads them, so that one is seen while a search is under way.
 pub fn adapt<X: Threads + Wait + Sync, F: Files, R: Read + Send, W: Write>(
@@ -32,6 +35,9 @@ pub fn adapt<X: Threads + Wait + Sync, F: Files, R: Read + Send, W: Write>(
     input: &mut R,
     output: &mut W,
 ) -> Result<Status, LabFault> {
+    if !has_second_thread(rt) {
+        return Err(LabFault::Words(String::from_str(alloc, NO_THREAD)?));
+    }
     let (sender, receiver) = crossbeam_channel::bounded(alloc, WAITING)?;
     let (_, served) = thread::join(
         rt,
@@ -39,6 +45,17 @@ pub fn adapt<X: Threads + Wait + Sync, F: Files, R: Read + Send, W: Write>(
         || serve_all(rt, alloc, files, receiver, output),
     );
     served
+}
+
+/// Whether the system starts a thread: without one, who reads would wait for who answers, and the other way round.
+fn has_second_thread<X: Threads>(rt: &X) -> bool {
+    match thread::spawn(rt, || ()) {
+        Ok(started) => {
+            started.join(rt);
+            true
+        }
+        Err(_) => false,
+    }
 }
 
 /// Reads messages and passes them on, up to one that asks for the end, or to the end of the input.
@@ -144,7 +161,7 @@ fn launch_by<X: Wait, F: Files, W: Write>(
     client: Client,
     line: &mut Line<'_, W>,
 ) -> Result<Turn, LabFault> {
-    let launch = match launch_of(alloc, request)? {
+    let launch = match launch_of(request) {
         Ok(launch) => launch,
         Err(words) => {
             line.connection.refuse(alloc, request.seq, "launch", words)?;
@@ -170,7 +187,7 @@ fn launch_on<X: Wait, W: Write>(
     rt: &X,
     alloc: Global,
     loaded: &Loaded,
-    launch: &LaunchRequest,
+    launch: &LaunchRequest<'_>,
     client: Client,
     line: &mut Line<'_, W>,
 ) -> Result<(), LabFault> {
@@ -184,9 +201,9 @@ fn launch_on<X: Wait, W: Write>(
 }
 
 /// Where a launched program came from, and how its session begins.
-fn origin_of<'a>(loaded: &'a Loaded, launch: &'a LaunchRequest, client: Client) -> Origin<'a> {
+fn origin_of<'a>(loaded: &'a Loaded, launch: &LaunchRequest<'a>, client: Client) -> Origin<'a> {
     Origin {
-        path: launch.program.as_str(),
+        path: launch.program,
         listing: if loaded.is_image {
             Some(std::str::from_utf8(&loaded.program.text).unwrap_or(""))
         } else {
@@ -241,7 +258,11 @@ struct Loaded {
 }
 
 /// Reads what is to be launched.
-fn load<F: Files>(alloc: Global, files: &F, launch: &LaunchRequest) -> Result<Loaded, LabFault> {
+fn load<F: Files>(
+    alloc: Global,
+    files: &F,
+    launch: &LaunchRequest<'_>,
+) -> Result<Loaded, LabFault> {
     let mut none: &'static [u8] = b"";
     load_from(alloc, files, &mut none, launch)
 }
@@ -251,10 +272,10 @@ fn load_from<'a, F: Files>(
     alloc: Global,
     files: &'a F,
     none: &'a mut &'static [u8],
-    launch: &LaunchRequest,
+    launch: &LaunchRequest<'_>,
 ) -> Result<Loaded, LabFault> {
     let mut inputs = Inputs::new(alloc, files, none);
-    let path = launch.program.as_str();
+    let path = launch.program;
     if path == "-" {
         return Err(LabFault::Words(String::from_str(
             alloc,
@@ -273,12 +294,12 @@ fn load_from<'a, F: Files>(
 }
 
 /// By which schedule the program is to run.
-fn run_asked(launch: &LaunchRequest) -> RunChoice<'_> {
-    let maker = match &launch.schedule {
-        ScheduleChoice::File(path) => return RunChoice::File(path.as_str()),
+fn run_asked<'r>(launch: &LaunchRequest<'r>) -> RunChoice<'r> {
+    let maker = match launch.schedule {
+        ScheduleChoice::File(path) => return RunChoice::File(path),
         ScheduleChoice::Fair => Maker::Fair,
         ScheduleChoice::Rounds => Maker::Rounds,
-        ScheduleChoice::Random(seed) => Maker::Random { seed: *seed },
+        ScheduleChoice::Random(seed) => Maker::Random { seed },
     };
     RunChoice::Made {
         maker,

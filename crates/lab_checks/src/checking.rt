@@ -6,8 +6,9 @@ use command_parts::{
 };
 use image_file::{Image, ImageFault, read_image};
 use lab_requests::{CheckRequest, FileKind};
+use plain_text::plain;
 use source_faults::{Message, Severity, check_source, image_fault_words, push_message};
-use std::alloc::Global;
+use std::alloc::{AllocError, Global};
 use std::io::Read;
 use std::rt::Files;
 
@@ -17,6 +18,12 @@ pub fn check<F: Files, R: Read>(
     inputs: &mut Inputs<'_, F, R>,
     request: &CheckRequest,
 ) -> Result<Answer, LabFault> {
+    if request.program.is_some() && !has_schedule(request) {
+        return Err(LabFault::Words(String::from_str(
+            alloc,
+            "--program goes with schedules, and none is given",
+        )?));
+    }
     let program = match request.program {
         Some(path) => Some(read_program(alloc, inputs, path)?.image),
         None => None,
@@ -38,6 +45,14 @@ pub fn check<F: Files, R: Read>(
     })
 }
 
+/// Whether some file is a schedule, as it was said or by its name.
+fn has_schedule(request: &CheckRequest) -> bool {
+    match request.kind {
+        Some(kind) => kind == FileKind::Schedule,
+        None => request.files.iter().any(|path| path.ends_with(".schedule")),
+    }
+}
+
 /// Adds what is to be said of a file, and says whether it is right.
 fn check_file<F: Files, R: Read>(
     alloc: Global,
@@ -50,12 +65,10 @@ fn check_file<F: Files, R: Read>(
     let bytes = inputs.read(alloc, path)?;
     let kind = kind_of(request.kind, path, &bytes);
     let messages = messages_of(alloc, kind, &bytes, program)?;
-    for message in &messages {
-        if request.json {
-            push_message_object(alloc, told, path, message)?;
-        } else {
-            push_message(told, path, shown_text(kind, &bytes), message)?;
-        }
+    if request.json {
+        push_objects(alloc, told, path, &messages)?;
+    } else {
+        push_messages(alloc, told, path, shown_text(kind, &bytes), &messages)?;
     }
     let is_right = messages.iter().all(|message| message.severity != Severity::Error
         && !request.strict);
@@ -64,6 +77,34 @@ fn check_file<F: Files, R: Read>(
     } else {
         Status::Fault
     })
+}
+
+/// Adds messages about a file as objects.
+fn push_objects(
+    alloc: Global,
+    told: &mut String,
+    path: &str,
+    messages: &[Message],
+) -> Result<(), AllocError> {
+    for message in messages {
+        push_message_object(alloc, told, path, message)?;
+    }
+    Ok(())
+}
+
+/// Adds messages about a file with this text as lines.
+fn push_messages(
+    alloc: Global,
+    told: &mut String,
+    path: &str,
+    text: &[u8],
+    messages: &[Message],
+) -> Result<(), AllocError> {
+    let path = plain(alloc, path)?;
+    for message in messages {
+        push_message(told, &path, text, message)?;
+    }
+    Ok(())
 }
 
 /// The kind of a file: as it was said, or by its first bytes and its name.

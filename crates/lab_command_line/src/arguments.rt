@@ -9,6 +9,8 @@ use std::alloc::{AllocError, Global};
 pub(crate) enum Form {
     /// A word that has to be there.
     Needed,
+    /// One of these words, which has to be there.
+    OneOf(&'static [&'static str]),
     /// A word that may be left out, and does not go with the options of these names.
     Optional(&'static [&'static str]),
     /// One or more files.
@@ -19,8 +21,12 @@ pub(crate) enum Form {
     Option(&'static str),
     /// `--name VALUE`, which has to be there.
     NeededOption(&'static str),
+    /// `--name VALUE`, one of these words.
+    OptionOf(&'static str, &'static [&'static str]),
     /// `--name VALUE`, a number in a range.
     Number(&'static str, u64, u64),
+    /// The same, which says nothing without the option of the last name, and so goes only with it.
+    NumberWith(&'static str, u64, u64, &'static str),
     /// The same, which has to be there.
     NeededNumber(&'static str, u64, u64),
 }
@@ -34,22 +40,21 @@ pub(crate) fn parser_of<'a>(alloc: Global, argument: &Argument) -> Result<Arg<'a
     let Argument(name, about, form) = *argument;
     match form {
         Form::Needed => Ok(word(alloc, name, about).required(true)),
+        Form::OneOf(words) => Ok(word(alloc, name, about).required(true).value_parser(words)),
         Form::Optional(excluded) => excluding(word(alloc, name, about), excluded),
         Form::Files => Ok(files(alloc, name, about)),
         Form::Flag(excluded) => excluding(flag(alloc, name, about), excluded),
         Form::Option(value) => Ok(option(alloc, name, value, about)),
         Form::NeededOption(value) => Ok(option(alloc, name, value, about).required(true)),
-        Form::Number(value, least, most) => {
-            let range = ValueParser::unsigned(least, most);
-            Ok(option(alloc, name, value, about).value_parser(range))
+        Form::OptionOf(value, words) => {
+            Ok(option(alloc, name, value, about).value_parser(words))
+        }
+        Form::Number(value, least, most) => Ok(number(alloc, name, value, about, least, most)),
+        Form::NumberWith(value, least, most, needed) => {
+            number(alloc, name, value, about, least, most).requires_arg(needed)
         }
         Form::NeededNumber(value, least, most) => {
-            let range = ValueParser::unsigned(least, most);
-            Ok(
-                option(alloc, name, value, about)
-                    .value_parser(range)
-                    .required(true),
-            )
+            Ok(number(alloc, name, value, about, least, most).required(true))
         }
     }
 }
@@ -84,6 +89,18 @@ fn option<'a>(alloc: Global, name: &'a str, value: &'a str, about: &'a str) -> A
         .value_name(value)
         .help(about)
         .action(ArgAction::Set)
+}
+
+/// An option with a number in a range.
+fn number<'a>(
+    alloc: Global,
+    name: &'a str,
+    value: &'a str,
+    about: &'a str,
+    least: u64,
+    most: u64,
+) -> Arg<'a> {
+    option(alloc, name, value, about).value_parser(ValueParser::unsigned(least, most))
 }
 
 /// An option without a value.

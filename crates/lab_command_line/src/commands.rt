@@ -98,7 +98,7 @@ const CHECK_ARGUMENTS: [Argument; 5] = [
     Argument(
         "as",
         "all are of this kind: source, image or schedule",
-        Form::Option("KIND"),
+        Form::OptionOf("KIND", &["source", "image", "schedule"]),
     ),
     Argument(
         "program",
@@ -110,7 +110,11 @@ const CHECK_ARGUMENTS: [Argument; 5] = [
 ];
 
 const SCHEDULE_ARGUMENTS: [Argument; 4] = [
-    Argument("RULE", "rounds, fair or random", Form::Needed),
+    Argument(
+        "RULE",
+        "rounds, fair or random",
+        Form::OneOf(&["rounds", "fair", "random"]),
+    ),
     Argument("PROGRAM", help::PROGRAM, Form::Needed),
     Argument("seed", help::SEED, Form::Number("N", 0, u64::MAX)),
     Argument("steps", help::STEPS, Form::Number("K", 1, MOST_STEPS)),
@@ -121,7 +125,7 @@ const VIEW_ARGUMENTS: [Argument; 12] = [
     Argument(
         "SCHEDULE",
         help::SCHEDULE_FILE,
-        Form::Optional(&["fair", "seed"]),
+        Form::Optional(&["fair", "seed", "steps"]),
     ),
     Argument("fair", help::FAIR, Form::Flag(&["seed"])),
     Argument("seed", help::SEED, Form::Number("N", 0, u64::MAX)),
@@ -146,8 +150,8 @@ const VIEW_ARGUMENTS: [Argument; 12] = [
         "shows the steps that meet the word at this byte address",
         Form::Number("A", 0, u64::MAX),
     ),
-    Argument("columns", "a column a stream", Form::Flag(&[])),
-    Argument("hex", help::HEX, Form::Flag(&[])),
+    Argument("columns", "a column a stream", Form::Flag(&["json"])),
+    Argument("hex", help::HEX, Form::Flag(&["json"])),
     Argument("json", help::JSON, Form::Flag(&[])),
 ];
 
@@ -156,7 +160,7 @@ const DEBUG_ARGUMENTS: [Argument; 5] = [
     Argument(
         "SCHEDULE",
         help::SCHEDULE_FILE,
-        Form::Optional(&["fair", "seed"]),
+        Form::Optional(&["fair", "seed", "steps"]),
     ),
     Argument("fair", help::FAIR, Form::Flag(&["seed"])),
     Argument("seed", help::SEED, Form::Number("N", 0, u64::MAX)),
@@ -167,7 +171,7 @@ const COMPARE_ARGUMENTS: [Argument; 5] = [
     Argument("PROGRAM", help::PROGRAM, Form::Needed),
     Argument("ONE", "a schedule", Form::Needed),
     Argument("OTHER", "another one", Form::Needed),
-    Argument("hex", help::HEX, Form::Flag(&[])),
+    Argument("hex", help::HEX, Form::Flag(&["json"])),
     Argument("json", help::JSON, Form::Flag(&[])),
 ];
 
@@ -190,7 +194,11 @@ const SURVEY_ARGUMENTS: [Argument; 9] = [
         "says how many of the ends of every schedule were met",
         Form::Flag(&[]),
     ),
-    Argument("states", help::STATES, Form::Number("N", 1, MOST_WORLDS)),
+    Argument(
+        "states",
+        help::STATES,
+        Form::NumberWith("N", 1, MOST_WORLDS, "explore"),
+    ),
     Argument("hex", help::HEX, Form::Flag(&[])),
     Argument("json", help::JSON, Form::Flag(&[])),
 ];
@@ -221,9 +229,13 @@ const GRADE_ARGUMENTS: [Argument; 8] = [
     Argument(
         "explore",
         "every schedule in place of random ones",
-        Form::Flag(&[]),
+        Form::Flag(&["seeds", "steps"]),
     ),
-    Argument("states", help::STATES, Form::Number("N", 1, MOST_WORLDS)),
+    Argument(
+        "states",
+        help::STATES,
+        Form::NumberWith("N", 1, MOST_WORLDS, "explore"),
+    ),
     Argument(
         "SUBMISSION",
         "programs: source texts or images",
@@ -238,7 +250,7 @@ const PAGE_ARGUMENTS: [Argument; 8] = [
     Argument(
         "SCHEDULE",
         help::SCHEDULE_FILE,
-        Form::Optional(&["fair", "seed", "rounds"]),
+        Form::Optional(&["fair", "seed", "rounds", "steps"]),
     ),
     Argument("fair", help::FAIR, Form::Flag(&["seed", "rounds"])),
     Argument(
@@ -257,7 +269,7 @@ const PICTURE_ARGUMENTS: [Argument; 8] = [
     Argument(
         "SCHEDULE",
         help::SCHEDULE_FILE,
-        Form::Optional(&["fair", "seed", "rounds"]),
+        Form::Optional(&["fair", "seed", "rounds", "steps"]),
     ),
     Argument("fair", help::FAIR, Form::Flag(&["seed", "rounds"])),
     Argument(

@@ -2,6 +2,7 @@
 
 use crate::options::{USUAL_SEEDS, USUAL_STEPS, USUAL_WORLDS, count, number, text, word, words};
 use crate::parsers::lab_parser;
+use clap::error::ErrorKind;
 use clap::{ArgMatches, Error};
 use lab_requests::{
     CheckRequest, ExploreRequest, FileKind, GradeRequest, LabCommand, Maker, PageRequest,
@@ -18,7 +19,26 @@ pub fn read_lab_command<'a, S: AsStr>(
     line: &'a [S],
 ) -> Result<LabCommand<'a>, Error> {
     let matches = lab_parser(alloc)?.try_get_matches_from(line)?;
+    if has_idle_seed(&matches) {
+        return Err(refused(alloc, "--seed goes with the rule random alone")?);
+    }
     Ok(command_of(alloc, &matches)?)
+}
+
+/// Whether `schedule` has a seed that says nothing: its rule is not `random`.
+fn has_idle_seed(matches: &ArgMatches) -> bool {
+    match matches.subcommand() {
+        Some(("schedule", found)) => {
+            word(found, "RULE") != "random" && found.get_one::<u64>("seed").is_some()
+        }
+        _ => false,
+    }
+}
+
+/// The error for a command line whose words do not go together.
+fn refused(alloc: Global, words: &str) -> Result<Error, AllocError> {
+    let mut parser = lab_parser(alloc)?;
+    parser.error(ErrorKind::ArgumentConflict, words)
 }
 
 /// The command that stood on the line, with all its arguments.

@@ -9,7 +9,18 @@ use std::str;
 const CHUNK: usize = 4096;
 
 /// The longest line that is taken, without its end.
-const LINE_LIMIT: usize = 65_536;
+pub(crate) const LINE_LIMIT: usize = 65_536;
+
+/// What stands next in the input.
+#[derive(Drop)]
+pub(crate) enum NextLine {
+    /// A line, without its end. One that is no text is empty.
+    Text(String),
+    /// A line of more than [`LINE_LIMIT`] bytes, of which nothing is kept.
+    TooLong,
+    /// The end.
+    End,
+}
 
 /// What was read and not yet taken.
 #[derive(Drop)]
@@ -27,26 +38,46 @@ impl Lines {
         }
     }
 
-    /// The next line without its end; None at the end of the input. A line that is no text is empty.
+    /// The next line. It is read to its end, also where it is too long.
     pub(crate) fn next<R: Read>(
         &mut self,
         alloc: Global,
         input: &mut R,
-    ) -> Result<Option<String>, LabFault> {
-        for _ in 0..=LINE_LIMIT {
+    ) -> Result<NextLine, LabFault> {
+        let mut is_too_long = false;
+        for _ in 0..u64::MAX {
             if let Some(length) = self.waiting().iter().position(|byte| *byte == b'\n') {
-                let text = text_of(alloc, self.waiting().get(..length).unwrap_or(b""))?;
-                self.first = self.first.saturating_add(length).saturating_add(1);
-                return Ok(Some(text));
+                return self.take(alloc, length, is_too_long);
             }
-            if self.waiting().len() > LINE_LIMIT {
-                break;
-            }
-            if !self.read_more(alloc, input)? {
-                return self.last(alloc);
+            let length = self.waiting().len();
+            if length > LINE_LIMIT {
+                is_too_long = true;
+                self.first = self.rest.len();
+            } else if !self.read_more(alloc, input)? {
+                return if length > 0 || is_too_long {
+                    self.take(alloc, length, is_too_long)
+                } else {
+                    Ok(NextLine::End)
+                };
             }
         }
-        Err(LabFault::Words(format!(in alloc; "-: a line of more than {LINE_LIMIT} bytes")?))
+        Ok(NextLine::End)
+    }
+
+    /// Takes a line of so many bytes of those that wait, and its end.
+    fn take(
+        &mut self,
+        alloc: Global,
+        length: usize,
+        is_too_long: bool,
+    ) -> Result<NextLine, LabFault> {
+        let line = if is_too_long || length > LINE_LIMIT {
+            NextLine::TooLong
+        } else {
+            NextLine::Text(text_of(alloc, self.waiting().get(..length).unwrap_or(b""))?)
+        };
+        self.first = self.first.saturating_add(length).saturating_add(1);
+        Ok(line)
     }
 
     /// What was read and not yet taken.
@@ -68,16 +99,6 @@ impl Lines {
         self.rest = rest;
         self.first = 0;
         Ok(count > 0)
-    }
-
-    /// The last line, where it has no end.
-    fn last(&mut self, alloc: Global) -> Result<Option<String>, LabFault> {
-        if self.waiting().is_empty() {
-            return Ok(None);
-        }
-        let text = text_of(alloc, self.waiting())?;
-        self.first = self.rest.len();
-        Ok(Some(text))
     }
 }
 

@@ -9,8 +9,8 @@ use replay_debugger::Point;
 impl<'a, 'i, 't, const S: usize> Desk<'a, 'i, 't, S> {
     /// On until a stream is to step at a place.
     pub(crate) fn until(&mut self, rest: &str, out: &mut String) -> Result<(), LabFault> {
-        let Some(word) = self.program_word(rest) else {
-            return Ok(out.push_str("until takes a label or a line\n")?);
+        let Some(word) = self.named.word_of_place(rest) else {
+            return Ok(out.push_str("until takes a label, as eat or eat+1, or a line\n")?);
         };
         let mut added = Vec::new(self.alloc);
         let mut ignored = String::new(self.alloc);
@@ -28,12 +28,11 @@ impl<'a, 'i, 't, const S: usize> Desk<'a, 'i, 't, S> {
 
     /// A breakpoint of one processor or of all.
     pub(crate) fn break_at(&mut self, rest: &str, out: &mut String) -> Result<(), LabFault> {
-        let (processor, place) = match rest.split_once(' ') {
-            Some((first, place)) => (first.parse::<u8>().ok(), place.trim()),
-            None => (None, rest),
-        };
-        let Some(word) = self.program_word(place) else {
-            return Ok(out.push_str("break takes a label or a line, perhaps behind a processor\n")?);
+        let (processor, place) = processor_and_place(rest);
+        let Some(word) = self.named.word_of_place(place) else {
+            return Ok(out.push_str(
+                "break takes a label, as eat or eat+1, or a line, perhaps behind a processor\n",
+            )?);
         };
         if let Some(p) = processor {
             return self.add_point(&Command::Break(p, word), out);
@@ -113,13 +112,14 @@ impl<'a, 'i, 't, const S: usize> Desk<'a, 'i, 't, S> {
             }
         }
     }
+}
 
-    /// The program word that a label or a line means.
-    fn program_word(&self, text: &str) -> Option<u32> {
-        match read_name(text) {
-            Some(UserName::Label(name)) => self.named.word_of_label(name),
-            Some(UserName::Line(line)) => self.named.word_of_line(line),
-            _ => None,
-        }
+/// The processor that stands before a place, where a number does, and the place.
+fn processor_and_place(rest: &str) -> (Option<u8>, &str) {
+    if let Some((first, place)) = rest.split_once(' ')
+        && let Ok(p) = first.parse::<u8>()
+    {
+        return (Some(p), place.trim());
     }
+    (None, rest)
 }

@@ -36,7 +36,8 @@ impl<'a, 'i, 't, const S: usize> Desk<'a, 'i, 't, S> {
             if let Some(line) = self.named.line(step.p, step.s) {
                 write!(out, ", line {}", line.number.saturating_add(1))?;
             }
-            write!(out, ": {}", self.names.statement(pc))?;
+            out.push_str(": ")?;
+            self.names.push_statement(out, pc)?;
         }
         Ok(out.push_str("\n")?)
     }
@@ -133,7 +134,9 @@ impl<'a, 'i, 't, const S: usize> Desk<'a, 'i, 't, S> {
             for _ in width..self.columns.place {
                 out.push_str(" ")?;
             }
-            writeln!(out, "  {}", self.names.statement(word))?;
+            out.push_str("  ")?;
+            self.names.push_statement(out, word)?;
+            out.push_str("\n")?;
         }
         Ok(())
     }

@@ -1,5 +1,6 @@
 //! The words of `debug`.
 
+use plain_text::push_plain;
 use std::alloc::AllocError;
 
 /// What a line of `debug` asks for.
@@ -69,8 +70,8 @@ next                on until the stream of the next step has stepped
 back [N]            a step back, or N of them
 continue            on to the next stop, or to the end
 reverse-continue    back to the last stop, or to the start
-until PLACE         on until a stream is to step at a label or a line
-break [P] PLACE     a stop where a stream, or one of processor P, is to step at a label or a line
+until PLACE         on until a stream is to step at a label, a label and a number of words, as eat+1, or a line
+break [P] PLACE     a stop where a stream, or one of processor P, is to step at such a place
 watch [A]           a stop where the word at this byte address has changed; watch [A] tags: its full/empty bit or other tags
 delete N            takes the point of this number away
 info WHAT           streams: who runs and where; points: the stops; waiting: who waits for what
@@ -132,7 +133,8 @@ pub(crate) fn debug_word(text: &str) -> Option<DebugWord> {
 
 /// Adds why a text is no word: which words begin so, or that none does.
 pub(crate) fn push_no_word(out: &mut String, text: &str) -> Result<(), AllocError> {
-    write!(out, "{text}: ")?;
+    push_plain(out, text)?;
+    out.push_str(": ")?;
     let mut count: usize = 0;
     for word in WORDS.iter() {
         if word.name().starts_with(text) {

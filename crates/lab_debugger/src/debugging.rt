@@ -1,11 +1,12 @@
 //! The command `debug`.
 
 use crate::debug_desk::{Desk, Turn};
-use crate::debug_lines::Lines;
+use crate::debug_lines::{LINE_LIMIT, Lines, NextLine};
 use crate::sessions::named_of;
 use command_parts::{Inputs, LabFault, Program, Status, read_program, steps_of};
 use lab_requests::RunChoice;
 use lab_texts::{Columns, ProgramNames};
+use plain_text::push_plain;
 use processor::Step;
 use std::alloc::Global;
 use std::io::{ErrorKind, Read, Write};
@@ -77,8 +78,13 @@ fn talk<const S: usize, F: Files, R: Read, W: Write, E: Write>(
     for _ in 0..u64::MAX {
         screen.show(&out)?;
         out.clear();
-        if !read_line(alloc, &mut lines, inputs.input, &mut line)? {
-            return Ok(());
+        match read_line(alloc, &mut lines, inputs.input, &mut line)? {
+            Heard::Line => {}
+            Heard::TooLong => {
+                push_too_long(&mut out)?;
+                continue;
+            }
+            Heard::End => return Ok(()),
         }
         match desk.answer(line.as_str(), &mut out)? {
             Turn::On => {}
@@ -89,20 +95,42 @@ fn talk<const S: usize, F: Files, R: Read, W: Write, E: Write>(
     Ok(())
 }
 
-/// Reads the next line in place of the last one, which an empty line leaves as it is; whether there was one.
+/// What was read.
+#[derive(Clone, Copy)]
+enum Heard {
+    /// A line that is to be answered.
+    Line,
+    /// A line that is too long, and is refused.
+    TooLong,
+    /// The end of the input.
+    End,
+}
+
+/// Adds that a line is too long.
+fn push_too_long(out: &mut String) -> Result<(), LabFault> {
+    Ok(writeln!(
+        out,
+        "a line has at most {LINE_LIMIT} bytes: this one is not taken"
+    )?)
+}
+
+/// Reads the next line in place of the last one, which one that is empty or too long leaves as it is.
 fn read_line<R: Read>(
     alloc: Global,
     lines: &mut Lines,
     input: &mut R,
     line: &mut String,
-) -> Result<bool, LabFault> {
-    let Some(next) = lines.next(alloc, input)? else {
-        return Ok(false);
-    };
-    if !next.as_str().trim().is_empty() {
-        *line = next;
+) -> Result<Heard, LabFault> {
+    match lines.next(alloc, input)? {
+        NextLine::End => Ok(Heard::End),
+        NextLine::TooLong => Ok(Heard::TooLong),
+        NextLine::Text(next) => {
+            if !next.as_str().trim().is_empty() {
+                *line = next;
+            }
+            Ok(Heard::Line)
+        }
     }
-    Ok(true)
 }
 
 /// Writes the schedule of a session into a file, and adds that it did, or why not.
@@ -120,9 +148,13 @@ fn save<const S: usize, F: Files, R: Read>(
     match inputs.write(alloc, path, schedule.as_bytes()) {
         Ok(()) => {
             let steps = desk.named.session.schedule().len();
-            Ok(writeln!(out, "{path} has the {steps} steps of the schedule")?)
+            push_plain(out, path)?;
+            Ok(writeln!(out, " has the {steps} steps of the schedule")?)
         }
-        Err(LabFault::Words(words)) => Ok(writeln!(out, "{words}")?),
+        Err(LabFault::Words(words)) => {
+            push_plain(out, &words)?;
+            Ok(out.push_str("\n")?)
+        }
         Err(fault) => Err(fault),
     }
 }

@@ -112,7 +112,7 @@ pub fn space_ends<const S: usize>(
     add_broken::<S>(alloc, &mut ends, &wishes.claims, space)?;
     for end in ends.iter_mut() {
         end.sources = sources_of(alloc, space, &end.places)?;
-        end.finding = first_finding::<S>(alloc, names, space.image(), &end.schedule)?;
+        end.finding = first_finding::<S>(alloc, names, style, space.image(), &end.schedule)?;
     }
     Ok(ends)
 }

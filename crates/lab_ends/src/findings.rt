@@ -54,6 +54,7 @@ pub fn push_findings_of_run<const S: usize>(
 pub fn first_finding<const S: usize>(
     alloc: Global,
     names: &ProgramNames<'_>,
+    style: NumberStyle,
     image: &Image,
     steps: &[Step],
 ) -> Result<String, AllocError> {
@@ -62,7 +63,7 @@ pub fn first_finding<const S: usize>(
         let found = FindingsOfRun::of(alloc, &actions)?;
         let telling = Telling {
             names,
-            style: NumberStyle::Decimal,
+            style,
             actions: &actions,
         };
         push_first_finding(&mut out, &telling, &found)?;

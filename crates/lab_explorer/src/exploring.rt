@@ -14,6 +14,7 @@ use lab_json::VERSION;
 use lab_requests::ExploreRequest;
 use lab_texts::{NumberStyle, ProgramNames};
 use machine::LoadFault;
+use plain_text::push_plain;
 use processor::Step;
 use schedule_space::{Exploration, Space, explore, explore_ends};
 use serde_json::{Value, json};
@@ -307,8 +308,8 @@ fn push_end_line(
         "  {by}{steps} step{some_steps}, from {sources} world{some_sources}"
     )?;
     if !end.text.is_empty() {
-        let text = end.text.as_str();
-        write!(out, "   {text}")?;
+        out.push_str("   ")?;
+        push_plain(out, &end.text)?;
     }
     push_missed(out, expected, end)?;
     out.push_str("\n")?;

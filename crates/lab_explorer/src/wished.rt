@@ -6,6 +6,7 @@ use expectations::{Expectation, ExpectationFault, ExpectationFaultKind, read_exp
 use image_file::Image;
 use lab_ends::{WishFault, Wishes};
 use lab_texts::ProgramNames;
+use plain_text::plain;
 use std::alloc::{AllocError, Global};
 use std::io::Read;
 use std::rt::Files;
@@ -57,6 +58,7 @@ pub fn wish_fault(
         WishFault::NoMemory => Ok(LabFault::NoMemory),
         WishFault::Expectation(fault) => expectation_fault(alloc, path, fault),
         WishFault::Claim { line, fault } => {
+            let path = plain(alloc, path)?;
             let words = claim_words(alloc, fault, image)?;
             Ok(LabFault::Lines(format!(in alloc; "{path}:{line}:1: error: {words}\n")?))
         }
@@ -83,5 +85,6 @@ fn expectation_fault(
         ExpectationFaultKind::Empty => "nothing is expected here, so nothing can be judged",
     };
     let line = fault.line.max(1);
+    let path = plain(alloc, path)?;
     Ok(LabFault::Lines(format!(in alloc; "{path}:{line}:1: error: {words}\n")?))
 }

@@ -8,6 +8,7 @@ use expectations::Expectation;
 use lab_explorer::{expectations_of, push_expectation};
 use lab_json::VERSION;
 use lab_requests::GradeRequest;
+use plain_text::{plain, push_plain};
 use serde_json::json;
 use std::alloc::{AllocError, Global};
 use std::io::Read;
@@ -209,9 +210,13 @@ pub(crate) fn push_why(
 
 /// The first line of what is wrong with a file, without its path: `8:9: no operation is called load.N`.
 fn short_fault(alloc: Global, path: &str, lines: &str) -> Result<String, AllocError> {
-    let line = lines.split('\n').next().unwrap_or("");
-    let line = line.strip_prefix(path).unwrap_or(line);
+    let shown = plain(alloc, path)?;
+    let named = lines.strip_prefix(path);
+    let line = named
+        .or(lines.strip_prefix(shown.as_str()))
+        .unwrap_or(lines);
     let line = line.strip_prefix(':').unwrap_or(line);
+    let line = line.split('\n').next().unwrap_or("");
     match line.split_once(" error: ") {
         Some((place, words)) => format!(in alloc; "{place} {words}"),
         None => String::from_str(alloc, line.trim()),
@@ -234,5 +239,8 @@ fn push_verdict(
         })?;
         return push_object(alloc, out, &value);
     }
-    write!(out, "{path}\t{word}\t{why}\n")
+    push_plain(out, path)?;
+    write!(out, "\t{word}\t")?;
+    push_plain(out, why)?;
+    out.push_str("\n")
 }

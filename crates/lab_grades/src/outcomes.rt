@@ -182,7 +182,7 @@ fn add_findings<X: Threads + Sync, const S: usize>(
             let seed = known.get(place).ok_or(AllocError)?.seed;
             let mut machine = loaded::<S>(alloc, &program.image)?;
             let made = random(alloc, &mut machine, seed, seeds.most)?;
-            first_finding::<S>(alloc, names, &program.image, &made.steps)
+            first_finding::<S>(alloc, names, seeds.style, &program.image, &made.steps)
         })
         .with_min_len(1)
         .collect::<Result<Vec<String>, AllocError>>(rt, alloc);

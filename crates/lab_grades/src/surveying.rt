@@ -8,6 +8,7 @@ use lab_explorer::{Explored, Search, digits_of, expected_of, explore_program, pu
 use lab_json::{VERSION, digits};
 use lab_requests::SurveyRequest;
 use lab_texts::{NumberStyle, ProgramNames};
+use plain_text::push_plain;
 use serde_json::{Value, json};
 use std::alloc::{AllocError, Global};
 use std::io::Read;
@@ -152,7 +153,8 @@ fn push_outcome(
     let seed = outcome.seed;
     write!(out, "{runs:>width$}  {kind}  seed {seed}")?;
     if !text.is_empty() {
-        write!(out, "   {text}")?;
+        out.push_str("   ")?;
+        push_plain(out, text)?;
     }
     if !expected.is_empty() && !outcome.is_as_expected() {
         out.push_str("   NOT as expected")?;

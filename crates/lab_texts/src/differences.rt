@@ -22,7 +22,7 @@ pub fn push_differing_words<const S: usize>(
             && word != *cell
         {
             push_word_change(out, style, address, *cell, word)?;
-            push_comment(out, names, address)?;
+            names.push_comment(out, address)?;
             out.push_str("\n")?;
         }
     }
@@ -58,7 +58,7 @@ pub fn push_changed_words<const S: usize>(
     }
 }
 
-/// Adds the comment of a word, where it has one.
+/// Adds the comment of a word as the text has it, where it has one.
 fn push_comment(out: &mut String, names: &ProgramNames, address: u64) -> Result<(), AllocError> {
     let comment = names.comment(address);
     if !comment.is_empty() {

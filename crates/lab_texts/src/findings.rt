@@ -202,10 +202,7 @@ impl Telling<'_, '_> {
 
     /// Adds the comment of a word, and ends the line.
     fn end_line(&self, out: &mut String, word: u64) -> Result<(), AllocError> {
-        let comment = self.names.comment(word);
-        if !comment.is_empty() {
-            write!(out, "   {comment}")?;
-        }
+        self.names.push_comment(out, word)?;
         out.push_str("\n")
     }
 }

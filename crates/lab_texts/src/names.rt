@@ -1,6 +1,7 @@
 //! The names that a program's text gives its places.
 
 use image_file::MAX_PROGRAM_WORDS;
+use plain_text::push_plain;
 use source_places::{DataLine, SourceLabel, SourcePlaces, comment_of};
 use std::alloc::{AllocError, Global};
 use std::str;
@@ -88,6 +89,15 @@ impl<'t> ProgramNames<'t> {
         }
     }
 
+    /// Adds the instruction of a program word, with a space for each tab and carriage return between its parts.
+    pub fn push_statement(&self, out: &mut String, word: u32) -> Result<(), AllocError> {
+        for (index, part) in self.statement(word).split(is_blank).enumerate() {
+            out.push_str(if index == 0 { "" } else { " " })?;
+            out.push_str(part)?;
+        }
+        Ok(())
+    }
+
     /// The line of a program word, from 1; 0 where there is none.
     pub fn line(&self, word: u32) -> usize {
         match self.words.get(word as usize) {
@@ -116,6 +126,16 @@ impl<'t> ProgramNames<'t> {
             Some(comment) => without_number(text_of(comment).trim()),
             None => "",
         }
+    }
+
+    /// Adds that comment as a terminal may have it, behind blanks, where there is one.
+    pub(crate) fn push_comment(&self, out: &mut String, address: u64) -> Result<(), AllocError> {
+        let comment = self.comment(address);
+        if comment.is_empty() {
+            return Ok(());
+        }
+        out.push_str("   ")?;
+        push_plain(out, comment)
     }
 
     /// The length of the longest place.
@@ -193,6 +213,11 @@ fn without_number(comment: &str) -> &str {
         Some((number, words)) if number.bytes().all(|byte| byte.is_ascii_digit()) => words.trim(),
         _ => comment,
     }
+}
+
+/// Whether a character stands between the parts of a statement as a space does, and is none.
+fn is_blank(letter: char) -> bool {
+    letter == '\t' || letter == '\r'
 }
 
 /// Bytes as text; empty where they are none.

@@ -5,6 +5,7 @@ use crate::names::ProgramNames;
 use crate::waits::wanted_word;
 use crate::words::{NumberStyle, push_stream, push_trap, push_word, trap_words};
 use machine::Machine;
+use plain_text::push_plain;
 use processor::Step;
 use std::alloc::AllocError;
 use step_views::{Place, Reference, StepView};
@@ -68,7 +69,7 @@ pub fn push_step_line<const S: usize>(
     pad(out, begin, columns.place)?;
     let begin = out.len();
     out.push_str("  ")?;
-    out.push_str(names.statement(view.pc))?;
+    names.push_statement(out, view.pc)?;
     pad(out, begin, columns.statement.saturating_add(4))?;
     let begin = out.len();
     push_what(out, names, style, view, machine)?;
@@ -77,7 +78,7 @@ pub fn push_step_line<const S: usize>(
         if !comment.is_empty() {
             pad(out, begin, columns.changes)?;
             out.push_str("  ")?;
-            out.push_str(comment)?;
+            push_plain(out, comment)?;
         }
     }
     end_line(out)
@@ -99,7 +100,7 @@ pub fn push_lane_line<const S: usize>(
     for lane in lanes {
         let begin = out.len();
         if *lane == view.step {
-            out.push_str(names.statement(view.pc))?;
+            names.push_statement(out, view.pc)?;
         }
         pad(out, begin, columns.statement.saturating_add(2))?;
     }

@@ -127,7 +127,7 @@ impl<'i, const S: usize> Run<'i, S> {
                 words.push_str(" at ")?;
                 names.push_place(&mut words, view.pc)?;
                 words.push_str(" ")?;
-                words.push_str(names.statement(view.pc))?;
+                names.push_statement(&mut words, view.pc)?;
             }
             _ => words.push_str("it has ended")?,
         }

@@ -5,6 +5,7 @@ use command_parts::{
     Answer, Inputs, LabFault, Program, Status, loaded, push_object, read_program, steps_of,
     style_of,
 };
+use image_file::Image;
 use lab_ends::push_findings_of_run;
 use lab_json::{end_value, head_value, step_value};
 use lab_requests::{RunChoice, ViewRequest};
@@ -29,7 +30,10 @@ pub fn view<F: Files, R: Read>(
         Some(name) => Some(stream_named(alloc, name)?),
         None => None,
     };
+    check_range(alloc, request)?;
     let program = read_program(alloc, inputs, request.program)?;
+    check_stream(alloc, only, &program.image)?;
+    check_word(alloc, request.word, &program.image)?;
     let steps = steps_of(alloc, inputs, &program, request.run)?;
     let (output, status) = if program.image.slim() <= 8 {
         view_on::<8>(alloc, &program, &steps, request, only)?
@@ -48,6 +52,43 @@ fn stream_named(alloc: Global, name: &str) -> Result<Step, LabFault> {
     }
     Err(LabFault::Words(format!(in alloc;
         "--only takes a processor and a stream, as 2.0, and not {name}"
+    )?))
+}
+
+/// Refuses steps that end before they begin.
+fn check_range(alloc: Global, request: &ViewRequest) -> Result<(), LabFault> {
+    let (from, to) = (request.from, request.to);
+    if from <= to {
+        return Ok(());
+    }
+    Err(LabFault::Words(format!(in alloc; "--from {from} is behind --to {to}: no step is shown")?))
+}
+
+/// Refuses a stream that the image has not.
+fn check_stream(alloc: Global, only: Option<Step>, image: &Image) -> Result<(), LabFault> {
+    let Some(Step { p, s }) = only else {
+        return Ok(());
+    };
+    let (processors, slim) = (image.processors(), image.slim());
+    if usize::from(p) < processors && u16::from(s) < slim {
+        return Ok(());
+    }
+    Err(LabFault::Words(format!(in alloc;
+        "--only {p}.{s}: the program has no such stream, but {processors} processors of {slim} streams"
+    )?))
+}
+
+/// Refuses a word that the image has not.
+fn check_word(alloc: Global, word: Option<u64>, image: &Image) -> Result<(), LabFault> {
+    let Some(address) = word else {
+        return Ok(());
+    };
+    let bytes = (image.cells().len() as u64).saturating_mul(8);
+    if address % 8 == 0 && address < bytes {
+        return Ok(());
+    }
+    Err(LabFault::Words(format!(in alloc;
+        "--word {address}: the memory has no such word: multiples of 8 below {bytes}"
     )?))
 }
 

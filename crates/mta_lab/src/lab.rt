@@ -10,6 +10,7 @@ use lab_grades::{grade, survey};
 use lab_pages::{write_page, write_picture};
 use lab_requests::LabCommand;
 use lab_views::{compare, view};
+use plain_text::plain;
 use std::alloc::Global;
 use std::convert::AsStr;
 use std::io::{Error, ErrorKind, Read, Write};
@@ -149,9 +150,7 @@ fn tell<W: Write, E: Write>(
 /// Writes why a command gave up, and gives its status.
 fn tell_fault<E: Write>(fault: &LabFault, errors: &mut E) -> u8 {
     match fault {
-        LabFault::Words(words) => {
-            let _ = writeln!(errors, "mta_lab: {words}");
-        }
+        LabFault::Words(words) => tell_words(words, errors),
         LabFault::Lines(lines) => {
             let _ = write_whole(errors, lines.as_bytes());
         }
@@ -164,6 +163,18 @@ fn tell_fault<E: Write>(fault: &LabFault, errors: &mut E) -> u8 {
         LabFault::Closed => return Status::Done.number(),
     }
     Status::Fault.number()
+}
+
+/// Writes a reason in words, which may have names of files, on a line of its own.
+fn tell_words<E: Write>(words: &String, errors: &mut E) {
+    match plain(*words.allocator(), words.as_str()) {
+        Ok(line) => {
+            let _ = writeln!(errors, "mta_lab: {line}");
+        }
+        Err(_) => {
+            let _ = writeln!(errors, "mta_lab: no memory");
+        }
+    }
 }
 
 /// Writes all the bytes.
