@@ -2,7 +2,7 @@
 
 use crate::grading::{Verdict, push_why};
 use command_parts::{LabFault, Program, style_of};
-use end_kinds::EndKind;
+use end_kinds::{EndKind, Status};
 use expectations::Expectation;
 use lab_ends::{ClaimFault, SpaceEnd, SpaceEndKind, WishFault, Wishes};
 use lab_explorer::{Explored, Search, claim_words, explore_program, wish_fault};
