@@ -60,10 +60,11 @@ pub struct Explored {
 }
 
 impl Explored {
-    /// Whether no schedule to an end is shorter than its own. The search for ends alone leaves out worlds, so it says so
-    /// of ends only, and only where it has all.
+    /// Whether it is known that no schedule to an end is shorter than its own. The search for ends alone leaves out
+    /// worlds, so it says so of what does not spin, and only where it has all ends.
     fn is_shortest(&self, end: &SpaceEnd) -> bool {
-        self.is_of_all_worlds || self.is_complete && end.kind != SpaceEndKind::Spinning
+        let is_of_end = self.is_complete && end.kind != SpaceEndKind::Spinning;
+        self.is_of_all_worlds || is_of_end || end.schedule.is_empty()
     }
 }
 
