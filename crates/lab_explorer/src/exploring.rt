@@ -296,7 +296,11 @@ fn push_end_line(
     }
     let some_steps = plural(steps);
     let some_sources = plural(sources);
-    let by = if found.is_shortest(end) { "" } else { "a schedule of " };
+    let by = if found.is_shortest(end) {
+        ""
+    } else {
+        "a schedule of "
+    };
     write!(
         out,
         "  {by}{steps} step{some_steps}, from {sources} world{some_sources}"
