@@ -121,7 +121,7 @@ fn found_by<F: Files, R: Read>(
     Ok(explore_program(alloc, program, names, &asked)?)
 }
 
-/// Writes a shortest schedule to each end into a folder, as `1.schedule` and so on.
+/// Writes the schedule to each end into a folder, as `1.schedule` and so on.
 fn keep_schedules<F: Files, R: Read>(
     alloc: Global,
     inputs: &mut Inputs<'_, F, R>,
