@@ -18,6 +18,7 @@ from table import unescaped
 PROGRAMS, MOST = 24, 150
 RUNNING = re.compile(rb"^stream (\d+) (\d+)\nRunning ", re.MULTILINE)
 STOPPED = re.compile(rb"^Stopped ", re.MULTILINE)
+STREAMS = re.compile(r"(\d+\.\d+) (runs|waits)")
 
 
 @checks.each("lab_explore/worlds.tsv")
@@ -92,6 +93,14 @@ class Searched:
             if world in found or not reached:
                 return count
 
+    def streams_in(self, found, first):
+        """The streams that run in the first world of a set, each with whether it runs, or waits in each world of it."""
+        def is_stuck(world, stream):
+            return self.after((*self.schedules[world], stream)) == (world, b"BLOCKED")
+
+        return [(f"{p}.{s}", "waits" if all(is_stuck(world, (p, s)) for world in found) else "runs")
+                for p, s in running(first)]
+
     def spinning(self):
         """The sets of worlds that no step leads out of, and in which no world is an end."""
         after = collections.defaultdict(set)
@@ -151,6 +160,9 @@ def by_fewer(source, searched, sets, plain, wanted):
     if not head["complete"] or head["worlds"] > plain["worlds"] or head["plain"] or ends_in(ends) != ends_in(wanted):
         return f"{head} {ends}, and not {plain} {wanted}"
     ended = [end for end in ends if end["end"] != "spinning"]
+    claimed = [end for end in ends if end["end"] == "spinning" and end["schedule"] and end["shortest"] is not None]
+    if claimed:
+        return f"said to be shortest, and not known: {claimed}"
     return next((wrong for wrong in (in_end(searched, sets, {**end, "from": None}) for end in ended) if wrong), True)
 
 
@@ -177,6 +189,10 @@ def in_end(searched, sets, end):
         return f"from {len(searched.sources([world]))} worlds: {end}"
     if spins and end["sets"] == 1 and len(searched.sources(spins[0])) != end["from"]:
         return f"from {len(searched.sources(spins[0]))} worlds: {end}"
+    if spins and end["sets"] == 1:
+        wanted, told = searched.streams_in(spins[0], world), STREAMS.findall(end["words"])
+        if wanted != told:
+            return f"in it {wanted}: {end}"
     return in_round(searched, world, steps, end) if spins else None
 
 

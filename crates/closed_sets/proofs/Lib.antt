@@ -4,3 +4,4 @@ pub mod Ways
 pub mod Distances
 pub mod Mirrors
 pub mod Settled
+pub mod Homes

@@ -1,7 +1,7 @@
 //! Sets of places that no link leaves and in which each place leads to each other one.
 
 ghost use Rattle.std.specs.Prelude.{◌≡◌, length, IfOk};
-ghost use Rattle.closed_sets.specs.Sets.{AreHomes};
+ghost use Rattle.closed_sets.specs.Sets.{AreHomes, AreClosedSets};
 ghost use Rattle.closed_sets.specs.Marks.{AreNumbers, AreLeast, AreTold};
 
 use crate::links::Link;
@@ -19,7 +19,8 @@ pub fn closed_sets(
     count: usize,
     links: &[Link],
 ) -> Result<Vec<Option<usize>>, AllocError>
-    ensures { IfOk result (λ v. AreHomes count links.now v.items) }
+    ensures homes { IfOk result (λ v. AreHomes count links.now v.items) }
+    ensures sets { IfOk result (λ v. AreClosedSets count links.now v.items) }
 {
     let least = least_led_to(alloc, count, links)?;
     let strays = strays(alloc, links, &least)?;

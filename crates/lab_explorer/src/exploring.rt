@@ -63,10 +63,11 @@ pub struct Explored {
 }
 
 impl Explored {
-    /// Whether no schedule to an end is shorter than its own. The search for ends alone leaves out worlds, so it says so
-    /// of ends only, and only where it has all.
+    /// Whether it is known that no schedule to an end is shorter than its own. The search for ends alone leaves out
+    /// worlds, so it says so of what does not spin, and only where it has all ends.
     fn is_shortest(&self, end: &SpaceEnd) -> bool {
-        self.is_of_all_worlds || self.is_complete && end.kind != SpaceEndKind::End(EndKind::Spinning)
+        let is_of_end = self.is_complete && end.kind != SpaceEndKind::End(EndKind::Spinning);
+        self.is_of_all_worlds || is_of_end || end.schedule.is_empty()
     }
 
     /// The exit status: the worst over all ends and broken claims, and over the bound, where the search came to it.
@@ -138,7 +139,8 @@ fn found_by<F: Files, R: Read>(
     Ok(explore_program(alloc, program, names, &asked)?)
 }
 
-/// Writes a shortest schedule to each end into a folder, as `1.schedule` and so on. The folder is made where there is none.
+/// Writes the schedule to each end into a folder, as `1.schedule` and so on. The folder is made where there is
+/// none.
 fn keep_schedules<F: Files, R: Read>(
     alloc: Global,
     inputs: &Inputs<'_, F, R>,
@@ -302,7 +304,11 @@ fn push_end_line(
     }
     let some_steps = plural(steps);
     let some_sources = plural(sources);
-    let by = if found.is_shortest(end) { "" } else { "a schedule of " };
+    let by = if found.is_shortest(end) {
+        ""
+    } else {
+        "a schedule of "
+    };
     write!(
         out,
         "  {by}{steps} step{some_steps}, from {sources} world{some_sources}"

@@ -1,10 +1,10 @@
 -- The last step before another.
-use Rattle.std.proofs.Common.{◌≡◌, ℕ, zero, suc, ◌+◌, ◌-◌, ◌<◌, ◌≤◌, Bool, true, false, not, cond, List, length, get_or}
+use Rattle.std.proofs.Common.{◌≡◌, ℕ, zero, suc, ◌+◌, ◌-◌, ◌<◌, ◌≤◌, Bool, true, false, not, cond, ltb, List, length, get_or}
 use Rattle.std.proofs.Common.{Option, Some, None, refl, sym, ap, ◌∙◌, subst, arith, le-ltb, lt-ltb, ◌&&◌}
 use Rattle.std.specs.List.{slice_get}
 use Rattle.std.proofs.lemmas.Option.{slice_get-get_or}
 use Rattle.processor.specs.declared.steps.Step.{Step}
-use Rattle.run_findings.specs.Actions.{is_by}
+use Rattle.run_findings.specs.Actions.{writes, is_by}
 use Rattle.run_findings.specs.Places.{passes, last_before, last_below}
 use Rattle.run_findings.specs.TornReads.{is_newer}
 use Rattle.run_findings.specs.declared.actions.Action.{Action}

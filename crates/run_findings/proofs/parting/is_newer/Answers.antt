@@ -1,4 +1,4 @@
-use Rattle.std.proofs.Common.{not, sym, ap, ◌∙◌, arith}
+use Rattle.std.proofs.Common.{◌≡◌, not, sym, ap, ◌∙◌, arith}
 use Rattle.run_findings.specs.Actions.{writes}
 use Rattle.run_findings.specs.TornReads.{is_newer}
 use Rattle.run_findings.proofs.Before.{last-before, newer-old, newer-is}

@@ -1,4 +1,4 @@
-use Rattle.std.proofs.Common.{◌≡◌, ◌≤◌}
+use Rattle.std.proofs.Common.{◌≡◌, ◌≤◌, length}
 use Rattle.run_findings.specs.Places.{last_before}
 use Rattle.run_findings.specs.Sought.{is_sought}
 use Rattle.run_findings.proofs.searching.last_before.Given as goal
