@@ -95,7 +95,7 @@ def assembling(tally, library, folder):
         tally.runs += 1
         tally.check(f"asm: allocation {number} refused: {ended}", (ended.status, read(image)) in (
             (0, whole), (1, b"before"), (2, b"before")))
-        tally.check("asm leaves no file beside", not os.path.exists(image + ".new"))
+        tally.check("asm leaves no file beside", not [name for name in os.listdir(folder) if name.endswith(".new")])
     write(folder, "made.image", b"before")
     small = subprocess.run(["sh", "-c", 'trap "" XFSZ; ulimit -f 0; exec "$@"', "sh", LAB, *words], capture_output=True,
                            check=False)
