@@ -151,7 +151,7 @@ impl<'a, 'i, 't, const S: usize> Desk<'a, 'i, 't, S> {
             return Ok(out.push_str(" does not wait\n")?);
         };
         push_wait(step, wait, out)?;
-        match self.named.last_change(wait.address) {
+        match self.named.last_turn(wait.address) {
             Ok(Some(position)) => {
                 write!(out, "; step {position}")?;
                 let last = position.saturating_sub(1) as usize;
@@ -159,9 +159,13 @@ impl<'a, 'i, 't, const S: usize> Desk<'a, 'i, 't, S> {
                     out.push_str(", of ")?;
                     push_stream(out, by.p, by.s)?;
                 }
-                Ok(out.push_str(", changed it last\n")?)
+                let turned = match wait.wanted {
+                    Wanted::Full => "emptied",
+                    Wanted::Empty => "filled",
+                };
+                Ok(write!(out, ", {turned} it last\n")?)
             }
-            Ok(None) => Ok(out.push_str("; no step has changed it\n")?),
+            Ok(None) => Ok(out.push_str("; it never was\n")?),
             Err(fault) => refuse(fault, out),
         }
     }

@@ -77,7 +77,7 @@ delete N            takes the point of this number away
 info WHAT           streams: who runs and where; points: the stops; waiting: who waits for what
 print WHAT          r1 of the stream that comes next, 2.0.r1 of another, [A] a word, 2.0 where a stream stands
 list [P.S]          the program around a stream
-why [P.S]           what a stream waits for, and which step changed the word last
+why [P.S]           what a stream waits for, and which step filled or emptied the word last
 try P.S             a step of this stream now; the schedule from here on is yours
 save FILE           writes the schedule, as it is now, into a file
 help [WORD]         what the words do; a word may be cut where its beginning is clear, and s is step, b is break

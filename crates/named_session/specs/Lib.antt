@@ -1,4 +1,4 @@
 -- where streams stand in a text
 pub mod CodePlaces
--- which steps changed a word
-pub mod WordChanges
+-- which steps filled or emptied a word
+pub mod WordTurns

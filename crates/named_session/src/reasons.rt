@@ -3,9 +3,8 @@
 ghost use Rattle.std.specs.Prelude.{◌≡◌, ◌↔◌, ◌+◌, ℕ, Bool, Some, IfOk, OnOk};
 ghost use Rattle.waiting.specs.Waits.{IsWaitOf};
 ghost use Rattle.replay_debugger.specs.Sessions.{session_world};
-ghost use Rattle.replay_debugger.specs.Stops.{word_differs};
 ghost use Rattle.replay_debugger.specs.StopFinders.{IsLastBelow};
-ghost use Rattle.named_session.specs.WordChanges.{changes_word};
+ghost use Rattle.named_session.specs.WordTurns.{is_turned, turns_word};
 
 use crate::named_session::NamedSession;
 use debug_commands::{Command, DebugFault};
@@ -24,32 +23,31 @@ impl<'i, 't, const S: usize> NamedSession<'i, 't, S> {
         wait_of(self.session.machine(), p, s)
     }
 
-    /// The last position, up to the session's own, to which a step changed the value or the tags of the word at a byte
-    /// address; None where none did. The steps up to there are taken once more.
-    pub fn last_change(&self, address: u64) -> Result<Option<u64>, DebugFault>
-        ensures { IfOk result (IsLastBelow (changes_word self.now.session address) (self.now.session.position + 1)) }
+    /// The last position, up to the session's own, to which a step filled or emptied the word at a byte address; None
+    /// where none did. The steps up to there are taken once more.
+    pub fn last_turn(&self, address: u64) -> Result<Option<u64>, DebugFault>
+        ensures { IfOk result (IsLastBelow (turns_word self.now.session address) (self.now.session.position + 1)) }
     {
         let mut other = self.session.try_clone()?;
         let _ = other.command(&Command::Go(0))?;
         let mut last = None;
         for index in 0..self.session.position() {
-            let changed = step_changes(&mut other, address)?;
-            last = later(last, changed, index + 1);
+            let turned = step_turns(&mut other, address)?;
+            last = later(last, turned, index + 1);
         }
         Ok(last)
     }
 }
 
-/// Takes the next step of a session's schedule, and says whether it changed the value or the tags of the word at a byte
-/// address.
-fn step_changes<const S: usize>(session: &mut Session<S>, address: u64) -> Result<bool, DebugFault>
+/// Takes the next step of a session's schedule, and says whether it filled or emptied the word at a byte address.
+fn step_turns<const S: usize>(session: &mut Session<S>, address: u64) -> Result<bool, DebugFault>
     ensures goes { OnOk result (session.new ≡ record session.old { position = session.old.position + 1 }) }
-    ensures changes { IfOk result (λ changed. changed ≡ changes_word session.old address (session.old.position + 1)) }
+    ensures turns { IfOk result (λ turned. turned ≡ turns_word session.old address (session.old.position + 1)) }
 {
     let before = session.machine().word(address);
     let _ = session.command(&Command::Forward(1))?;
     let now = session.machine().word(address);
-    Ok(differs(before, now))
+    Ok(is_turned(before, now))
 }
 
 /// The last of the numbers up to this one that pass a test, where `last` is the last below it, and it passes or not.
@@ -60,15 +58,12 @@ fn later(last: Option<u64>, passes: bool, number: u64) -> Option<u64>
     if passes { Some(number) } else { last }
 }
 
-/// Whether a word has another value or other tags.
-fn differs(before: Option<Word>, now: Option<Word>) -> bool
-    ensures { result ≡ word_differs before now }
+/// Whether a word was full and is empty, or the other way round.
+fn is_turned(before: Option<Word>, now: Option<Word>) -> bool
+    ensures { result ≡ is_turned before now }
 {
-    let Some(now) = now else {
-        return before.is_some();
-    };
-    let Some(before) = before else {
-        return true;
-    };
-    now.tag_number() != before.tag_number() || now.value() != before.value()
+    match (before, now) {
+        (Some(before), Some(now)) => before.is_full() != now.is_full(),
+        _ => false,
+    }
 }

@@ -2,11 +2,11 @@ use Rattle.std.proofs.Common.{◌≡◌, ◌+◌, ◌-◌, ap, ◌∙◌, arith}
 use Rattle.tag_memory.specs.Storage.{cell_at}
 use Rattle.machine.specs.MachineValue.{MachineValue}
 use Rattle.replay_debugger.specs.Sessions.{SessionValue, world_at, session_world}
-use Rattle.replay_debugger.specs.Stops.{word_differs}
-use Rattle.named_session.proofs.reasons.step_changes.Goals as goal
+use Rattle.named_session.specs.WordTurns.{is_turned}
+use Rattle.named_session.proofs.reasons.step_turns.Goals as goal
 
-pub returns-clause-changes : goal.returns-clause-changes
-returns-clause-changes g c =
+pub returns-clause-turns : goal.returns-clause-turns
+returns-clause-turns g c =
     let s = c.args.session.now in
     let a = c.args.address in
     let back : s.position ≡ s.position + 1 - 1 = omega arith in
@@ -18,4 +18,4 @@ returns-clause-changes g c =
     c.word-now.ensures
     ∙ ap (λ (m : MachineValue). cell_at m.world.memory a) c.machine-2.ensures
     ∙ ap (λ (x : SessionValue). cell_at (session_world x).memory a) c.in_ok-command.ensures.1.goes in
-    c.differs.ensures ∙ (λ i. word_differs (was i) (is i))
+    c.is_turned.ensures ∙ (λ i. is_turned (was i) (is i))
