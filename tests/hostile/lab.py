@@ -1,20 +1,25 @@
 """The lab under hostile use: each allocation of its commands refused in turn, outputs that are full or that nobody
-reads, large and damaged inputs, bytes above 7F. Each run ends with words and a status of the table, and nothing is
+reads, large and damaged inputs, bytes above 7F, long lines, small stacks, no threads. Each run ends with words and a status of the table, and nothing is
 lost."""
 
 import os
+import json
 import random
 import re
+import resource
 import subprocess
 from functools import partial
 
 from program import EXAMPLES, ROOT, Tally, read, run, write
-from refusing import interposer, refused_allocation
+from refusing import interposer, refused_allocation, refused_threads
 
 LAB = os.path.join(ROOT, "crates/mta_lab/out/mta_lab")
 GRADED = os.path.join(EXAMPLES, "grading/submissions")
 STATUSES = {0, 1, 3, 4, 5}
 NO_MEMORY = b"mta_lab: no memory\n"
+NO_THREAD = b"mta_lab: dap takes a second thread, and the system starts none\n"
+# the bytes of a small stack
+SMALL_STACK = 65_536
 # what stands in the answer of a search that lacked memory on its way: nothing is said of all schedules
 NOT_ALL = re.compile(rb"some schedules: |\"complete\":false|\tnot decided\tmore than |\twrong\tschedule ")
 # how many damaged images and texts are tried
@@ -116,6 +121,53 @@ def outputs(tally):
         tally.runs += 2
 
 
+def framed(*commands):
+    """The bytes of these requests of an editor, a launch of lock.asm among them."""
+    bodies = [json.dumps({"seq": seq, "type": "request", "command": command,
+                          "arguments": {"program": example("lock.asm"), "stopOnEntry": True}}).encode()
+              for seq, command in enumerate(commands, start=1)]
+    return b"".join(b"Content-Length: %d\r\n\r\n%s" % (len(body), body) for body in bodies)
+
+
+def without_threads(tally, library, folder):
+    """Where the system starts no thread `dap` says so, and all else answers as ever."""
+    refused = refused_threads(library, folder, ",".join(map(str, range(1, 1000))))
+    asked = framed("initialize", "launch", "configurationDone", *["threads"] * 20, "disconnect")
+    ended = lab(["dap"], asked, **refused)
+    tally.check(f"dap without a thread: {ended}", (ended.status, ended.out, ended.err) == (1, b"", NO_THREAD))
+    for words in commands(folder):
+        ample, ended = lab(words), lab(words, **refused)
+        tally.check(f"{words} without a thread: {ended}",
+                    (ended.status, ended.out, ended.err) == (ample.status, ample.out, ample.err))
+        tally.runs += 2
+
+
+def small_stacks(tally, folder):
+    """With a stack of 64 KB each command answers as ever, or ends with words; none is ended by a signal."""
+    small = lambda: resource.setrlimit(resource.RLIMIT_STACK, (SMALL_STACK, SMALL_STACK))
+    lock = example("lock.asm")
+    talks = [(["debug", lock], b"step 3\nwhy\nlist\nback\ntry 0.0\n"), (["dap"], framed("launch", "threads", "disconnect")),
+             (["page", lock, "--out", os.path.join(folder, "lock.html")], b""), (["--help"], b""),
+             (["picture", lock, "--out", os.path.join(folder, "lock.svg")], b""),
+             (["asm", lock, "--out", os.path.join(folder, "lock.image")], b"")]
+    for words, text in [*talks, *((words, b"") for words in commands(folder))]:
+        ample, ended = lab(words, text), lab(words, text, setup=small)
+        tally.runs += 2
+        tally.check(f"{words} with a small stack: {ended}",
+                    (ended.status, ended.out) == (ample.status, ample.out) or ended.status == 1 and ended.err != b"")
+
+
+def long_lines(tally):
+    """A line of `debug` that is too long is refused alone, however long it is, in memory that does not grow with it."""
+    lock = example("lock.asm")
+    for length in (70_000, 1_000_000, 8_000_000):
+        ended = lab(["debug", lock], b"try 2.0\n" + b"y" * length + b"\nback 0\n")
+        tally.runs += 1
+        told = [line for line in ended.out.split(b"\n") if b"not taken" in line or line.startswith(b"after 1 of 1 ")]
+        tally.check(f"a line of {length} bytes: {ended}", ended.status == 0 and len(told) == 3)
+        tally.check(f"a line of {length} bytes takes {ended.peak} bytes", ended.peak < 100_000_000)
+
+
 def damaged(tally, folder):
     """Damaged images and texts: told in words, on each command that takes a program."""
     image = os.path.join(folder, "whole.image")
@@ -157,6 +209,9 @@ def part(pool, folder):
         tally.add(one)
     assembling(tally, library, folder)
     outputs(tally)
+    without_threads(tally, library, folder)
+    small_stacks(tally, folder)
+    long_lines(tally)
     damaged(tally, folder)
     large(tally, folder)
     return tally

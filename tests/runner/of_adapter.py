@@ -209,6 +209,38 @@ def requests():
     yield "refused", [[False] * 5], of_lock(refused)
 
 
+# arguments of a launch and of views, each of another kind or out of range
+LAUNCHES = [{"steps": 0}, {"steps": -1}, {"steps": "9"}, {"steps": 1.5}, {"steps": 1_000_001}, {"schedule": 7},
+            {"schedule": ["fair"]}, {"stopOnEntry": 1}, {"schedule": "random:"}]
+READS = [{"offset": 2**64 - 1}, {"offset": 2**63}, {"offset": -1}, {"offset": "8"}, {"offset": 16}, {"count": -1}, {"count": "8"}]
+
+
+@checks.others("adapter/arguments")
+def arguments():
+    """Arguments that are none are refused with a sentence, and change nothing; those that are left out or null are the
+    usual ones."""
+    with adapters.adapter() as editor:
+        for number, wrong in enumerate(LAUNCHES):
+            yield f"launch {wrong}", (False, True), refusal(editor.do("launch", program=LOCK, **wrong))
+        yield "a launch behind them", (0, "entry"), editor.launched(LOCK, LOST, steps=None)[:2]
+        whole = editor.body("readMemory", memoryReference="0x0", count=16, offset=None)
+        for wrong in READS:
+            yield f"read {wrong}", (False, True), refusal(editor.do("readMemory", **{"memoryReference": "0x0", "count": 8, **wrong}))
+        yield "a read behind them", whole, editor.body("readMemory", memoryReference="0x0", count=16)
+        far = editor.do("disassemble", memoryReference="0x6", instructionOffset=2**63, instructionCount=1)
+        yield "disassemble", (False, True), refusal(far)
+        names = ["bare", "bare+1", "bare + 1", "locked+7", "20", "bare+99", "7.0", ""]
+        found = editor.body("setFunctionBreakpoints", breakpoints=[{"name": name} for name in names])["breakpoints"]
+        yield "places", [19, 20, 20, 20, 20, None, None, None], [it.get("line") for it in found]
+        shown = [editor.body("evaluate", expression=name)["result"] for name in names[:5]]
+        yield "evaluated", ["bare: LOAD.N r2, r0, 1", *["bare+1: ADD r2, r2, 1"] * 4], shown
+
+
+def refusal(response):
+    """Whether a request succeeded, and whether a sentence says why not."""
+    return response["success"], " " in response.get("message", "")
+
+
 @checks.others("adapter/exceptions")
 def exceptions():
     """A trap and a blocked step stop the run forwards and backwards."""

@@ -11,6 +11,8 @@ import of_lab
 import tool
 
 LINES = 120
+NO_PLACE = b"until takes a label, as eat or eat+1, or a line\n"
+NO_BREAK = b"break takes a label, as eat or eat+1, or a line, perhaps behind a processor\n"
 AT = re.compile(rb"after (\d+) of (\d+) steps")
 WORD = re.compile(rb"\[(\d+)\] (-?\d+), (full|empty)")
 
@@ -53,12 +55,38 @@ def refusals():
     """Words whose arguments say nothing: each is refused in words, and the session stays where it is."""
     for line, said in (("step x", b"step takes a number of steps, as 5\n"), ("back -1", b"back takes a number of steps, as 5\n"),
                        ("list 9", b"list takes a stream, as 2.0\n"), ("why x", b"why takes a stream, as 2.0\n"),
-                       ("delete x", b"delete takes the number of a point\n"), ("try x", b"try takes a stream, as 2.0\n")):
+                       ("delete x", b"delete takes the number of a point\n"), ("try x", b"try takes a stream, as 2.0\n"),
+                       ("break 2 bare+99", NO_BREAK), ("break x bare", NO_BREAK), ("until bare+", NO_PLACE),
+                       ("until 99", NO_PLACE), ("\x07\x1b[2K", b"\\x07\\x1b[2K: no such word; help tells them\n")):
         yield line, lambda line=line, said=said: (said, behind_the_first_line(line))
 
 
-def behind_the_first_line(line):
-    said = of_lab.lab("debug", "lock.asm", "lock.ends.schedule", given=line.encode() + b"\n")
+@checks.others("lab/debug_places")
+def places():
+    """A breakpoint at a label, behind one, or on a line; all of lock.asm, whose `bare` stands on line 19."""
+    for place, told in (("bare", "bare"), ("bare+1", "bare+1"), ("bare + 1", "bare+1"), ("locked+7", "bare+1"), ("20", "bare+1"),
+                        ("17", "locked+5")):
+        wanted = "".join(f"point {p}: processor {p} at {told}\n" for p in range(4)).encode()
+        yield place, lambda place=place, wanted=wanted: (wanted, behind_the_first_line(f"break {place}"))
+    yield "of a processor", b"point 0: processor 2 at bare+1\n", behind_the_first_line("break 2 bare+1")
+
+
+@checks.others("lab/debug_long_lines")
+def long_lines():
+    """A line that is too long is refused alone: the steps that were tried before it are there."""
+    refused = b"a line has at most 65536 bytes: this one is not taken\n"
+    tried = behind_the_first_line("try 2.0\ntry 3.0")
+    for length, said in ((65_537, refused), (70_000, refused), (200_000, refused), (65_536, None)):
+        line = "y" * length
+        answer = said or line.encode() + b": no such word; help tells them\n"
+        last = behind_the_first_line(f"try 2.0\ntry 3.0\n{line}\nback 0")
+        goes_on = b"after 2 of 2 steps" in last.removeprefix(tried + answer)
+        yield f"{length} bytes", (True, True), (last.startswith(tried + answer), goes_on)
+        yield f"{length} bytes at the end", answer, behind_the_first_line(line, end="")
+
+
+def behind_the_first_line(line, end="\n"):
+    said = of_lab.lab("debug", "lock.asm", "lock.ends.schedule", given=(line + end).encode())
     return said.out.partition(b"\n")[2]
 
 

@@ -4,6 +4,7 @@ statuses."""
 import glob
 import json
 import os
+import re
 import tempfile
 
 import checks
@@ -250,6 +251,44 @@ def counts():
         yield name, True, names.count(name) >= 10
     statuses = {row.fields[2] for row in table.rows("lab/commands.tsv")}
     yield "statuses", set("012345"), statuses
+
+
+# a comment and names that would write over their line, or make rows of a table
+COMMENTED = b".entry go\n.data 0 ; a\tcount\x1b[2K\x07\x7f\ngo: LIT\tr1, 1\n STORE.N\rr1, r0, 0\n QUIT\n"
+FAULTY = b".entry go\n.data 0 ; \x1b[2K\ngo: QUITE\x1b[2K\x07 \x1b\n"
+HOSTILE_NAMES = {"a\tright\t9 seeds\nb.asm": COMMENTED, "x\x1b[2K.asm": FAULTY, "\x7f\r.asm": COMMENTED}
+# the same as they are written
+WRITTEN_NAMES = ["a\\tright\\t9 seeds\\nb.asm", "x\\x1b[2K.asm", "\\x7f\\x0d.asm", "no\\tne\\n.asm"]
+CONTROL = re.compile(rb"[\x00-\x09\x0b-\x1f\x7f]")
+EXCERPT = re.compile(rb"(?m)^ *[0-9]* \| .*$")
+
+
+@checks.others("lab/control_bytes")
+def control_bytes():
+    """No control byte of a comment or of a file's name is printed, by any command."""
+    with tempfile.TemporaryDirectory(prefix="mta-case-") as folder:
+        for name, text in {**HOSTILE_NAMES, "w.expect": b"word 0 1\n", "c.expect": b"always\tword 0 is 0 # \x1b\n",
+                           "b\x07.schedule": b"0 0 2\x1b\n", "s.schedule": b"0 0 3\n"}.items():
+            tool.write(os.path.join(folder, name), text)
+        names = [*HOSTILE_NAMES, "no\tne\n.asm"]
+        for words in ([], ["--explore"]):
+            printed = lab("grade", *words, "--expect", "w.expect", *names, folder=folder).out.decode()
+            rows = [line.split("\t") for line in printed.removesuffix("\n").split("\n")]
+            yield (f"grade {words}", list(zip(WRITTEN_NAMES, ["right", "source fault", "right", "source fault"], [3] * 4)),
+                   [(row[0], row[1], len(row)) for row in rows])
+        for name in names:
+            for words in (["check", name], ["check", "--as", "schedule", name], ["view", name], ["view", name, "--columns"],
+                          ["view", name, "b\x07.schedule"], ["survey", name, "--seeds", "3"], ["explore", name],
+                          ["explore", name, "--expect", "c.expect"], ["explore", name, "--expect", "b\x07.schedule"],
+                          ["compare", name, "s.schedule", "s.schedule"], ["debug", name], ["schedule", "fair", name],
+                          ["asm", name, "--out", "no\x1b/ne"], ["page", name, "--out", "no\x1b/ne"]):
+                ended = lab(*words, given=b"list\nstep 2\nsave no\x1b/ne\n\x1b\x07\n", folder=folder)
+                yield f"{words}", None, CONTROL.search(ended.out + EXCERPT.sub(without_tabs, ended.err))
+
+
+def without_tabs(excerpt):
+    """A line of a source as a message shows it: its tabs keep the mark below in its place."""
+    return excerpt[0].replace(b"\t", b" ")
 
 
 @checks.each("lab_explore/commands.tsv")
