@@ -21,7 +21,7 @@ NO_THREAD = b"mta_lab: dap takes a second thread, and the system starts none\n"
 # the bytes of a small stack
 SMALL_STACK = 65_536
 # what stands in the answer of a search that lacked memory on its way: nothing is said of all schedules
-NOT_ALL = re.compile(rb"some schedules: |\"complete\":false|\tnot decided\tmore than |\twrong\tschedule ")
+NOT_ALL = re.compile(rb"some schedules(?: that begin so)?: |\"complete\":false|\tnot decided\tmore than |\twrong\tschedule ")
 # how many damaged images and texts are tried
 DAMAGED, TEXTS = 400, 400
 LARGEST = 33_554_432
@@ -43,6 +43,8 @@ def example(name):
 def commands(folder):
     """Command lines whose allocations are refused."""
     wishes = write(folder, "wanted.expect", b"word 8 2 full # both\nfinished\n")
+    claims = write(folder, "claims.expect", b"always at most 1 of 0.0 1.0 in count+1..count+3\nnever word 8 below 0 signed\n")
+    begin = write(folder, "begin.schedule", b"0 0 2\n")
     racing = os.path.join(GRADED, "racing.asm")
     lock, ends, lost = example("lock.asm"), example("lock.ends.schedule"), example("lock.lost_update.schedule")
     return [
@@ -61,6 +63,7 @@ def commands(folder):
         ["explore", racing, "--json"],
         ["explore", write(folder, "round.asm", ROUND)],
         ["explore", "--plain", write(folder, "shared.asm", SHARED)],
+        ["explore", racing, "--from", begin, "--expect", claims],
         ["grade", "--explore", "--expect", wishes, racing],
         ["grade", "--expect", wishes, "--seeds", "5", *sorted(os.path.join(GRADED, it) for it in os.listdir(GRADED))],
     ]

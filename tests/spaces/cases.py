@@ -9,8 +9,8 @@ import programs
 import search
 import wishes
 
-# the most worlds of a program that is searched, and how many programs a seed tries to find a smaller one
-MOST, TRIES = 300, 40
+# how many worlds a program that is searched has, and how many programs a seed tries to find one
+LEAST, MOST, TRIES = 8, 300, 200
 # the verdict of `grade --explore` where no end and no claim is against a program
 SPINS, RIGHT = "spins", "right"
 
@@ -24,10 +24,10 @@ class Case:
         for _ in range(TRIES):
             self.made = programs.made(chance)
             self.space = search.Space(self.made.program, (), MOST)
-            if self.space.is_whole:
+            if self.space.is_whole and len(self.space.distance) >= LEAST:
                 break
         else:
-            raise ValueError(f"seed {seed}: no program of at most {MOST} worlds")
+            raise ValueError(f"seed {seed}: no program of {LEAST} to {MOST} worlds")
         self.expected = wishes.expectations(chance, self.made, self.space)
         self.claims = wishes.claims(chance, self.made) if chance.random() < 0.7 else []
         self.begin = begin_of(chance, self.space)

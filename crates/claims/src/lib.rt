@@ -1,6 +1,7 @@
 //! Claims about every world that a program comes to, and whether they hold of one ("Claims", docs/LAB.md).
 #![tactic(auto)]
 
+mod breaks;
 mod claim;
 mod judging;
 mod missing;

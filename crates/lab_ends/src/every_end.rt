@@ -198,60 +198,42 @@ fn add_broken<const S: usize>(
     for ClaimLine { text, claim } in claims {
         let places = places_that_break::<S>(alloc, claim, space)?;
         let before = breaks_before::<S>(alloc, claim, space)?;
-        if !places.is_empty() || before.count > 0 {
+        if !places.is_empty() || !before.is_empty() {
             let told = EndTold::of(SpaceEndKind::Broken, text.clone()?);
-            ends.push(broken_end(alloc, space, told, places, before)?)?;
+            ends.push(broken_end(alloc, space, told, places, &before)?)?;
         }
     }
     Ok(())
 }
 
-/// The end that these worlds of a space are, and those on the way to its first one.
+/// The end that these worlds of a space are, and those after so many steps of the ones that all its schedules begin
+/// with.
 fn broken_end(
     alloc: Global,
     space: &Space<'_>,
     told: EndTold,
     places: Vec<usize>,
-    before: BreaksBefore,
+    before: &[usize],
 ) -> Result<SpaceEnd, AllocError> {
     let first = places.first().copied().unwrap_or(0);
     let mut end = new_end(alloc, space, first, told)?;
     end.sets = places.len();
     end.places = places;
-    end.before = before.count;
-    if before.count > 0 {
-        end.schedule.truncate(before.first);
+    end.before = before.len();
+    if let Some(taken) = before.first() {
+        end.schedule.truncate(*taken);
     }
     Ok(end)
 }
 
-/// The worlds that break a claim on the way through the steps that all schedules of a space begin with.
-#[derive(Clone, Copy, Debug)]
-struct BreaksBefore {
-    /// How many steps lead to the first of them.
-    first: usize,
-    /// How many they are, one for each step: 0 where none breaks it.
-    count: usize,
-}
-
-/// The worlds of which a claim does not hold before some step of those that all schedules of a space begin with.
+/// After how many of the steps that all schedules of a space begin with a claim does not hold, and some are left.
 fn breaks_before<const S: usize>(
     alloc: Global,
     claim: &Claim,
     space: &Space<'_>,
-) -> Result<BreaksBefore, AllocError> {
+) -> Result<Vec<usize>, AllocError> {
     let mut machine = loaded::<S>(alloc, space.image())?;
-    let mut breaks = BreaksBefore { first: 0, count: 0 };
-    for (taken, step) in space.begin().iter().enumerate() {
-        if !claim.holds(&machine) {
-            if breaks.count == 0 {
-                breaks.first = taken;
-            }
-            breaks.count += 1;
-        }
-        machine.step(step.p, step.s);
-    }
-    Ok(breaks)
+    claim.breaks(alloc, &mut machine, space.begin())
 }
 
 /// The places of the worlds of which a claim does not hold.

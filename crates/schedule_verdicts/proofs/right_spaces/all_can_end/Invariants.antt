@@ -1,0 +1,7 @@
+-- Each of the marks so far is set.
+use Rattle.std.proofs.Common.{◌<◌, ℕ}
+use Rattle.schedule_space.specs.Reaching.{IsMarked}
+use Rattle.schedule_verdicts.proofs.right_spaces.all_can_end.Given as goal
+
+abbrev pub invariant-loop-place : goal.invariant-loop-place
+invariant-loop-place l = (k : ℕ) → k < l.place → IsMarked l.marks.items k

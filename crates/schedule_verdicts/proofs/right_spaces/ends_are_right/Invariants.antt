@@ -1,0 +1,7 @@
+-- Each end among the places so far is right.
+use Rattle.std.proofs.Common.{◌<◌, ℕ}
+use Rattle.schedule_verdicts.specs.RightSpaces.{IsRightAt}
+use Rattle.schedule_verdicts.proofs.right_spaces.ends_are_right.Given as goal
+
+abbrev pub invariant-loop-place : goal.invariant-loop-place
+invariant-loop-place g l = (k : ℕ) → k < l.place → IsRightAt l.space l.expected k

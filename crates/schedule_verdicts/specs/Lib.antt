@@ -1,0 +1,3 @@
+pub mod RightEnds
+pub mod KeptClaims
+pub mod RightSpaces

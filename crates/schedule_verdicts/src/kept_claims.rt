@@ -1,0 +1,41 @@
+//! Whether claims hold of all worlds of a space.
+
+ghost use Rattle.std.specs.Prelude.{◌≡◌, ◌↔◌, IsTrue, IfOk};
+ghost use Rattle.claims.specs.Holding.{holds};
+ghost use Rattle.schedule_verdicts.specs.KeptClaims.{all_hold, AreKept};
+
+use claims::Claim;
+use machine::{LoadFault, Machine};
+use schedule_space::Space;
+use std::alloc::Global;
+
+/// Whether claims hold of each world of a space.
+pub(crate) fn are_kept<const S: usize>(
+    alloc: Global,
+    space: &Space<'_>,
+    claims: &[Claim],
+) -> Result<bool, LoadFault>
+    ensures { IfOk result (λ b. IsTrue b ↔ AreKept space.now claims.now) }
+{
+    if claims.is_empty() {
+        return Ok(true);
+    }
+    for place in 0..space.len() {
+        let machine = space.machine::<S>(alloc, place)?;
+        if !all_hold(&machine, claims) {
+            return Ok(false);
+        }
+    }
+    Ok(true)
+}
+
+/// Whether claims hold of the world of a machine.
+fn all_hold<const S: usize>(machine: &Machine<'_, S>, claims: &[Claim]) -> bool
+    ensures { result ≡ all_hold claims.now machine.now.world }
+{
+    claims.iter().all(
+        |claim: &Claim| -> bool
+            ensures { result ≡ holds machine.entry.now.world claim.now }
+        { claim.holds(machine) },
+    )
+}

@@ -1,0 +1,9 @@
+//! What is known of every schedule of an image from a search through its worlds ("Schedules", docs/MACHINE.md).
+#![tactic(auto)]
+
+mod kept_claims;
+mod right_ends;
+mod right_spaces;
+
+pub use right_ends::is_right_end;
+pub use right_spaces::is_right;

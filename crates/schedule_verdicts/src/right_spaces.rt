@@ -1,0 +1,95 @@
+//! Whether every schedule of an image comes to a right end.
+
+ghost use Rattle.std.specs.Prelude.{◌≡◌, ◌↔◌, ◌<◌, IsTrue, IfOk, ℕ};
+ghost use Rattle.schedule_space.specs.Spaces.{count, world_of, IsComplete, HasAllEdges};
+ghost use Rattle.schedule_space.specs.Reaching.{CanEnd};
+ghost use Rattle.schedule_space.specs.Followed.{AllFollowed, HasAllEnds, TellsWhetherAllEnd};
+ghost use Rattle.schedule_verdicts.specs.RightSpaces.{IsRight, IsRightAt, EndRight, AllCanEnd, EndsRight, IsRightOnEachWay};
+
+use crate::kept_claims::are_kept;
+use crate::right_ends::is_right_end;
+use claims::Claim;
+use expectations::Expectation;
+use machine::LoadFault;
+use schedule_space::{Fate, Space};
+use std::alloc::{AllocError, Global};
+
+/// Whether each end in a space is right, an end can be reached from each of its worlds, and the claims hold of each. Of a
+/// space that has all ends this is so exactly where every schedule that ends ends right, and each can still come to an
+/// end wherever it is; of one that has all worlds, where beside that the claims hold wherever a schedule leads.
+///
+/// `Streams` only where the image's slim is above `S`.
+pub fn is_right<const S: usize>(
+    alloc: Global,
+    space: &Space<'_>,
+    expected: &[Expectation],
+    claims: &[Claim],
+) -> Result<bool, LoadFault>
+    ensures sound { IfOk result (λ b. IsTrue b → IsRight space.now expected.now claims.now) }
+    ensures plain { IfOk result (λ b. IsComplete space.now → HasAllEdges space.now
+        → IsRight space.now expected.now claims.now → IsTrue b) }
+    ensures followed { IfOk result (λ b. AllFollowed space.now → IsRight space.now expected.now claims.now → IsTrue b) }
+    ensures ends { IfOk result (λ b. IsTrue b → HasAllEnds space.now → TellsWhetherAllEnd space.now
+        → EndsRight space.now.image space.now.begin expected.now) }
+    ensures each_way { IfOk result (λ b. IsTrue b → IsComplete space.now
+        → IsRightOnEachWay space.now.image space.now.begin expected.now claims.now) }
+{
+    if !ends_are_right::<S>(alloc, space, expected)? {
+        return Ok(false);
+    }
+    if !all_can_end(alloc, space)? {
+        return Ok(false);
+    }
+    are_kept::<S>(alloc, space, claims)
+}
+
+/// Whether each end in a space is right.
+fn ends_are_right<const S: usize>(
+    alloc: Global,
+    space: &Space<'_>,
+    expected: &[Expectation],
+) -> Result<bool, LoadFault>
+    ensures { IfOk result (λ b. IsTrue b ↔ EndRight space.now expected.now) }
+{
+    for place in 0..space.len() {
+        if !is_right_at::<S>(alloc, space, place, expected)? {
+            return Ok(false);
+        }
+    }
+    Ok(true)
+}
+
+/// Whether the world at a place of a space is a right end, if it is an end.
+fn is_right_at<const S: usize>(
+    alloc: Global,
+    space: &Space<'_>,
+    place: usize,
+    expected: &[Expectation],
+) -> Result<bool, LoadFault>
+    requires { place < count space.now }
+    ensures { IfOk result (λ b. IsTrue b ↔ IsRightAt space.now expected.now place) }
+{
+    match space.fate(place) {
+        Fate::GoesOn => Ok(true),
+        Fate::Deadlock => Ok(false),
+        Fate::Finished => {
+            let machine = space.machine::<S>(alloc, place)?;
+            Ok(is_right_end(&machine, expected))
+        }
+    }
+}
+
+/// Whether an end can be reached from each world of a space.
+fn all_can_end(alloc: Global, space: &Space<'_>) -> Result<bool, AllocError>
+    ensures sound { IfOk result (λ b. IsTrue b → AllCanEnd space.now) }
+    ensures plain { IfOk result (λ b. IsComplete space.now → HasAllEdges space.now → AllCanEnd space.now → IsTrue b) }
+    ensures followed { IfOk result (λ b. AllFollowed space.now → AllCanEnd space.now → IsTrue b) }
+{
+    let marks = space.can_end(alloc)?;
+    for place in 0..marks.len() {
+        if !marks[place] {
+            return Ok(false);
+        }
+    }
+    Ok(true)
+}
