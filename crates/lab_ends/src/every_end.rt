@@ -1,6 +1,5 @@
 //! Ends of all schedules, and what they are told by.
 
-use crate::claim_lines::ClaimLine;
 use crate::end_words::{EndWords, end_words_of};
 use crate::expected_traps::is_expected_trap;
 use crate::findings::first_finding;
@@ -109,7 +108,7 @@ pub fn space_ends<const S: usize>(
     if is_complete {
         add_spinning::<S>(alloc, &mut ends, names, style, space)?;
     }
-    add_broken::<S>(alloc, &mut ends, &wishes.claims, space)?;
+    add_broken::<S>(alloc, &mut ends, wishes, space)?;
     for end in ends.iter_mut() {
         end.sources = sources_of(alloc, space, &end.places)?;
         end.finding = first_finding::<S>(alloc, names, style, space.image(), &end.schedule)?;
@@ -192,10 +191,10 @@ fn told_at<const S: usize>(
 fn add_broken<const S: usize>(
     alloc: Global,
     ends: &mut Vec<SpaceEnd>,
-    claims: &[ClaimLine],
+    wishes: &Wishes,
     space: &Space<'_>,
 ) -> Result<(), AllocError> {
-    for ClaimLine { text, claim } in claims {
+    for (claim, text) in wishes.claims.iter().zip(&wishes.claim_texts) {
         let places = places_that_break::<S>(alloc, claim, space)?;
         let before = breaks_before::<S>(alloc, claim, space)?;
         if !places.is_empty() || !before.is_empty() {

@@ -2,6 +2,7 @@
 
 use crate::claim_fault::ClaimFault;
 use crate::claim_lines::ClaimLine;
+use claims::Claim;
 use expectations::{Expectation, ExpectationFault, read_expectations};
 use image_file::Image;
 use lab_texts::ProgramNames;
@@ -14,7 +15,9 @@ pub struct Wishes {
     /// What each end has to be.
     pub ends: Vec<Expectation>,
     /// What has to hold of each world.
-    pub claims: Vec<ClaimLine>,
+    pub claims: Vec<Claim>,
+    /// The words that say each of them, in the same order.
+    pub claim_texts: Vec<String>,
 }
 
 /// Why a text says no wishes.
@@ -51,6 +54,7 @@ impl Wishes {
         Wishes {
             ends: Vec::new(alloc),
             claims: Vec::new(alloc),
+            claim_texts: Vec::new(alloc),
         }
     }
 
@@ -66,6 +70,7 @@ impl Wishes {
         image: &Image,
     ) -> Result<Wishes, WishFault> {
         let mut claims = Vec::new(alloc);
+        let mut claim_texts = Vec::new(alloc);
         let mut others = Vec::with_capacity(alloc, text.len())?;
         for (index, line) in text.split(|byte| *byte == b'\n').enumerate() {
             let words = claim_words(alloc, line)?;
@@ -73,7 +78,9 @@ impl Wishes {
                 others.extend_from_slice(line)?;
             } else {
                 let line = index.saturating_add(1);
-                claims.push(claim_at(alloc, line, &words, names, image)?)?;
+                let said = claim_at(alloc, line, &words, names, image)?;
+                claims.push(said.claim)?;
+                claim_texts.push(said.text)?;
             }
             others.push(b'\n')?;
         }
@@ -82,7 +89,11 @@ impl Wishes {
         } else {
             Vec::new(alloc)
         };
-        Ok(Wishes { ends, claims })
+        Ok(Wishes {
+            ends,
+            claims,
+            claim_texts,
+        })
     }
 }
 

@@ -17,6 +17,7 @@ use machine::LoadFault;
 use plain_text::push_plain;
 use processor::Step;
 use schedule_space::{Exploration, Space, explore, explore_ends};
+use schedule_verdicts::is_right;
 use serde_json::{Value, json};
 use std::alloc::{AllocError, Global};
 use std::io::Read;
@@ -43,6 +44,11 @@ impl Search<'_> {
     fn is_of_all_worlds(&self) -> bool {
         self.is_plain || !self.wishes.claims.is_empty()
     }
+
+    /// Whether something is wished of the program.
+    fn is_judged(&self) -> bool {
+        !self.wishes.ends.is_empty() || !self.wishes.claims.is_empty()
+    }
 }
 
 /// What a search came to.
@@ -60,6 +66,9 @@ pub struct Explored {
     pub begin: usize,
     /// Their ends.
     pub ends: Vec<SpaceEnd>,
+    /// Whether they are all, something is wished of them, and every schedule is right (PROMISES.md, "Every schedule is
+    /// right").
+    pub is_right: bool,
 }
 
 impl Explored {
@@ -181,14 +190,31 @@ fn explore_on<const S: usize>(
 ) -> Result<Explored, AllocError> {
     let (space, is_complete) = space_of::<S>(alloc, &program.image, asked)?;
     let ends = space_ends::<S>(alloc, names, asked.style, asked.wishes, &space, is_complete)?;
-    Ok(Explored {
+    let mut found = Explored {
         worlds: space.len(),
         steps: space.step_count(),
         is_complete,
         is_of_all_worlds: asked.is_of_all_worlds(),
         begin: asked.begin.len(),
         ends,
-    })
+        is_right: false,
+    };
+    if asked.is_judged() && found.status() == Status::Done {
+        found.is_right = are_all_right::<S>(alloc, asked.wishes, &space)?;
+    }
+    Ok(found)
+}
+
+/// Whether all that is wished of a space is so.
+fn are_all_right<const S: usize>(
+    alloc: Global,
+    wishes: &Wishes,
+    space: &Space<'_>,
+) -> Result<bool, AllocError> {
+    match is_right::<S>(alloc, space, &wishes.ends, &wishes.claims) {
+        Ok(right) => Ok(right),
+        Err(LoadFault::NoMemory | LoadFault::Streams) => Err(AllocError),
+    }
 }
 
 /// The space of an image, and whether it is complete.

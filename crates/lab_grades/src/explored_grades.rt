@@ -95,7 +95,7 @@ fn verdict_of_ends(
         }
     }
     let worlds = found.worlds;
-    if !found.is_complete {
+    if !found.is_right {
         return Ok(Verdict {
             word: "not decided",
             why: format!(in alloc; "more than {worlds} worlds")?,

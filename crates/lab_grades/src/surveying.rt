@@ -86,10 +86,8 @@ fn every_end(
     most: usize,
 ) -> Result<Explored, AllocError> {
     let names = ProgramNames::of(alloc, &program.text)?;
-    let wishes = Wishes {
-        ends: expected,
-        claims: Vec::new(alloc),
-    };
+    let mut wishes = Wishes::none(alloc);
+    wishes.ends = expected;
     let begin = Vec::new(alloc);
     let asked = Search {
         wishes: &wishes,
