@@ -1,6 +1,6 @@
 """The lab under hostile use: each allocation of its commands refused in turn, outputs that are full or that nobody
-reads, large and damaged inputs, bytes above 7F, long lines, small stacks, no threads. Each run ends with words and a status of the table, and nothing is
-lost."""
+reads, large and damaged inputs, bytes above 7F, long lines, small stacks, no threads. Each run ends with words and a
+status of the table, and nothing is lost."""
 
 import os
 import json
