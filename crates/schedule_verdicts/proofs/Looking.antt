@@ -1,5 +1,5 @@
 -- Which streams have to be looked at: a stream that a machine does not have was stopped by no trap.
-use Rattle.std.proofs.Common.{◌≡◌, ℕ, ◌+◌, ◌<◌, ◌≤◌, ◌⊎◌,  refl, sym, ap, ◌∙◌, subst, arith, inl, inr}
+use Rattle.std.proofs.Common.{◌≡◌, ℕ, ◌+◌, ◌<◌, ◌≤◌, ◌⊎◌, refl, sym, ap, ◌∙◌, subst, arith, inl, inr}
 use Rattle.std.proofs.Common.{Option, Some, None, List, length, slice_get}
 use Rattle.std.specs.Prelude.{IsTrue}
 use Rattle.std.specs.Option.{option_and_then}
@@ -51,11 +51,11 @@ pub one_more : (size : ℕ) (m : MachineValue) (expected : List Expectation) (p 
     → (t : Step) → t.p < p + 1 → IsSo expected m.world t
 one_more size m expected p n machine past below here =
     below_next (IsSo expected m.world) p below (λ k. each k (cases_lt k n)) where
-  each : (k : ℕ) → (k < n) ⊎ (n ≤ k) → IsSo expected m.world (record { p = p; s = k })
-  each k (inl less) = here k less
-  each k (inr most) =
-      missing expected m.world (record { p = p; s = k })
-      (past_slim size m (record { p = p; s = k }) machine (omega (arith, past, most)))
+      each : (k : ℕ) → (k < n) ⊎ (n ≤ k) → IsSo expected m.world (record { p = p; s = k })
+      each k (inl less) = here k less
+      each k (inr most) =
+          missing expected m.world (record { p = p; s = k })
+          (past_slim size m (record { p = p; s = k }) machine (omega (arith, past, most)))
 
 -- all were looked at
 pub all_looked_at : (size : ℕ) (m : MachineValue) (expected : List Expectation) (p : ℕ) → IsMachine size m

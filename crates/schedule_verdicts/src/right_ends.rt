@@ -88,9 +88,11 @@ fn is_stop_by(expectation: &Expectation, p: u8, s: u8, kind: TrapKind) -> bool
     ensures { result ≡ is_stop_by p s kind expectation.now }
 {
     match *expectation {
-        Expectation::Stopped { p: of, s: stream, trap } => {
-            of == p && stream == s && trap == kind.number()
-        }
+        Expectation::Stopped {
+            p: of,
+            s: stream,
+            trap,
+        } => { of == p && stream == s && trap == kind.number() }
         Expectation::Word { .. } | Expectation::Register { .. } | Expectation::Finished => false,
     }
 }
