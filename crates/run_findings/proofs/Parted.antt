@@ -1,6 +1,6 @@
 -- What is parted from a step, and so not found.
-use Rattle.std.proofs.Common.{◌≡◌, ℕ, zero, suc, ◌<◌, ◌≤◌, ◌==◌, Bool, true, false, not, cond, ◌&&◌, ◌||◌, List, [], ◌++◌, length}
-use Rattle.std.proofs.Common.{Option, Some, None, refl, sym, ap, ◌∙◌, subst, arith, nat_lt, lt-ltb, le-ltb, append-nil, ⊎_elim}
+use Rattle.std.proofs.Common.{◌≡◌, ℕ, zero, suc, ◌<◌, ◌≤◌, ◌==◌, Bool, true, false, not, cond, ◌&&◌, ◌||◌, List, [], ◌++◌}
+use Rattle.std.proofs.Common.{Option, Some, None, refl, sym, ap, ◌∙◌, arith, nat_lt, lt-ltb, le-ltb, append-nil, ⊎_elim}
 use Rattle.std.specs.List.{slice_get}
 use Rattle.std.proofs.lemmas.Bool.{false≢true, cases_lt}
 use Rattle.processor.specs.declared.steps.Step.{Step}
@@ -8,7 +8,7 @@ use Rattle.run_findings.specs.Actions.{is_by}
 use Rattle.run_findings.specs.Places.{passes}
 use Rattle.run_findings.specs.Found.{list_of, found_to, lists_to}
 use Rattle.run_findings.specs.TornReads.{word_heard, word_changed, meets, brings_news, parts_at, any_between, are_parted}
-use Rattle.run_findings.specs.TornReads.{is_other_half, half_by, half_in, other_half, loaded_by, is_torn_pair, torn_by_read}
+use Rattle.run_findings.specs.TornReads.{half_by, half_in, other_half, loaded_by, is_torn_pair, torn_by_read}
 use Rattle.run_findings.specs.TornReads.{torn_by_word, torn_by_write}
 use Rattle.run_findings.specs.Rounds.{meets_by, closes}
 use Rattle.run_findings.specs.declared.actions.Action.{Action}
