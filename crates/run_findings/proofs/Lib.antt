@@ -4,5 +4,6 @@ mod Finding
 mod Glimpses
 mod Held
 mod LostUpdates
+mod Parted
 mod TornReads
 mod UnreadStores

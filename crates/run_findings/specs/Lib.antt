@@ -9,3 +9,4 @@ pub mod Pairs
 pub mod TornReads
 -- The aid: what the code looks for.
 pub mod Sought
+pub mod Rounds

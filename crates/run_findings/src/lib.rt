@@ -7,6 +7,7 @@ mod lost;
 mod marks;
 mod pairs;
 mod parting;
+mod rounds;
 mod searching;
 mod torn;
 mod unread;

@@ -23,7 +23,7 @@ pub(crate) enum Meeting {
 
 impl Meeting {
     /// Whether a step meets the word at this address so.
-    fn meets(self, address: u64, action: &Action) -> bool
+    pub(crate) fn meets(self, address: u64, action: &Action) -> bool
         ensures { result ≡ meets self address action.now }
     {
         match self {

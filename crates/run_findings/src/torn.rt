@@ -10,6 +10,7 @@ ghost use Rattle.run_findings.specs.Found.{found_to, lists_to};
 use crate::actions::Action;
 use crate::pairs::{Look, is_half};
 use crate::parting::{Meeting, Pair, word_changed, word_loaded};
+use crate::rounds::Round;
 use crate::searching::{Sought, last_before};
 use processor::Step;
 use std::alloc::{AllocError, Global};
@@ -104,7 +105,14 @@ fn push_torn(
     ensures { OnOk result (found.new.items
         ≡ found.old.items ++ lists_to (torn_by_write actions.now glimpse.now) (length actions.now)) }
 {
-    for write in 0..actions.len() {
+    let round = Round {
+        way: Meeting::Writes,
+        stream: glimpse.writer,
+        word: glimpse.fresh,
+    };
+    let start = round.start(actions, glimpse.fresh_write);
+    let end = round.end(actions, glimpse.fresh_write);
+    for write in start..end {
         push_torn_by_write(found, actions, glimpse, write)?;
     }
     Ok(())
@@ -183,7 +191,14 @@ fn push_torn_by_reads(
     ensures { OnOk result (found.new.items
         ≡ found.old.items ++ found_to (torn_by_read actions.now glimpse.now stale write) (length actions.now)) }
 {
-    for read in 0..actions.len() {
+    let round = Round {
+        way: Meeting::Reads,
+        stream: glimpse.reader,
+        word: glimpse.fresh,
+    };
+    let start = round.start(actions, glimpse.fresh_read);
+    let end = round.end(actions, glimpse.fresh_read);
+    for read in start..end {
         if let Some(torn) = torn_by_read(actions, glimpse, stale, write, read) {
             found.push(torn)?;
         }

@@ -1,0 +1,25 @@
+use Rattle.std.proofs.Common.{◌≡◌, ◌++◌, length, sym, ap, ◌∙◌, arith, append-nil}
+use Rattle.run_findings.specs.Found.{lists_to}
+use Rattle.run_findings.specs.TornReads.{torn_by_write}
+use Rattle.run_findings.proofs.Parted.{none_by_write, lists_begin, lists_rest}
+use Rattle.run_findings.proofs.torn.push_torn.Goals as goal
+
+pub loop-write-init : goal.loop-write-init
+loop-write-init c =
+    let ds = c.args.actions.now in
+    let g = c.args.glimpse.now in
+    let before = c.args.found.now.items in
+    sym (append-nil before)
+    ∙ ap (λ x. before ++ x) (sym (lists_begin (torn_by_write ds g) c.start-start.result
+    (λ k h. none_by_write ds g k (λ a. c.start-start.ensures.parted a k h))))
+
+pub returns : goal.returns
+returns c =
+    let ds = c.args.actions.now in
+    let g = c.args.glimpse.now in
+    let before = c.args.found.now.items in
+    let all : c.loop-write.write ≡ c.end-end.result = omega arith in
+    c.loop-write.invariant
+    ∙ ap (λ n. before ++ lists_to (torn_by_write ds g) n) all
+    ∙ ap (λ x. before ++ x) (lists_rest (torn_by_write ds g) c.end-end.result (length ds) c.end-end.ensures.within
+    (λ k low high. none_by_write ds g k (λ a. c.end-end.ensures.parted a k low high)))
