@@ -102,12 +102,37 @@ pub fn show_every_end<F: Files, R: Read>(
     let program = read_program(alloc, inputs, request.program)?;
     let names = ProgramNames::of(alloc, &program.text)?;
     let wishes = wishes_asked(alloc, inputs, request, &program, &names)?;
-    let found = found_by(alloc, inputs, request, &program, &names, &wishes)?;
+    let begin = begin_asked(alloc, inputs, request, &program)?;
+    let made = make_folder(alloc, inputs, request.keep);
+    let found = found_by(alloc, request, &program, &names, &wishes, &begin)?;
     let mut answer = answer_of(alloc, request, &wishes.ends, &found)?;
-    if let Some(folder) = request.keep {
-        answer.fault = keep_schedules(alloc, inputs, folder, &found.ends).err();
-    }
+    answer.fault = keep_schedules(alloc, inputs, request.keep, made, &found.ends).err();
     Ok(answer)
+}
+
+/// The steps that all schedules are to begin with.
+fn begin_asked<F: Files, R: Read>(
+    alloc: Global,
+    inputs: &mut Inputs<'_, F, R>,
+    request: &ExploreRequest,
+    program: &Program,
+) -> Result<Vec<Step>, LabFault> {
+    match request.from {
+        Some(path) => read_steps(alloc, inputs, program, path),
+        None => Ok(Vec::new(alloc)),
+    }
+}
+
+/// Makes the folder for schedules, where one is asked for and nothing has its name.
+fn make_folder<F: Files, R: Read>(
+    alloc: Global,
+    inputs: &Inputs<'_, F, R>,
+    folder: Option<&str>,
+) -> Result<(), LabFault> {
+    match folder {
+        Some(folder) => inputs.make_folder(alloc, folder),
+        None => Ok(()),
+    }
 }
 
 /// What is wished of the program; nothing where no file says it.
@@ -126,37 +151,36 @@ fn wishes_asked<F: Files, R: Read>(
 }
 
 /// What the search that is asked for comes to.
-fn found_by<F: Files, R: Read>(
+fn found_by(
     alloc: Global,
-    inputs: &mut Inputs<'_, F, R>,
     request: &ExploreRequest,
     program: &Program,
     names: &ProgramNames<'_>,
     wishes: &Wishes,
-) -> Result<Explored, LabFault> {
-    let begin = match request.from {
-        Some(path) => read_steps(alloc, inputs, program, path)?,
-        None => Vec::new(alloc),
-    };
+    begin: &[Step],
+) -> Result<Explored, AllocError> {
     let asked = Search {
         wishes,
-        begin: &begin,
+        begin,
         most: request.most,
         is_plain: request.is_plain,
         style: style_of(request.shown),
     };
-    Ok(explore_program(alloc, program, names, &asked)?)
+    explore_program(alloc, program, names, &asked)
 }
 
-/// Writes the schedule to each end into a folder, as `1.schedule` and so on. The folder is made where there is
-/// none.
+/// Writes the schedule to each end into the folder that was made, as `1.schedule` and so on.
 fn keep_schedules<F: Files, R: Read>(
     alloc: Global,
     inputs: &Inputs<'_, F, R>,
-    folder: &str,
+    folder: Option<&str>,
+    made: Result<(), LabFault>,
     ends: &[SpaceEnd],
 ) -> Result<(), LabFault> {
-    inputs.make_folder(alloc, folder)?;
+    made?;
+    let Some(folder) = folder else {
+        return Ok(());
+    };
     for (index, end) in ends.iter().enumerate() {
         let number = index.saturating_add(1);
         let path = format!(in alloc; "{folder}/{number}.schedule")?;
