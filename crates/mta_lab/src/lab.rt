@@ -137,14 +137,21 @@ fn tell<W: Write, E: Write>(
     output: &mut W,
     errors: &mut E,
 ) -> Result<Status, LabFault> {
-    let wrote = write_whole(output, answer.output.as_bytes());
+    let Answer {
+        output: text,
+        errors: words,
+        status,
+        fault,
+    } = answer;
+    let wrote = write_whole(output, text.as_bytes());
     if wrote.is_ok() {
-        let _ = write_whole(errors, answer.errors.as_bytes());
+        let _ = write_whole(errors, words.as_bytes());
     }
-    match answer.fault {
-        Some(fault) => Err(fault),
-        None => wrote.map(|()| answer.status),
+    if let Some(fault) = fault {
+        return Err(fault);
     }
+    wrote?;
+    Ok(status)
 }
 
 /// Writes why a command gave up, and gives its status.
