@@ -28,7 +28,7 @@ def functions(text):
 
 
 def part(_):
-    files = sorted(path for path in PAGE.iterdir() if path.is_file())
+    files = sorted(path for path in PAGE.iterdir() if path.is_file() and path.suffix != ".md")
     for path in files:
         lines = path.read_text(encoding="utf-8").split("\n")
         tally.check(f"{path.name} has at most {LINES} lines", len(lines) <= LINES + 1, len(lines))

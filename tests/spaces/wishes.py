@@ -24,6 +24,8 @@ class Claim(NamedTuple):
 
 
 NUMBERS = (0, 0, 1, 2, 8, 2**64 - 1, 2**63, 2**63 - 1)
+# below and above what no number is, without a sign and with one: such claims are refused
+BEYOND = {("below", 0, False), ("above", 2**64 - 1, False), ("below", -2**63, True), ("above", 2**63 - 1, True)}
 
 
 def expectations(chance, made, space):
@@ -101,6 +103,8 @@ def of_word(chance, made):
         number = f"{value:+d}" if value < 0 or chance.random() < 0.5 else str(value)
         sign = " signed" if number[0] not in "+-" or chance.random() < 0.3 else ""
         is_signed = True
+    if (form, value, is_signed) in BEYOND:
+        return of_word(chance, made)
     return Claim(f"{scope} word {8 * at} {form} {number}{sign}", scope == "always", form, (at, value, is_signed))
 
 
