@@ -1,6 +1,11 @@
 //! The command `explore`.
 
+ghost use Rattle.std.specs.Prelude.{IsTrue, IfOk};
+ghost use Rattle.schedule_space.specs.Followed.{HasAllEnds, TellsWhetherAllEnd};
+ghost use Rattle.schedule_verdicts.specs.RightSpaces.{EndsRight};
+
 use crate::expectation_texts::push_expectation;
+use crate::spaces::space_of;
 use crate::widths::digits_of;
 use crate::wished::wishes_of;
 use command_parts::{
@@ -16,7 +21,7 @@ use lab_texts::{NumberStyle, ProgramNames};
 use machine::LoadFault;
 use plain_text::push_plain;
 use processor::Step;
-use schedule_space::{Exploration, Space, explore, explore_ends};
+use schedule_space::Space;
 use schedule_verdicts::is_right;
 use serde_json::{Value, json};
 use std::alloc::{AllocError, Global};
@@ -81,15 +86,7 @@ impl Explored {
 
     /// The exit status: the worst over all ends and broken claims, and over the bound, where the search came to it.
     pub fn status(&self) -> Status {
-        let mut status = if self.is_complete {
-            Status::Done
-        } else {
-            Status::OutOfSteps
-        };
-        for end in &self.ends {
-            status = status.worse(end.status());
-        }
-        status
+        worst_of(self.is_complete, &self.ends)
     }
 }
 
@@ -196,7 +193,10 @@ pub fn explore_program(
     program: &Program,
     names: &ProgramNames<'_>,
     asked: &Search<'_>,
-) -> Result<Explored, AllocError> {
+) -> Result<Explored, AllocError>
+    ensures right { IfOk result (λ e. IsTrue e.is_right
+        → EndsRight program.now.image asked.now.begin.now asked.now.wishes.now.ends.items) }
+{
     match program.image.slim() {
         0 | 1 => explore_on::<1>(alloc, program, names, asked),
         2..=4 => explore_on::<4>(alloc, program, names, asked),
@@ -211,53 +211,65 @@ fn explore_on<const S: usize>(
     program: &Program,
     names: &ProgramNames<'_>,
     asked: &Search<'_>,
-) -> Result<Explored, AllocError> {
-    let (space, is_complete) = space_of::<S>(alloc, &program.image, asked)?;
+) -> Result<Explored, AllocError>
+    ensures right { IfOk result (λ e. IsTrue e.is_right
+        → EndsRight program.now.image asked.now.begin.now asked.now.wishes.now.ends.items) }
+{
+    let most = asked.most.max(1);
+    let is_of_all_worlds = asked.is_of_all_worlds();
+    let (space, is_complete) = space_of::<S>(
+        alloc,
+        &program.image,
+        asked.begin,
+        most,
+        is_of_all_worlds,
+    )?;
     let ends = space_ends::<S>(alloc, names, asked.style, asked.wishes, &space, is_complete)?;
-    let mut found = Explored {
+    let is_asked = asked.is_judged() && worst_of(is_complete, &ends) == Status::Done;
+    let is_right = are_all_right::<S>(alloc, asked.wishes, &space, is_complete, is_asked)?;
+    Ok(Explored {
         worlds: space.len(),
         steps: space.step_count(),
         is_complete,
-        is_of_all_worlds: asked.is_of_all_worlds(),
+        is_of_all_worlds,
         begin: asked.begin.len(),
         ends,
-        is_right: false,
-    };
-    if asked.is_judged() && found.status() == Status::Done {
-        found.is_right = are_all_right::<S>(alloc, asked.wishes, &space)?;
-    }
-    Ok(found)
+        is_right,
+    })
 }
 
-/// Whether all that is wished of a space is so.
+/// Whether all that is wished of a space that is complete is so, where it is asked.
 fn are_all_right<const S: usize>(
     alloc: Global,
     wishes: &Wishes,
     space: &Space<'_>,
-) -> Result<bool, AllocError> {
+    is_complete: bool,
+    is_asked: bool,
+) -> Result<bool, AllocError>
+    ensures complete { IfOk result (λ b. IsTrue b → IsTrue is_complete) }
+    ensures right { IfOk result (λ b. IsTrue b → HasAllEnds space.now → TellsWhetherAllEnd space.now
+        → EndsRight space.now.image space.now.begin wishes.now.ends.items) }
+{
+    if !is_complete || !is_asked {
+        return Ok(false);
+    }
     match is_right::<S>(alloc, space, &wishes.ends, &wishes.claims) {
         Ok(right) => Ok(right),
         Err(LoadFault::NoMemory | LoadFault::Streams) => Err(AllocError),
     }
 }
 
-/// The space of an image, and whether it is complete.
-fn space_of<'i, const S: usize>(
-    alloc: Global,
-    image: &'i Image,
-    asked: &Search<'_>,
-) -> Result<(Space<'i>, bool), AllocError> {
-    let most = asked.most.max(1);
-    let explored = if asked.is_of_all_worlds() {
-        explore::<S>(alloc, image, asked.begin, most)
+/// The worst status over ends and broken claims, and over the bound, where the search came to it.
+fn worst_of(is_complete: bool, ends: &[SpaceEnd]) -> Status {
+    let mut status = if is_complete {
+        Status::Done
     } else {
-        explore_ends::<S>(alloc, image, asked.begin, most)
+        Status::OutOfSteps
     };
-    match explored {
-        Ok(Exploration::Complete(space)) => Ok((space, true)),
-        Ok(Exploration::Bounded(space)) => Ok((space, false)),
-        Err(LoadFault::NoMemory | LoadFault::Streams) => Err(AllocError),
+    for end in ends {
+        status = status.worse(end.status());
     }
+    status
 }
 
 /// What is told of a search.

@@ -4,6 +4,7 @@
 mod claim_texts;
 mod expectation_texts;
 mod exploring;
+mod spaces;
 mod widths;
 mod wished;
 

@@ -1,0 +1,73 @@
+//! The worlds that a search finds, and whether they are all that it looks for.
+
+ghost use Rattle.std.specs.Prelude.{◌≡◌, ◌≤◌, IsTrue, IfOk};
+ghost use Rattle.schedule_space.specs.Spaces.{IsComplete};
+ghost use Rattle.schedule_space.specs.Followed.{HasAllEnds, TellsWhetherAllEnd};
+
+use image_file::Image;
+use machine::LoadFault;
+use processor::Step;
+use schedule_space::{Exploration, Space, explore, explore_ends};
+use std::alloc::{AllocError, Global};
+
+/// The space of an image of so many worlds at most, of all worlds or of those that the ends need, and whether it has all
+/// ends that schedules with this beginning lead to.
+pub(crate) fn space_of<'i, const S: usize>(
+    alloc: Global,
+    image: &'i Image,
+    begin: &[Step],
+    most: usize,
+    is_of_all_worlds: bool,
+) -> Result<(Space<'i>, bool), AllocError>
+    requires { 1 ≤ most }
+    ensures image { IfOk result (λ found. found.0.image ≡ image.entry.now) }
+    ensures begin { IfOk result (λ found. found.0.begin ≡ begin.now) }
+    ensures ends { IfOk result (λ found. IsTrue found.1 → HasAllEnds found.0) }
+    ensures tells { IfOk result (λ found. IsTrue found.1 → TellsWhetherAllEnd found.0) }
+{
+    if is_of_all_worlds {
+        all_worlds::<S>(alloc, image, begin, most)
+    } else {
+        all_ends::<S>(alloc, image, begin, most)
+    }
+}
+
+/// The same of all worlds.
+fn all_worlds<'i, const S: usize>(
+    alloc: Global,
+    image: &'i Image,
+    begin: &[Step],
+    most: usize,
+) -> Result<(Space<'i>, bool), AllocError>
+    requires { 1 ≤ most }
+    ensures image { IfOk result (λ found. found.0.image ≡ image.entry.now) }
+    ensures begin { IfOk result (λ found. found.0.begin ≡ begin.now) }
+    ensures ends { IfOk result (λ found. IsTrue found.1 → HasAllEnds found.0) }
+    ensures tells { IfOk result (λ found. IsTrue found.1 → TellsWhetherAllEnd found.0) }
+{
+    match explore::<S>(alloc, image, begin, most) {
+        Ok(Exploration::Complete(space)) => Ok((space, true)),
+        Ok(Exploration::Bounded(space)) => Ok((space, false)),
+        Err(LoadFault::NoMemory | LoadFault::Streams) => Err(AllocError),
+    }
+}
+
+/// The same of the worlds that the ends need.
+fn all_ends<'i, const S: usize>(
+    alloc: Global,
+    image: &'i Image,
+    begin: &[Step],
+    most: usize,
+) -> Result<(Space<'i>, bool), AllocError>
+    requires { 1 ≤ most }
+    ensures image { IfOk result (λ found. found.0.image ≡ image.entry.now) }
+    ensures begin { IfOk result (λ found. found.0.begin ≡ begin.now) }
+    ensures ends { IfOk result (λ found. IsTrue found.1 → HasAllEnds found.0) }
+    ensures tells { IfOk result (λ found. IsTrue found.1 → TellsWhetherAllEnd found.0) }
+{
+    match explore_ends::<S>(alloc, image, begin, most) {
+        Ok(Exploration::Complete(space)) => Ok((space, true)),
+        Ok(Exploration::Bounded(space)) => Ok((space, false)),
+        Err(LoadFault::NoMemory | LoadFault::Streams) => Err(AllocError),
+    }
+}
