@@ -211,7 +211,7 @@ const EXPLORE_ARGUMENTS: [Argument; 8] = [
     Argument("plain", help::PLAIN, Form::Flag(&[])),
     Argument(
         "keep",
-        "writes a shortest schedule to each end into this folder",
+        "writes the schedule to each end into this folder",
         Form::Option("FOLDER"),
     ),
     Argument("hex", help::HEX, Form::Flag(&[])),

@@ -3,6 +3,7 @@
 
 mod claim_texts;
 mod expectation_texts;
+mod explored_words;
 mod exploring;
 mod spaces;
 mod widths;

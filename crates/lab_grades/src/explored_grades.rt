@@ -147,7 +147,7 @@ impl EndFlaw {
     }
 }
 
-/// Why an end is wrong: a shortest schedule to it, and what is told of it.
+/// Why an end is wrong: a schedule to it, and what is told of it.
 fn why_of_end(
     alloc: Global,
     expected: &[Expectation],
