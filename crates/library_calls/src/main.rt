@@ -5,16 +5,18 @@
 //! - `bench KIND WHICH ROUNDS` does one thing again and again, without any text, so that bench/run.sh can time it.
 #![tactic(auto)]
 
+mod timed;
+
 use anyhow::{Result, anyhow};
 use probed_calls::{
-    Ended, image_of_program, make_files, make_machines, make_records, make_texts, tell,
+    Ended, image_of_program, make_engines, make_files, make_machines, make_records, make_runs,
+    make_sessions, make_texts, tell,
 };
-use probed_runs::{make_engines, make_runs, make_sessions};
 use std::env;
 use std::sync::Wait;
 use std::thread::Threads;
 use std::time::Clock;
-use timed_loops::count_of;
+use timed::count_of;
 
 fn main(rt: HostRuntime) -> Result<()> {
     let words: Vec<String> = env::args(&rt)?.collect(rt.alloc())?;

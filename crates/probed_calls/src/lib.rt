@@ -1,5 +1,5 @@
-//! Calls that take memory, of texts, images, machines and records: each is made, and its answer compared, so that `make
-//! refuse` can refuse its allocations in turn.
+//! Calls that take memory, of texts, images, machines, records, runs on threads, sessions and engines: each is made, and
+//! its answer compared, so that `make refuse` can refuse its allocations in turn.
 #![tactic(auto)]
 
 mod appended;
@@ -8,10 +8,11 @@ mod endings;
 mod machines;
 mod programs;
 mod records;
+mod runs;
 mod texts;
 mod written;
 
 pub use calls::{make_files, make_machines, make_records, make_texts, tell};
 pub use endings::Ended;
-pub use programs::{END, FUEL, SCHEDULE, SOURCE, STEPS, image_of_program, steps};
-pub use texts::{STREAM_TEXT, has_text};
+pub use programs::image_of_program;
+pub use runs::{make_engines, make_runs, make_sessions};

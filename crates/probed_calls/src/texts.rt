@@ -13,7 +13,7 @@ use tag_memory::{Tags, Word};
 use trace_text::{history_line, trace_line, world_text};
 
 /// Behind `LIT r1, 3`, with no trap entry.
-pub const STREAM_TEXT: &str =
+pub(crate) const STREAM_TEXT: &str =
     "Running ssw 0000000000000001 xr 0000000000000000 retries 0\nr01 0000000000000003\nt0 00000000FFFFFFFF\n";
 
 /// How a call ended that makes a text.
@@ -90,7 +90,7 @@ fn text_of(alloc: Global, machine: &Machine<2>) -> Result<String, AllocError> {
 }
 
 /// Whether a machine has this text; none where there is no memory for it.
-pub fn has_text(alloc: Global, machine: &Machine<2>, wanted: &str) -> Option<bool> {
+pub(crate) fn has_text(alloc: Global, machine: &Machine<2>, wanted: &str) -> Option<bool> {
     match text_of(alloc, machine) {
         Ok(text) => Some(text.as_str() == wanted),
         Err(AllocError) => None,

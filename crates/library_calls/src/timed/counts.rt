@@ -1,12 +1,12 @@
 //! Which thing is done again and again, by its name.
 
-use crate::copies::{copy_memories, copy_numbers};
-use crate::debugger_runs::debug_rounds;
-use crate::image_bytes::image_rounds;
-use crate::loops::{EACH_THIRD, loop_of, sixteen_with, two_with};
-use crate::machine_steps::machine_rounds;
-use crate::recorded_runs::{record_rounds, turning_of};
-use crate::threaded_runs::{Way, run_rounds};
+use crate::timed::copies::{copy_memories, copy_numbers};
+use crate::timed::debugger_runs::debug_rounds;
+use crate::timed::image_bytes::image_rounds;
+use crate::timed::loops::{EACH_THIRD, loop_of, sixteen_with, two_with};
+use crate::timed::machine_steps::machine_rounds;
+use crate::timed::recorded_runs::{record_rounds, turning_of};
+use crate::timed::threaded_runs::{Way, run_rounds};
 use std::sync::Wait;
 use std::thread::Threads;
 

@@ -1,8 +1,9 @@
 //! Calls of the debugger.
+use crate::endings::Ended;
+use crate::programs::{STEPS, steps};
 use debug_commands::{Answer, Command, DebugFault, answer_text};
 use image_file::Image;
 use machine::LoadFault;
-use probed_calls::{Ended, STEPS, steps};
 use processor::Step;
 use replay_debugger::{BeginFault, Session};
 use std::alloc::Global;

@@ -1,5 +1,5 @@
 //! Steps of a loop on a machine.
-use crate::loops::{PROCESSORS, STEPS, sixteen_with};
+use crate::timed::loops::{PROCESSORS, STEPS, sixteen_with};
 use image_file::Image;
 use machine::Machine;
 use processor::Step;

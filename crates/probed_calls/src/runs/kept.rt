@@ -1,8 +1,8 @@
 //! A session whose schedule is so long that the positions which it keeps come to lie twice as far apart.
-use crate::sessions::commands_of;
+use crate::endings::Ended;
+use crate::runs::sessions::commands_of;
 use asm_text::assemble;
 use debug_commands::Command;
-use probed_calls::Ended;
 use std::alloc::Global;
 use trace_text::read_schedule;
 

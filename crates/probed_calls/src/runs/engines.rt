@@ -1,9 +1,11 @@
 //! Calls of the commands' engines.
+use crate::endings::Ended;
+use crate::programs::{END, FUEL, SCHEDULE, SOURCE};
+use crate::texts::STREAM_TEXT;
 use asm_text::listing;
 use image_file::{Image, write_image};
 use memory_lock::{FreeGate, GatherFault};
 use mta_engines::{ToolFault, asm_engine, list_engine, run_engine, threads_engine, words_engine};
-use probed_calls::{END, Ended, FUEL, SCHEDULE, SOURCE, STREAM_TEXT};
 use std::alloc::{AllocError, Global};
 use std::sync::Wait;
 use std::thread::Threads;

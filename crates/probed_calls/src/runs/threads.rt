@@ -1,7 +1,8 @@
 //! Calls that run the processors at once and gather what they did.
+use crate::endings::Ended;
+use crate::programs::{FUEL, STEPS};
 use image_file::Image;
 use memory_lock::{FreeGate, ThreadsFault, run_threads, threaded};
-use probed_calls::{Ended, FUEL, STEPS};
 use processor::Recorded;
 use shared_history::{GatherFault, Parts, PartsFault, SharedMemory, Woven, gather};
 use std::alloc::Global;

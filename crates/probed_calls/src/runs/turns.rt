@@ -1,10 +1,11 @@
 //! Calls that run the processors at once, and those that make their table.
 ghost use Rattle.memory_lock.specs.Runs.{HaveRoom};
 
-use crate::threads::{is_new_run, is_whole_run};
+use crate::endings::Ended;
+use crate::programs::FUEL;
+use crate::runs::threads::{is_new_run, is_whole_run};
 use image_file::Image;
 use memory_lock::{FreeGate, close_table, open_table, run_by_lock, run_threads, run_two};
-use probed_calls::{Ended, FUEL};
 use shared_history::{Parts, SharedMemory};
 use std::alloc::Global;
 use std::sync::Wait;

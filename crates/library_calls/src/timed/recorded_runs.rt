@@ -1,5 +1,5 @@
 //! Recorded steps of a loop, and the schedule that is gathered of them.
-use crate::loops::{ARITHMETIC, EACH_THIRD, PROCESSORS, STEPS, TWO_STREAMS, image_of};
+use crate::timed::loops::{ARITHMETIC, EACH_THIRD, PROCESSORS, STEPS, TWO_STREAMS, image_of};
 use image_file::Image;
 use processor::{Next, Recorded};
 use shared_history::{Parts, SharedMemory, gather};

@@ -1,6 +1,6 @@
 //! Runs of the debugger over the steps of a loop.
-use crate::loops::{FETCH_ADD, PROCESSORS, image_of};
-use crate::machine_steps::turns;
+use crate::timed::loops::{FETCH_ADD, PROCESSORS, image_of};
+use crate::timed::machine_steps::turns;
 use debug_commands::Command;
 use image_file::Image;
 use processor::Step;

@@ -1,5 +1,5 @@
 //! Runs of processors at once, which together take 1,000,000 steps.
-use crate::loops::STEPS;
+use crate::timed::loops::STEPS;
 use image_file::Image;
 use memory_lock::{FreeGate, Parts, run_by_lock, run_threads, threaded};
 use std::alloc::Global;

@@ -1,9 +1,9 @@
 //! Calls of runs, sessions and engines, with their names in the code. Each is made of one program, and its answer
 //! compared.
 
-use crate::{alternating, debugging, engines, kept, one_machine, sessions, threads, turns};
+use crate::calls::tell;
+use crate::runs::{alternating, debugging, engines, kept, one_machine, sessions, threads, turns};
 use image_file::Image;
-use probed_calls::tell;
 use std::io;
 use std::sync::Wait;
 use std::thread::Threads;

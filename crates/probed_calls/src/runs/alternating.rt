@@ -1,12 +1,12 @@
 //! A producer and a consumer over one full/empty word, run at once under a gate that lets their requests alternate.
-use crate::gate::AlternateGate;
-use crate::sessions::commands_of;
+use crate::endings::Ended;
+use crate::runs::gate::AlternateGate;
+use crate::runs::sessions::commands_of;
 use asm_text::assemble;
 use debug_commands::Command;
 use image_file::Image;
 use machine::Machine;
 use memory_lock::{ThreadsFault, run_threads, threaded};
-use probed_calls::Ended;
 use shared_history::{GatherFault, Parts, PartsFault, Woven, gather};
 use std::alloc::Global;
 use std::sync::Wait;

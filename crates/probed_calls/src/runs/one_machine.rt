@@ -1,8 +1,10 @@
 //! The call that takes an image along every way there is.
+use crate::endings::Ended;
+use crate::programs::{END, SCHEDULE, SOURCE};
+use crate::texts::has_text;
 use asm_text::assemble;
 use image_file::Image;
 use mta_engines::{OneMachine, one_machine};
-use probed_calls::{END, Ended, SCHEDULE, SOURCE, has_text};
 use processor::Step;
 use std::alloc::{AllocError, Global};
 use trace_text::read_schedule;

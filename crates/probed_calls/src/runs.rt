@@ -1,6 +1,4 @@
-//! The same of runs on threads, sessions and engines.
-#![tactic(auto)]
-
+//! Calls of runs on threads, of sessions and of engines.
 mod alternating;
 mod calls;
 mod debugging;

@@ -1,8 +1,9 @@
 //! Calls of the debugger's engine.
-use crate::engines::writer;
+use crate::endings::Ended;
+use crate::programs::SCHEDULE;
+use crate::runs::engines::writer;
 use image_file::{Image, write_image};
 use mta_engines::{ToolFault, debug_engine};
-use probed_calls::{Ended, SCHEDULE};
 use std::alloc::{AllocError, Global};
 
 /// Lines of commands.

@@ -1,6 +1,5 @@
 //! Does one thing again and again, without any text: steps of a machine, recorded runs and the schedules that are
 //! gathered of them, processors run at once, sessions of the debugger, copies, or the bytes of the largest image.
-#![tactic(auto)]
 
 mod copies;
 mod counts;
@@ -11,4 +10,4 @@ mod machine_steps;
 mod recorded_runs;
 mod threaded_runs;
 
-pub use counts::count_of;
+pub(crate) use counts::count_of;
