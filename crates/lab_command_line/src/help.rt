@@ -77,9 +77,9 @@ pub(crate) const EXPLORE: &str = "\
 Shows the ends that schedules of a program lead to: how many worlds, the steps of a schedule to
 them, a shortest one unless it says otherwise, who waits or was stopped, and the words that changed.
 Where it says complete, no schedule of any length comes to another end. Where a step concerns its
-own stream alone, and leads to a world whose own steps are still to be looked at, the others wait:
-so fewer worlds are looked at. With --plain, and where --expect claims something of all worlds, all
-are.
+own stream alone, or ends the last stream of its processor that runs, and leads to a world whose
+own steps are still to be looked at, the others wait: so fewer worlds are looked at. With --plain,
+and where --expect claims something of all worlds, all are.
 
 Beside lines about ends the file of --expect may have claims: always or never, and behind it
 word ADDRESS is|above|below VALUE, word ADDRESS full|empty, or at most N of P.S .. in FIRST..LAST.

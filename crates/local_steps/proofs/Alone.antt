@@ -30,7 +30,7 @@ pub record IsPlain (image : ImageValue) (s : StreamValue) (i : Insn) : Type 0 wh
   pub unasked : request_of s i ≡ None
   pub plain : control_of s i ≡ asks.Plain
 
-asks_nothing : (o : Option Request) → plan_asking o ≡ plan.Local → o ≡ None
+pub asks_nothing : (o : Option Request) → plan_asking o ≡ plan.Local → o ≡ None
 asks_nothing None e = refl
 asks_nothing (Some q) e = cc
 

@@ -41,7 +41,7 @@ never_first ss k here e = by_place (cases_lt k (length ss)) where
       (ap (λ j. is_idle (stream_at ss j)) e ∙ passes_at_first is_idle ss idle (omega (arith, e, within))) here
   by_place (inr past) = not_both (is_idle (stream_at ss k)) (ap is_idle (get_or_past ss k idle past)) here
 
-get_other : (ss : List StreamValue) (k n : ℕ) (x : StreamValue) → n ≢ k → slice_get (set ss k x) n ≡ slice_get ss n
+pub get_other : (ss : List StreamValue) (k n : ℕ) (x : StreamValue) → n ≢ k → slice_get (set ss k x) n ≡ slice_get ss n
 get_other ss k n x apart = by_place (cases_lt n (length ss)) where
   by_place : (n < length ss) ⊎ (length ss ≤ n) → slice_get (set ss k x) n ≡ slice_get ss n
   by_place (inl within) =
@@ -51,7 +51,7 @@ get_other ss k n x apart = by_place (cases_lt n (length ss)) where
   by_place (inr past) =
       slice_get_past (set ss k x) n (omega (arith, past, length-set ss k x)) ∙ sym (slice_get_past ss n past)
 
-lacks_same : (proc : ProcessorValue) (k : ℕ) (x : StreamValue) (c : Control)
+pub lacks_same : (proc : ProcessorValue) (k : ℕ) (x : StreamValue) (c : Control)
     → lacks_stream (with_stream proc k x) c ≡ lacks_stream proc c
 lacks_same proc k x asks.Plain = refl
 lacks_same proc k x (asks.Reserve n) = refl
@@ -79,7 +79,7 @@ fetch_same image proc k n x apart =
     ap (step_fetch_at image (with_stream proc k x)) (get_other proc.streams k n x apart)
     ∙ fetch_at_same image proc k x (slice_get proc.streams n)
 
-grant_same : (image : ImageValue) (proc : ProcessorValue) (k : ℕ) (x : StreamValue) (c : Control)
+pub grant_same : (image : ImageValue) (proc : ProcessorValue) (k : ℕ) (x : StreamValue) (c : Control)
     → grant_of image (with_stream proc k x) c ≡ grant_of image proc c
 grant_same image proc k x asks.Plain = refl
 grant_same image proc k x (asks.Reserve n) = refl

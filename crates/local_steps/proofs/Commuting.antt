@@ -24,13 +24,13 @@ use Rattle.local_steps.proofs.Beside.{never_first, over_memory_beside}
 
 -- A step of the world by its processor.
 
-there_same : {X : Type 0} (xs : List X) (p : ℕ) (x y : X) → slice_get xs p ≡ Some x → slice_get (set xs p y) p ≡ Some y
+pub there_same : {X : Type 0} (xs : List X) (p : ℕ) (x y : X) → slice_get xs p ≡ Some x → slice_get (set xs p y) p ≡ Some y
 there_same xs p x y got =
     let within = slice_get_within xs p x got in
     slice_get-get_or (set xs p y) p y (omega (arith, within, length-set xs p y))
     ∙ ap Some (get_or-set_same xs p y y within)
 
-there_other : {X : Type 0} (xs : List X) (p q : ℕ) (x y : X) → q ≢ p → slice_get xs q ≡ Some x
+pub there_other : {X : Type 0} (xs : List X) (p q : ℕ) (x y : X) → q ≢ p → slice_get xs q ≡ Some x
     → slice_get (set xs p y) q ≡ Some x
 there_other xs p q x y apart got =
     let within = slice_get_within xs q x got in
@@ -77,7 +77,7 @@ after_alone image w t proc i there l =
     after_there image w t proc there ∙ ap (put w t.p) (alone_over_memory image proc t.s w.memory i l)
 
 -- the step of another stream leaves a stream that is not idle as it is
-kept_stream : (image : ImageValue) (proc : ProcessorValue) (k n : ℕ) (m : TaggedMemory) → k ≢ n
+pub kept_stream : (image : ImageValue) (proc : ProcessorValue) (k n : ℕ) (m : TaggedMemory) → k ≢ n
     → is_idle (stream_at proc.streams k) ≡ false
     → stream_at (row_over_memory image proc n m).0.0.streams k ≡ stream_at proc.streams k
 kept_stream image proc k n m apart here = by_kind ((kept_row_over_memory image proc n m).others k apart) where

@@ -1,4 +1,4 @@
-//! What holds of steps that concern their own stream alone.
+//! What holds of steps that can be taken before all others.
 
 ghost use Rattle.std.specs.Prelude.{◌≡◌, ◌≢◌, IsTrue};
 ghost use Rattle.image_file.specs.ImageValue.{ImageValue};
@@ -7,6 +7,7 @@ ghost use Rattle.processor.specs.declared.steps.Step.{Step};
 ghost use Rattle.waiting.specs.Running.{runs_in};
 ghost use Rattle.waiting.specs.Stuck.{IsStuck};
 ghost use Rattle.local_steps.specs.LocalSteps.{IsLocalStep};
+ghost use Rattle.local_steps.specs.LastSteps.{IsLastStep};
 
 /// A step that concerns its own stream alone commutes with each step of another stream, and can be taken after it as
 /// well. Its stream runs, and is not stuck.
@@ -18,4 +19,16 @@ pub fn local_steps_commute()
         → IsLocalStep image (after image w u) t }
     ensures runs { (image : ImageValue) (w : World) (t : Step) → IsLocalStep image w t → IsTrue (runs_in w t) }
     ensures goes_on { (image : ImageValue) (w : World) (t : Step) → IsLocalStep image w t → ¬ (IsStuck image w t) }
+{}
+
+/// A step that ends the last running stream of a processor commutes with each step of another stream, and can be taken
+/// after it as well. Its stream runs, and is not stuck.
+#[tactic(auto, using(crate::proofs::Ended::commutes_last, crate::proofs::Ended::stays_last))]
+pub fn last_steps_commute()
+    ensures commutes { (image : ImageValue) (w : World) (t u : Step) → IsLastStep image w t → u ≢ t
+        → after image (after image w t) u ≡ after image (after image w u) t }
+    ensures stays { (image : ImageValue) (w : World) (t u : Step) → IsLastStep image w t → u ≢ t
+        → IsLastStep image (after image w u) t }
+    ensures runs { (image : ImageValue) (w : World) (t : Step) → IsLastStep image w t → IsTrue (runs_in w t) }
+    ensures goes_on { (image : ImageValue) (w : World) (t : Step) → IsLastStep image w t → ¬ (IsStuck image w t) }
 {}

@@ -6,7 +6,7 @@ use Rattle.std.proofs.lemmas.Bool.{cases_lt}
 use Rattle.machine.specs.MachineValue.{MachineValue}
 use Rattle.processor.specs.declared.steps.Step.{Step}
 use Rattle.waiting.specs.Running.{AreRunning}
-use Rattle.local_steps.specs.LocalSteps.{IsLocalStep}
+use Rattle.local_steps.specs.FreeSteps.{IsFreeStep}
 use Rattle.schedule_space.specs.Spaces.{SpaceValue, count, schedule_of, machine_after}
 use Rattle.schedule_space.specs.Finding.{IsGrown, IsTaken, IsExpanded}
 use Rattle.schedule_space.specs.Followed.{IsTakenAlone, IsFollowed}
@@ -35,12 +35,12 @@ waiting_taken (Err e) w u from n others ts g below many left all = all
 
 -- a step of the machine at a place that is taken alone
 pub alone_at : (v w : SpaceValue) (from : ℕ) (m : MachineValue) (t : Step) → IsGrown v w → from < count v
-    → m ≡ machine_after v.image (schedule_of v from) → IsLocalStep m.image m.world t → IsTaken w from t
+    → m ≡ machine_after v.image (schedule_of v from) → IsFreeStep m.image m.world t → IsTaken w from t
     → IsTakenAlone w from
 alone_at v w from m t g below is l taken = record {
   step = t;
   alone =
-      subst (λ (x : MachineValue). IsLocalStep x.image x.world t) (machine_grown v w from m g below is) l;
+      subst (λ (x : MachineValue). IsFreeStep x.image x.world t) (machine_grown v w from m g below is) l;
   taken = taken;
 }
 

@@ -1,4 +1,4 @@
--- Spaces in which a step that concerns its own stream alone may be taken alone have all ends.
+-- Spaces in which a step that can be taken before all others may be taken alone have all ends.
 use Rattle.std.proofs.Common.{◌≡◌, ◌≢◌, ℕ, zero, suc, ◌+◌, ◌<◌, ◌≤◌, ◌⊎◌, inl, inr, refl, sym, ap, ◌∙◌, subst, arith}
 use Rattle.std.proofs.Common.{List, [], ◌∷◌, ◌++◌, length, Bool, length-append}
 use Rattle.std.specs.List.{Contains}
@@ -6,8 +6,9 @@ use Rattle.image_file.specs.ImageValue.{ImageValue}
 use Rattle.processor.specs.World.{World, start, after, steps, run}
 use Rattle.processor.specs.declared.steps.Step.{Step}
 use Rattle.processor.proofs.Histories.{steps-append}
-use Rattle.local_steps.specs.LocalSteps.{IsLocalStep}
-use Rattle.local_steps.proofs.Orders.{same_or_other, commutes, stays, not_stuck, runs}
+use Rattle.local_steps.specs.FreeSteps.{IsFreeStep}
+use Rattle.local_steps.proofs.Orders.{same_or_other}
+use Rattle.local_steps.proofs.Free.{commutes, stays, not_stuck, runs}
 use Rattle.schedule_space.specs.Spaces.{SpaceValue, count, world_of, IsDistinct}
 use Rattle.schedule_space.specs.Reaching.{IsEnd, CanEnd, IsMarked, HasEndsMarked, AreMarkedBack}
 use Rattle.schedule_space.specs.Finding.{IsTaken}
@@ -23,7 +24,7 @@ same_step t u = by_processor (same_or_other t.p u.p) (same_or_other t.s u.s) whe
   by_processor (inr p) s = inr (λ e. p (ap (λ (x : Step). x.p) e))
 
 -- no end has such a step
-not_end : (image : ImageValue) (w : World) (t : Step) → IsLocalStep image w t → IsEnd image w → ⊥
+not_end : (image : ImageValue) (w : World) (t : Step) → IsFreeStep image w t → IsEnd image w → ⊥
 not_end image w t l (inl finished) = finished (t, runs image w t l)
 not_end image w t l (inr still) = not_stuck image w t l (still.each t (runs image w t l))
 
@@ -35,11 +36,11 @@ pub record IsMoved (image : ImageValue) (w : World) (t : Step) (ts : List Step) 
 
 -- The step is none of the schedule, can still be taken behind it, and leads to the same world first or last.
 pub record IsLeft (image : ImageValue) (w : World) (t : Step) (ts : List Step) : Type 0 where
-  pub alone : IsLocalStep image (steps image w ts) t
+  pub alone : IsFreeStep image (steps image w ts) t
   pub leads : steps image (after image w t) ts ≡ after image (steps image w ts) t
 
 -- the same of a schedule with one more step of another stream in front
-behind : (image : ImageValue) (w : World) (t u : Step) (ts : List Step) → IsLocalStep image w t → u ≢ t
+behind : (image : ImageValue) (w : World) (t u : Step) (ts : List Step) → IsFreeStep image w t → u ≢ t
     → IsMoved image (after image w u) t ts ⊎ IsLeft image (after image w u) t ts
     → IsMoved image w t (u ∷ ts) ⊎ IsLeft image w t (u ∷ ts)
 behind image w t u ts l apart (inl m) = inl (record {
@@ -52,7 +53,7 @@ behind image w t u ts l apart (inr m) = inr (record {
   leads = ap (λ x. steps image x ts) (commutes image w t u l apart) ∙ m.leads;
 })
 
-moved_or_left : (image : ImageValue) (w : World) (t : Step) (ts : List Step) → IsLocalStep image w t
+moved_or_left : (image : ImageValue) (w : World) (t : Step) (ts : List Step) → IsFreeStep image w t
     → IsMoved image w t ts ⊎ IsLeft image w t ts
 moved_or_left image w t [] l = inr (record { alone = l; leads = refl })
 moved_or_left image w t (u ∷ ts) l =
@@ -64,7 +65,7 @@ moved_or_left image w t (u ∷ ts) l =
     ]
 
 -- it is one of each schedule to an end
-moved : (image : ImageValue) (w : World) (t : Step) (ts : List Step) → IsLocalStep image w t
+moved : (image : ImageValue) (w : World) (t : Step) (ts : List Step) → IsFreeStep image w t
     → IsEnd image (steps image w ts) → IsMoved image w t ts
 moved image w t ts l end = by_kind (moved_or_left image w t ts l) where
   by_kind : IsMoved image w t ts ⊎ IsLeft image w t ts → IsMoved image w t ts

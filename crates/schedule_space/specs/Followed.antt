@@ -1,20 +1,20 @@
--- Spaces that have all ends, but not all worlds: of the steps from a world one may be taken alone that concerns its own
--- stream alone.
+-- Spaces that have all ends, but not all worlds: of the steps from a world one may be taken alone that can be taken before
+-- all others.
 use Rattle.std.specs.Prelude.{◌≡◌, ℕ, ◌<◌, ◌≤◌, ◌++◌, ◌⊎◌, List, length}
 use Rattle.processor.specs.World.{run}
 use Rattle.processor.specs.declared.steps.Step.{Step}
-use Rattle.local_steps.specs.LocalSteps.{IsLocalStep}
+use Rattle.local_steps.specs.FreeSteps.{IsFreeStep}
 use Rattle.schedule_space.specs.Spaces.{SpaceValue, count, schedule_of, world_of, Has}
 use Rattle.schedule_space.specs.Reaching.{IsEnd, CanEnd}
 use Rattle.schedule_space.specs.Finding.{IsTaken, IsExpanded}
 
--- a step from the world at this place that concerns its own stream alone is taken
+-- a step from the world at this place that can be taken before all others is taken
 pub record IsTakenAlone (v : SpaceValue) (from : ℕ) : Type 0 where
   pub step : Step
-  pub alone : IsLocalStep v.image (world_of v from) step
+  pub alone : IsFreeStep v.image (world_of v from) step
   pub taken : IsTaken v from step
 
--- each step from the world at this place is taken, or one that concerns its own stream alone
+-- each step from the world at this place is taken, or one that can be taken before all others
 abbrev pub IsFollowed : SpaceValue → ℕ → Type 0
 IsFollowed v k = IsExpanded v k ⊎ IsTakenAlone v k
 

@@ -1,4 +1,4 @@
-//! All steps from a world of a space in the making, or one that concerns its own stream alone.
+//! All steps from a world of a space in the making, or one that can be taken before all others.
 
 ghost use Rattle.std.specs.Prelude.{◌≡◌, ◌⊎◌, true, false, Contains, IfOk, OnOk};
 ghost use Rattle.processor.specs.declared.steps.Step.{Step};
@@ -9,7 +9,7 @@ ghost use Rattle.schedule_space.specs.Followed.{IsTakenAlone, IsFollowed};
 
 use crate::finding::{Found, Stop};
 use crate::links::{Edge, Link};
-use local_steps::is_local_step;
+use local_steps::is_free_step;
 use machine::Machine;
 use processor::Step;
 use std::collections::VecDeque;
@@ -26,8 +26,8 @@ pub(crate) enum Wanted {
 
 impl<'i> Found<'i> {
     /// Takes steps of the world at a place, from its machine, unless there would be more than `most` worlds: each one,
-    /// or where ends are wanted and a step that concerns its own stream alone leads to a later place, that one. New
-    /// worlds are put behind the frontier.
+    /// or where ends are wanted and a step that can be taken before all others (`is_free_step`) leads to a later place,
+    /// that one. New worlds are put behind the frontier.
     pub(crate) fn expand<const S: usize>(
         &mut self,
         frontier: &mut VecDeque<Machine<'i, S>>,
@@ -50,7 +50,7 @@ impl<'i> Found<'i> {
         }
     }
 
-    /// Takes steps of the streams that run, first those that concern their own stream alone: where one of these leads
+    /// Takes steps of the streams that run, first those that can be taken before all others: where one of these leads
     /// to a later place the others wait. What goes round by such steps has one that leads back, so nobody waits for
     /// ever.
     fn take_enough<const S: usize>(
@@ -70,7 +70,7 @@ impl<'i> Found<'i> {
     {
         let mut others = Vec::new(self.alloc);
         for step in running {
-            let is_later = self.take_local(frontier, machine, from, *step, &mut others, most)?;
+            let is_later = self.take_free(frontier, machine, from, *step, &mut others, most)?;
             if is_later {
                 return Ok(());
             }
@@ -78,9 +78,9 @@ impl<'i> Found<'i> {
         self.take_all(frontier, machine, from, &others, most)
     }
 
-    /// Takes one step if it concerns its own stream alone, and says whether it does and leads to a later place; else
+    /// Takes one step if it can be taken before all others, and says whether it can and leads to a later place; else
     /// puts it behind the others.
-    fn take_local<const S: usize>(
+    fn take_free<const S: usize>(
         &mut self,
         frontier: &mut VecDeque<Machine<'i, S>>,
         machine: &Machine<'i, S>,
@@ -97,7 +97,7 @@ impl<'i> Found<'i> {
         ensures left { IfOk result (λ b. b ≡ false → IsTaken self.new from step ⊎ Contains others.new.items step) }
         ensures others { (t : Step) → Contains others.old.items t → Contains others.new.items t }
     {
-        if !is_local_step(machine, step) {
+        if !is_free_step(machine, step) {
             others.push(step)?;
             return Ok(false);
         }

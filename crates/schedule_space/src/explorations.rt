@@ -50,8 +50,9 @@ pub fn explore<'i, const S: usize>(
 }
 
 /// Looks for the ends of an image, worlds from which nothing goes on, that schedules lead to which begin with `begin`,
-/// in the same way, but of fewer worlds: where a step concerns its own stream alone and leads to a later place, only
-/// that one is taken. Where the search is complete, each end is there, by a schedule that is as short as any.
+/// in the same way, but of fewer worlds: where a step concerns its own stream alone, or ends the last stream of its
+/// processor that runs, and leads to a later place, only that one is taken. Where the search is complete, each end is
+/// there, by a schedule that is as short as any.
 pub fn explore_ends<'i, const S: usize>(
     alloc: Global,
     image: &'i Image,

@@ -8,8 +8,8 @@ use Rattle.schedule_space.proofs.Taking.{AreAllTaken, IsTakenOrWaits, waits_next
 use Rattle.schedule_space.proofs.Alone.{expanded_if, followed_if, waiting_taken}
 use Rattle.schedule_space.proofs.finding.Found.take_enough.Goals as goal
 
-pub take_local-requires : goal.take_local-requires
-take_local-requires g c =
+pub take_free-requires : goal.take_free-requires
+take_free-requires g c =
     let expanding : IsExpanding c.loop-step.self c.loop-step.frontier.items c.args.from c.args.most =
     c.loop-step.invariant.expanding in
     let machine : c.args.machine.now ≡ machine_after c.loop-step.self.image (schedule_of c.loop-step.self c.args.from) =
@@ -35,33 +35,33 @@ loop-step-init g c = record {
 
 pub returns-in_err-is_later-clause-grown : goal.returns-in_err-is_later-clause-grown
 returns-in_err-is_later-clause-grown g c =
-    grown_trans c.args.self.now c.loop-step.self c.take_local.new.self c.loop-step.invariant.grown
-    c.take_local.ensures.grown
+    grown_trans c.args.self.now c.loop-step.self c.take_free.new.self c.loop-step.invariant.grown
+    c.take_free.ensures.grown
 
 pub returns-then-is_later : goal.returns-then-is_later
 returns-then-is_later g c = record {
   grown =
-      grown_trans c.args.self.now c.loop-step.self c.take_local.new.self c.loop-step.invariant.grown
-      c.take_local.ensures.grown;
-  expanding = c.take_local.ensures.expanding;
+      grown_trans c.args.self.now c.loop-step.self c.take_free.new.self c.loop-step.invariant.grown
+      c.take_free.ensures.grown;
+  expanding = c.take_free.ensures.expanding;
   followed = inr (c.in_ok-is_later.ensures.alone c.if-is_later.true);
 }
 
 pub loop-step-preserved : goal.loop-step-preserved
 loop-step-preserved g c =
     let here = c.loop-step.self in
-    let new = c.take_local.new.self in
+    let new = c.take_free.new.self in
     let ts = c.args.running.now in
     let n = c.loop-step.step-index in
     let none : Step = record { p = 0; s = 0 } in
-    let last : IsTakenOrWaits new c.args.from c.take_local.new.others.items (get_or ts n none) =
+    let last : IsTakenOrWaits new c.args.from c.take_free.new.others.items (get_or ts n none) =
     c.in_ok-is_later.ensures.left c.if-is_later.false in
     record {
-      grown = grown_trans c.args.self.now here new c.loop-step.invariant.grown c.take_local.ensures.grown;
-      expanding = c.take_local.ensures.expanding;
+      grown = grown_trans c.args.self.now here new c.loop-step.invariant.grown c.take_free.ensures.grown;
+      expanding = c.take_free.ensures.expanding;
       waits =
-          waits_next here new c.args.from n c.loop-step.others.items c.take_local.new.others.items ts none
-          c.take_local.ensures.grown c.loop-step.invariant.expanding.there (omega arith) c.take_local.ensures.others
+          waits_next here new c.args.from n c.loop-step.others.items c.take_free.new.others.items ts none
+          c.take_free.ensures.grown c.loop-step.invariant.expanding.there (omega arith) c.take_free.ensures.others
           c.loop-step.invariant.waits last;
     }
 
