@@ -1,6 +1,6 @@
 -- The ends of seeds by the list of what was answered for them.
 use Rattle.std.proofs.Common.{◌≡◌, ℕ, zero, suc, ◌+◌, refl, sym, ap, ◌∙◌, subst, arith}
-use Rattle.std.proofs.Common.{List, [], ◌∷◌, length, map, Option, Some, Result, Ok}
+use Rattle.std.proofs.Common.{List, [], ◌∷◌, length, map, Some, Result, Ok}
 use Rattle.std.specs.Prelude.{IfOk, slice_get}
 use Rattle.std.specs.List.{AllZip, range_with_len}
 use Rattle.std.proofs.lemmas.Option.{same_Some}

@@ -2,3 +2,9 @@ pub mod Words
 pub mod Streams
 pub mod Answered
 pub mod SameEnds
+pub mod EqualTests
+pub mod Places
+pub mod Alike
+pub mod GroupsTo
+pub mod KnownGroups
+pub mod NewGroups

@@ -1,5 +1,5 @@
 -- Of a seed all ends tell the same.
-use Rattle.std.proofs.Common.{◌≡◌, ℕ, sym, ap, ◌∙◌, length, List}
+use Rattle.std.proofs.Common.{ℕ, sym, ap, ◌∙◌, length, List}
 use Rattle.image_file.specs.ImageValue.{ImageValue}
 use Rattle.processor.specs.declared.steps.Step.{Step}
 use Rattle.machine.specs.MachineValue.{MachineValue}
