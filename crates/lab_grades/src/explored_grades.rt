@@ -99,7 +99,7 @@ fn verdict_of_ends(
         return Ok(Verdict {
             word: "not decided",
             why: format!(in alloc; "more than {worlds} worlds")?,
-            status,
+            status: status.worse(Status::OutOfSteps),
         });
     }
     Ok(Verdict {
