@@ -1,7 +1,7 @@
 //! The forms of operands.
 
 /// What an operand has to be.
-#[derive(Clone, Copy, PartialEq, Eq)]
+#[derive(Clone, Copy)]
 pub(crate) enum Form {
     /// A register.
     Register,

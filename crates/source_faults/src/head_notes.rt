@@ -31,16 +31,24 @@ pub(crate) fn note_unknown_operation(
         }
         Some(operation) => {
             let words = format!(in alloc; "{} is an operation of Profile 2", operation.name())?;
-            let help = String::from_str(alloc, ASK_FOR_TWO)?;
-            notes.add(reader.spot(head), words, Some(help))
+            notes.add_with(reader.spot(head), words, ASK_FOR_TWO)
         }
-        None => {
-            let text = shown(alloc, head.bytes)?;
-            let words = format!(in alloc; "no operation is called {text}")?;
-            let help = help_for_operation(alloc, reader, head, operands)?;
-            notes.add(reader.spot(head), words, help)
-        }
+        None => note_no_operation(notes, reader, head, operands),
     }
+}
+
+/// Tells that no operation has this name.
+fn note_no_operation(
+    notes: &mut Notes,
+    reader: &Reader,
+    head: Token,
+    operands: Token,
+) -> Result<(), AllocError> {
+    let alloc = notes.alloc();
+    let help = help_for_operation(alloc, reader, head, operands)?;
+    let text = shown(alloc, head.bytes)?;
+    let words = format!(in alloc; "no operation is called {text}")?;
+    notes.add(reader.spot(head), words, help)
 }
 
 /// Tells that the operation has no such suffix.
@@ -52,22 +60,35 @@ fn note_suffix(
 ) -> Result<(), AllocError> {
     let alloc = notes.alloc();
     let name = operation.name();
+    let help = suffix_help(alloc, reader, name)?;
     let suffix = shown(alloc, head.behind(name.len()).bytes)?;
     let words = format!(in alloc; "{name} has no suffix {suffix}")?;
+    notes.add(reader.spot(head), words, Some(help))
+}
+
+/// Which suffixes the operation of a name may have.
+fn suffix_help(alloc: Global, reader: &Reader, name: &str) -> Result<String, AllocError> {
+    let known = known_suffixes(alloc, reader, name)?;
+    if known.is_empty() {
+        return String::from_str(alloc, "it has none");
+    }
+    let suffixes = listed(alloc, &known)?;
+    format!(in alloc; "it may have {suffixes}")
+}
+
+/// The suffixes that the operation of a name may have.
+fn known_suffixes(
+    alloc: Global,
+    reader: &Reader,
+    name: &str,
+) -> Result<Vec<&'static str>, AllocError> {
     let mut known = Vec::new(alloc);
-    for suffix in SUFFIXES {
+    for suffix in SUFFIXES.iter() {
         if reader.knows_suffix(alloc, name, suffix)? {
-            known.push(suffix)?;
+            known.push(*suffix)?;
         }
     }
-    let help = match known.len() {
-        0 => String::from_str(alloc, "it has none")?,
-        _ => {
-            let suffixes = listed(alloc, &known)?;
-            format!(in alloc; "it may have {suffixes}")?
-        }
-    };
-    notes.add(reader.spot(head), words, Some(help))
+    Ok(known)
 }
 
 /// How a statement may be mended that begins with no operation.
@@ -89,14 +110,12 @@ fn help_for_operation(
         return Ok(Some(format!(in alloc; "a label has a colon: {text}:")?));
     }
     let name = head.cut(b'.').0;
-    if let Some(nearest) = nearest_operation(alloc, name.bytes)? {
-        let mut help = String::from_str(alloc, "did you mean ")?;
-        let suffix = head.behind(name.bytes.len());
-        help.push_str(with_suffix(alloc, reader, nearest, suffix)?.as_str())?;
-        help.push('?')?;
-        return Ok(Some(help));
-    }
-    Ok(None)
+    let Some(nearest) = nearest_operation(name.bytes) else {
+        return Ok(None);
+    };
+    let suffix = head.behind(name.bytes.len());
+    let meant = with_suffix(alloc, reader, nearest, suffix)?;
+    Ok(Some(format!(in alloc; "did you mean {meant}?")?))
 }
 
 /// The name with a suffix in capitals, or the name alone where it has no such suffix.
@@ -126,16 +145,18 @@ pub(crate) fn note_unknown_directive(
     let text = shown(alloc, head.bytes)?;
     if directive_named(head.bytes).is_some() {
         let words = format!(in alloc; "{text} is a directive of Profile 2")?;
-        let help = said(alloc, ASK_FOR_TWO)?;
-        return notes.add(reader.spot(head), words, help);
+        return notes.add_with(reader.spot(head), words, ASK_FOR_TWO);
     }
     let words = format!(in alloc; "no directive is called {text}")?;
-    let help = match nearest_directive(head.bytes) {
-        Some(name) => {
-            let name = shown(alloc, name)?;
-            Some(format!(in alloc; "did you mean {name}?")?)
-        }
-        None => None,
-    };
+    let help = directive_help(alloc, head.bytes)?;
     notes.add(reader.spot(head), words, help)
+}
+
+/// Which directive may be meant by a name that none has.
+fn directive_help(alloc: Global, name: &[u8]) -> Result<Option<String>, AllocError> {
+    let Some(nearest) = nearest_directive(name) else {
+        return Ok(None);
+    };
+    let nearest = shown(alloc, nearest)?;
+    Ok(Some(format!(in alloc; "did you mean {nearest}?")?))
 }

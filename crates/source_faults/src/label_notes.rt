@@ -37,41 +37,31 @@ fn note_twice(notes: &mut Notes, reader: &Reader, label: Token) -> Result<(), Al
     let alloc = notes.alloc();
     let name = shown(alloc, label.bytes)?;
     let words = format!(in alloc; "the label {name} stands on line {first} already")?;
-    let help = String::from_str(alloc, "rename one of them")?;
-    notes.add(reader.spot(label), words, Some(help))
+    notes.add_with(reader.spot(label), words, "rename one of them")
 }
 
 /// The label is no name.
 fn note_malformed(notes: &mut Notes, reader: &Reader, label: Token) -> Result<(), AllocError> {
-    let spot = reader.spot(label);
-    let name = label.trim();
-    if name.bytes.is_empty() {
-        return notes.say(
-            spot,
-            "a label has a name",
-            "it stands right before the colon",
-        );
-    }
-    if name.bytes.iter().any(|b| !is_of_name(*b)) {
+    let (words, help) = malformed_words(label);
+    notes.say(reader.spot(label), words, help)
+}
+
+/// Why a label is no name, and how it may be mended.
+fn malformed_words(label: Token) -> (&'static str, &'static str) {
+    let name = label.trim().bytes;
+    if name.is_empty() {
+        ("a label has a name", "it stands right before the colon")
+    } else if name.iter().any(|b| !is_of_name(*b)) {
         let help = "letters, digits and _ alone, and no blank";
-        return notes.say(spot, "a label has characters that none may have", help);
+        ("a label has characters that none may have", help)
+    } else if name.len() < label.bytes.len() {
+        let words = "the colon of a label stands right behind its name";
+        (words, "take the blank away")
+    } else if name.len() > LONGEST_LABEL {
+        ("the label is too long", "it may have 32 characters")
+    } else {
+        ("a label begins with a letter or _", "digits may follow")
     }
-    if name.bytes.len() < label.bytes.len() {
-        let help = "take the blank away";
-        return notes.say(
-            spot,
-            "the colon of a label stands right behind its name",
-            help,
-        );
-    }
-    if name.bytes.len() > LONGEST_LABEL {
-        return notes.say(spot, "the label is too long", "it may have 32 characters");
-    }
-    notes.say(
-        spot,
-        "a label begins with a letter or _",
-        "digits may follow",
-    )
 }
 
 /// Whether a text has only what labels may have.

@@ -2,6 +2,7 @@
 //! (docs/FORMATS.md).
 #![tactic(auto)]
 
+mod data_lines;
 mod form;
 mod head_notes;
 mod images;

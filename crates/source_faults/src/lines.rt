@@ -66,6 +66,7 @@ pub(crate) struct Lines<'t> {
     rest: Option<&'t [u8]>,
     number: usize,
     here: usize,
+    has_empty: bool,
     ghost counted: { number + rest_length (option_copied rest) ≤ length text.now + 1 },
     ghost few_words: { here ≤ number },
 }
@@ -73,11 +74,38 @@ pub(crate) struct Lines<'t> {
 impl<'t> Lines<'t> {
     /// All lines of a text.
     pub(crate) fn of(text: &'t [u8]) -> Lines<'t> {
+        Lines::at_first(text, true)
+    }
+
+    /// The lines of a source text that have a byte. An empty one adds nothing and has no fault, and a text may have
+    /// 33,554,432 of them.
+    pub(crate) fn filled(text: &'t [u8]) -> Lines<'t> {
+        Lines::at_first(text, false)
+    }
+
+    fn at_first(text: &'t [u8], has_empty: bool) -> Lines<'t> {
         Lines {
             text,
             rest: Some(text),
             number: 0,
             here: 0,
+            has_empty,
+        }
+    }
+
+    /// Goes to the next line that has a byte, or behind the last line.
+    fn pass_empty(&mut self)
+        ensures { rest_length (option_copied self.new.rest) ≤ rest_length (option_copied self.old.rest) }
+    {
+        let Some(rest) = self.rest else {
+            return;
+        };
+        let count = line_feeds(rest);
+        if count < rest.len() {
+            self.number += count;
+            self.rest = Some(&rest[count..]);
+        } else {
+            self.rest = None;
         }
     }
 }
@@ -88,6 +116,9 @@ impl<'t> Iterator for Lines<'t> {
     ghost remaining = { λ s. at_most (rest_length (option_copied s.rest)) };
 
     fn next(&mut self) -> Option<Line<'t>> {
+        if !self.has_empty {
+            self.pass_empty();
+        }
         let rest = self.rest?;
         let (bytes, following) = cut(rest, b'\n');
         let source = cut_line(bytes);
@@ -105,4 +136,16 @@ impl<'t> Iterator for Lines<'t> {
         self.number += 1;
         Some(line)
     }
+}
+
+/// How many line feeds a text begins with.
+fn line_feeds(text: &[u8]) -> usize
+    ensures { result ≤ length text.now }
+{
+    for (place, byte) in text.iter().enumerate() {
+        if *byte != b'\n' {
+            return place;
+        }
+    }
+    text.len()
 }

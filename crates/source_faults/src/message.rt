@@ -95,7 +95,7 @@ fn line_at(text: &[u8], start: usize) -> &[u8] {
 }
 
 fn is_printable(line: &[u8]) -> bool {
-    line.len() <= LONGEST_EXCERPT && line.iter().all(|b| *b != 0)
+    line.len() <= LONGEST_EXCERPT && !line.contains(&0)
 }
 
 /// Prints a line with its number, and under it the mark and the help.

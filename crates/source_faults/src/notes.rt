@@ -88,6 +88,18 @@ impl Notes {
         ensures { OnOk result (0 < vec_len self.new.found) }
     {
         let words = String::from_str(self.alloc, words)?;
+        self.add_with(spot, words, help)
+    }
+
+    /// Adds what is found at a place, with a help of fixed words.
+    pub(crate) fn add_with(
+        &mut self,
+        spot: Spot,
+        words: String,
+        help: &str,
+    ) -> Result<(), AllocError>
+        ensures { OnOk result (0 < vec_len self.new.found) }
+    {
         let help = String::from_str(self.alloc, help)?;
         self.add(spot, words, Some(help))
     }

@@ -89,29 +89,71 @@ fn note_operand(
     let Some(fault) = reader.operand_fault(alloc, form, operand.bytes)? else {
         return Ok(());
     };
-    let text = shown(alloc, operand.bytes)?;
     let name = taking.operand_name(alloc, place)?;
-    let (words, help) = match fault {
-        Fault::LabelMissing => {
-            let help = missing_label_help(notes, reader, operand.bytes)?;
-            (format!(in alloc; "no line has the label {text}")?, help)
-        }
-        Fault::Range => {
-            let words = range_words(alloc, reader, form, operand.bytes, name.as_str())?;
-            (words, range_help(alloc, reader, form, operand.bytes)?)
-        }
+    match fault {
+        Fault::LabelMissing => note_missing_label(notes, reader, operand),
+        Fault::Range => note_range(notes, reader, name.as_str(), form, operand),
         _ if operand.bytes.is_empty() => {
-            let noun = form.noun();
-            (
-                format!(in alloc; "{name} is missing")?,
-                Some(format!(in alloc; "it is {noun}")?),
-            )
+            note_missing_operand(notes, reader, name.as_str(), form, operand)
         }
-        _ => {
-            let noun = form.noun();
-            let words = format!(in alloc; "{name} is {noun}, and {text} is none")?;
-            (words, Some(form_help(alloc, reader, form, operand.bytes)?))
-        }
-    };
+        _ => note_form(notes, reader, name.as_str(), form, operand),
+    }
+}
+
+/// Tells that no line has a label.
+fn note_missing_label(
+    notes: &mut Notes,
+    reader: &Reader,
+    operand: Token,
+) -> Result<(), AllocError> {
+    let alloc = notes.alloc();
+    let help = missing_label_help(notes, reader, operand.bytes)?;
+    let text = shown(alloc, operand.bytes)?;
+    let words = format!(in alloc; "no line has the label {text}")?;
     notes.add(reader.spot(operand), words, help)
+}
+
+/// Tells that an operand of this name is out of its limits.
+fn note_range(
+    notes: &mut Notes,
+    reader: &Reader,
+    name: &str,
+    form: Form,
+    operand: Token,
+) -> Result<(), AllocError> {
+    let alloc = notes.alloc();
+    let words = range_words(alloc, reader, form, operand.bytes, name)?;
+    let help = range_help(alloc, reader, form, operand.bytes)?;
+    notes.add(reader.spot(operand), words, help)
+}
+
+/// Tells that an operand of this name is missing.
+fn note_missing_operand(
+    notes: &mut Notes,
+    reader: &Reader,
+    name: &str,
+    form: Form,
+    operand: Token,
+) -> Result<(), AllocError> {
+    let alloc = notes.alloc();
+    let noun = form.noun();
+    let words = format!(in alloc; "{name} is missing")?;
+    let help = format!(in alloc; "it is {noun}")?;
+    notes.add(reader.spot(operand), words, Some(help))
+}
+
+/// Tells that an operand of this name is none of its form.
+fn note_form(
+    notes: &mut Notes,
+    reader: &Reader,
+    name: &str,
+    form: Form,
+    operand: Token,
+) -> Result<(), AllocError> {
+    let alloc = notes.alloc();
+    let help = form_help(alloc, reader, form, operand.bytes)?;
+    let text = shown(alloc, operand.bytes)?;
+    let noun = form.noun();
+    let words = format!(in alloc; "{name} is {noun}, and {text} is none")?;
+    notes.add(reader.spot(operand), words, Some(help))
 }

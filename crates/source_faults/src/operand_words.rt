@@ -1,7 +1,7 @@
 //! The words for an operand that has a fault.
 
 use crate::form::Form;
-use crate::nearest::nearest;
+use crate::nearest::Nearest;
 use crate::notes::Notes;
 use crate::operations::nearest_condition;
 use crate::phrases::{said, shown};
@@ -140,7 +140,11 @@ pub(crate) fn missing_label_help(
     if !notes.may_suggest() {
         return Ok(None);
     }
-    match nearest(name, reader.names()) {
+    let mut nearest = Nearest::to(name);
+    for label in reader.names() {
+        nearest.see(*label);
+    }
+    match nearest.name() {
         Some(label) => {
             let label = shown(alloc, label)?;
             Ok(Some(format!(in alloc; "did you mean {label}?")?))

@@ -1,10 +1,9 @@
 //! The operations and directives by their names, with the operands that they take.
 
 use crate::form::Form;
-use crate::nearest::nearest;
+use crate::nearest::Nearest;
 use asm_line::{Directive, names};
 use insn_word::{ArithmeticOp, Condition, ControlOp, MemoryOp, WideOp};
-use std::alloc::{AllocError, Global};
 
 /// A part of a word.
 #[derive(Clone, Copy, PartialEq, Eq)]
@@ -111,50 +110,54 @@ pub(crate) fn operation_named(name: &[u8]) -> Option<Named> {
     if name == Named::Nop.name().as_bytes() {
         return Some(Named::Nop);
     }
-    let is_name = |text: &str| text.as_bytes() == name;
-    if let Some(op) = WideOp::ALL.iter().find(|op| is_name(names::wide(**op))) {
-        return Some(Named::Wide(*op));
+    for op in WideOp::ALL.iter() {
+        if names::wide(*op).as_bytes() == name {
+            return Some(Named::Wide(*op));
+        }
     }
-    if let Some(op) = MemoryOp::ALL.iter().find(|op| is_name(names::memory(**op))) {
-        return Some(Named::Memory(*op));
+    for op in MemoryOp::ALL.iter() {
+        if names::memory(*op).as_bytes() == name {
+            return Some(Named::Memory(*op));
+        }
     }
-    if let Some(op) = ArithmeticOp::ALL
-        .iter()
-        .find(|op| is_name(names::arithmetic(**op)))
-    {
-        return Some(Named::Arithmetic(*op));
+    for op in ArithmeticOp::ALL.iter() {
+        if names::arithmetic(*op).as_bytes() == name {
+            return Some(Named::Arithmetic(*op));
+        }
     }
-    let op = ControlOp::ALL
-        .iter()
-        .find(|op| is_name(names::control(**op)))?;
-    Some(Named::Control(*op))
+    for op in ControlOp::ALL.iter() {
+        if names::control(*op).as_bytes() == name {
+            return Some(Named::Control(*op));
+        }
+    }
+    None
 }
 
 /// The operation whose name is nearest to a text, if one is near enough.
-pub(crate) fn nearest_operation(
-    alloc: Global,
-    text: &[u8],
-) -> Result<Option<&'static [u8]>, AllocError> {
-    let mut known = Vec::new(alloc);
-    for op in MemoryOp::ALL {
-        known.push(names::memory(op).as_bytes())?;
+pub(crate) fn nearest_operation(text: &[u8]) -> Option<&'static [u8]> {
+    let mut nearest = Nearest::to(text);
+    for op in MemoryOp::ALL.iter() {
+        nearest.see(names::memory(*op).as_bytes());
     }
-    for op in ArithmeticOp::ALL {
-        known.push(names::arithmetic(op).as_bytes())?;
+    for op in ArithmeticOp::ALL.iter() {
+        nearest.see(names::arithmetic(*op).as_bytes());
     }
-    for op in ControlOp::ALL {
-        known.push(names::control(op).as_bytes())?;
+    for op in ControlOp::ALL.iter() {
+        nearest.see(names::control(*op).as_bytes());
     }
-    for op in WideOp::ALL {
-        known.push(names::wide(op).as_bytes())?;
+    for op in WideOp::ALL.iter() {
+        nearest.see(names::wide(*op).as_bytes());
     }
-    Ok(nearest(text, &known))
+    nearest.name()
 }
 
 /// The condition whose name is nearest to a text, if one is near enough.
 pub(crate) fn nearest_condition(text: &[u8]) -> Option<&'static [u8]> {
-    let known = Condition::ALL.map(|condition| names::condition(condition).as_bytes());
-    nearest(text, &known)
+    let mut nearest = Nearest::to(text);
+    for condition in Condition::ALL.iter() {
+        nearest.see(names::condition(*condition).as_bytes());
+    }
+    nearest.name()
 }
 
 /// All directives.
@@ -177,8 +180,11 @@ pub(crate) fn directive_named(name: &[u8]) -> Option<Directive> {
 
 /// The directive whose name is nearest to a text, if one is near enough.
 pub(crate) fn nearest_directive(text: &[u8]) -> Option<&'static [u8]> {
-    let known = DIRECTIVES.map(|directive| names::directive(directive).as_bytes());
-    nearest(text, &known)
+    let mut nearest = Nearest::to(text);
+    for directive in DIRECTIVES.iter() {
+        nearest.see(names::directive(*directive).as_bytes());
+    }
+    nearest.name()
 }
 
 /// The operands that a directive takes at most.

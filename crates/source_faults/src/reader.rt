@@ -7,6 +7,7 @@ use crate::message::Spot;
 use crate::token::Token;
 use asm_line::{Fault, Item, Place, SourceLine, read_line};
 use asm_text::{Outline, outline_of};
+use insn_word::Profile;
 use std::alloc::{AllocError, Global};
 
 /// What is known of a text before its lines are read.
@@ -20,7 +21,7 @@ impl<'t> Source<'t> {
     /// Of this text.
     pub(crate) fn of(alloc: Global, text: &'t [u8]) -> Result<Source<'t>, AllocError> {
         let mut names = Vec::new(alloc);
-        for line in Lines::of(text) {
+        for line in Lines::filled(text) {
             match line.source.label {
                 Some(label) if is_name(label) => names.push(label)?,
                 _ => {}
@@ -30,11 +31,6 @@ impl<'t> Source<'t> {
             outline: outline_of(alloc, text)?,
             names,
         })
-    }
-
-    /// Its outline.
-    pub(crate) fn outline(&self) -> &Outline<'t> {
-        &self.outline
     }
 
     /// How many program words it has.
@@ -79,6 +75,11 @@ impl<'s, 't> Reader<'s, 't> {
     /// How many program words stand before the line.
     pub(crate) fn here(&self) -> usize {
         self.line.here
+    }
+
+    /// The text's profile.
+    pub(crate) fn profile(&self) -> Profile {
+        self.source.outline.profile
     }
 
     /// Where a label stands first.

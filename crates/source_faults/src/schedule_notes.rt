@@ -5,7 +5,7 @@ use crate::notes::Notes;
 use crate::phrases::shown;
 use crate::token::Token;
 use std::alloc::AllocError;
-use text_parts::{Base, Number, read_digits};
+use text_parts::{Base, Number, find_either, read_digits};
 
 /// What a line of a schedule says: so many steps of a stream of a processor.
 #[derive(Clone, Copy)]
@@ -121,39 +121,50 @@ fn note_return<'t>(
 
 /// Tells that a line has something besides numbers and single spaces, if it has.
 fn note_layout(notes: &mut Notes, line: &Line, token: Token) -> Result<bool, AllocError> {
+    let Some(fault) = layout_fault(token) else {
+        return Ok(false);
+    };
+    notes.say(line.spot(fault.marked), fault.words, fault.help)?;
+    Ok(true)
+}
+
+/// What a line has besides numbers and single spaces: where, what it is, and how it may be mended.
+#[derive(Clone, Copy)]
+struct LayoutFault<'t> {
+    marked: Token<'t>,
+    words: &'static str,
+    help: &'static str,
+}
+
+/// What a line has first besides numbers and single spaces, if anything.
+fn layout_fault<'t>(token: Token<'t>) -> Option<LayoutFault<'t>> {
     if token.bytes.is_empty() {
-        notes.say(line.spot(token), "the line is empty", "take it out")?;
-        return Ok(true);
+        return Some(LayoutFault {
+            marked: token,
+            words: "the line is empty",
+            help: "take it out",
+        });
     }
-    let comment = token.bytes.iter().position(|b| *b == b';' || *b == b'#');
-    if let Some(place) = comment {
-        let help = "take the comment out";
-        notes.say(
-            line.spot(token.behind(place)),
-            "a schedule has no comments",
-            help,
-        )?;
-        return Ok(true);
+    if let Some(place) = find_either(token.bytes, b';', b'#') {
+        return Some(LayoutFault {
+            marked: token.behind(place),
+            words: "a schedule has no comments",
+            help: "take the comment out",
+        });
     }
-    if let Some(place) = token.bytes.iter().position(|b| *b == b'\t') {
-        let spot = line.spot(token.behind(place).before(1));
-        notes.say(
-            spot,
-            "a tab stands here",
-            "single spaces stand between numbers",
-        )?;
-        return Ok(true);
+    if let (front, Some(_)) = token.cut(b'\t') {
+        return Some(LayoutFault {
+            marked: token.behind(front.bytes.len()).before(1),
+            words: "a tab stands here",
+            help: "single spaces stand between numbers",
+        });
     }
-    if let Some(place) = blank_place(token) {
-        let spot = line.spot(token.behind(place).before(1));
-        notes.say(
-            spot,
-            "one space too many",
-            "single spaces stand between numbers",
-        )?;
-        return Ok(true);
-    }
-    Ok(false)
+    let place = blank_place(token)?;
+    Some(LayoutFault {
+        marked: token.behind(place).before(1),
+        words: "one space too many",
+        help: "single spaces stand between numbers",
+    })
 }
 
 /// Where a space stands at an end of the line, or behind another one.
@@ -181,8 +192,8 @@ fn note_number(
     let text = shown(alloc, token.bytes)?;
     let Some(number) = read_digits(Base::Decimal, token.bytes) else {
         let words = format!(in alloc; "{text} is no number")?;
-        let help = String::from_str(alloc, "write p s or p s n, in decimal digits")?;
-        notes.add(line.spot(token), words, Some(help))?;
+        let help = "write p s or p s n, in decimal digits";
+        notes.add_with(line.spot(token), words, help)?;
         return Ok(None);
     };
     match number {

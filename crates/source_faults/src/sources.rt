@@ -10,12 +10,10 @@ use crate::message::{Message, Severity, Spot};
 use crate::notes::{Notes, in_order};
 use crate::reader::{Reader, Source};
 use crate::statement_notes::note_statement;
-use crate::text_notes::{Totals, note_foreign};
-use crate::token::Token;
+use crate::text_notes::{Totals, last_line, note_foreign};
 use crate::warnings::warnings_of;
 use asm_line::Fault;
 use asm_text::{AsmFault, assemble};
-use source_places::line_faults;
 use std::alloc::{AllocError, Global};
 
 /// Where the kinds of faults are explained.
@@ -96,33 +94,17 @@ fn note_faults<'t>(
     source: &Source<'t>,
     text: &'t [u8],
 ) -> Result<(), AllocError> {
-    let faults = line_faults(notes.alloc(), text)?;
-    let mut place = 0;
     let mut totals = Totals::NONE;
-    let mut end = Spot::FIRST;
-    for line in Lines::of(text) {
+    for line in Lines::filled(text) {
         note_foreign(notes, &line)?;
         totals.see(&line);
-        match faults.get(place) {
-            Some(fault) if fault.number == line.number => {
-                note_line(notes, &Reader::at(source, line), fault.kind)?;
-                place += 1;
-            }
-            _ => note_totals(notes, &mut totals, &Reader::at(source, line))?,
-        }
-        if line.start < text.len() {
-            end = line.spot(Token::of_line(&[]));
+        let reader = Reader::at(source, line);
+        match reader.own_item() {
+            Ok(item) => totals.take(notes, reader.line(), item)?,
+            Err(kind) => note_line(notes, &reader, kind)?,
         }
     }
-    totals.note_missing(notes, source.words(), end)
-}
-
-/// Tells what a line without a fault has too much of.
-fn note_totals(notes: &mut Notes, totals: &mut Totals, reader: &Reader) -> Result<(), AllocError> {
-    match reader.own_item() {
-        Ok(item) => totals.take(notes, reader.line(), item),
-        Err(_) => Ok(()),
-    }
+    totals.note_missing(notes, source.words(), last_line(text))
 }
 
 /// Tells what is wrong with a line whose least fault is of this kind.

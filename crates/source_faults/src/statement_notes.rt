@@ -54,17 +54,27 @@ fn note_instruction(
     let before = notes.len();
     let text = note_lookahead(notes, reader, statement)?;
     let pieces = text.pieces(notes.alloc(), b'|')?;
+    note_pieces(notes, reader, &pieces, before)
+}
+
+/// Tells what is wrong with the operations of a word, where so much was found before it.
+fn note_pieces(
+    notes: &mut Notes,
+    reader: &Reader,
+    pieces: &[Token],
+    before: usize,
+) -> Result<(), AllocError> {
     let mut operations = Vec::new(notes.alloc());
-    for piece in pieces.iter() {
+    for piece in pieces {
         if let Some(named) = note_operation(notes, reader, *piece)? {
             let piece = *piece;
             operations.push(Operation { named, piece })?;
         }
     }
-    if operations.len() == pieces.len() {
-        note_word(notes, reader, &operations, notes.len() == before)?;
+    if operations.len() < pieces.len() {
+        return Ok(());
     }
-    Ok(())
+    note_word(notes, reader, &operations, notes.len() == before)
 }
 
 /// Tells what is wrong with the lookahead of an instruction, if it has one, and answers what stands behind it.

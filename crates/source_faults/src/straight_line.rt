@@ -1,13 +1,12 @@
 //! What registers hold along a straight line of the program.
 
+use crate::data_lines::DataLines;
 use crate::notes::Notes;
 use crate::phrases::shown;
 use crate::reader::Reader;
 use crate::token::Token;
-use crate::warnings::data_address;
 use asm_line::names;
 use insn_word::{APart, Access, CPart, Condition, ControlOp, Insn, MPart, MemoryOp, WideOp};
-use source_places::SourcePlaces;
 use std::alloc::{AllocError, Global};
 
 /// What is known of a register.
@@ -48,14 +47,14 @@ impl<'t> StraightLine<'t> {
         &mut self,
         notes: &mut Notes,
         reader: &Reader<'_, 't>,
-        places: &SourcePlaces,
+        data_lines: &DataLines,
         insn: Option<Insn>,
     ) -> Result<(), AllocError> {
         match insn {
             None => *self = StraightLine::NEW,
             Some(Insn::Wide { op, reg, imm, .. }) => self.take_wide(reader, op, reg, imm),
             Some(Insn::Normal { m, a, c, .. }) => {
-                note_reference(notes, reader, places, m, self.known(m.base))?;
+                note_reference(notes, reader, data_lines, m, self.known(m.base))?;
                 self.take_normal(m, a, c);
             }
         }
@@ -133,7 +132,7 @@ fn label_operand<'t>(reader: &Reader<'_, 't>) -> Option<&'t [u8]> {
 fn note_reference(
     notes: &mut Notes,
     reader: &Reader,
-    places: &SourcePlaces,
+    data_lines: &DataLines,
     m: MPart,
     known: Known,
 ) -> Result<(), AllocError> {
@@ -141,7 +140,7 @@ fn note_reference(
         return Ok(());
     }
     if let Some(label) = known.label {
-        return note_label_address(notes, reader, places, m, label);
+        return note_label_address(notes, reader, data_lines, m, label);
     }
     let obeys = match m.op {
         MemoryOp::Load | MemoryOp::Store | MemoryOp::FetchAdd => m.acc == Access::FromPointer,
@@ -157,22 +156,34 @@ fn note_reference(
 fn note_label_address(
     notes: &mut Notes,
     reader: &Reader,
-    places: &SourcePlaces,
+    data_lines: &DataLines,
     m: MPart,
     label: &[u8],
 ) -> Result<(), AllocError> {
     let alloc = notes.alloc();
+    let spot = reader.spot(base_operand(alloc, reader)?);
+    let words = holder_words(alloc, m.base, label)?;
+    match label_address(reader, data_lines, label) {
+        Some(address) => {
+            let help = format!(in alloc; "the data on the label's line is at address {address}")?;
+            notes.add(spot, words, Some(help))
+        }
+        None => notes.add_with(spot, words, "data words are at the addresses 0, 8, 16, .."),
+    }
+}
+
+/// What a register with this label's value holds.
+fn holder_words(alloc: Global, register: u8, label: &[u8]) -> Result<String, AllocError> {
     let name = shown(alloc, label)?;
-    let words = format!(in alloc;
-        "r{} holds the label {name}, which is the number of an instruction line and no address",
-        m.base
-    )?;
-    let line = reader.place_of(label).map(|place| place.line);
-    let help = match line.and_then(|line| data_address(places, line)) {
-        Some(address) => format!(in alloc; "the data on the label's line is at address {address}")?,
-        None => String::from_str(alloc, "data words are at the addresses 0, 8, 16, ..")?,
-    };
-    notes.add(reader.spot(base_operand(alloc, reader)?), words, Some(help))
+    format!(in alloc;
+        "r{register} holds the label {name}, which is the number of an instruction line and no address"
+    )
+}
+
+/// The address of the data on the line of a label, if there is any.
+fn label_address(reader: &Reader, data_lines: &DataLines, label: &[u8]) -> Option<usize> {
+    let place = reader.place_of(label)?;
+    data_lines.address(place.line)
 }
 
 /// Warns of a reference that obeys what its pointer carries.
@@ -183,6 +194,7 @@ fn note_control(
     control: u32,
 ) -> Result<(), AllocError> {
     let alloc = notes.alloc();
+    let spot = reader.spot(base_operand(alloc, reader)?);
     let name = names::memory(m.op);
     let control = match control {
         1 => "reserved control, and traps",
@@ -193,8 +205,7 @@ fn note_control(
         "the pointer in r{} gives this {name} {control}: its bits 59 and 60 are set so",
         m.base
     )?;
-    let help = String::from_str(alloc, "a suffix .N, .F or .S says it in the program")?;
-    notes.add(reader.spot(base_operand(alloc, reader)?), words, Some(help))
+    notes.add_with(spot, words, "a suffix .N, .F or .S says it in the program")
 }
 
 /// The base of a line's reference, which stands in its first operation.

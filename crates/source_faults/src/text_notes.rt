@@ -3,16 +3,18 @@
 use crate::lines::Line;
 use crate::message::Spot;
 use crate::notes::Notes;
+use crate::operations::directive_named;
 use crate::phrases::shown;
 use crate::token::Token;
-use asm_line::{Directive, Item, names};
+use asm_line::{Directive, Item};
 use std::alloc::AllocError;
 
 const MAX_ENTRIES: usize = 16;
 
 const MAX_PROGRAM_WORDS: usize = 65_536;
 
-const MAX_CELLS: usize = 262_144;
+/// How many data words a memory has at most.
+pub(crate) const MAX_CELLS: usize = 262_144;
 
 /// What the first lines of a text have: the lines, from 1, of the directives that may stand once, and how much there is.
 #[derive(Clone, Copy)]
@@ -45,10 +47,11 @@ impl Totals {
     pub(crate) fn see(&mut self, line: &Line) {
         let statement = line.statement();
         if statement.begins(b'.') {
-            let head = statement.split_head().0.bytes;
-            let is = |directive: Directive| names::directive(directive).as_bytes() == head;
-            self.has_entry |= is(Directive::Entry);
-            self.has_data |= is(Directive::Data) || is(Directive::Fill);
+            match directive_named(statement.split_head().0.bytes) {
+                Some(Directive::Entry) => self.has_entry = true,
+                Some(Directive::Data | Directive::Fill) => self.has_data = true,
+                _ => {}
+            }
         }
     }
 
@@ -121,6 +124,18 @@ impl Totals {
     }
 }
 
+/// Where the last line of a text begins; what follows its last line feed is a line where it has a byte.
+pub(crate) fn last_line(text: &[u8]) -> Spot {
+    let mut last = Spot::FIRST;
+    for (place, byte) in text.iter().enumerate() {
+        if *byte == b'\n' && place + 1 < text.len() {
+            last.line = last.line.saturating_add(1);
+            last.start = place + 1;
+        }
+    }
+    last
+}
+
 /// The place of the head of a line's statement.
 fn head_spot(line: &Line) -> Spot {
     line.spot(line.statement().split_head().0)
@@ -135,8 +150,7 @@ fn note_once(notes: &mut Notes, line: &Line, first: &mut Option<usize>) -> Resul
     let alloc = notes.alloc();
     let name = shown(alloc, line.statement().split_head().0.bytes)?;
     let words = format!(in alloc; "{name} stands on line {number} already")?;
-    let help = String::from_str(alloc, "it may stand once")?;
-    notes.add(head_spot(line), words, Some(help))
+    notes.add_with(head_spot(line), words, "it may stand once")
 }
 
 fn take_word(notes: &mut Notes, line: &Line) -> Result<(), AllocError> {
@@ -158,6 +172,9 @@ pub(crate) fn note_foreign(notes: &mut Notes, line: &Line) -> Result<(), AllocEr
     let byte = rest.bytes.first().copied().unwrap_or(0);
     let alloc = notes.alloc();
     let words = format!(in alloc; "the byte {byte:02X} is above 7F")?;
-    let help = String::from_str(alloc, "a text is ASCII alone, in comments too")?;
-    notes.add(line.spot(marked), words, Some(help))
+    notes.add_with(
+        line.spot(marked),
+        words,
+        "a text is ASCII alone, in comments too",
+    )
 }

@@ -1,14 +1,15 @@
 //! What is legal in a text and likely not what is meant.
 
+use crate::data_lines::DataLines;
 use crate::lines::Lines;
 use crate::notes::Notes;
 use crate::phrases::shown;
 use crate::reach::{Program, note_unreached};
 use crate::reader::{Reader, Source};
 use crate::straight_line::StraightLine;
+use crate::token::Token;
 use asm_line::Item;
 use insn_word::{Condition, ControlOp, Insn, decode_as};
-use source_places::SourcePlaces;
 use std::alloc::{AllocError, Global};
 
 /// What stands on the lines without a fault and is likely not meant; and where the text has no fault, the words that no
@@ -19,69 +20,86 @@ pub(crate) fn warnings_of<'t>(
     text: &'t [u8],
     has_no_fault: bool,
 ) -> Result<Notes, AllocError> {
+    let data_lines = DataLines::of(alloc, source, text)?;
     let mut notes = Notes::new(alloc);
-    let places = SourcePlaces::of(alloc, text)?;
-    let mut straight = StraightLine::NEW;
     let mut program = Program::new(alloc);
-    for line in Lines::of(text) {
-        let reader = Reader::at(source, line);
-        let Ok(item) = reader.own_item() else {
-            straight = StraightLine::NEW;
-            continue;
-        };
-        match item {
-            Item::Cells { .. } => note_data_label(&mut notes, &reader, &places)?,
-            Item::Entry(entry) => program.begin_at(entry)?,
-            Item::Trap(entry) => program.begin_at(entry)?,
-            Item::Instruction(insn) => {
-                note_code(&mut notes, &reader, insn)?;
-                straight.take(&mut notes, &reader, &places, Some(insn))?;
-                program.add(Some(insn), reader.spot(line.statement()))?;
-            }
-            Item::Word(word) => {
-                let insn = decode_as(source.outline().profile, word);
-                straight.take(&mut notes, &reader, &places, insn)?;
-                program.add(insn, reader.spot(line.statement()))?;
-            }
-            Item::Nothing | Item::Profile(_) | Item::Slim(_) | Item::Chain(_) | Item::Retry(_) => {}
-        }
-    }
+    note_lines(&mut notes, &mut program, source, &data_lines, text)?;
     if has_no_fault {
         note_unreached(&mut notes, &program)?;
     }
     Ok(notes)
 }
 
+/// Warns of what stands on the lines without a fault, and adds it to a program.
+fn note_lines<'t>(
+    notes: &mut Notes,
+    program: &mut Program,
+    source: &Source<'t>,
+    data_lines: &DataLines,
+    text: &'t [u8],
+) -> Result<(), AllocError> {
+    let mut straight = StraightLine::NEW;
+    for line in Lines::filled(text) {
+        let reader = Reader::at(source, line);
+        match reader.own_item() {
+            Ok(item) => note_item(notes, program, &mut straight, &reader, data_lines, item)?,
+            Err(_) => straight = StraightLine::NEW,
+        }
+    }
+    Ok(())
+}
+
+/// Warns of what a line adds, and adds it to a program.
+fn note_item<'t>(
+    notes: &mut Notes,
+    program: &mut Program,
+    straight: &mut StraightLine<'t>,
+    reader: &Reader<'_, 't>,
+    data_lines: &DataLines,
+    item: Item,
+) -> Result<(), AllocError> {
+    let insn = match item {
+        Item::Instruction(insn) => Some(insn),
+        Item::Word(word) => decode_as(reader.profile(), word),
+        Item::Cells { .. } => return note_data_label(notes, reader, data_lines),
+        Item::Entry(entry) => return program.begin_at(entry),
+        Item::Trap(entry) => return program.begin_at(entry),
+        Item::Nothing | Item::Profile(_) | Item::Slim(_) | Item::Chain(_) | Item::Retry(_) => {
+            return Ok(());
+        }
+    };
+    if let Item::Instruction(insn) = item {
+        note_code(notes, reader, insn)?;
+    }
+    straight.take(notes, reader, data_lines, insn)?;
+    program.add(insn, reader.spot(reader.line().statement()))
+}
+
 /// Warns of a label on a line of data.
 fn note_data_label(
     notes: &mut Notes,
     reader: &Reader,
-    places: &SourcePlaces,
+    data_lines: &DataLines,
 ) -> Result<(), AllocError> {
     let Some(label) = reader.line().label() else {
         return Ok(());
     };
     let alloc = notes.alloc();
-    let name = shown(alloc, label.bytes)?;
-    let here = reader.here();
-    let words = format!(in alloc;
-        "the label {name} is the number of the next instruction line, {here}, and no address"
-    )?;
-    let help = match data_address(places, reader.line().number) {
+    let words = label_words(alloc, reader, label)?;
+    let help = match data_lines.address(reader.line().number) {
         Some(address) => Some(format!(in alloc; "this data is at address {address}")?),
         None => None,
     };
     notes.add(reader.spot(label), words, help)
 }
 
-/// The address of the first data word that a line adds, if it adds any.
-pub(crate) fn data_address(places: &SourcePlaces, number: usize) -> Option<usize> {
-    let lines = places.data_lines();
-    let found = lines
-        .binary_search_by_key(&number, |line| line.number)
-        .ok()?;
-    let line = lines.get(found)?;
-    Some(line.first.saturating_mul(8))
+/// What the label of a line of data is.
+fn label_words(alloc: Global, reader: &Reader, label: Token) -> Result<String, AllocError> {
+    let name = shown(alloc, label.bytes)?;
+    let here = reader.here();
+    format!(in alloc;
+        "the label {name} is the number of the next instruction line, {here}, and no address"
+    )
 }
 
 /// Warns of a condition in the word of the operation whose code it seems to ask.

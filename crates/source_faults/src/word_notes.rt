@@ -61,8 +61,11 @@ fn note_alone(notes: &mut Notes, reader: &Reader, operation: Operation) -> Resul
     let alloc = notes.alloc();
     let name = operation.named.name();
     let words = format!(in alloc; "{name} stands alone in its word")?;
-    let help = String::from_str(alloc, "write it on a line of its own")?;
-    notes.add(reader.spot(operation.piece), words, Some(help))
+    notes.add_with(
+        reader.spot(operation.piece),
+        words,
+        "write it on a line of its own",
+    )
 }
 
 /// Tells that an operation of this part does not stand behind another.
@@ -101,13 +104,29 @@ fn note_writers(
 ) -> Result<(), AllocError> {
     for (place, operation) in operations.iter().enumerate() {
         let register = destination(reader, *operation);
-        let earlier = operations.iter().take(place);
-        let mut same = earlier.filter(|before| destination(reader, **before) == register);
-        if let (true, Some(before)) = (register > 0, same.next()) {
-            note_both(notes, reader, *before, *operation, register)?;
+        if let Some(before) = first_writer(reader, operations, place, register) {
+            note_both(notes, reader, before, *operation, register)?;
         }
     }
     Ok(())
+}
+
+/// The first of so many operations that writes a register; none writes r0.
+fn first_writer<'t>(
+    reader: &Reader,
+    operations: &[Operation<'t>],
+    count: usize,
+    register: u8,
+) -> Option<Operation<'t>> {
+    if register == 0 {
+        return None;
+    }
+    for operation in operations.iter().take(count) {
+        if destination(reader, *operation) == register {
+            return Some(*operation);
+        }
+    }
+    None
 }
 
 /// The register that an operation writes; 0 for none.
@@ -131,8 +150,11 @@ fn note_both(
     let alloc = notes.alloc();
     let (first, second) = (before.named.name(), operation.named.name());
     let words = format!(in alloc; "{first} and {second} both write r{register}")?;
-    let help = String::from_str(alloc, "use two words, or another register")?;
     let operands = operation.piece.split_head().1;
     let written = operands.cut(b',').0.trim();
-    notes.add(reader.spot(written), words, Some(help))
+    notes.add_with(
+        reader.spot(written),
+        words,
+        "use two words, or another register",
+    )
 }

@@ -1,0 +1,54 @@
+//! Where the data words of a text stand in memory.
+
+use crate::lines::Lines;
+use crate::reader::{Reader, Source};
+use crate::text_notes::MAX_CELLS;
+use asm_line::Item;
+use std::alloc::{AllocError, Global};
+
+/// A line that adds data words: its number, from 0, and the first of them.
+#[derive(Clone, Copy)]
+struct DataLine {
+    number: usize,
+    first: usize,
+}
+
+/// The lines of a text that add data words, in their order. One that adds more than a memory has room for is not among
+/// them.
+#[derive(Drop)]
+pub(crate) struct DataLines {
+    lines: Vec<DataLine>,
+}
+
+impl DataLines {
+    /// Of this text.
+    pub(crate) fn of<'t>(
+        alloc: Global,
+        source: &Source<'t>,
+        text: &'t [u8],
+    ) -> Result<DataLines, AllocError> {
+        let mut lines = Vec::new(alloc);
+        let mut first = 0usize;
+        for line in Lines::filled(text) {
+            let number = line.number;
+            if let Ok(Item::Cells { count, .. }) = Reader::at(source, line).own_item() {
+                let next = first.saturating_add(count as usize);
+                if next <= MAX_CELLS {
+                    lines.push(DataLine { number, first })?;
+                    first = next;
+                }
+            }
+        }
+        Ok(DataLines { lines })
+    }
+
+    /// The address of the first data word that the line of this number adds, if it adds any.
+    pub(crate) fn address(&self, number: usize) -> Option<usize> {
+        let found = self
+            .lines
+            .binary_search_by_key(&number, |line| line.number)
+            .ok()?;
+        let line = self.lines.get(found)?;
+        Some(line.first.saturating_mul(8))
+    }
+}
