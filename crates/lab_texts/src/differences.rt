@@ -4,8 +4,8 @@ use crate::changes::push_part;
 use crate::names::ProgramNames;
 use crate::words::{NumberStyle, push_content, push_stream, push_tags, push_value};
 use machine::Machine;
-use std::alloc::{AllocError, Global};
-use step_views::{Change, Place, StreamPart, content_of};
+use std::alloc::AllocError;
+use step_views::{Change, Place};
 use tag_memory::Word;
 
 /// Adds a line for each word of the memory that is not the image's: what it was, what it is, and the comment of its
@@ -91,86 +91,6 @@ fn push_word_change(
         push_tags(out, before.tags())?;
         out.push_str(" -> ")?;
         push_tags(out, after.tags())?;
-    }
-    Ok(())
-}
-
-/// The places in which the worlds of two machines over one image differ, with what stands there in the one and in the
-/// other: of streams and counts in the order of processor and stream, then of words.
-pub fn world_differences<const S: usize>(
-    alloc: Global,
-    one: &Machine<'_, S>,
-    other: &Machine<'_, S>,
-) -> Result<Vec<Change>, AllocError> {
-    let mut found = Vec::new(alloc);
-    for p in 0..one.image().processors() {
-        let p = p as u8;
-        note_difference(&mut found, Place::Current { p }, one, other)?;
-        note_difference(&mut found, Place::Reserved { p }, one, other)?;
-        for s in 0..one.image().slim() {
-            note_stream_differences(&mut found, p, s as u8, one, other)?;
-        }
-    }
-    for index in 0..one.image().cells().len() {
-        let address = index as u64 * 8;
-        note_difference(&mut found, Place::Value { address }, one, other)?;
-        note_difference(&mut found, Place::Tags { address }, one, other)?;
-    }
-    Ok(found)
-}
-
-/// The parts of a stream that are no registers.
-const STATE: [StreamPart; 7] = [
-    StreamPart::Pc,
-    StreamPart::Codes,
-    StreamPart::Mask,
-    StreamPart::InTrap,
-    StreamPart::TrapRegister,
-    StreamPart::Retries,
-    StreamPart::Status,
-];
-
-/// Notes in what a stream differs between two worlds.
-fn note_stream_differences<const S: usize>(
-    found: &mut Vec<Change>,
-    p: u8,
-    s: u8,
-    one: &Machine<'_, S>,
-    other: &Machine<'_, S>,
-) -> Result<(), AllocError> {
-    if one.stream(p, s) == other.stream(p, s) {
-        return Ok(());
-    }
-    for part in STATE {
-        note_difference(found, Place::Stream { p, s, part }, one, other)?;
-    }
-    for number in 0..32 {
-        let part = StreamPart::Register(number);
-        note_difference(found, Place::Stream { p, s, part }, one, other)?;
-    }
-    for number in 0..8 {
-        let part = StreamPart::Target(number);
-        note_difference(found, Place::Stream { p, s, part }, one, other)?;
-    }
-    Ok(())
-}
-
-/// Notes what stands in a place in two worlds, where it differs.
-fn note_difference<const S: usize>(
-    found: &mut Vec<Change>,
-    place: Place,
-    one: &Machine<'_, S>,
-    other: &Machine<'_, S>,
-) -> Result<(), AllocError> {
-    let (Some(before), Some(after)) = (content_of(one, place), content_of(other, place)) else {
-        return Ok(());
-    };
-    if before != after {
-        found.push(Change {
-            place,
-            before,
-            after,
-        })?;
     }
     Ok(())
 }

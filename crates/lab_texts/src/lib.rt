@@ -12,9 +12,7 @@ mod waits;
 mod words;
 
 pub use changes::{push_changes, push_part_of};
-pub use differences::{
-    push_changed_words, push_differences, push_differing_words, world_differences,
-};
+pub use differences::{push_changed_words, push_differences, push_differing_words};
 pub use ends::{RunEnd, StoppedStream, end_of, push_end};
 pub use findings::{FindingsOfRun, Telling, push_findings, push_first_finding};
 pub use names::ProgramNames;

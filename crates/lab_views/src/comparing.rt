@@ -10,15 +10,15 @@ use lab_json::{VERSION, differences_value, end_value};
 use lab_requests::Shown;
 use lab_texts::{
     ProgramNames, end_of, push_differences, push_differing_words, push_end, push_stream,
-    world_differences,
 };
-use machine::Machine;
+use machine::{LoadFault, Machine};
 use processor::Step;
 use serde_json::json;
 use std::alloc::{AllocError, Global};
 use std::io::Read;
 use std::rt::Files;
-use step_views::{StepView, take_step};
+use step_views::StepView;
+use whole_runs::{Difference, first_difference, run_views};
 
 /// Shows where two schedules of a program part, where the worlds first differ, and both ends.
 pub fn compare<F: Files, R: Read>(
@@ -49,15 +49,35 @@ fn compare_on<const S: usize>(
     shown: Shown,
 ) -> Result<(String, Status), AllocError> {
     let names = ProgramNames::of(alloc, &program.text)?;
-    let mut runs = Pair {
-        one: Run::<S>::begin(alloc, program)?,
-        other: Run::<S>::begin(alloc, program)?,
+    let runs = Pair {
+        one: Run::<S>::of(alloc, program, first)?,
+        other: Run::<S>::of(alloc, program, second)?,
         shown,
         names: &names,
     };
     let mut out = String::new(alloc);
-    let status = runs.push_comparison(alloc, &mut out, first, second)?;
+    let shared = shared_steps(first, second);
+    if shared < first.len().max(second.len()) {
+        runs.push_parting(alloc, &mut out, shared)?;
+    }
+    if let Some(difference) = difference_of::<S>(alloc, program, first, second)? {
+        runs.push_difference(alloc, &mut out, &difference)?;
+    }
+    let status = runs.push_ends(alloc, &mut out)?;
     Ok((out, status))
+}
+
+/// The first position at which the runs differ, and in what.
+fn difference_of<const S: usize>(
+    alloc: Global,
+    program: &Program,
+    first: &[Step],
+    second: &[Step],
+) -> Result<Option<Difference>, AllocError> {
+    match first_difference::<S>(alloc, &program.image, first, second) {
+        Ok(difference) => Ok(difference),
+        Err(LoadFault::NoMemory | LoadFault::Streams) => Err(AllocError),
+    }
 }
 
 /// The longest beginning that two schedules share, in steps.
@@ -67,16 +87,6 @@ fn shared_steps(first: &[Step], second: &[Step]) -> usize {
         .zip(second.iter())
         .take_while(|(step, twin)| **step == **twin)
         .count()
-}
-
-/// The first steps of a schedule, of so many at most.
-fn beginning(steps: &[Step], count: usize) -> &[Step] {
-    steps.get(..count).unwrap_or(&[])
-}
-
-/// The step of this place, as a schedule; none past the end.
-fn step_at(steps: &[Step], index: usize) -> &[Step] {
-    steps.get(index..index.saturating_add(1)).unwrap_or(&[])
 }
 
 /// The steps of a run, by what they did.
@@ -96,40 +106,34 @@ struct Run<'i, const S: usize> {
 }
 
 impl<'i, const S: usize> Run<'i, S> {
-    /// A run of a program that has taken no step.
-    fn begin(alloc: Global, program: &'i Program) -> Result<Run<'i, S>, AllocError> {
-        Ok(Run {
-            machine: loaded(alloc, &program.image)?,
-            views: Vec::new(alloc),
-        })
+    /// The run of a program by a schedule.
+    fn of(
+        alloc: Global,
+        program: &'i Program,
+        schedule: &[Step],
+    ) -> Result<Run<'i, S>, AllocError> {
+        let mut machine = loaded(alloc, &program.image)?;
+        let views = run_views(alloc, &mut machine, schedule)?;
+        Ok(Run { machine, views })
     }
 
-    /// Takes steps.
-    fn take(&mut self, alloc: Global, steps: &[Step]) -> Result<(), AllocError> {
-        for step in steps {
-            let view = take_step(alloc, &mut self.machine, *step)?;
-            self.views.push(view)?;
-        }
-        Ok(())
-    }
-
-    /// The last step in words, where it took one.
-    fn last_step(
+    /// The step of this place in words, where it took one.
+    fn step_words(
         &self,
         alloc: Global,
         names: &ProgramNames,
-        took: bool,
+        place: usize,
     ) -> Result<String, AllocError> {
         let mut words = String::new(alloc);
-        match self.views.last() {
-            Some(view) if took => {
+        match self.views.get(place) {
+            Some(view) => {
                 push_stream(&mut words, view.step.p, view.step.s)?;
                 words.push_str(" at ")?;
                 names.push_place(&mut words, view.pc)?;
                 words.push_str(" ")?;
                 names.push_statement(&mut words, view.pc)?;
             }
-            _ => words.push_str("it has ended")?,
+            None => words.push_str("it has ended")?,
         }
         Ok(words)
     }
@@ -145,47 +149,16 @@ struct Pair<'i, 'n, 't, const S: usize> {
 }
 
 impl<const S: usize> Pair<'_, '_, '_, S> {
-    /// Takes the steps of two schedules, one of each at a time, and adds where they part, where the worlds first differ,
-    /// and both ends. The exit status is the worse of theirs.
-    fn push_comparison(
-        &mut self,
-        alloc: Global,
-        out: &mut String,
-        first: &[Step],
-        second: &[Step],
-    ) -> Result<Status, AllocError> {
-        let same = shared_steps(first, second);
-        self.take(alloc, beginning(first, same), beginning(second, same))?;
-        let mut differ = false;
-        for index in same..first.len().max(second.len()) {
-            let number = index.saturating_add(1);
-            let (one, other) = (step_at(first, index), step_at(second, index));
-            self.take(alloc, one, other)?;
-            if index == same {
-                self.push_parting(alloc, out, number, !one.is_empty(), !other.is_empty())?;
-            }
-            differ = differ || self.push_difference(alloc, out, number)?;
-        }
-        self.push_ends(alloc, out)
-    }
-
-    /// Takes steps of both.
-    fn take(&mut self, alloc: Global, one: &[Step], other: &[Step]) -> Result<(), AllocError> {
-        self.one.take(alloc, one)?;
-        self.other.take(alloc, other)
-    }
-
-    /// Adds the step at which they part; each says whether it took one.
+    /// Adds the step at which they part, which is that of this place; each says whether it took one.
     fn push_parting(
         &self,
         alloc: Global,
         out: &mut String,
-        number: usize,
-        one_took: bool,
-        other_took: bool,
+        place: usize,
     ) -> Result<(), AllocError> {
-        let one = self.one.last_step(alloc, self.names, one_took)?;
-        let other = self.other.last_step(alloc, self.names, other_took)?;
+        let one = self.one.step_words(alloc, self.names, place)?;
+        let other = self.other.step_words(alloc, self.names, place)?;
+        let number = place.saturating_add(1);
         if self.shown.json {
             let value = json!(in alloc; {
                 "version": VERSION, "step": number, "one": one, "other": other
@@ -195,32 +168,27 @@ impl<const S: usize> Pair<'_, '_, '_, S> {
         write!(out, "step {number}: {one} | {other}\n")
     }
 
-    /// Adds in what the worlds differ at a position, and says whether they do.
+    /// Adds the first position at which the worlds differ, and in what.
     fn push_difference(
         &self,
         alloc: Global,
         out: &mut String,
-        position: usize,
-    ) -> Result<bool, AllocError> {
-        let found = world_differences(alloc, &self.one.machine, &self.other.machine)?;
-        if found.is_empty() {
-            return Ok(false);
-        }
+        difference: &Difference,
+    ) -> Result<(), AllocError> {
+        let position = difference.position;
         if self.shown.json {
-            let differ = differences_value(alloc, &self.one.machine, &self.other.machine)?;
+            let differ = differences_value(alloc, &difference.places)?;
             let value = json!(in alloc; {
                 "version": VERSION, "position": position, "differ": differ
             })?;
-            push_object(alloc, out, &value)?;
-        } else {
-            write!(out, "position {position}: ")?;
-            push_differences(out, style_of(self.shown), &found)?;
-            out.push_str("\n")?;
+            return push_object(alloc, out, &value);
         }
-        Ok(true)
+        write!(out, "position {position}: ")?;
+        push_differences(out, style_of(self.shown), &difference.places)?;
+        out.push_str("\n")
     }
 
-    /// Adds how both ended.
+    /// Adds how both ended. The exit status is the worse of theirs.
     fn push_ends(&self, alloc: Global, out: &mut String) -> Result<Status, AllocError> {
         let mut status = Status::Done;
         for (name, run) in [("one", &self.one), ("other", &self.other)] {

@@ -1,3 +1,10 @@
 pub mod ViewLists
 pub mod ActionLists
 pub mod Acting
+pub mod Noting
+pub mod Among
+pub mod Covered
+pub mod SameLists
+pub mod SameMachines
+pub mod RunMemories
+pub mod Positions

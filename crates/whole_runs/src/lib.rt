@@ -3,7 +3,13 @@
 #![tactic(auto)]
 
 mod actions;
+mod differences;
+mod first_differences;
+mod same_contents;
+mod same_worlds;
 mod views;
 
 pub use actions::{run_actions, take_action};
+pub use differences::world_differences;
+pub use first_differences::{Difference, first_difference};
 pub use views::run_views;
