@@ -3,6 +3,7 @@ pub mod ActionLists
 pub mod Acting
 pub mod Noting
 pub mod Among
+pub mod PlaceEntries
 pub mod Covered
 pub mod SameLists
 pub mod SameMachines
