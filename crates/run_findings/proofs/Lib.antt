@@ -1,5 +1,6 @@
 mod Before
 mod Between
+mod Chains
 mod Finding
 mod Glimpses
 mod Held

@@ -4,11 +4,9 @@ use Rattle.std.proofs.Common.{refl, sym, ap, ◌∙◌, subst, unwrap_or, ltb-tr
 use Rattle.std.specs.List.{slice_get, Contains}
 use Rattle.std.proofs.lemmas.Bool.{false≢true, eqb-false}
 use Rattle.std.proofs.lemmas.Option.{slice_get_within}
-use Rattle.processor.specs.declared.steps.Step.{Step}
 use Rattle.run_findings.specs.Actions.{writes, is_by}
 use Rattle.run_findings.specs.Pairs.{is_half}
 use Rattle.run_findings.specs.Places.{passes, last_before}
-use Rattle.run_findings.specs.Found.{found_to, lists_to}
 use Rattle.run_findings.specs.TornReads.{IsTornRead, word_changed, are_parted, is_other_half, half_by, half_in, other_half}
 use Rattle.run_findings.specs.TornReads.{torn_by_read, torn_by_word, torn_by_write, glimpse_at, torn_in_glimpse, torn_at}
 use Rattle.run_findings.specs.TornReads.{torn_reads, loaded_by, lets_go, is_of_later_round, is_torn_pair}
