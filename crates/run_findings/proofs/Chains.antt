@@ -1,5 +1,5 @@
 -- Of each step, the last step before it that met its word.
-use Rattle.std.proofs.Common.{◌≡◌, ℕ, zero, suc, ◌+◌, ◌-◌, ◌<◌, ◌≤◌, ◌==◌, Bool, true, false, cond, nat_lt, List, [], ◌∷◌, ◌++◌}
+use Rattle.std.proofs.Common.{◌≡◌, ℕ, zero, suc, ◌+◌, ◌-◌, ◌<◌, ◌≤◌, ◌==◌, Bool, true, false, not, cond, nat_lt, List, [], ◌∷◌, ◌++◌}
 use Rattle.std.proofs.Common.{length, get_or, Option, Some, None, refl, sym, ap, ◌∙◌, arith, lt-ltb, le-ltb, ⊎_elim, ◌&&◌, ◌||◌}
 use Rattle.std.specs.List.{slice_get}
 use Rattle.std.specs.Option.{IfSome}
@@ -12,9 +12,9 @@ use Rattle.run_findings.specs.Actions.{access_reads, access_writes, written_or_r
 use Rattle.run_findings.specs.Places.{passes, last_before}
 use Rattle.run_findings.specs.LostUpdates.{full_store}
 use Rattle.run_findings.specs.UnreadStores.{store_of}
-use Rattle.run_findings.specs.TornReads.{meets, is_load_of, is_later, word_loaded, word_heard}
+use Rattle.run_findings.specs.TornReads.{meets, is_load_of, is_later, is_newer, brings_news, word_loaded, word_heard}
 use Rattle.run_findings.specs.Links.{word_of, word_in, word_at, link_to, link_at, AreLinks, latest_of, latest_in}
-use Rattle.run_findings.specs.Links.{word_met, with_step, later, is_after}
+use Rattle.run_findings.specs.Links.{word_met, with_step, later, is_after, news_in, news_at, other_step}
 use Rattle.run_findings.specs.declared.actions.Access.{Access}
 use Rattle.run_findings.specs.declared.actions.Action.{Action}
 use Rattle.run_findings.specs.declared.links.Latest.{Latest}
@@ -299,6 +299,40 @@ if-some (Some u) n below = below u refl
 pub link-below : (ds : List Action) (test : Action → Bool) (o : Option ℕ) (n : ℕ) → o ≡ last_before test ds n
     → IfSome o (λ u. u < n)
 link-below ds test o n is = if-some o n (λ u e. last-below test ds n u (sym is ∙ e))
+
+-- News of a step.
+
+pub news-made : (ds : List Action) (t : Step) (m a u k : ℕ) (d : Action) → m < length ds
+    → word_heard (get_or ds m d).access ≡ Some a → last_before (writes a) ds m ≡ Some u
+    → passes (is_by t) (slice_get ds u) ≡ false → k < u → news_at ds t k m ≡ true
+news-made ds t m a u k d within heard last other newer =
+    ap (news_in ds t k m) (slice_get-get_or ds m d within) ∙ ap (brings_news ds t k m) heard
+    ∙ ap (is_newer ds t k) last
+    ∙ ap (λ b. b && not (passes (is_by t) (slice_get ds u))) (lt-ltb k u newer)
+    ∙ ap not other
+
+other-by : (ds : List Action) (t : Step) (m a u k : ℕ) (d : Action) (b : Bool) → m < length ds
+    → word_heard (get_or ds m d).access ≡ Some a → last_before (writes a) ds m ≡ Some u
+    → passes (is_by t) (slice_get ds u) ≡ b → k < cond b 0 u → news_at ds t k m ≡ true
+other-by ds t m a u k d true within heard last is newer = absurd (omega arith)
+other-by ds t m a u k d false within heard last is newer = news-made ds t m a u k d within heard last is newer
+
+pub other-news : (ds : List Action) (t : Step) (m a k : ℕ) (d : Action) (o : Option ℕ) → m < length ds
+    → word_heard (get_or ds m d).access ≡ Some a → o ≡ last_before (writes a) ds m → k < other_step ds t o
+    → news_at ds t k m ≡ true
+other-news ds t m a k d None within heard last newer = absurd (omega arith)
+other-news ds t m a k d (Some u) within heard last newer =
+    other-by ds t m a u k d (passes (is_by t) (slice_get ds u)) within heard (sym last) refl newer
+
+zero-or-below : (b : Bool) (u n : ℕ) → u < n → cond b 0 u ≤ n
+zero-or-below true u n below = omega arith
+zero-or-below false u n below = omega arith
+
+pub other-within : (ds : List Action) (t : Step) (test : Action → Bool) (n : ℕ) (o : Option ℕ)
+    → o ≡ last_before test ds n → other_step ds t o ≤ n
+other-within ds t test n None last = omega arith
+other-within ds t test n (Some u) last =
+    zero-or-below (passes (is_by t) (slice_get ds u)) u n (last-below test ds n u (sym last))
 
 -- Whether one of some steps passes a test.
 

@@ -4,6 +4,7 @@ mod Chains
 mod Finding
 mod Glimpses
 mod Held
+mod Looks
 mod LostUpdates
 mod Parted
 mod TornReads

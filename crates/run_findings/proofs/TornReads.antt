@@ -74,6 +74,9 @@ half-is : (ds : List Action) (g : Glimpse) (k a : ℕ) → other_half ds g k ≡
 unfolding other_half
 half-is ds g k a is = half-by_step ds g k a (slice_get ds k) refl is
 
+pub other_word : (ds : List Action) (g : Glimpse) (k a : ℕ) → other_half ds g k ≡ Some a → a ≢ g.fresh
+other_word ds g k a is = (half-is ds g k a is).two_words
+
 half_test : (a b c : Bool) → a ≡ true → b ≡ false → c ≡ false → (a && (not b && not c)) ≡ true
 half_test a b c e f g = ap (λ t. t && (not b && not c)) e ∙ ap (λ t. not t && not c) f ∙ ap not g
 

@@ -2,9 +2,10 @@
 use Rattle.std.specs.Prelude.{◌≡◌, ℕ, ◌<◌, ◌==◌, Bool, true, false, nat_lt, if◌then◌else◌, List, length, Option, Some}
 use Rattle.std.specs.Prelude.{None, slice_get, slice_index_or}
 use Rattle.std.specs.Map.{lookup}
-use Rattle.run_findings.specs.Actions.{op_reads, is_change}
-use Rattle.run_findings.specs.Places.{last_before}
-use Rattle.run_findings.specs.TornReads.{meets}
+use Rattle.run_findings.specs.Actions.{op_reads, is_change, is_by}
+use Rattle.run_findings.specs.Places.{passes, last_before}
+use Rattle.processor.specs.declared.steps.Step.{Step}
+use Rattle.run_findings.specs.TornReads.{meets, word_heard, brings_news}
 use Rattle.run_findings.specs.declared.actions.Access.{Access}
 use Rattle.run_findings.specs.declared.actions.Action.{Action}
 use Rattle.run_findings.specs.declared.links.Latest.{Latest}
@@ -78,3 +79,16 @@ AreWrites ds links = AreLinks meeting.Writes ds links
 
 abbrev pub AreReads : List Action → List (Option ℕ) → Type 0
 AreReads ds links = AreLinks meeting.Reads ds links
+
+-- whether step m hears of what another stream wrote after step lo
+abbrev pub news_in : List Action → Step → ℕ → ℕ → Option Action → Bool
+news_in ds t lo m None = false
+news_in ds t lo m (Some d) = brings_news ds t lo m (word_heard d.access)
+
+abbrev pub news_at : List Action → Step → ℕ → ℕ → Bool
+news_at ds t lo m = news_in ds t lo m (slice_get ds m)
+
+-- a step, if there is one and it is another stream's; else 0
+abbrev pub other_step : List Action → Step → Option ℕ → ℕ
+other_step ds t None = 0
+other_step ds t (Some u) = if passes (is_by t) (slice_get ds u) then 0 else u

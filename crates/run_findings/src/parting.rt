@@ -1,10 +1,10 @@
 //! What parts two steps of a stream that else belong together.
 
-ghost use Rattle.std.specs.Prelude.{◌≡◌, ℕ, ◌≤◌, ◌<◌, length, Some};
+ghost use Rattle.std.specs.Prelude.{◌≡◌, ℕ, ◌≤◌, ◌<◌, true, length, Some};
 ghost use Rattle.std.specs.Option.{option_copied};
 ghost use Rattle.run_findings.specs.Actions.{is_by};
 ghost use Rattle.run_findings.specs.Places.{passes};
-ghost use Rattle.run_findings.specs.Links.{AreWrites, word_at};
+ghost use Rattle.run_findings.specs.Links.{AreWrites, word_at, news_at, other_step};
 ghost use Rattle.run_findings.specs.TornReads.{word_loaded, word_heard, word_changed, meets, are_parted};
 ghost use Rattle.run_findings.specs.TornReads.{is_newer, brings_news};
 ghost use Rattle.run_findings.specs.TornReads.{any_between, parts_at};
@@ -142,6 +142,44 @@ fn brings_news(
             last_write(actions, past_writes, place, address),
         ),
         None => false,
+    }
+}
+
+/// The step of another stream of which step `place` hears, as the last write of its word; 0 where it hears of none.
+pub(crate) fn last_news(
+    actions: &[Action],
+    past_writes: &[Option<usize>],
+    stream: Step,
+    place: usize,
+) -> usize
+    requires place_in { place < length actions.now }
+    requires linked { AreWrites actions.now past_writes.now }
+    ensures within { result ≤ place }
+    ensures news { (k : ℕ) → k < result → news_at actions.now stream k place ≡ true }
+{
+    match word_heard(&actions[place].access) {
+        Some(word) => other_step(
+            actions,
+            stream,
+            last_write(actions, past_writes, place, word),
+        ),
+        None => 0,
+    }
+}
+
+/// A step, if there is one and it is another stream's; else 0.
+fn other_step(actions: &[Action], stream: Step, step: Option<usize>) -> usize
+    ensures { result ≡ other_step actions.now stream step }
+{
+    match step {
+        Some(step) => {
+            if is_step_of(actions.get(step), stream) {
+                0
+            } else {
+                step
+            }
+        }
+        None => 0,
     }
 }
 

@@ -1,11 +1,12 @@
 //! Torn reads.
 
-ghost use Rattle.std.specs.Prelude.{◌≡◌, ◌↔◌, ◌<◌, ◌++◌, length, Contains, IfOk, IfSome, OnOk};
+ghost use Rattle.std.specs.Prelude.{◌≡◌, ◌↔◌, ℕ, ◌<◌, false, [], ◌++◌, length, Contains, IfOk, IfSome, OnOk};
 ghost use Rattle.run_findings.specs.TornReads.{IsTornRead, torn_reads, torn_by_write, torn_by_read};
 ghost use Rattle.run_findings.specs.TornReads.{other_half, is_other_half, is_change_of, glimpse_at, word_changed};
 ghost use Rattle.run_findings.specs.TornReads.{is_load_of, word_loaded, is_torn_pair, is_of_later_round, lets_go};
 ghost use Rattle.run_findings.specs.Found.{found_to, lists_to};
 ghost use Rattle.run_findings.specs.Links.{AreWrites};
+ghost use Rattle.run_findings.specs.Rounds.{is_look, is_other};
 
 use crate::actions::Action;
 use crate::links::links;
@@ -110,17 +111,58 @@ fn push_torn(
     ensures { OnOk result (found.new.items
         ≡ found.old.items ++ lists_to (torn_by_write actions.now glimpse.now) (length actions.now)) }
 {
+    if !has_looks(actions, past_writes, glimpse) {
+        return Ok(());
+    }
     let round = Round {
         way: Meeting::Writes,
         stream: glimpse.writer,
         word: glimpse.fresh,
     };
-    let start = round.start(actions, glimpse.fresh_write);
-    let end = round.end(actions, glimpse.fresh_write);
+    let start = round.start(actions, past_writes, glimpse.fresh_write);
+    let end = round.end(actions, past_writes, glimpse.fresh_write);
     for write in start..end {
         push_torn_by_write(found, actions, past_writes, glimpse, write)?;
     }
     Ok(())
+}
+
+/// Whether the reader read another word near the glimpse. Where it did not, no write tears its reads.
+fn has_looks(actions: &[Action], past_writes: &[Option<usize>], glimpse: &Glimpse) -> bool
+    requires read_in { glimpse.now.fresh_read < length actions.now }
+    requires linked { AreWrites actions.now past_writes.now }
+    ensures { result ≡ false → (k : ℕ) → torn_by_write actions.now glimpse.now k ≡ [] }
+{
+    let round = Round {
+        way: Meeting::Reads,
+        stream: glimpse.reader,
+        word: glimpse.fresh,
+    };
+    let start = round.start(actions, past_writes, glimpse.fresh_read);
+    let end = round.end(actions, past_writes, glimpse.fresh_read);
+    for read in start..end {
+        if is_look(&actions[read], glimpse) {
+            return true;
+        }
+    }
+    false
+}
+
+/// Whether a step is a LOAD of the reader of another word than the glimpse's.
+fn is_look(action: &Action, glimpse: &Glimpse) -> bool
+    ensures { result ≡ is_look glimpse.now action.now }
+{
+    action.is_by(glimpse.reader) && is_other(word_loaded(&action.access), glimpse.fresh)
+}
+
+/// Whether it is a word other than this.
+fn is_other(loaded: Option<u64>, address: u64) -> bool
+    ensures { result ≡ is_other loaded address }
+{
+    match loaded {
+        Some(word) => word != address,
+        None => false,
+    }
 }
 
 /// Appends those that a write tears.
@@ -213,8 +255,8 @@ fn push_torn_by_reads(
         stream: glimpse.reader,
         word: glimpse.fresh,
     };
-    let start = round.start(actions, glimpse.fresh_read);
-    let end = round.end(actions, glimpse.fresh_read);
+    let start = round.start(actions, past_writes, glimpse.fresh_read);
+    let end = round.end(actions, past_writes, glimpse.fresh_read);
     for read in start..end {
         if let Some(torn) = torn_by_read(actions, past_writes, glimpse, stale, write, read) {
             found.push(torn)?;
