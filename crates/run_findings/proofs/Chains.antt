@@ -13,7 +13,7 @@ use Rattle.run_findings.specs.Places.{passes, last_before}
 use Rattle.run_findings.specs.LostUpdates.{full_store}
 use Rattle.run_findings.specs.UnreadStores.{store_of}
 use Rattle.run_findings.specs.TornReads.{meets, is_load_of, is_later, is_newer, brings_news, word_loaded, word_heard}
-use Rattle.run_findings.specs.Links.{word_of, word_in, word_at, link_to, link_at, AreLinks, latest_of, latest_in}
+use Rattle.run_findings.specs.Links.{word_of, word_in, word_at, link_to, link_at, last_at, AreLinks, latest_of, latest_in}
 use Rattle.run_findings.specs.Links.{word_met, with_step, later, is_after, news_in, news_at, other_step}
 use Rattle.run_findings.specs.declared.actions.Access.{Access}
 use Rattle.run_findings.specs.declared.actions.Action.{Action}
@@ -88,16 +88,22 @@ link-made way ds n d latest within is =
     in-latest way ds n latest (word_of (get_or ds n d).access) is
     ∙ ap (link_to way ds n) (sym (word-is ds n d within))
 
-pub links-more : (way : Meeting) (ds : List Action) (links : List (Option ℕ)) (n : ℕ) (link : Option ℕ)
-    → length links ≡ n → ((k : ℕ) (other : Option ℕ) → k < n → get_or links k other ≡ link_at way ds k)
-    → link ≡ link_at way ds n
-    → (k : ℕ) (other : Option ℕ) → k < suc n → get_or (links ++ link ∷ []) k other ≡ link_at way ds k
-links-more way ds links n link count is here k other below = ⊎_elim
+pub links-more : (of : ℕ → Option ℕ) (links : List (Option ℕ)) (n : ℕ) (link : Option ℕ) → length links ≡ n
+    → ((k : ℕ) (other : Option ℕ) → k < n → get_or links k other ≡ of k) → link ≡ of n
+    → (k : ℕ) (other : Option ℕ) → k < suc n → get_or (links ++ link ∷ []) k other ≡ of k
+links-more of links n link count is here k other below = ⊎_elim
     (λ h. get_or_append_left links (link ∷ []) other k (omega arith) ∙ is k other h)
     (λ h.
     let same : k ≡ n = omega arith in
-    get_or_push links link other k (count ∙ sym same) ∙ here ∙ ap (link_at way ds) (sym same))
+    get_or_push links link other k (count ∙ sym same) ∙ here ∙ ap of (sym same))
     (cases_lt k n)
+
+pub last-made : (way : Meeting) (ds : List Action) (n : ℕ) (d : Action) (latest : Latest) → n < length ds
+    → ((a : ℕ) → latest_of latest a ≡ last_before (meets way a) ds (length ds))
+    → latest_in latest (word_of (get_or ds n d).access) ≡ last_at way ds n
+last-made way ds n d latest within is =
+    in-latest way ds (length ds) latest (word_of (get_or ds n d).access) is
+    ∙ ap (link_to way ds (length ds)) (sym (word-is ds n d within))
 
 -- What a link is.
 

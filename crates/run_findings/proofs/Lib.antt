@@ -6,6 +6,7 @@ mod Glimpses
 mod Held
 mod Looks
 mod LostUpdates
+mod Overwritten
 mod Parted
 mod TornReads
 mod UnreadStores

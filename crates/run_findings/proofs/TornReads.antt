@@ -15,6 +15,7 @@ use Rattle.run_findings.specs.declared.parting.Meeting.TheVariants as meeting
 use Rattle.run_findings.specs.declared.torn.Glimpse.{Glimpse}
 use Rattle.run_findings.specs.declared.torn.TornRead.{TornRead}
 use Rattle.run_findings.proofs.Finding.{both_true, found-cases, found-there, lists-cases, lists-there}
+use Rattle.run_findings.proofs.Overwritten.{change-writes}
 use Rattle.run_findings.proofs.Glimpses.{IsGlimpse, glimpse-is, glimpse-there, not_true}
 
 abbrev torn : Glimpse → ℕ → ℕ → ℕ → TornRead
@@ -73,6 +74,14 @@ half-by_step ds g k a (Some d) stands is = half-by_word ds g k a d (word_changed
 half-is : (ds : List Action) (g : Glimpse) (k a : ℕ) → other_half ds g k ≡ Some a → IsHalf ds g k a
 unfolding other_half
 half-is ds g k a is = half-by_step ds g k a (slice_get ds k) refl is
+
+pub half-writes : (ds : List Action) (g : Glimpse) (k a : ℕ) → other_half ds g k ≡ Some a
+    → (k < length ds) × (passes (writes a) (slice_get ds k) ≡ true)
+half-writes ds g k a is =
+    let h = half-is ds g k a is in (
+      slice_get_within ds k h.write h.stands,
+      ap (passes (writes a)) h.stands ∙ change-writes h.write.access a h.changes,
+    )
 
 pub other_word : (ds : List Action) (g : Glimpse) (k a : ℕ) → other_half ds g k ≡ Some a → a ≢ g.fresh
 other_word ds g k a is = (half-is ds g k a is).two_words

@@ -5,7 +5,7 @@ use Rattle.std.specs.Map.{lookup}
 use Rattle.run_findings.specs.Actions.{op_reads, is_change, is_by}
 use Rattle.run_findings.specs.Places.{passes, last_before}
 use Rattle.processor.specs.declared.steps.Step.{Step}
-use Rattle.run_findings.specs.TornReads.{meets, word_heard, brings_news}
+use Rattle.run_findings.specs.TornReads.{meets, is_later, word_heard, brings_news}
 use Rattle.run_findings.specs.declared.actions.Access.{Access}
 use Rattle.run_findings.specs.declared.actions.Action.{Action}
 use Rattle.run_findings.specs.declared.links.Latest.{Latest}
@@ -37,6 +37,15 @@ link_at way ds n = link_to way ds n (word_at ds n)
 pub record AreLinks (way : Meeting) (ds : List Action) (links : List (Option ℕ)) : Type 0 where
   pub count : length links ≡ length ds
   pub is : (n : ℕ) (other : Option ℕ) → n < length ds → slice_index_or links n other ≡ link_at way ds n
+
+-- the last step of a run that meets the word of step n, where it has one
+abbrev pub last_at : Meeting → List Action → ℕ → Option ℕ
+last_at way ds n = link_to way ds (length ds) (word_at ds n)
+
+-- these of all steps of a run
+pub record AreLast (way : Meeting) (ds : List Action) (lasts : List (Option ℕ)) : Type 0 where
+  pub count : length lasts ≡ length ds
+  pub is : (n : ℕ) (other : Option ℕ) → n < length ds → slice_index_or lasts n other ≡ last_at way ds n
 
 -- the last step so far that met each word
 unfoldable pub latest_of : Latest → ℕ → Option ℕ
@@ -80,6 +89,9 @@ AreWrites ds links = AreLinks meeting.Writes ds links
 abbrev pub AreReads : List Action → List (Option ℕ) → Type 0
 AreReads ds links = AreLinks meeting.Reads ds links
 
+abbrev pub AreLastWrites : List Action → List (Option ℕ) → Type 0
+AreLastWrites ds lasts = AreLast meeting.Writes ds lasts
+
 -- whether step m hears of what another stream wrote after step lo
 abbrev pub news_in : List Action → Step → ℕ → ℕ → Option Action → Bool
 news_in ds t lo m None = false
@@ -92,3 +104,7 @@ news_at ds t lo m = news_in ds t lo m (slice_get ds m)
 abbrev pub other_step : List Action → Step → Option ℕ → ℕ
 other_step ds t None = 0
 other_step ds t (Some u) = if passes (is_by t) (slice_get ds u) then 0 else u
+
+-- whether the word of step n is written after it
+abbrev pub is_overwritten : List Action → ℕ → Bool
+is_overwritten ds n = is_later n (last_at meeting.Writes ds n)

@@ -3,6 +3,7 @@ use Rattle.std.specs.Prelude.{ℕ, ◌==◌, Bool, false, not, ◌&&◌, List, O
 use Rattle.processor.specs.declared.steps.Step.{Step}
 use Rattle.run_findings.specs.Actions.{is_by}
 use Rattle.run_findings.specs.Places.{passes}
+use Rattle.run_findings.specs.Links.{is_overwritten}
 use Rattle.run_findings.specs.TornReads.{meets, word_loaded}
 use Rattle.run_findings.specs.declared.actions.Action.{Action}
 use Rattle.run_findings.specs.declared.parting.Meeting.{Meeting}
@@ -23,3 +24,7 @@ is_other (Some a) b = not (a == b)
 -- whether a step is a LOAD by a glimpse's reader of another word
 abbrev pub is_look : Glimpse → Action → Bool
 is_look g d = is_by g.reader d && is_other (word_loaded d.access) g.fresh
+
+-- whether step i is one, and its word is written after it
+abbrev pub is_stale_look : List Action → Glimpse → ℕ → Bool
+is_stale_look ds g i = passes (is_look g) (slice_get ds i) && is_overwritten ds i

@@ -1,7 +1,9 @@
 //! Of each step of a run, the last step before it that met its word.
 
-ghost use Rattle.std.specs.Prelude.{◌≡◌, IfOk};
-ghost use Rattle.run_findings.specs.Links.{AreLinks, word_of, word_met, is_met};
+ghost use Rattle.std.specs.Prelude.{◌≡◌, ℕ, length, IfOk};
+ghost use Rattle.run_findings.specs.Places.{last_before};
+ghost use Rattle.run_findings.specs.TornReads.{meets};
+ghost use Rattle.run_findings.specs.Links.{AreLinks, AreLast, latest_of, word_of, word_met, is_met};
 
 use crate::actions::{Access, Action, op_reads};
 use crate::parting::Meeting;
@@ -67,6 +69,36 @@ pub(crate) fn links(
         latest.note(word_met(way, access), step)?;
     }
     Ok(links)
+}
+
+/// Of each step of a run, the last step of the run that meets its word in this way.
+pub(crate) fn last_meetings(
+    alloc: Global,
+    actions: &[Action],
+    way: Meeting,
+) -> Result<Vec<Option<usize>>, AllocError>
+    ensures { IfOk result (λ lasts. AreLast way actions.now lasts.items) }
+{
+    let latest = latest_of_run(alloc, actions, way)?;
+    let mut lasts = Vec::new(alloc);
+    for step in 0..actions.len() {
+        let access = &actions[step].access;
+        lasts.push(latest.before(word_of(access)))?;
+    }
+    Ok(lasts)
+}
+
+/// The last step of a run that met each word.
+fn latest_of_run(alloc: Global, actions: &[Action], way: Meeting) -> Result<Latest, AllocError>
+    ensures { IfOk result (λ latest. (a : ℕ) → latest_of latest a
+        ≡ last_before (meets way a) actions.now (length actions.now)) }
+{
+    let mut latest = Latest::new(alloc);
+    for step in 0..actions.len() {
+        let access = &actions[step].access;
+        latest.note(word_met(way, access), step)?;
+    }
+    Ok(latest)
 }
 
 /// The word of an access, where there is one.

@@ -4,12 +4,13 @@ ghost use Rattle.std.specs.Prelude.{◌≡◌, ◌↔◌, ℕ, ◌<◌, false, [
 ghost use Rattle.run_findings.specs.TornReads.{IsTornRead, torn_reads, torn_by_write, torn_by_read};
 ghost use Rattle.run_findings.specs.TornReads.{other_half, is_other_half, is_change_of, glimpse_at, word_changed};
 ghost use Rattle.run_findings.specs.TornReads.{is_load_of, word_loaded, is_torn_pair, is_of_later_round, lets_go};
+ghost use Rattle.run_findings.specs.TornReads.{is_later};
 ghost use Rattle.run_findings.specs.Found.{found_to, lists_to};
-ghost use Rattle.run_findings.specs.Links.{AreWrites};
-ghost use Rattle.run_findings.specs.Rounds.{is_look, is_other};
+ghost use Rattle.run_findings.specs.Links.{AreWrites, AreLastWrites, is_overwritten};
+ghost use Rattle.run_findings.specs.Rounds.{is_stale_look, is_look, is_other};
 
 use crate::actions::Action;
-use crate::links::links;
+use crate::links::{last_meetings, links};
 use crate::pairs::{Look, is_half};
 use crate::parting::{Meeting, Pair, word_changed, word_loaded};
 use crate::rounds::Round;
@@ -53,10 +54,11 @@ pub fn torn_reads(alloc: Global, actions: &[Action]) -> Result<Vec<TornRead>, Al
     ensures exact { IfOk result (λ found. (f : TornRead) → Contains found.items f ↔ IsTornRead actions.now f) }
 {
     let past_writes = links(alloc, actions, Meeting::Writes)?;
+    let last_writes = last_meetings(alloc, actions, Meeting::Writes)?;
     let mut found = Vec::new(alloc);
     for read in 0..actions.len() {
         if let Some(glimpse) = glimpse_at(actions, &past_writes, read) {
-            push_torn(&mut found, actions, &past_writes, &glimpse)?;
+            push_torn(&mut found, actions, &past_writes, &last_writes, &glimpse)?;
         }
     }
     Ok(found)
@@ -103,15 +105,17 @@ fn push_torn(
     found: &mut Vec<TornRead>,
     actions: &[Action],
     past_writes: &[Option<usize>],
+    last_writes: &[Option<usize>],
     glimpse: &Glimpse,
 ) -> Result<(), AllocError>
     requires read_in { glimpse.now.fresh_read < length actions.now }
     requires write_in { glimpse.now.fresh_write < length actions.now }
     requires linked { AreWrites actions.now past_writes.now }
+    requires last { AreLastWrites actions.now last_writes.now }
     ensures { OnOk result (found.new.items
         ≡ found.old.items ++ lists_to (torn_by_write actions.now glimpse.now) (length actions.now)) }
 {
-    if !has_looks(actions, past_writes, glimpse) {
+    if !has_stale_looks(actions, past_writes, last_writes, glimpse) {
         return Ok(());
     }
     let round = Round {
@@ -127,10 +131,17 @@ fn push_torn(
     Ok(())
 }
 
-/// Whether the reader read another word near the glimpse. Where it did not, no write tears its reads.
-fn has_looks(actions: &[Action], past_writes: &[Option<usize>], glimpse: &Glimpse) -> bool
+/// Whether the reader read another word near the glimpse which is written later. Where it did not, no write tears its
+/// reads.
+fn has_stale_looks(
+    actions: &[Action],
+    past_writes: &[Option<usize>],
+    last_writes: &[Option<usize>],
+    glimpse: &Glimpse,
+) -> bool
     requires read_in { glimpse.now.fresh_read < length actions.now }
     requires linked { AreWrites actions.now past_writes.now }
+    requires last { AreLastWrites actions.now last_writes.now }
     ensures { result ≡ false → (k : ℕ) → torn_by_write actions.now glimpse.now k ≡ [] }
 {
     let round = Round {
@@ -141,11 +152,44 @@ fn has_looks(actions: &[Action], past_writes: &[Option<usize>], glimpse: &Glimps
     let start = round.start(actions, past_writes, glimpse.fresh_read);
     let end = round.end(actions, past_writes, glimpse.fresh_read);
     for read in start..end {
-        if is_look(&actions[read], glimpse) {
+        if is_stale_look(actions, last_writes, glimpse, read) {
             return true;
         }
     }
     false
+}
+
+/// Whether a step is a LOAD of the reader of another word than the glimpse's, which is written later.
+fn is_stale_look(
+    actions: &[Action],
+    last_writes: &[Option<usize>],
+    glimpse: &Glimpse,
+    read: usize,
+) -> bool
+    requires read_in { read < length actions.now }
+    requires last { AreLastWrites actions.now last_writes.now }
+    ensures { result ≡ is_stale_look actions.now glimpse.now read }
+{
+    is_look(&actions[read], glimpse) && is_overwritten(actions, last_writes, read)
+}
+
+/// Whether the word of a step is written after it.
+fn is_overwritten(actions: &[Action], last_writes: &[Option<usize>], read: usize) -> bool
+    requires read_in { read < length actions.now }
+    requires last { AreLastWrites actions.now last_writes.now }
+    ensures { result ≡ is_overwritten actions.now read }
+{
+    is_later(read, last_writes[read])
+}
+
+/// Whether a step, if there is one, comes after step `first`.
+fn is_later(first: usize, step: Option<usize>) -> bool
+    ensures { result ≡ is_later first step }
+{
+    match step {
+        Some(step) => first < step,
+        None => false,
+    }
 }
 
 /// Whether a step is a LOAD of the reader of another word than the glimpse's.

@@ -22,7 +22,7 @@ loop-step-preserved c =
       count = omega arith;
       is = λ n other below.
           ap (λ xs. get_or xs n other) c.in_ok-push.ensures.items
-          ∙ links-more way ds links step link counted c.loop-step.invariant.is here n other (omega arith);
+          ∙ links-more (link_at way ds) links step link counted c.loop-step.invariant.is here n other (omega arith);
       latest = λ a.
           c.in_ok-note.ensures a
           ∙ ap (λ w. with_step a w step (latest_of c.loop-step.latest a)) c.word_met.ensures
