@@ -1,12 +1,9 @@
 -- The last step before another.
-use Rattle.std.proofs.Common.{◌≡◌, ℕ, zero, suc, ◌+◌, ◌-◌, ◌<◌, ◌≤◌, Bool, true, false, not, cond, ltb, List, length, get_or}
-use Rattle.std.proofs.Common.{Option, Some, None, refl, sym, ap, ◌∙◌, subst, arith, le-ltb, lt-ltb, ◌&&◌}
+use Rattle.std.proofs.Common.{◌≡◌, ℕ, zero, suc, ◌-◌, ◌<◌, ◌≤◌, Bool, true, false, cond, List, length, get_or}
+use Rattle.std.proofs.Common.{Some, sym, ap, ◌∙◌, subst, arith}
 use Rattle.std.specs.List.{slice_get}
 use Rattle.std.proofs.lemmas.Option.{slice_get-get_or}
-use Rattle.processor.specs.declared.steps.Step.{Step}
-use Rattle.run_findings.specs.Actions.{writes, is_by}
 use Rattle.run_findings.specs.Places.{passes, last_before, last_below}
-use Rattle.run_findings.specs.TornReads.{is_newer}
 use Rattle.run_findings.specs.declared.actions.Action.{Action}
 
 -- by whether the step in place m passes
@@ -62,37 +59,14 @@ below-is test (suc m) some passed =
     let P : ℕ → Type 0 = λ k. test k ≡ true → last_below test (suc m) ≡ Some k in
     subst P same (λ f. ap (λ b. cond b (Some m) (last_below test m)) f) passed
 
--- What is newer than a step.
-
--- a step is not newer than a later one
-newer-at : (ds : List Action) (t : Step) (lo : ℕ) (o : Option ℕ) → ((u : ℕ) → o ≡ Some u → u ≤ lo)
-    → is_newer ds t lo o ≡ false
-newer-at ds t lo None old = refl
-newer-at ds t lo (Some u) old =
-    ap (λ b. b && not (passes (is_by t) (slice_get ds u))) (le-ltb lo u (old u refl))
+-- The last step is below.
 
 older : (test : Action → Bool) (ds : List Action) (m u : ℕ) (t : Bool) → ((v : ℕ) → last_before test ds m ≡ Some v → v < m)
     → cond t (Some m) (last_before test ds m) ≡ Some u → u < suc m
 older test ds m u true below e = let same : m ≡ u = cc in omega arith
 older test ds m u false below e = let low = below u e in omega arith
 
-last-below : (test : Action → Bool) (ds : List Action) (n u : ℕ) → last_before test ds n ≡ Some u → u < n
+pub last-below : (test : Action → Bool) (ds : List Action) (n u : ℕ) → last_before test ds n ≡ Some u → u < n
 last-below test ds zero u e = absurd cc
 last-below test ds (suc m) u e =
     older test ds m u (passes test (slice_get ds m)) (λ v. last-below test ds m v) e
-
--- nor is what stands before it
-pub newer-old : (ds : List Action) (t : Step) (lo : ℕ) (test : Action → Bool) (n : ℕ) → n ≤ lo + 1
-    → is_newer ds t lo (last_before test ds n) ≡ false
-newer-old ds t lo test n old =
-    newer-at ds t lo (last_before test ds n) (λ u e. let low = last-below test ds n u e in omega arith)
-
--- a step behind it is where it is another stream's
-pub newer-is : (ds : List Action) (t : Step) (lo : ℕ) (test : Action → Bool) (n : ℕ) (d : Action) → lo < n - 1
-    → n ≤ length ds → test (get_or ds (n - 1) d) ≡ true
-    → is_newer ds t lo (last_before test ds n) ≡ not (is_by t (get_or ds (n - 1) d))
-newer-is ds t lo test n d newer within passed =
-    let some : 0 < n = omega arith in
-    ap (is_newer ds t lo) (last-is test ds n d some within passed)
-    ∙ ap (λ b. b && not (passes (is_by t) (slice_get ds (n - 1)))) (lt-ltb lo (n - 1) newer)
-    ∙ ap (λ o. not (passes (is_by t) o)) (slice_get-get_or ds (n - 1) d (omega arith))

@@ -1,9 +1,12 @@
 mod Before
 mod Between
+mod Chains
 mod Finding
 mod Glimpses
 mod Held
+mod Looks
 mod LostUpdates
+mod Overwritten
 mod Parted
 mod TornReads
 mod UnreadStores

@@ -7,10 +7,11 @@ use Rattle.processor.specs.declared.steps.Step.{Step}
 use Rattle.run_findings.specs.Actions.{is_by}
 use Rattle.run_findings.specs.Places.{passes}
 use Rattle.run_findings.specs.Found.{list_of, found_to, lists_to}
-use Rattle.run_findings.specs.TornReads.{word_heard, word_changed, meets, brings_news, parts_at, any_between, are_parted}
-use Rattle.run_findings.specs.TornReads.{half_by, half_in, other_half, loaded_by, is_torn_pair, torn_by_read}
+use Rattle.run_findings.specs.TornReads.{word_heard, word_changed, meets, brings_news, parts, parts_at, any_between}
+use Rattle.run_findings.specs.TornReads.{are_parted, half_by, half_in, other_half, loaded_by, is_torn_pair, torn_by_read}
 use Rattle.run_findings.specs.TornReads.{torn_by_word, torn_by_write}
 use Rattle.run_findings.specs.Rounds.{meets_by, closes}
+use Rattle.run_findings.specs.Links.{news_in, news_at}
 use Rattle.run_findings.specs.declared.actions.Action.{Action}
 use Rattle.run_findings.specs.declared.parting.Meeting.{Meeting}
 use Rattle.run_findings.specs.declared.parting.Meeting.TheVariants as meeting
@@ -36,20 +37,55 @@ parts-at : (ds : List Action) (way : Meeting) (t : Step) (a b lo m : ℕ) → cl
     → parts_at ds way t a b lo m ≡ true
 parts-at ds way t a b lo m met = parts-by ds way t a b lo m (slice_get ds m) refl met
 
+or_news : (a b c d : Bool) → a ≡ true → d ≡ true → (a && (b || c || d)) ≡ true
+or_news true true c true by news = refl
+or_news true false true true by news = refl
+or_news true false false true by news = refl
+or_news true b c false by news = absurd (false≢true news)
+or_news false b c d by news = absurd (false≢true by)
+
+news-parts : (ds : List Action) (way : Meeting) (t : Step) (a b lo m : ℕ) (o : Option Action)
+    → passes (is_by t) o ≡ true → news_in ds t lo m o ≡ true → passes (parts ds way t a b lo m) o ≡ true
+news-parts ds way t a b lo m None by news = absurd (false≢true by)
+news-parts ds way t a b lo m (Some d) by news =
+    or_news (is_by t d) (meets way a d) (meets way b d) (brings_news ds t lo m (word_heard d.access)) by news
+
+or_other : (p q r s : Bool) → (p && (r || r || s)) ≡ true → (p && (q || r || s)) ≡ true
+or_other true true r s h = refl
+or_other true false true s h = refl
+or_other true false false s h = h
+or_other false q r s h = absurd (false≢true h)
+
+other-parts : (ds : List Action) (way : Meeting) (t : Step) (a b lo m : ℕ) (o : Option Action)
+    → passes (parts ds way t b b lo m) o ≡ true → passes (parts ds way t a b lo m) o ≡ true
+other-parts ds way t a b lo m None h = absurd (false≢true h)
+other-parts ds way t a b lo m (Some d) h =
+    or_other (is_by t d) (meets way a d) (meets way b d) (brings_news ds t lo m (word_heard d.access)) h
+
 -- what lies before it is parted from what lies behind it
-pub parted_before : (ds : List Action) (way : Meeting) (t : Step) (b m n : ℕ) → m < n → closes ds way t b m ≡ true
-    → (a k : ℕ) → k < m → are_parted ds way t a b k n ≡ true
-parted_before ds way t b m n below met a k h =
+parted_over : (ds : List Action) (way : Meeting) (t : Step) (a b k m n : ℕ) → k < m → m < n
+    → parts_at ds way t a b k m ≡ true → are_parted ds way t a b k n ≡ true
+parted_over ds way t a b k m n low high parted =
     ap (λ c. cond c (any_between (parts_at ds way t a b k) k n) (any_between (parts_at ds way t a b n) n k))
     (lt-ltb k n (omega arith))
-    ∙ one-between (parts_at ds way t a b k) k m n h below (parts-at ds way t a b k m met)
+    ∙ one-between (parts_at ds way t a b k) k m n low high parted
 
-pub parted_behind : (ds : List Action) (way : Meeting) (t : Step) (b m n : ℕ) → n < m → closes ds way t b m ≡ true
-    → (a k : ℕ) → m < k → are_parted ds way t a b k n ≡ true
-parted_behind ds way t b m n above met a k h =
+pub parted_before : (ds : List Action) (way : Meeting) (t : Step) (b m n : ℕ) → m < n → closes ds way t b m ≡ true
+    → (a k : ℕ) → k < m → are_parted ds way t a b k n ≡ true
+parted_before ds way t b m n below met a k h = parted_over ds way t a b k m n h below (parts-at ds way t a b k m met)
+
+-- and so it is where the step hears of what was written behind the first
+pub parted_by_news : (ds : List Action) (way : Meeting) (t : Step) (a b k m n : ℕ) → k < m → m < n
+    → passes (is_by t) (slice_get ds m) ≡ true → news_at ds t k m ≡ true → are_parted ds way t a b k n ≡ true
+parted_by_news ds way t a b k m n low high by news =
+    parted_over ds way t a b k m n low high (news-parts ds way t a b k m (slice_get ds m) by news)
+
+pub parted_behind : (ds : List Action) (way : Meeting) (t : Step) (b m n : ℕ) → n < m
+    → parts_at ds way t b b n m ≡ true → (a k : ℕ) → m < k → are_parted ds way t a b k n ≡ true
+parted_behind ds way t b m n above parted a k h =
     ap (λ c. cond c (any_between (parts_at ds way t a b k) k n) (any_between (parts_at ds way t a b n) n k))
     (le-ltb k n (omega arith))
-    ∙ one-between (parts_at ds way t a b n) n m k above h (parts-at ds way t a b n m met)
+    ∙ one-between (parts_at ds way t a b n) n m k above h (other-parts ds way t a b n m (slice_get ds m) parted)
 
 -- What is parted is not found.
 

@@ -4,11 +4,9 @@ use Rattle.std.proofs.Common.{refl, sym, ap, ◌∙◌, subst, unwrap_or, ltb-tr
 use Rattle.std.specs.List.{slice_get, Contains}
 use Rattle.std.proofs.lemmas.Bool.{false≢true, eqb-false}
 use Rattle.std.proofs.lemmas.Option.{slice_get_within}
-use Rattle.processor.specs.declared.steps.Step.{Step}
 use Rattle.run_findings.specs.Actions.{writes, is_by}
 use Rattle.run_findings.specs.Pairs.{is_half}
 use Rattle.run_findings.specs.Places.{passes, last_before}
-use Rattle.run_findings.specs.Found.{found_to, lists_to}
 use Rattle.run_findings.specs.TornReads.{IsTornRead, word_changed, are_parted, is_other_half, half_by, half_in, other_half}
 use Rattle.run_findings.specs.TornReads.{torn_by_read, torn_by_word, torn_by_write, glimpse_at, torn_in_glimpse, torn_at}
 use Rattle.run_findings.specs.TornReads.{torn_reads, loaded_by, lets_go, is_of_later_round, is_torn_pair}
@@ -17,6 +15,7 @@ use Rattle.run_findings.specs.declared.parting.Meeting.TheVariants as meeting
 use Rattle.run_findings.specs.declared.torn.Glimpse.{Glimpse}
 use Rattle.run_findings.specs.declared.torn.TornRead.{TornRead}
 use Rattle.run_findings.proofs.Finding.{both_true, found-cases, found-there, lists-cases, lists-there}
+use Rattle.run_findings.proofs.Overwritten.{change-writes}
 use Rattle.run_findings.proofs.Glimpses.{IsGlimpse, glimpse-is, glimpse-there, not_true}
 
 abbrev torn : Glimpse → ℕ → ℕ → ℕ → TornRead
@@ -75,6 +74,17 @@ half-by_step ds g k a (Some d) stands is = half-by_word ds g k a d (word_changed
 half-is : (ds : List Action) (g : Glimpse) (k a : ℕ) → other_half ds g k ≡ Some a → IsHalf ds g k a
 unfolding other_half
 half-is ds g k a is = half-by_step ds g k a (slice_get ds k) refl is
+
+pub half-writes : (ds : List Action) (g : Glimpse) (k a : ℕ) → other_half ds g k ≡ Some a
+    → (k < length ds) × (passes (writes a) (slice_get ds k) ≡ true)
+half-writes ds g k a is =
+    let h = half-is ds g k a is in (
+      slice_get_within ds k h.write h.stands,
+      ap (passes (writes a)) h.stands ∙ change-writes h.write.access a h.changes,
+    )
+
+pub other_word : (ds : List Action) (g : Glimpse) (k a : ℕ) → other_half ds g k ≡ Some a → a ≢ g.fresh
+other_word ds g k a is = (half-is ds g k a is).two_words
 
 half_test : (a b c : Bool) → a ≡ true → b ≡ false → c ≡ false → (a && (not b && not c)) ≡ true
 half_test a b c e f g = ap (λ t. t && (not b && not c)) e ∙ ap (λ t. not t && not c) f ∙ ap not g

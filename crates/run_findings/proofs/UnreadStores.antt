@@ -6,7 +6,7 @@ use Rattle.std.proofs.lemmas.Bool.{false≢true, eqb-false}
 use Rattle.std.proofs.lemmas.Option.{slice_get_within}
 use Rattle.run_findings.specs.Actions.{is_by, met}
 use Rattle.run_findings.specs.Places.{last_before}
-use Rattle.run_findings.specs.LostUpdates.{IsLostUpdate, lost_at}
+use Rattle.run_findings.specs.LostUpdates.{lost_at}
 use Rattle.run_findings.specs.UnreadStores.{IsUnreadStore, store_of, is_of_other, is_unread, unless_lost, unread_by}
 use Rattle.run_findings.specs.UnreadStores.{unread_before}
 use Rattle.run_findings.specs.UnreadStores.{unread_store, unread_in, unread_at}

@@ -8,5 +8,6 @@ pub mod UnreadStores
 pub mod Pairs
 pub mod TornReads
 -- The aid: what the code looks for.
+pub mod Links
 pub mod Sought
 pub mod Rounds

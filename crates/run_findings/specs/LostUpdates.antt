@@ -1,5 +1,5 @@
 -- Lost updates.
-use Rattle.std.specs.Prelude.{◌≡◌, ℕ, Bool, true, false, ◌&&◌, if◌then◌else◌, List, Option, Some, None, slice_get}
+use Rattle.std.specs.Prelude.{◌≡◌, ℕ, Bool, false, ◌&&◌, if◌then◌else◌, List, Option, Some, None, slice_get}
 use Rattle.run_findings.specs.Actions.{is_store, is_by, read_by, written_or_read_by}
 use Rattle.run_findings.specs.Places.{passes, last_before, last_below}
 use Rattle.run_findings.specs.Marks.{is_made_of}

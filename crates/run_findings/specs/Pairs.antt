@@ -1,6 +1,6 @@
 -- Two values that a stream read one after the other, of words a and b in the steps i and j: whether there was a moment at
 -- which the words held both, and whether the stream computes something from both.
-use Rattle.std.specs.Prelude.{ℕ, ◌+◌, ◌==◌, Bool, true, false, not, nat_lt, ◌&&◌, ◌||◌, if◌then◌else◌, List, [], ◌∷◌}
+use Rattle.std.specs.Prelude.{ℕ, ◌+◌, ◌==◌, Bool, false, not, nat_lt, ◌&&◌, ◌||◌, if◌then◌else◌, List, [], ◌∷◌}
 use Rattle.std.specs.Prelude.{Option, Some, None, length, slice_range}
 use Rattle.insn_word.specs.declared.insn.Insn.TheVariants.{Wide, Normal}
 use Rattle.processor.specs.declared.steps.Step.{Step}

@@ -1,5 +1,5 @@
 -- Steps of a run, which count from 0.
-use Rattle.std.specs.Prelude.{◌≡◌, ℕ, zero, suc, ◌<◌, Bool, true, false, if◌then◌else◌, List, Option, Some, None}
+use Rattle.std.specs.Prelude.{ℕ, zero, suc, Bool, false, if◌then◌else◌, List, Option, Some, None}
 use Rattle.std.specs.Prelude.{slice_get}
 use Rattle.run_findings.specs.declared.actions.Action.{Action}
 

@@ -1,6 +1,6 @@
 -- Torn reads.
 use Rattle.std.specs.Prelude.{◌≡◌, ◌≢◌, ℕ, zero, suc, ◌<◌, ◌==◌, Bool, true, false, not, nat_lt, ◌&&◌, ◌||◌, if◌then◌else◌}
-use Rattle.std.specs.Prelude.{List, [], ◌++◌, length, Option, Some, None, slice_get}
+use Rattle.std.specs.Prelude.{List, [], length, Option, Some, None, slice_get}
 use Rattle.processor.specs.declared.steps.Step.{Step}
 use Rattle.run_findings.specs.Actions.{op_hears, is_load, reads, writes, is_by, writes_by, written_by}
 use Rattle.run_findings.specs.Places.{passes, last_before}

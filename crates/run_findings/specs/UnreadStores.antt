@@ -1,5 +1,5 @@
 -- Unread stores.
-use Rattle.std.specs.Prelude.{◌≡◌, ◌≢◌, ℕ, ◌==◌, Bool, true, false, not, ◌&&◌, if◌then◌else◌, List, Option, Some, None}
+use Rattle.std.specs.Prelude.{◌≡◌, ◌≢◌, ℕ, ◌==◌, Bool, false, not, ◌&&◌, if◌then◌else◌, List, Option, Some, None}
 use Rattle.std.specs.Prelude.{slice_get}
 use Rattle.run_findings.specs.Actions.{is_store, is_by, met}
 use Rattle.run_findings.specs.Places.{last_before}

@@ -3,6 +3,7 @@
 #![tactic(auto)]
 
 mod actions;
+mod links;
 mod lost;
 mod marks;
 mod pairs;

@@ -4,10 +4,13 @@ ghost use Rattle.std.specs.Prelude.{◌≡◌, ◌↔◌, ◌<◌, length, map, 
 ghost use Rattle.run_findings.specs.LostUpdates.{IsLostUpdate, lost_at, full_store, is_source};
 ghost use Rattle.run_findings.specs.Places.{last_below};
 ghost use Rattle.run_findings.specs.Marks.{is_made_of};
+ghost use Rattle.run_findings.specs.Links.{AreWrites, AreReads};
 
 use crate::actions::{Access, Action, is_store};
+use crate::links::links;
 use crate::marks::Marks;
-use crate::searching::{Sought, last_before};
+use crate::parting::Meeting;
+use crate::searching::last_written_or_read;
 use std::alloc::{AllocError, Global};
 
 /// That another stream's write was lost: it was stored over by a stream that had read the word before that write and not
@@ -29,25 +32,40 @@ pub fn lost_updates(alloc: Global, actions: &[Action]) -> Result<Vec<LostUpdate>
     ensures exact { IfOk result (λ found. (f : LostUpdate) → Contains found.items f ↔ IsLostUpdate actions.now f) }
     ensures order { IfOk result (λ found. AllPairs (λ (f g : LostUpdate). f.stored < g.stored) found.items) }
 {
+    let past_writes = links(alloc, actions, Meeting::Writes)?;
+    let past_reads = links(alloc, actions, Meeting::Reads)?;
     let mut found = Vec::new(alloc);
     for stored in 0..actions.len() {
-        if let Some(update) = lost_at(actions, stored) {
+        if let Some(update) = lost_at(actions, &past_writes, &past_reads, stored) {
             found.push(update)?;
         }
     }
     Ok(found)
 }
 
-/// The lost update of a step, if it is one.
+/// The lost update of a step, if it is one, by the run's links.
 #[tactic(auto, unfolding(crate::specs::LostUpdates::lost_at))]
-pub(crate) fn lost_at(actions: &[Action], stored: usize) -> Option<LostUpdate>
-    requires { stored < length actions.now }
+pub(crate) fn lost_at(
+    actions: &[Action],
+    past_writes: &[Option<usize>],
+    past_reads: &[Option<usize>],
+    stored: usize,
+) -> Option<LostUpdate>
+    requires stored_in { stored < length actions.now }
+    requires writes_linked { AreWrites actions.now past_writes.now }
+    requires reads_linked { AreReads actions.now past_reads.now }
     ensures { result ≡ lost_at actions.now stored }
 {
     let action = &actions[stored];
     let word = full_store(&action.access)?;
-    let met = Sought::WrittenOrReadBy(action.stream);
-    let over = last_before(actions, stored, word, met)?;
+    let over = last_written_or_read(
+        actions,
+        past_writes,
+        past_reads,
+        stored,
+        word,
+        action.stream,
+    )?;
     if actions[over].is_by(action.stream) {
         return None;
     }

@@ -1,12 +1,13 @@
 //! Which steps may belong together with one that meets a word: those from the last step before it in which its stream met
-//! the word to the next one after it. All others are parted from it.
+//! the word, or heard of another's write since, to the next one after it. All others are parted from it.
 
 ghost use Rattle.std.specs.Prelude.{◌≡◌, ℕ, true, ◌≤◌, ◌<◌, length};
 ghost use Rattle.run_findings.specs.TornReads.{are_parted};
 ghost use Rattle.run_findings.specs.Rounds.{closes};
+ghost use Rattle.run_findings.specs.Links.{AreWrites};
 
 use crate::actions::Action;
-use crate::parting::Meeting;
+use crate::parting::{Meeting, Pair, last_news};
 use processor::Step;
 
 /// A stream that meets a word.
@@ -21,33 +22,68 @@ pub(crate) struct Round {
 }
 
 impl Round {
-    /// The first step that may belong to step `place`.
-    pub(crate) fn start(self, actions: &[Action], place: usize) -> usize
-        requires { place < length actions.now }
+    /// The first step that may belong to step `place`. The links are those by writes.
+    pub(crate) fn start(
+        self,
+        actions: &[Action],
+        past_writes: &[Option<usize>],
+        place: usize,
+    ) -> usize
+        requires place_in { place < length actions.now }
+        requires linked { AreWrites actions.now past_writes.now }
         ensures within { result ≤ place }
         ensures parted { (a k : ℕ) → k < result
             → are_parted actions.now self.way self.stream a self.word k place ≡ true }
     {
+        let mut start = 0;
         let mut step = place;
-        while step > 0 {
+        while step > start {
             step -= 1;
-            if self.closes(actions, step) {
-                return step;
-            }
+            let first = self.opening(actions, past_writes, step);
+            start = start.max(first);
         }
-        0
+        start
     }
 
-    /// The first step after it that can't.
-    pub(crate) fn end(self, actions: &[Action], place: usize) -> usize
-        requires { place < length actions.now }
+    /// The first step that may belong to one after step `step`, as far as that step tells.
+    fn opening(self, actions: &[Action], past_writes: &[Option<usize>], step: usize) -> usize
+        requires step_in { step < length actions.now }
+        requires linked { AreWrites actions.now past_writes.now }
+        ensures within { result ≤ step }
+        ensures parted { (a k n : ℕ) → k < result → step < n
+            → are_parted actions.now self.way self.stream a self.word k n ≡ true }
+    {
+        if self.closes(actions, step) {
+            return step;
+        }
+        if !actions[step].is_by(self.stream) {
+            return 0;
+        }
+        last_news(actions, past_writes, self.stream, step)
+    }
+
+    /// The first step after it that can't. The links are those by writes.
+    pub(crate) fn end(
+        self,
+        actions: &[Action],
+        past_writes: &[Option<usize>],
+        place: usize,
+    ) -> usize
+        requires place_in { place < length actions.now }
+        requires linked { AreWrites actions.now past_writes.now }
         ensures above { place < result }
         ensures within { result ≤ length actions.now }
         ensures parted { (a k : ℕ) → result ≤ k → k < length actions.now
             → are_parted actions.now self.way self.stream a self.word k place ≡ true }
     {
+        let word = Pair {
+            way: self.way,
+            stream: self.stream,
+            one: self.word,
+            other: self.word,
+        };
         for step in place + 1..actions.len() {
-            if self.closes(actions, step) {
+            if word.is_parted_by(actions, past_writes, place, step) {
                 return step + 1;
             }
         }

@@ -2,10 +2,13 @@
 
 ghost use Rattle.std.specs.Prelude.{◌≡◌, ◌↔◌, ◌<◌, length, Contains, AllPairs, IfOk};
 ghost use Rattle.run_findings.specs.UnreadStores.{IsUnreadStore, unread_at, is_unread, store_of};
+ghost use Rattle.run_findings.specs.Links.{AreWrites, AreReads};
 
 use crate::actions::{Access, Action, is_store};
+use crate::links::links;
 use crate::lost::lost_at;
-use crate::searching::{Sought, last_before};
+use crate::parting::Meeting;
+use crate::searching::last_met;
 use std::alloc::{AllocError, Global};
 
 /// That a stream stored over another stream's store of another value, which nobody had read, and that this is not the
@@ -25,28 +28,37 @@ pub fn unread_stores(alloc: Global, actions: &[Action]) -> Result<Vec<UnreadStor
     ensures exact { IfOk result (λ found. (f : UnreadStore) → Contains found.items f ↔ IsUnreadStore actions.now f) }
     ensures order { IfOk result (λ found. AllPairs (λ (f g : UnreadStore). f.stored < g.stored) found.items) }
 {
+    let past_writes = links(alloc, actions, Meeting::Writes)?;
+    let past_reads = links(alloc, actions, Meeting::Reads)?;
     let mut found = Vec::new(alloc);
     for stored in 0..actions.len() {
-        if let Some(store) = unread_at(actions, stored) {
+        if let Some(store) = unread_at(actions, &past_writes, &past_reads, stored) {
             found.push(store)?;
         }
     }
     Ok(found)
 }
 
-/// The unread store that a step stores over, if it does.
+/// The unread store that a step stores over, if it does, by the run's links.
 #[tactic(auto, unfolding(crate::specs::UnreadStores::unread_at))]
-fn unread_at(actions: &[Action], stored: usize) -> Option<UnreadStore>
-    requires { stored < length actions.now }
+fn unread_at(
+    actions: &[Action],
+    past_writes: &[Option<usize>],
+    past_reads: &[Option<usize>],
+    stored: usize,
+) -> Option<UnreadStore>
+    requires stored_in { stored < length actions.now }
+    requires writes_linked { AreWrites actions.now past_writes.now }
+    requires reads_linked { AreReads actions.now past_reads.now }
     ensures { result ≡ unread_at actions.now stored }
 {
     let action = &actions[stored];
     let store = store_of(&action.access)?;
-    let over = last_before(actions, stored, store.address, Sought::Met)?;
+    let over = last_met(actions, past_writes, past_reads, stored, store.address)?;
     if !is_unread(action, &store, &actions[over]) {
         return None;
     }
-    match lost_at(actions, stored) {
+    match lost_at(actions, past_writes, past_reads, stored) {
         Some(_) => None,
         None => Some(UnreadStore {
             word: store.address,

@@ -1,4 +1,4 @@
-use Rattle.std.proofs.Common.{◌≡◌, length, sym, ap, ◌∙◌, arith}
+use Rattle.std.proofs.Common.{◌≡◌, length, ap, ◌∙◌, arith}
 use Rattle.run_findings.specs.Found.{found_to}
 use Rattle.run_findings.specs.LostUpdates.{lost_at}
 use Rattle.run_findings.proofs.LostUpdates.{lost-exact, lost-ordered}

@@ -13,6 +13,14 @@ loop-write-init c =
     ∙ ap (λ x. before ++ x) (sym (lists_begin (torn_by_write ds g) c.start-start.result
     (λ k h. none_by_write ds g k (λ a. c.start-start.ensures.parted a k h))))
 
+pub returns-then-not-has_stale_looks : goal.returns-then-not-has_stale_looks
+returns-then-not-has_stale_looks c =
+    let ds = c.args.actions.now in
+    let before = c.args.found.now.items in
+    sym (append-nil before)
+    ∙ ap (λ x. before ++ x) (sym (lists_begin (torn_by_write ds c.args.glimpse.now) (length ds)
+    (λ k h. c.has_stale_looks.ensures c.if-not-has_stale_looks.true k)))
+
 pub returns : goal.returns
 returns c =
     let ds = c.args.actions.now in

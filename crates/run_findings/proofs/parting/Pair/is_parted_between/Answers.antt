@@ -1,4 +1,4 @@
-use Rattle.std.proofs.Common.{◌≡◌, ◌+◌, sym, ◌∙◌, arith}
+use Rattle.std.proofs.Common.{◌+◌, sym, ◌∙◌, arith}
 use Rattle.run_findings.specs.TornReads.{parts_at}
 use Rattle.run_findings.proofs.Between.{none-between, one-between, fewer-between}
 use Rattle.run_findings.proofs.parting.Pair.is_parted_between.Goals as goal

@@ -1,9 +1,13 @@
-use Rattle.std.proofs.Common.{sym, ◌∙◌, ◌-◌, arith}
-use Rattle.run_findings.proofs.Parted.{parted_before}
+use Rattle.std.proofs.Common.{arith, ⊎_elim}
+use Rattle.std.proofs.lemmas.Bool.{cases_lt}
 use Rattle.run_findings.proofs.rounds.Round.start.Goals as goal
 
-pub returns-then-closes-clause-parted : goal.returns-then-closes-clause-parted
-returns-then-closes-clause-parted c a k h =
-    let s = c.args.self in
-    parted_before c.args.actions.now s.way s.stream s.word (c.loop-step.step - 1) c.args.place (omega arith)
-    (sym c.closes.ensures ∙ c.if-closes.true) a k h
+pub loop-start-preserved : goal.loop-start-preserved
+loop-start-preserved c = record {
+  within = omega arith;
+  step_within = omega arith;
+  parted = λ a k h. ⊎_elim
+      (λ low. c.loop-start.invariant.parted a k low)
+      (λ high. c.opening-first.ensures.parted a k c.args.place (omega arith) (omega arith))
+      (cases_lt k c.loop-start.start);
+}
