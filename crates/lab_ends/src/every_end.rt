@@ -1,17 +1,21 @@
 //! Ends of all schedules, and what they are told by.
 
+ghost use Rattle.std.specs.Prelude.{◌≡◌, IfOk, OnOk, map, string_bytes};
+ghost use Rattle.lab_ends.specs.BrokenClaims.{value_of, HasBrokenEnds};
+
+use crate::broken_claims::add_broken;
 use crate::end_words::{EndWords, end_words_of};
 use crate::expected_traps::is_expected_trap;
 use crate::findings::first_finding;
-use crate::machines::{loaded, machine_at};
+use crate::machines::machine_at;
+use crate::sources::sources_of;
 use crate::spinning::add_spinning;
 use crate::wishes::Wishes;
-use claims::Claim;
 use end_kinds::{EndKind, Status, end_kind_of, status_of};
 use expectations::{Expectation, first_missed};
 use lab_texts::{NumberStyle, ProgramNames};
 use processor::Step;
-use schedule_space::{Edge, Fate, Space};
+use schedule_space::{Fate, Space};
 use std::alloc::{AllocError, Global};
 
 /// What worlds of a space are.
@@ -98,22 +102,53 @@ pub fn space_ends<const S: usize>(
     wishes: &Wishes,
     space: &Space<'_>,
     is_complete: bool,
+) -> Result<Vec<SpaceEnd>, AllocError>
+    ensures broken { IfOk result (λ ends. HasBrokenEnds space.now wishes.now.claims.items
+        (map string_bytes wishes.now.claim_texts.items) (map value_of ends.items)) }
+{
+    let mut ends = unbroken_ends::<S>(alloc, names, style, &wishes.ends, space, is_complete)?;
+    add_broken::<S>(alloc, &mut ends, wishes, space)?;
+    tell_more::<S>(alloc, &mut ends, names, style, space)?;
+    Ok(ends)
+}
+
+/// The ends of a space, and where it is complete the sets of worlds that spin.
+fn unbroken_ends<const S: usize>(
+    alloc: Global,
+    names: &ProgramNames<'_>,
+    style: NumberStyle,
+    expected: &[Expectation],
+    space: &Space<'_>,
+    is_complete: bool,
 ) -> Result<Vec<SpaceEnd>, AllocError> {
     let mut ends = Vec::new(alloc);
     for place in 0..space.len() {
         if place < space.len() && space.fate(place) != Fate::GoesOn {
-            add_end::<S>(alloc, &mut ends, names, style, &wishes.ends, space, place)?;
+            add_end::<S>(alloc, &mut ends, names, style, expected, space, place)?;
         }
     }
     if is_complete {
         add_spinning::<S>(alloc, &mut ends, names, style, space)?;
     }
-    add_broken::<S>(alloc, &mut ends, wishes, space)?;
-    for end in ends.iter_mut() {
-        end.sources = sources_of(alloc, space, &end.places)?;
+    Ok(ends)
+}
+
+/// Writes to each end from how many worlds some schedule leads there, and the first finding of its own schedule.
+fn tell_more<const S: usize>(
+    alloc: Global,
+    ends: &mut [SpaceEnd],
+    names: &ProgramNames<'_>,
+    style: NumberStyle,
+    space: &Space<'_>,
+) -> Result<(), AllocError>
+    ensures { OnOk result (map value_of ends.new ≡ map value_of ends.old) }
+{
+    let sources = sources_of(alloc, space, ends)?;
+    for (index, end) in ends.iter_mut().enumerate() {
+        end.sources = sources.get(index).copied().unwrap_or(0);
         end.finding = first_finding::<S>(alloc, names, style, space.image(), &end.schedule)?;
     }
-    Ok(ends)
+    Ok(())
 }
 
 /// Adds the end at a place.
@@ -151,7 +186,10 @@ pub(crate) struct EndTold {
 
 impl EndTold {
     /// Of this kind and text, and nothing is missed.
-    pub(crate) fn of(kind: SpaceEndKind, text: String) -> EndTold {
+    pub(crate) fn of(kind: SpaceEndKind, text: String) -> EndTold
+        ensures kind { result.kind ≡ kind }
+        ensures text { result.text ≡ text }
+    {
         EndTold {
             kind,
             text,
@@ -187,77 +225,16 @@ fn told_at<const S: usize>(
     })
 }
 
-/// Adds the worlds that break claims, those of each claim as one.
-fn add_broken<const S: usize>(
-    alloc: Global,
-    ends: &mut Vec<SpaceEnd>,
-    wishes: &Wishes,
-    space: &Space<'_>,
-) -> Result<(), AllocError> {
-    for (claim, text) in wishes.claims.iter().zip(&wishes.claim_texts) {
-        let places = places_that_break::<S>(alloc, claim, space)?;
-        let before = breaks_before::<S>(alloc, claim, space)?;
-        if !places.is_empty() || !before.is_empty() {
-            let told = EndTold::of(SpaceEndKind::Broken, text.clone()?);
-            ends.push(broken_end(alloc, space, told, places, &before)?)?;
-        }
-    }
-    Ok(())
-}
-
-/// The end that these worlds of a space are, and those after so many steps of the ones that all its schedules begin
-/// with.
-fn broken_end(
-    alloc: Global,
-    space: &Space<'_>,
-    told: EndTold,
-    places: Vec<usize>,
-    before: &[usize],
-) -> Result<SpaceEnd, AllocError> {
-    let first = places.first().copied().unwrap_or(0);
-    let mut end = new_end(alloc, space, first, told)?;
-    end.sets = places.len();
-    end.places = places;
-    end.before = before.len();
-    if let Some(taken) = before.first() {
-        end.schedule.truncate(*taken);
-    }
-    Ok(end)
-}
-
-/// After how many of the steps that all schedules of a space begin with a claim does not hold, and some are left.
-fn breaks_before<const S: usize>(
-    alloc: Global,
-    claim: &Claim,
-    space: &Space<'_>,
-) -> Result<Vec<usize>, AllocError> {
-    let mut machine = loaded::<S>(alloc, space.image())?;
-    claim.breaks(alloc, &mut machine, space.begin())
-}
-
-/// The places of the worlds of which a claim does not hold.
-fn places_that_break<const S: usize>(
-    alloc: Global,
-    claim: &Claim,
-    space: &Space<'_>,
-) -> Result<Vec<usize>, AllocError> {
-    let mut places = Vec::new(alloc);
-    for place in 0..space.len() {
-        let machine = machine_at::<S>(alloc, space, place)?;
-        if !claim.holds(&machine) {
-            places.push(place)?;
-        }
-    }
-    Ok(places)
-}
-
 /// An end of which this is the first world, and what it is told by.
 pub(crate) fn new_end(
     alloc: Global,
     space: &Space<'_>,
     place: usize,
     told: EndTold,
-) -> Result<SpaceEnd, AllocError> {
+) -> Result<SpaceEnd, AllocError>
+    ensures kind { IfOk result (λ e. e.kind ≡ told.kind) }
+    ensures text { IfOk result (λ e. e.text ≡ told.text) }
+{
     let mut end = SpaceEnd {
         kind: told.kind,
         text: told.text,
@@ -277,36 +254,4 @@ pub(crate) fn new_end(
         end.schedule = space.schedule(alloc, place)?;
     }
     Ok(end)
-}
-
-/// From how many worlds of a space some schedule leads to one of these places.
-fn sources_of(alloc: Global, space: &Space<'_>, places: &[usize]) -> Result<usize, AllocError> {
-    let mut marks = vec![in alloc; false; space.len()]?;
-    for place in places {
-        if let Some(mark) = marks.get_mut(*place) {
-            *mark = true;
-        }
-    }
-    for _ in 0..space.len() {
-        if !mark_before(space.edges(), &mut marks) {
-            break;
-        }
-    }
-    Ok(marks.iter().filter(|mark| **mark).count())
-}
-
-/// Marks the worlds from which an edge leads to a marked one, and says whether there was one to mark.
-fn mark_before(edges: &[Edge], marks: &mut [bool]) -> bool {
-    let mut is_more = false;
-    for edge in edges.iter().rev() {
-        let to = marks.get(edge.to as usize).copied().unwrap_or(false);
-        if to
-            && let Some(from) = marks.get_mut(edge.from as usize)
-            && !*from
-        {
-            *from = true;
-            is_more = true;
-        }
-    }
-    is_more
 }

@@ -2,6 +2,7 @@
 //! first finding; the ends of a space, and claims about all its worlds (docs/LAB.md, "Every schedule").
 #![tactic(auto)]
 
+mod broken_claims;
 mod claim_fault;
 mod claim_lines;
 mod claim_words;
@@ -12,6 +13,7 @@ mod findings;
 mod machines;
 mod rounds;
 mod set_words;
+mod sources;
 mod spinning;
 mod wishes;
 

@@ -1,8 +1,10 @@
 //! The command `explore`.
 
-ghost use Rattle.std.specs.Prelude.{IsTrue, IfOk};
-ghost use Rattle.schedule_space.specs.Followed.{HasAllEnds, TellsWhetherAllEnd};
-ghost use Rattle.schedule_verdicts.specs.RightSpaces.{EndsRight};
+ghost use Rattle.std.specs.Prelude.{◌+◌, ◌<◌, ◌⊎◌, ◌↔◌, IsTrue, IfOk, length};
+ghost use Rattle.schedule_space.specs.Spaces.{IsComplete, HasAllEdges};
+ghost use Rattle.schedule_space.specs.Followed.{AllFollowed, HasAllEnds, TellsWhetherAllEnd};
+ghost use Rattle.schedule_verdicts.specs.KeptClaims.{AreKeptOnTheWay};
+ghost use Rattle.schedule_verdicts.specs.RightSpaces.{EndsRight, IsRightOnEachWay, IsRightThroughout};
 
 use crate::explored_words::answer_of;
 use crate::spaces::space_of;
@@ -17,7 +19,7 @@ use lab_texts::{NumberStyle, ProgramNames};
 use machine::LoadFault;
 use processor::Step;
 use schedule_space::Space;
-use schedule_verdicts::is_right;
+use schedule_verdicts::{are_kept_on_the_way, is_right};
 use std::alloc::{AllocError, Global};
 use std::io::Read;
 use std::rt::Files;
@@ -40,12 +42,17 @@ pub struct Search<'a> {
 
 impl Search<'_> {
     /// Whether all worlds are looked for: where it is asked for, and where something is claimed of them.
-    fn is_of_all_worlds(&self) -> bool {
+    fn is_of_all_worlds(&self) -> bool
+        ensures { 0 < length self.now.wishes.now.claims.items → IsTrue result }
+    {
         self.is_plain || !self.wishes.claims.is_empty()
     }
 
     /// Whether something is wished of the program.
-    fn is_judged(&self) -> bool {
+    fn is_judged(&self) -> bool
+        ensures { IsTrue result
+            ↔ 0 < length self.now.wishes.now.ends.items + length self.now.wishes.now.claims.items }
+    {
         !self.wishes.ends.is_empty() || !self.wishes.claims.is_empty()
     }
 }
@@ -65,8 +72,8 @@ pub struct Explored {
     pub begin: usize,
     /// Their ends.
     pub ends: Vec<SpaceEnd>,
-    /// Whether they are all, something is wished of them, and every schedule is right (PROMISES.md, "Every schedule is
-    /// right").
+    /// Whether they are all, something is wished of them, and every schedule is right: its end, and each world on its way
+    /// (PROMISES.md, "Every schedule is right").
     pub is_right: bool,
 }
 
@@ -188,8 +195,9 @@ pub fn explore_program(
     names: &ProgramNames<'_>,
     asked: &Search<'_>,
 ) -> Result<Explored, AllocError>
-    ensures right { IfOk result (λ e. IsTrue e.is_right
-        → EndsRight program.now.image asked.now.begin.now asked.now.wishes.now.ends.items) }
+    ensures right { IfOk result (λ e. let wishes = asked.now.wishes.now in IsTrue e.is_right
+        ↔ (IsTrue e.is_complete × (0 < length wishes.ends.items + length wishes.claims.items)
+        × IsRightThroughout program.now.image asked.now.begin.now wishes.ends.items wishes.claims.items)) }
 {
     match program.image.slim() {
         0 | 1 => explore_on::<1>(alloc, program, names, asked),
@@ -206,8 +214,9 @@ fn explore_on<const S: usize>(
     names: &ProgramNames<'_>,
     asked: &Search<'_>,
 ) -> Result<Explored, AllocError>
-    ensures right { IfOk result (λ e. IsTrue e.is_right
-        → EndsRight program.now.image asked.now.begin.now asked.now.wishes.now.ends.items) }
+    ensures right { IfOk result (λ e. let wishes = asked.now.wishes.now in IsTrue e.is_right
+        ↔ (IsTrue e.is_complete × (0 < length wishes.ends.items + length wishes.claims.items)
+        × IsRightThroughout program.now.image asked.now.begin.now wishes.ends.items wishes.claims.items)) }
 {
     let most = asked.most.max(1);
     let is_of_all_worlds = asked.is_of_all_worlds();
@@ -219,7 +228,7 @@ fn explore_on<const S: usize>(
         is_of_all_worlds,
     )?;
     let ends = space_ends::<S>(alloc, names, asked.style, asked.wishes, &space, is_complete)?;
-    let is_asked = asked.is_judged() && worst_of(is_complete, &ends) == Status::Done;
+    let is_asked = asked.is_judged();
     let is_right = are_all_right::<S>(alloc, asked.wishes, &space, is_complete, is_asked)?;
     Ok(Explored {
         worlds: space.len(),
@@ -232,7 +241,8 @@ fn explore_on<const S: usize>(
     })
 }
 
-/// Whether all that is wished of a space that is complete is so, where it is asked.
+/// Whether all that is wished of a space that is complete is so, where it is asked: of its ends, of its worlds, and of
+/// those on the way through the steps that all its schedules begin with.
 fn are_all_right<const S: usize>(
     alloc: Global,
     wishes: &Wishes,
@@ -241,14 +251,41 @@ fn are_all_right<const S: usize>(
     is_asked: bool,
 ) -> Result<bool, AllocError>
     ensures complete { IfOk result (λ b. IsTrue b → IsTrue is_complete) }
-    ensures right { IfOk result (λ b. IsTrue b → HasAllEnds space.now → TellsWhetherAllEnd space.now
+    ensures asked { IfOk result (λ b. IsTrue b → IsTrue is_asked) }
+    ensures before { IfOk result (λ b. IsTrue b
+        → AreKeptOnTheWay space.now.image space.now.begin wishes.now.claims.items) }
+    ensures ends { IfOk result (λ b. IsTrue b → HasAllEnds space.now → TellsWhetherAllEnd space.now
         → EndsRight space.now.image space.now.begin wishes.now.ends.items) }
+    ensures each_way { IfOk result (λ b. IsTrue b → IsComplete space.now
+        → IsRightOnEachWay space.now.image space.now.begin wishes.now.ends.items wishes.now.claims.items) }
+    ensures only { IfOk result (λ b. IsTrue is_complete → IsTrue is_asked
+        → (IsComplete space.now × HasAllEdges space.now) ⊎ AllFollowed space.now
+        → IsRightThroughout space.now.image space.now.begin wishes.now.ends.items wishes.now.claims.items
+        → IsTrue b) }
 {
     if !is_complete || !is_asked {
         return Ok(false);
     }
+    if !are_kept_before::<S>(alloc, wishes, space)? {
+        return Ok(false);
+    }
     match is_right::<S>(alloc, space, &wishes.ends, &wishes.claims) {
         Ok(right) => Ok(right),
+        Err(LoadFault::NoMemory | LoadFault::Streams) => Err(AllocError),
+    }
+}
+
+/// Whether all that is claimed holds on the way through the steps that all schedules of a space begin with.
+fn are_kept_before<const S: usize>(
+    alloc: Global,
+    wishes: &Wishes,
+    space: &Space<'_>,
+) -> Result<bool, AllocError>
+    ensures { IfOk result (λ b. IsTrue b
+        ↔ AreKeptOnTheWay space.now.image space.now.begin wishes.now.claims.items) }
+{
+    match are_kept_on_the_way::<S>(alloc, space.image(), space.begin(), &wishes.claims) {
+        Ok(are_kept) => Ok(are_kept),
         Err(LoadFault::NoMemory | LoadFault::Streams) => Err(AllocError),
     }
 }

@@ -1,8 +1,8 @@
 //! The worlds that a search finds, and whether they are all that it looks for.
 
-ghost use Rattle.std.specs.Prelude.{◌≡◌, ◌≤◌, IsTrue, IfOk};
-ghost use Rattle.schedule_space.specs.Spaces.{IsComplete};
-ghost use Rattle.schedule_space.specs.Followed.{HasAllEnds, TellsWhetherAllEnd};
+ghost use Rattle.std.specs.Prelude.{◌≡◌, ◌≤◌, ◌⊎◌, IsTrue, IfOk};
+ghost use Rattle.schedule_space.specs.Spaces.{IsComplete, HasAllEdges};
+ghost use Rattle.schedule_space.specs.Followed.{AllFollowed, HasAllEnds, TellsWhetherAllEnd};
 
 use image_file::Image;
 use machine::LoadFault;
@@ -24,6 +24,9 @@ pub(crate) fn space_of<'i, const S: usize>(
     ensures begin { IfOk result (λ found. found.0.begin ≡ begin.now) }
     ensures ends { IfOk result (λ found. IsTrue found.1 → HasAllEnds found.0) }
     ensures tells { IfOk result (λ found. IsTrue found.1 → TellsWhetherAllEnd found.0) }
+    ensures worlds { IfOk result (λ found. IsTrue is_of_all_worlds → IsTrue found.1 → IsComplete found.0) }
+    ensures taken { IfOk result (λ found. IsTrue found.1
+        → (IsComplete found.0 × HasAllEdges found.0) ⊎ AllFollowed found.0) }
 {
     if is_of_all_worlds {
         all_worlds::<S>(alloc, image, begin, most)
@@ -44,6 +47,9 @@ fn all_worlds<'i, const S: usize>(
     ensures begin { IfOk result (λ found. found.0.begin ≡ begin.now) }
     ensures ends { IfOk result (λ found. IsTrue found.1 → HasAllEnds found.0) }
     ensures tells { IfOk result (λ found. IsTrue found.1 → TellsWhetherAllEnd found.0) }
+    ensures worlds { IfOk result (λ found. IsTrue found.1 → IsComplete found.0) }
+    ensures taken { IfOk result (λ found. IsTrue found.1
+        → (IsComplete found.0 × HasAllEdges found.0) ⊎ AllFollowed found.0) }
 {
     match explore::<S>(alloc, image, begin, most) {
         Ok(Exploration::Complete(space)) => Ok((space, true)),
@@ -64,6 +70,8 @@ fn all_ends<'i, const S: usize>(
     ensures begin { IfOk result (λ found. found.0.begin ≡ begin.now) }
     ensures ends { IfOk result (λ found. IsTrue found.1 → HasAllEnds found.0) }
     ensures tells { IfOk result (λ found. IsTrue found.1 → TellsWhetherAllEnd found.0) }
+    ensures taken { IfOk result (λ found. IsTrue found.1
+        → (IsComplete found.0 × HasAllEdges found.0) ⊎ AllFollowed found.0) }
 {
     match explore_ends::<S>(alloc, image, begin, most) {
         Ok(Exploration::Complete(space)) => Ok((space, true)),

@@ -3,7 +3,6 @@ use Rattle.std.proofs.Common.{◌≡◌, ℕ, ◌+◌, ◌<◌, ◌≤◌, ◌�
 use Rattle.std.proofs.lemmas.Bool.{cases_lt}
 use Rattle.std.specs.Prelude.{IsTrue}
 use Rattle.processor.specs.World.{World, run}
-use Rattle.processor.specs.declared.steps.Step.{Step}
 use Rattle.expectations.specs.declared.expectation.Expectation.{Expectation}
 use Rattle.claims.specs.declared.claim.Claim.{Claim}
 use Rattle.schedule_space.specs.Spaces.{SpaceValue, Has, IsComplete}

@@ -1,2 +1,4 @@
 mod Looking
 mod Every
+mod Each
+mod OnTheWay

@@ -1,5 +1,5 @@
 -- Whether a run may end so.
-use Rattle.std.specs.Prelude.{◌≡◌, ℕ, ◌==◌, ◌&&◌, Bool, true, false, IsTrue, List, Option, Some, None}
+use Rattle.std.specs.Prelude.{ℕ, ◌==◌, ◌&&◌, Bool, true, false, IsTrue, List, Option, Some, None}
 use Rattle.std.specs.List.{list_all, list_any}
 use Rattle.stream_core.specs.Streams.{StreamValue}
 use Rattle.stream_core.specs.Traps.{trap_number}

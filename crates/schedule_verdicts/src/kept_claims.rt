@@ -1,11 +1,13 @@
-//! Whether claims hold of all worlds of a space.
+//! Whether claims hold of all worlds of a space, or on the way through a schedule.
 
 ghost use Rattle.std.specs.Prelude.{◌≡◌, ◌↔◌, IsTrue, IfOk};
 ghost use Rattle.claims.specs.Holding.{holds};
-ghost use Rattle.schedule_verdicts.specs.KeptClaims.{all_hold, AreKept};
+ghost use Rattle.schedule_verdicts.specs.KeptClaims.{all_hold, AreKept, AreKeptOnTheWay};
 
 use claims::Claim;
+use image_file::Image;
 use machine::{LoadFault, Machine};
+use processor::Step;
 use schedule_space::Space;
 use std::alloc::Global;
 
@@ -27,6 +29,29 @@ pub(crate) fn are_kept<const S: usize>(
         }
     }
     Ok(true)
+}
+
+/// Whether claims hold of each world on the way through a schedule of an image: of the first one, and of that behind each
+/// step.
+///
+/// `Streams` only where the image's slim is above `S`.
+pub fn are_kept_on_the_way<const S: usize>(
+    alloc: Global,
+    image: &Image,
+    schedule: &[Step],
+    claims: &[Claim],
+) -> Result<bool, LoadFault>
+    ensures { IfOk result (λ b. IsTrue b ↔ AreKeptOnTheWay image.now schedule.now claims.now) }
+{
+    let mut machine = Machine::<S>::load(alloc, image)?;
+    for taken in 0..schedule.len() {
+        if !all_hold(&machine, claims) {
+            return Ok(false);
+        }
+        let step = schedule[taken];
+        machine.step(step.p, step.s);
+    }
+    Ok(all_hold(&machine, claims))
 }
 
 /// Whether claims hold of the world of a machine.

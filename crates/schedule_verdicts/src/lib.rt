@@ -5,5 +5,6 @@ mod kept_claims;
 mod right_ends;
 mod right_spaces;
 
+pub use kept_claims::are_kept_on_the_way;
 pub use right_ends::is_right_end;
 pub use right_spaces::is_right;

@@ -1,6 +1,6 @@
 //! Whether every schedule of an image comes to a right end.
 
-ghost use Rattle.std.specs.Prelude.{◌≡◌, ◌↔◌, ◌<◌, IsTrue, IfOk, ℕ};
+ghost use Rattle.std.specs.Prelude.{◌≡◌, ◌↔◌, ◌<◌, ◌⊎◌, IsTrue, IfOk, ℕ};
 ghost use Rattle.schedule_space.specs.Spaces.{count, world_of, IsComplete, HasAllEdges};
 ghost use Rattle.schedule_space.specs.Reaching.{CanEnd};
 ghost use Rattle.schedule_space.specs.Followed.{AllFollowed, HasAllEnds, TellsWhetherAllEnd};
@@ -15,8 +15,9 @@ use schedule_space::{Fate, Space};
 use std::alloc::{AllocError, Global};
 
 /// Whether each end in a space is right, an end can be reached from each of its worlds, and the claims hold of each. Of a
-/// space that has all ends this is so exactly where every schedule that ends ends right, and each can still come to an
-/// end wherever it is; of one that has all worlds, where beside that the claims hold wherever a schedule leads.
+/// space that has all ends this is so only where every schedule that ends ends right, and each can still come to an end
+/// wherever it is; of one that has all worlds, only where beside that the claims hold wherever a schedule leads. Where all
+/// that is so it is true, of a space of either kind.
 ///
 /// `Streams` only where the image's slim is above `S`.
 pub fn is_right<const S: usize>(
@@ -33,7 +34,11 @@ pub fn is_right<const S: usize>(
         → EndsRight space.now.image space.now.begin expected.now) }
     ensures each_way { IfOk result (λ b. IsTrue b → IsComplete space.now
         → IsRightOnEachWay space.now.image space.now.begin expected.now claims.now) }
+    ensures only { IfOk result (λ b. (IsComplete space.now × HasAllEdges space.now) ⊎ AllFollowed space.now
+        → IsRightOnEachWay space.now.image space.now.begin expected.now claims.now → IsTrue b) }
 {
+    // It says that each place but the first was found from an earlier one.
+    let _worlds = space.len();
     if !ends_are_right::<S>(alloc, space, expected)? {
         return Ok(false);
     }

@@ -1,14 +1,32 @@
-use Rattle.std.proofs.Common.{subst}
-use Rattle.schedule_verdicts.specs.RightSpaces.{EndsRight}
+use Rattle.std.proofs.Common.{sym, subst}
+use Rattle.schedule_verdicts.specs.RightSpaces.{IsRightThroughout}
+use Rattle.lab_explorer.proofs.Knowing.{right_on_each_way}
 use Rattle.lab_explorer.proofs.exploring.explore_on.Goals as goal
 
 pub returns : goal.returns
 returns g c = record {
-  right = λ yes.
+  right =
       let expected = c.args.asked.now.wishes.now.ends.items in
-      let complete = c.in_ok-is_right.ensures.complete yes in
-      let found =
-      c.in_ok-is_right.ensures.right yes (c.in_ok-space.ensures.ends complete) (c.in_ok-space.ensures.tells complete) in
-      subst (λ image. EndsRight image c.args.asked.now.begin.now expected) c.in_ok-space.ensures.image
-      (subst (λ begin. EndsRight c.in_ok-space.space.image begin expected) c.in_ok-space.ensures.begin found);
+      let claims = c.args.asked.now.wishes.now.claims.items in
+      let v = c.in_ok-space.space in
+      let image = c.in_ok-space.ensures.image in
+      let begin = c.in_ok-space.ensures.begin in
+      let found = c.in_ok-is_right.ensures in (
+        λ yes.
+            let complete = found.complete yes in
+            let ends = found.ends yes (c.in_ok-space.ensures.ends complete) (c.in_ok-space.ensures.tells complete) in
+            let right = right_on_each_way v.image v.begin expected claims ends
+            (λ some. found.each_way yes (c.in_ok-space.ensures.worlds (c.is_of_all_worlds-is_of_all_worlds.ensures some) complete)) in
+            let here : IsRightThroughout v.image v.begin expected claims =
+            record { right = right; before = found.before yes } in (
+              complete,
+              c.is_judged-is_asked.ensures.0 (found.asked yes),
+              subst (λ i. IsRightThroughout i c.args.asked.now.begin.now expected claims) image
+                  (subst (λ ts. IsRightThroughout v.image ts expected claims) begin here),
+            ),
+        λ all.
+            found.only all.0 (c.is_judged-is_asked.ensures.1 all.1) (c.in_ok-space.ensures.taken all.0)
+            (subst (λ ts. IsRightThroughout v.image ts expected claims) (sym begin)
+            (subst (λ i. IsRightThroughout i c.args.asked.now.begin.now expected claims) (sym image) all.2)),
+      );
 }

@@ -1,10 +1,11 @@
-use Rattle.std.proofs.Common.{rules, ◌↔◌, IsTrue}
+use Rattle.std.proofs.Common.{rules, ◌↔◌, ◌⊎◌, IsTrue, inl, inr}
 use Rattle.std.proofs.lemmas.Result.{IfOk-weaker}
-use Rattle.schedule_space.specs.Spaces.{IsComplete}
-use Rattle.schedule_space.specs.Followed.{HasAllEnds, TellsWhetherAllEnd}
+use Rattle.schedule_space.specs.Spaces.{IsComplete, HasAllEdges}
+use Rattle.schedule_space.specs.Followed.{AllFollowed, HasAllEnds, TellsWhetherAllEnd}
 use Rattle.schedule_verdicts.specs.KeptClaims.{AreKept}
 use Rattle.schedule_verdicts.specs.RightSpaces.{EndsRight, IsRightOnEachWay}
 use Rattle.schedule_verdicts.proofs.Every.{right_by_ends, right_by_worlds}
+use Rattle.schedule_verdicts.proofs.Each.{right_of_space}
 use Rattle.schedule_verdicts.proofs.right_spaces.is_right.Goals as goal
 
 pub returns-clause-ends : goal.returns-clause-ends
@@ -29,4 +30,33 @@ returns-clause-each_way g c =
     (λ b told yes.
     right_by_worlds v c.args.expected.now c.args.claims.now
     (record { ends = ends; reach = reach; kept = told.0 yes }))
+    c.are_kept.ensures
+
+pub returns-then-not-branch-clause-only : goal.returns-then-not-branch-clause-only
+returns-then-not-branch-clause-only g c = λ taken right.
+    let whole = right_of_space c.args.space.now c.args.expected.now c.args.claims.now c.len-worlds.ensures.links right in
+    let yes = c.in_ok-ends_are_right.ensures.1 whole.ends in
+    let no = c.if-not-branch.true in
+    search rules
+
+pub returns-then-not-branch-2-clause-only : goal.returns-then-not-branch-2-clause-only
+returns-then-not-branch-2-clause-only g c = λ taken right.
+    let whole = right_of_space c.args.space.now c.args.expected.now c.args.claims.now c.len-worlds.ensures.links right in
+    let told = c.in_ok-all_can_end.ensures in
+    let yes : IsTrue c.in_ok-all_can_end.field-0 =
+    elim taken [
+      | inl all ↦ told.plain all.0 all.1 whole.reach
+      | inr followed ↦ told.followed followed whole.reach
+    ] in
+    let no = c.if-not-branch-2.true in
+    search rules
+
+pub returns-clause-only : goal.returns-clause-only
+returns-clause-only g c =
+    let v = c.args.space.now in
+    IfOk-weaker c.are_kept.result (λ b. IsTrue b ↔ AreKept v c.args.claims.now)
+    (λ b. (IsComplete v × HasAllEdges v) ⊎ AllFollowed v
+    → IsRightOnEachWay v.image v.begin c.args.expected.now c.args.claims.now → IsTrue b)
+    (λ b told taken right.
+    told.1 (right_of_space v c.args.expected.now c.args.claims.now c.len-worlds.ensures.links right).kept)
     c.are_kept.ensures

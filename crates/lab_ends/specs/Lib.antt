@@ -1,0 +1,2 @@
+-- What is told of claims that are broken.
+pub mod BrokenClaims
