@@ -12,8 +12,8 @@ use std::alloc::{AllocError, Global};
 use trace_text::write_schedule;
 
 /// What is said of a submission: the first that holds of any of its ends of a trap, a deadlock, a wrong end, a broken
-/// claim, a set of worlds that spin; where it has none of them, whether there are more worlds than were looked for. The
-/// status is the worst over all of them.
+/// claim, a set of worlds that spin; where it has none of them, whether the search had all of them. The status is the
+/// worst over all of them.
 pub(crate) fn explored_verdict(
     alloc: Global,
     request: &GradeRequest,
@@ -98,7 +98,7 @@ fn verdict_of_ends(
     if !found.is_right {
         return Ok(Verdict {
             word: "not decided",
-            why: format!(in alloc; "more than {worlds} worlds")?,
+            why: format!(in alloc; "some schedules, {worlds} worlds")?,
             status: status.worse(Status::OutOfSteps),
         });
     }
