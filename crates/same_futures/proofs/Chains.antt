@@ -1,5 +1,5 @@
 -- Worlds that agree stay so under each schedule.
-use Rattle.std.proofs.Common.{◌≡◌, ◌≢◌, ℕ, ◌⊎◌, inl, inr, true, false, refl, sym, ap, ◌∙◌, subst, List, [], ◌∷◌, set, Some, slice_get}
+use Rattle.std.proofs.Common.{◌≡◌, ◌≢◌, ℕ, ◌⊎◌, inl, inr, true, false, sym, ap, ◌∙◌, subst, List, [], ◌∷◌, set, Some, slice_get}
 use Rattle.std.proofs.lemmas.List.{get_or-set_same, get_or-set_other}
 use Rattle.image_file.specs.ImageValue.{ImageValue}
 use Rattle.stream_core.specs.Streams.{StreamValue, idle, cannot_trap}

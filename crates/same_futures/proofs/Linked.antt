@@ -1,15 +1,13 @@
 -- The same step of two worlds that are linked.
-use Rattle.std.proofs.Common.{◌≡◌, ◌≢◌, ℕ, ◌<◌, ◌≤◌, ◌⊎◌, inl, inr, Bool, true, false, refl, sym, ap, ◌∙◌, arith, subst}
+use Rattle.std.proofs.Common.{◌≡◌, ◌≢◌, ℕ, ◌<◌, ◌≤◌, ◌⊎◌, inl, inr, false, refl, sym, ap, ◌∙◌, arith, subst}
 use Rattle.std.proofs.Common.{List, length, set, Option, Some, None, slice_get}
 use Rattle.std.proofs.lemmas.Bool.{cases_lt}
 use Rattle.std.proofs.lemmas.List.{length-set, set_comm, set-set, get_or-set_same}
-use Rattle.std.proofs.lemmas.Option.{slice_get-get_or, slice_get_past, slice_get_within}
+use Rattle.std.proofs.lemmas.Option.{slice_get-get_or, slice_get_past}
 use Rattle.tag_memory.specs.Storage.{TaggedMemory}
 use Rattle.image_file.specs.ImageValue.{ImageValue}
-use Rattle.stream_core.specs.Registers.{register_at}
-use Rattle.stream_core.specs.Streams.{StreamValue, idle, cannot_trap}
+use Rattle.stream_core.specs.Streams.{StreamValue, idle}
 use Rattle.stream_core.specs.StreamRow.{fetch_of, fetch_if}
-use Rattle.stream_core.specs.declared.status_words.StatusWord.{StatusWord}
 use Rattle.stream_core.specs.declared.steps.Status.{Status}
 use Rattle.stream_core.specs.declared.steps.Status.TheVariants.{Idle, Running, Stopped}
 use Rattle.stream_core.specs.declared.steps.Outcome.{Outcome}
@@ -22,7 +20,7 @@ use Rattle.processor.specs.declared.steps.Step.{Step}
 use Rattle.processor.proofs.Histories.{after-absent}
 use Rattle.processor.proofs.World.{world_step-absent}
 use Rattle.local_steps.proofs.Commuting.{there_same, there_other, put, step_there}
-use Rattle.local_steps.proofs.Ended.{resting_step, stays_at}
+use Rattle.local_steps.proofs.Ended.{resting_step}
 use Rattle.local_steps.proofs.Orders.{same_or_other}
 use Rattle.program_flow.specs.Agreement.{with_registers}
 use Rattle.program_flow.specs.Flow.{Matters, IsClosedAt, IsClosed}

@@ -1,7 +1,6 @@
 -- The step of the stream whose registers differ.
 use Rattle.std.proofs.Common.{◌≡◌, ◌≢◌, ℕ, ◌+◌, ◌-◌, ◌<◌, ◌⊎◌, inl, inr, Bool, true, false, refl, sym, ap, ◌∙◌, arith, subst}
-use Rattle.std.proofs.Common.{if◌then◌else◌, List, [], length, set, Option, Some, None, slice_get, map}
-use Rattle.std.specs.List.{position_or_len, AllByRecursion}
+use Rattle.std.proofs.Common.{if◌then◌else◌, List, length, set, Option, Some}
 use Rattle.std.proofs.lemmas.List.{length-set, get_or-set_same, get_or-set_other, set_comm, set-set}
 use Rattle.std.proofs.lemmas.List.Folds.{position_or_len-set}
 use Rattle.std.proofs.lemmas.Option.{slice_get-get_or}
@@ -12,7 +11,6 @@ use Rattle.insn_word.specs.declared.operations.ControlOp.TheVariants as control
 use Rattle.insn_word.specs.declared.insn.CPart.{CPart}
 use Rattle.insn_word.specs.declared.insn.Insn.{Insn}
 use Rattle.insn_word.specs.declared.insn.Insn.TheVariants.{Wide, Normal}
-use Rattle.tag_memory.specs.declared.requests.Request.{Request}
 use Rattle.tag_memory.specs.declared.requests.Reply.{Reply}
 use Rattle.tag_memory.specs.Storage.{TaggedMemory}
 use Rattle.image_file.specs.ImageValue.{ImageValue}
@@ -20,7 +18,7 @@ use Rattle.stream_core.specs.Registers.{register_at}
 use Rattle.stream_core.specs.Streams.{StreamValue, idle, cannot_trap, after_trap}
 use Rattle.stream_core.specs.Children.{child_stream}
 use Rattle.stream_core.specs.Effects.{request_of}
-use Rattle.stream_core.specs.StreamRow.{fetch_of, fetch_if, control_by, control_of, control_from, row_asking, row_from}
+use Rattle.stream_core.specs.StreamRow.{fetch_of, control_by, control_of, control_from, row_from}
 use Rattle.stream_core.specs.declared.traps.TrapKind.TheVariants as kind
 use Rattle.stream_core.specs.declared.steps.Status.TheVariants.{Running}
 use Rattle.stream_core.specs.declared.steps.Outcome.{Outcome}
@@ -31,15 +29,15 @@ use Rattle.stream_core.specs.declared.steps.Control.{Control}
 use Rattle.stream_core.specs.declared.steps.Control.TheVariants as asks
 use Rattle.processor.specs.Processors.{ProcessorValue, is_idle, stream_at}
 use Rattle.processor.specs.Row.{lacks_stream, image_fetch, step_fetch_from, step_fetch, step_fetch_at, step_fetch_of}
-use Rattle.processor.specs.Row.{request_on_fetch, request, grant_of, with_stream, lowest_idle, after_control}
-use Rattle.processor.specs.Row.{after_control_if_done, row_on_fetch, row, memory_reply, row_over_memory}
+use Rattle.processor.specs.Row.{request_on_fetch, grant_of, with_stream, lowest_idle, after_control}
+use Rattle.processor.specs.Row.{after_control_if_done, row_on_fetch, memory_reply, row_over_memory}
 use Rattle.processor.proofs.Begun.{row_over_memory_begun}
 use Rattle.processor.proofs.Awake.{awake-trapped, awake-row_asking}
 use Rattle.local_steps.proofs.Beside.{never_first, lacks_same, grant_same, over_memory_beside}
 use Rattle.local_steps.proofs.Commuting.{kept_stream}
 use Rattle.processor.proofs.OtherStreams.{kept_row_over_memory}
 use Rattle.program_flow.specs.Agreement.{with_registers, AgreeOn, reads_at, registers_over_fetch, put_registers}
-use Rattle.program_flow.specs.Flow.{Matters, MayTrap, MayTrapWith, MayTrapBy, EndsStream, IsClosedAt}
+use Rattle.program_flow.specs.Flow.{Matters, MayTrap, MayTrapWith, EndsStream, IsClosedAt}
 use Rattle.program_flow.proofs.EqualRows.{same_request, same_control, same_trap, same_from}
 use Rattle.program_flow.proofs.Kept.{each_of, sizes_at, left, kept_at}
 use Rattle.program_flow.proofs.Writes.{Same}

@@ -2,7 +2,7 @@
 use Rattle.std.specs.Prelude.{◌≡◌, ◌⊎◌, ℕ, ◌<◌, false, true, List, [], ◌∷◌, length, Some, slice_get, slice_set}
 use Rattle.image_file.specs.ImageValue.{ImageValue}
 use Rattle.stream_core.specs.Registers.{register_at}
-use Rattle.stream_core.specs.Streams.{StreamValue, cannot_trap}
+use Rattle.stream_core.specs.Streams.{cannot_trap}
 use Rattle.processor.specs.Processors.{ProcessorValue, is_idle, stream_at}
 use Rattle.processor.specs.Records.{is_running}
 use Rattle.processor.specs.Row.{with_stream}
