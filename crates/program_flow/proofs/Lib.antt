@@ -1,0 +1,4 @@
+pub mod EqualRows
+pub mod Writes
+pub mod Kept
+pub mod Live

@@ -1,0 +1,18 @@
+use Rattle.std.proofs.Common.{below_more, ℕ, ap, sym, ◌∙◌, subst, IsTrue}
+use Rattle.std.specs.Prelude.{slice_get}
+use Rattle.stream_core.specs.StreamRow.{fetch_word}
+use Rattle.program_flow.specs.Flow.{IsClosedAt}
+use Rattle.program_flow.specs.Tables.{is_live_by, is_live_at}
+use Rattle.program_flow.proofs.closed_tables.is_closed.Goals as goal
+
+pub loop-place-preserved : goal.loop-place-preserved
+loop-place-preserved c =
+    below_more _ _ c.loop-place.invariant
+    (subst
+    (λ (k : ℕ). IsTrue (is_live_at c.args.table.now k 0)
+    × IsClosedAt (IsTrue c.args.handled) (λ j r. IsTrue (is_live_at c.args.table.now j r)) k
+    (fetch_word c.args.profile (slice_get c.args.program.now k)))
+    c.in-Ok.ensures.1 (
+      sym (ap (λ row. is_live_by row 0) c.row_at.ensures) ∙ sym c.is_live.ensures ∙ c.if-not-is_live.false,
+      c.is_closed_at.ensures c.if-not-is_closed_at.false,
+    ))

@@ -1,0 +1,6 @@
+-- What public contracts promise, in the order of reading: which registers instructions read and write, that a step sees
+-- no others, what may be read from a place on, tables of that.
+pub mod Operands
+pub mod Agreement
+pub mod Flow
+pub mod Tables

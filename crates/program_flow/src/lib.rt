@@ -1,0 +1,13 @@
+//! Which registers of a stream may still be read, by its program alone, and that a step of the stream sees no others
+//! (docs/MACHINE.md, "One step").
+#![tactic(auto)]
+
+mod closed_tables;
+mod laws;
+mod live_tables;
+mod operands;
+mod rows;
+
+pub use laws::{agreement_is_kept, row_sees_reads, writes_agree};
+pub use live_tables::live_table;
+pub use rows::Row;

@@ -1,0 +1,27 @@
+//! What is live, by the place of a word and by register.
+
+ghost use Rattle.std.specs.Prelude.{◌≡◌, [], slice_index_or};
+ghost use Rattle.program_flow.specs.Tables.{is_live_by};
+
+/// Which registers are live at a word, by their numbers.
+pub type Row = [bool; 32];
+
+/// Whether a register is live by a row; one that the row does not have is.
+pub(crate) fn is_live(row: &[bool], register: usize) -> bool
+    ensures { result ≡ is_live_by row.now register }
+{
+    match row.get(register) {
+        Some(live) => *live,
+        None => true,
+    }
+}
+
+/// The row of a place; where the table has none an empty one, by which all is live.
+pub(crate) fn row_at(table: &[Row], place: u32) -> &[bool]
+    ensures { result.now ≡ slice_index_or table.now place [] }
+{
+    match table.get(place as usize) {
+        Some(row) => row,
+        None => &[],
+    }
+}
