@@ -6,7 +6,7 @@ ghost use Rattle.stream_core.specs.StreamRow.{fetch_word};
 ghost use Rattle.stream_core.specs.declared.steps.Fetch.TheVariants as fetch;
 ghost use Rattle.program_flow.specs.Operands.{registers_read, registers_written};
 ghost use Rattle.program_flow.specs.Flow.{IsOneOf, GoesTo, MayTrap, IsClosedAt};
-ghost use Rattle.program_flow.specs.Tables.{is_live_by, is_live_at, IsClosedTable};
+ghost use Rattle.program_flow.specs.Tables.{is_live_by, is_live_at, is_named_by, IsClosedTable};
 
 use crate::operands::{may_trap, memory_source, second_source, skipped, wide_source, writes};
 use crate::rows::{Row, is_live, row_at};
@@ -34,6 +34,18 @@ fn has_all(row: &[bool]) -> bool
 {
     for live in row {
         if !*live {
+            return false;
+        }
+    }
+    true
+}
+
+/// Whether a row has all registers that are named.
+fn has_named(row: &[bool], names: &[bool]) -> bool
+    ensures { IsTrue result → (r : ℕ) → IsTrue (is_named_by names.now r) → IsTrue (is_live_by row.now r) }
+{
+    for (register, named) in names.iter().enumerate() {
+        if *named && !is_live(row, register) {
             return false;
         }
     }
@@ -98,16 +110,24 @@ fn is_closed_at(profile: Profile, program: &[u64], handled: bool, table: &[Row],
     }
 }
 
-/// Whether each row of a table has all that may be read from its place on.
+/// Whether each row of a table has all that may be read from its place on, and the registers that are named.
 #[tactic(auto, using(crate::proofs::Live::closed_table))]
-pub(crate) fn is_closed(profile: Profile, program: &[u64], handled: bool, table: &[Row]) -> bool
-    ensures { IsTrue result → IsClosedTable profile program.now handled table.now }
+pub(crate) fn is_closed(
+    profile: Profile,
+    program: &[u64],
+    handled: bool,
+    names: &[bool],
+    table: &[Row],
+) -> bool
+    ensures { IsTrue result → IsClosedTable profile program.now handled names.now table.now }
 {
     for place in 0..table.len() {
         let Ok(place) = u32::try_from(place) else {
             return false;
         };
-        if !is_live(row_at(table, place), 0)
+        let row = row_at(table, place);
+        if !is_live(row, 0)
+            || !has_named(row, names)
             || !is_closed_at(profile, program, handled, table, place)
         {
             return false;

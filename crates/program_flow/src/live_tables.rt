@@ -5,7 +5,7 @@ ghost use Rattle.program_flow.specs.Tables.{IsClosedTable};
 
 use crate::closed_tables::is_closed;
 use crate::operands::{may_trap, reads, skipped, writes};
-use crate::rows::{Row, is_live, row_at};
+use crate::rows::{Row, is_live, is_named, row_at};
 use insn_word::{Condition, ControlOp, Insn, Profile, decode_as};
 use std::alloc::{AllocError, Global};
 
@@ -13,7 +13,8 @@ use std::alloc::{AllocError, Global};
 const ROUNDS: u32 = 1000;
 
 /// Which registers are live at each word of a program: a row for each word, or none at all, which says that all are
-/// live. `handled` says whether a trap of some stream may have a handler, which may read each register.
+/// live. `handled` says whether a trap of some stream may have a handler, which may read each register; `names` says which
+/// registers are live at each word all the same, since somebody else looks at them.
 ///
 /// A register is live at a word where it may be read from there on, before it is written. The table has all of these, r0
 /// too; that it has few others is not promised. It has no row where it is not done after 1,000 rounds. An error where
@@ -23,30 +24,40 @@ pub fn live_table(
     profile: Profile,
     program: &[u64],
     handled: bool,
+    names: &Row,
 ) -> Result<Vec<Row>, AllocError>
-    ensures { IfOk result (λ table. IsClosedTable profile program.now handled table.items) }
+    ensures { IfOk result (λ table. IsClosedTable profile program.now handled names.now table.items) }
 {
     let mut table: Vec<Row> = Vec::new(alloc);
     for _ in program {
         table.push([false; 32])?;
     }
     for _ in 0..ROUNDS {
-        if !go_through(profile, program, handled, &mut table) {
+        if !go_through(profile, program, handled, names, &mut table) {
             break;
         }
     }
-    if is_closed(profile, program, handled, &table) {
+    if is_closed(profile, program, handled, names, &table) {
         return Ok(table);
     }
     Ok(Vec::new(alloc))
 }
 
 /// Makes each row anew by those behind it, the last one first, and says whether one has changed.
-fn go_through(profile: Profile, program: &[u64], handled: bool, table: &mut [Row]) -> bool {
+fn go_through(
+    profile: Profile,
+    program: &[u64],
+    handled: bool,
+    names: &Row,
+    table: &mut [Row],
+) -> bool {
     let mut changed = false;
     for place in (0..table.len()).rev() {
         if let (Ok(number), Some(word)) = (u32::try_from(place), program.get(place)) {
-            let row = row_of(decode_as(profile, *word), handled, table, number);
+            let mut row = row_of(decode_as(profile, *word), handled, table, number);
+            for (register, live) in row.iter_mut().enumerate() {
+                *live = *live || is_named(names, register);
+            }
             if row != table[place] {
                 table[place] = row;
                 changed = true;

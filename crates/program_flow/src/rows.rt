@@ -1,7 +1,7 @@
 //! What is live, by the place of a word and by register.
 
 ghost use Rattle.std.specs.Prelude.{◌≡◌, [], slice_index_or};
-ghost use Rattle.program_flow.specs.Tables.{is_live_by};
+ghost use Rattle.program_flow.specs.Tables.{is_live_by, is_named_by};
 
 /// Which registers are live at a word, by their numbers.
 pub type Row = [bool; 32];
@@ -23,5 +23,15 @@ pub(crate) fn row_at(table: &[Row], place: u32) -> &[bool]
     match table.get(place as usize) {
         Some(row) => row,
         None => &[],
+    }
+}
+
+/// Whether a register is among those that are named.
+pub(crate) fn is_named(names: &[bool], register: usize) -> bool
+    ensures { result ≡ is_named_by names.now register }
+{
+    match names.get(register) {
+        Some(named) => *named,
+        None => false,
     }
 }
