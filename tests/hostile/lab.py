@@ -21,7 +21,7 @@ NO_THREAD = b"mta_lab: dap takes a second thread, and the system starts none\n"
 # the bytes of a small stack
 SMALL_STACK = 65_536
 # what stands in the answer of a search that lacked memory on its way: nothing is said of all schedules
-NOT_ALL = re.compile(rb"some schedules(?: that begin so)?: |\"complete\":false|\tnot decided\tmore than |\twrong\tschedule ")
+NOT_ALL = re.compile(rb"some schedules(?: that begin so)?: |\"complete\":false|\tnot decided\tsome schedules, |\twrong\tschedule ")
 # how many damaged images and texts are tried
 DAMAGED, TEXTS = 400, 400
 LARGEST = 33_554_432
