@@ -29,7 +29,7 @@ help:
 	@echo "make edits      tries the edits of the CRATES that the prover has to refuse, of all crates where none is named (some minutes a crate)"
 	@echo "make dist       packs the built programs as an archive and a Debian package, in out/dist (seconds)"
 	@echo "make check-dist unpacks them where nothing but the C library is, and runs the examples there (seconds)"
-	@echo "make hostile    hostile use of the built program; needs Python 3 and a C compiler (11 minutes beside other work)"
+	@echo "make hostile    hostile use of the built program; needs Python 3 and a C compiler (11 minutes on two cores beside other work)"
 	@echo "make refuse     the part of it that refuses each allocation of the commands in turn (some minutes)"
 	@echo "make spaces     500 random programs, all of whose worlds are searched by a machine of the tests' own beside mta_lab (a minute)"
 	@echo "make pages      the replay page in a browser; needs chromium, its driver and Python's selenium, and says what is missing (a minute and a half)"

@@ -14,7 +14,7 @@ loop-place-preserved c =
     × IsClosedAt (IsTrue c.args.handled) (λ j r. IsTrue (is_live_at c.args.table.now j r)) k
     (fetch_word c.args.profile (slice_get c.args.program.now k))))
     c.in-Ok.ensures.1 (
-      sym (ap (λ row. is_live_by row 0) c.row_at-row.ensures) ∙ sym c.is_live.ensures ∙ c.if-not-is_live.false,
+      sym (ap (λ marks. is_live_by marks 0) c.row_at-row.ensures) ∙ sym c.is_live.ensures ∙ c.if-not-is_live.false,
       (
         subst (λ (row : List Bool). (r : ℕ) → IsTrue (is_named_by c.args.names.now r) → IsTrue (is_live_by row r))
             c.row_at-row.ensures (c.has_named.ensures c.if-not-has_named.false),
