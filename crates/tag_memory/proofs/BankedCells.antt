@@ -1,5 +1,5 @@
 -- The words that eight banks keep.
-use Rattle.std.proofs.Common.{◌≡◌, ◌≢◌, ℕ, zero, suc, ◌+◌, ◌*◌, ◌/◌, ◌%◌, ◌<◌, ◌≤◌, Bool, true, false, ◌==◌}
+use Rattle.std.proofs.Common.{◌≡◌, ◌≢◌, ℕ, ◌+◌, ◌*◌, ◌/◌, ◌%◌, ◌<◌, ◌≤◌, Bool, true, false, ◌==◌}
 use Rattle.std.proofs.Common.{if◌then◌else◌, refl, sym, ◌∙◌, ap, subst, inl, inr, ◌⊎◌, arith, List, [], ◌∷◌, length}
 use Rattle.std.proofs.Common.{get_or}
 use Rattle.std.proofs.Common.{set, Option, Some, None, is_some, slice_get, length-set, get_or-set_same}
@@ -147,31 +147,13 @@ are_banks-set banks n w bank c are stands = record {
       ∙ are.sizes k h
   by_bank k h (inr other) = ap length (get_or-set_other banks (w % bank_count) k _ [] other) ∙ are.sizes k h
 
--- ---- eight banks, one by one
+-- ---- eight banks
 
-pub eight_of : (f : ℕ → List Cell) (b0 b1 b2 b3 b4 b5 b6 b7 : List Cell)
-    → b0 ≡ f 0 → b1 ≡ f 1 → b2 ≡ f 2 → b3 ≡ f 3 → b4 ≡ f 4 → b5 ≡ f 5 → b6 ≡ f 6 → b7 ≡ f 7
-    → (k : ℕ) → k < bank_count
-    → get_or (b0 ∷ b1 ∷ b2 ∷ b3 ∷ b4 ∷ b5 ∷ b6 ∷ b7 ∷ []) k [] ≡ f k
-eight_of f b0 b1 b2 b3 b4 b5 b6 b7 e0 e1 e2 e3 e4 e5 e6 e7 zero h = e0
-eight_of f b0 b1 b2 b3 b4 b5 b6 b7 e0 e1 e2 e3 e4 e5 e6 e7 (suc zero) h = e1
-eight_of f b0 b1 b2 b3 b4 b5 b6 b7 e0 e1 e2 e3 e4 e5 e6 e7 (suc (suc zero)) h = e2
-eight_of f b0 b1 b2 b3 b4 b5 b6 b7 e0 e1 e2 e3 e4 e5 e6 e7 (suc (suc (suc zero))) h = e3
-eight_of f b0 b1 b2 b3 b4 b5 b6 b7 e0 e1 e2 e3 e4 e5 e6 e7 (suc (suc (suc (suc zero)))) h = e4
-eight_of f b0 b1 b2 b3 b4 b5 b6 b7 e0 e1 e2 e3 e4 e5 e6 e7 (suc (suc (suc (suc (suc zero))))) h = e5
-eight_of f b0 b1 b2 b3 b4 b5 b6 b7 e0 e1 e2 e3 e4 e5 e6 e7 (suc (suc (suc (suc (suc (suc zero)))))) h = e6
-eight_of f b0 b1 b2 b3 b4 b5 b6 b7 e0 e1 e2 e3 e4 e5 e6 e7 (suc (suc (suc (suc (suc (suc (suc zero))))))) h = e7
-eight_of f b0 b1 b2 b3 b4 b5 b6 b7 e0 e1 e2 e3 e4 e5 e6 e7 (suc (suc (suc (suc (suc (suc (suc (suc k)))))))) h =
-    absurd (omega (arith, h))
-
--- eight lists that are the banks, one by one
-pub same_banks : (banks : List (List Cell)) (b0 b1 b2 b3 b4 b5 b6 b7 : List Cell) → length banks ≡ bank_count
-    → b0 ≡ get_or banks 0 [] → b1 ≡ get_or banks 1 [] → b2 ≡ get_or banks 2 [] → b3 ≡ get_or banks 3 []
-    → b4 ≡ get_or banks 4 [] → b5 ≡ get_or banks 5 [] → b6 ≡ get_or banks 6 [] → b7 ≡ get_or banks 7 []
-    → b0 ∷ b1 ∷ b2 ∷ b3 ∷ b4 ∷ b5 ∷ b6 ∷ b7 ∷ [] ≡ banks
-same_banks banks b0 b1 b2 b3 b4 b5 b6 b7 eight e0 e1 e2 e3 e4 e5 e6 e7 =
-    ext_get_or [] _ banks (sym eight)
-    (eight_of (λ k. get_or banks k []) b0 b1 b2 b3 b4 b5 b6 b7 e0 e1 e2 e3 e4 e5 e6 e7)
+-- eight lists that are the banks, place by place
+pub same_banks : (banks others : List (List Cell)) → length banks ≡ bank_count → length others ≡ bank_count
+    → ((k : ℕ) → k < bank_count → get_or others k [] ≡ get_or banks k []) → others ≡ banks
+same_banks banks others eight eight_too same =
+    ext_get_or [] others banks (eight_too ∙ sym eight) (λ k h. same k (omega (arith, h, eight_too)))
 
 -- the eighths of a list, as its banks
 abbrev pub AreEighths : List (List Cell) → List Cell → Type 0

@@ -1,6 +1,6 @@
 //! One of the banks that a memory keeps its words in.
 ghost use Rattle.std.specs.Prelude.{◌≡◌, ℕ, ◌<◌, ◌≤◌, length, IfOk, slice_get, slice_set};
-ghost use Rattle.std.specs.Prelude.{replicate};
+ghost use Rattle.std.specs.Prelude.{replicate, []};
 ghost use Rattle.tag_memory.specs.Storage.{most_memory_words};
 ghost use Rattle.tag_memory.specs.Banks.{blank_cell, bank_count, every_eighth};
 
@@ -32,6 +32,16 @@ impl Model for Bank {
 }
 
 impl Bank {
+    /// No words.
+    pub(crate) fn empty(alloc: Global) -> Bank
+        ensures { result ≡ [] }
+    {
+        Bank {
+            values: Vec::new(alloc),
+            tags: Vec::new(alloc),
+        }
+    }
+
     /// Every eighth of the words, from word `first` on.
     pub(crate) fn every_eighth(
         alloc: Global,
@@ -85,11 +95,13 @@ impl Bank {
         );
         self.tags[element] = packed;
     }
+}
 
-    /// A bank equal to this one. Its lists are copied whole.
-    pub(crate) fn try_clone(&self) -> Result<Bank, AllocError>
-        ensures { IfOk result (λ b. b ≡ self.now) }
-    {
+/// Its lists are copied whole.
+impl Clone for Bank {
+    ghost is_clone = { λ b d. d ≡ b };
+
+    fn clone(&self) -> Result<Bank, AllocError> {
         let alloc = *self.values.allocator();
         let values = Vec::from_slice(alloc, &self.values)?;
         let tags = Vec::from_slice(alloc, &self.tags)?;

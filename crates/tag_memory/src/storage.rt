@@ -6,6 +6,7 @@ ghost use Rattle.tag_memory.specs.Storage.{IsWithinLimits, cell_at, with_cell};
 use crate::Word;
 use crate::bank::Bank;
 use std::alloc::{AllocError, Global};
+use std::array;
 use std::marker::Model;
 
 /// The most words that a memory has.
@@ -68,20 +69,13 @@ impl Memory {
         requires chain { limit ≤ most_chain_limit }
         ensures { IfOk result (λ m. m ≡ memory_with_chain words.now limit) }
     {
-        let len = words.len();
-        let banks = [
-            Bank::every_eighth(alloc, words, 0)?,
-            Bank::every_eighth(alloc, words, 1)?,
-            Bank::every_eighth(alloc, words, 2)?,
-            Bank::every_eighth(alloc, words, 3)?,
-            Bank::every_eighth(alloc, words, 4)?,
-            Bank::every_eighth(alloc, words, 5)?,
-            Bank::every_eighth(alloc, words, 6)?,
-            Bank::every_eighth(alloc, words, 7)?,
-        ];
+        let mut banks: [Bank; BANKS] = array::from_fn(|_| Bank::empty(alloc));
+        for first in 0..BANKS {
+            banks[first] = Bank::every_eighth(alloc, words, first)?;
+        }
         Ok(Memory {
             banks,
-            len,
+            len: words.len(),
             chain_limit: limit,
         })
     }
@@ -126,18 +120,8 @@ impl Memory {
     pub fn try_clone(&self) -> Result<Memory, AllocError>
         ensures { IfOk result (λ m. m ≡ self.now) }
     {
-        let banks = [
-            self.banks[0].try_clone()?,
-            self.banks[1].try_clone()?,
-            self.banks[2].try_clone()?,
-            self.banks[3].try_clone()?,
-            self.banks[4].try_clone()?,
-            self.banks[5].try_clone()?,
-            self.banks[6].try_clone()?,
-            self.banks[7].try_clone()?,
-        ];
         Ok(Memory {
-            banks,
+            banks: self.banks.clone()?,
             len: self.len,
             chain_limit: self.chain_limit,
         })

@@ -1,33 +1,32 @@
 -- The eight banks keep the words.
-use Rattle.std.proofs.Common.{refl, ap}
+use Rattle.std.proofs.Common.{◌≢◌, ◌∙◌, ◌<◌, ap, arith, [], below_more, length, length-set}
+use Rattle.std.proofs.Common.{get_or-set_same, get_or-set_other}
 use Rattle.tag_memory.specs.Storage.{memory_with_chain}
-use Rattle.tag_memory.specs.Banks.{every_eighth}
-use Rattle.tag_memory.proofs.BankedCells.{eight_of, kept_eighths, banked_cells-eighths}
+use Rattle.tag_memory.specs.Banks.{bank_count, every_eighth}
+use Rattle.tag_memory.proofs.BankedCells.{kept_eighths, banked_cells-eighths}
 use Rattle.tag_memory.proofs.storage.Memory.with_chain.Goals as goal
+
+pub loop-first-preserved : goal.loop-first-preserved
+loop-first-preserved c =
+    let banks = c.loop-first.banks in
+    let first = c.loop-first.first in
+    let bank = c.in_ok-banks.field-0 in
+    let within : first < length banks = omega (arith, c.loop-first.invariant.eight) in record {
+      eight = length-set banks first bank ∙ c.loop-first.invariant.eight;
+      made = below_more _ _
+          (λ k h.
+          let other : k ≢ first = λ e. omega (arith, e, h) in
+          get_or-set_other banks first k bank [] other ∙ c.loop-first.invariant.made k h)
+          (get_or-set_same banks first bank [] within ∙ c.in_ok-banks.ensures);
+    }
 
 pub invariant_of-result : goal.invariant_of-result
 invariant_of-result c =
-    kept_eighths _ c.args.words.now c.args.limit refl
-    (eight_of (every_eighth c.args.words.now) _ _ _ _ _ _ _ _
-    c.in_ok-every_eighth.ensures
-    c.in_ok-every_eighth-2.ensures
-    c.in_ok-every_eighth-3.ensures
-    c.in_ok-every_eighth-4.ensures
-    c.in_ok-every_eighth-5.ensures
-    c.in_ok-every_eighth-6.ensures
-    c.in_ok-every_eighth-7.ensures
-    c.in_ok-every_eighth-8.ensures)
+    kept_eighths _ c.args.words.now c.args.limit c.loop-first.invariant.eight
+    (λ k h. c.loop-first.invariant.made k (omega (arith, h)))
     (record { some = c.requires.some; few = c.requires.few; chain = c.requires.chain })
 
 pub returns : goal.returns
 returns c =
     ap (λ cells. memory_with_chain cells c.args.limit) (banked_cells-eighths _ c.args.words.now
-    (eight_of (every_eighth c.args.words.now) _ _ _ _ _ _ _ _
-    c.in_ok-every_eighth.ensures
-    c.in_ok-every_eighth-2.ensures
-    c.in_ok-every_eighth-3.ensures
-    c.in_ok-every_eighth-4.ensures
-    c.in_ok-every_eighth-5.ensures
-    c.in_ok-every_eighth-6.ensures
-    c.in_ok-every_eighth-7.ensures
-    c.in_ok-every_eighth-8.ensures))
+    (λ k h. c.loop-first.invariant.made k (omega (arith, h))))
