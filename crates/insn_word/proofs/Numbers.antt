@@ -8,6 +8,7 @@ use Rattle.std.proofs.Math.Pow.{pow_mono}
 use Rattle.std.proofs.lemmas.Int.{ints}
 use Rattle.std.proofs.lemmas.Nat.{pow-add, pow_pos, mul-add-lt, div-mul-add, shr-shr, mod-pow-add}
 use Rattle.std.proofs.lemmas.Nat.Bits.{bit_at_cat_low}
+use Rattle.insn_word.specs.Parts.{Reads}
 use Rattle.insn_word.specs.Fields.{Field, unsigned, signed, digits, IsFieldInRange, AreInRange, width, value, spelling}
 use Rattle.insn_word.specs.Fields.{total_width, number_of_fields}
 
@@ -85,11 +86,6 @@ AreInRange-append (x ∷ xs) ys h k = (h.0, AreInRange-append xs ys h.1 k)
 pub AreInRange-parts : (xs ys : List Field) → AreInRange (xs ++ ys) → AreInRange xs × AreInRange ys
 AreInRange-parts [] ys h = (tt, h)
 AreInRange-parts (x ∷ xs) ys h = let rest = AreInRange-parts xs ys h.1 in ((h.0, rest.0), rest.1)
-
--- the fields' values stand in the number's digits
-abbrev pub Reads : ℕ → List Field → Type 0
-Reads n [] = Unit {0}
-Reads n (f ∷ fs) = (n / 2 ^ total_width fs % 2 ^ width f ≡ value f) × Reads n fs
 
 -- sums with small remainders have the same quotients and remainders
 same_parts : (w a b c d : ℕ) → b < w → d < w → a * w + b ≡ c * w + d → (a ≡ c) × (b ≡ d)

@@ -9,11 +9,11 @@ use Rattle.insn_word.specs.Operations.{condition_number}
 use Rattle.insn_word.specs.Fields.{Field, AreInRange, twos_complement, number_of_fields, total_width}
 use Rattle.insn_word.specs.Words.{memory_fields, arithmetic_fields, argument_fields, control_fields, fields}
 use Rattle.insn_word.specs.Words.{used_memory, used_arithmetic, used_control, only_control}
-use Rattle.insn_word.specs.Parts.{IsMemoryPart, IsArithmeticPart, IsControlPart, Holds}
+use Rattle.insn_word.specs.Parts.{IsMemoryPart, IsArithmeticPart, IsControlPart, Holds, Reads, HasArguments}
 use Rattle.insn_word.specs.Reading.{wide_read, memory_read, access_read, arithmetic_read, control_read}
 use Rattle.insn_word.specs.Reading.{condition_read, signed_read, memory_raw, arithmetic_raw, control_part_from, memory_part_at}
 use Rattle.insn_word.specs.Reading.{arithmetic_part_at, control_part_at, register_from, wide_from, candidate}
-use Rattle.insn_word.proofs.Numbers.{Reads, reads, number-lt}
+use Rattle.insn_word.proofs.Numbers.{reads, number-lt}
 use Rattle.insn_word.proofs.WordParts.{argument_width}
 use Rattle.insn_word.specs.declared.operations.WideOp.{WideOp}
 use Rattle.insn_word.specs.declared.operations.WideOp.TheVariants as wide
@@ -189,6 +189,12 @@ arguments_read control.Create bits c h r rest =
 arguments_read control.Quit bits c h r rest = rest
 arguments_read control.QuitKeep bits c h r rest = rest
 arguments_read control.Mask bits c h r rest = (λ i. record (only_control control.Mask) { n = pos (r.0 i) }) ∙ rest
+
+-- the arguments of a part stand in its digits
+pub arguments_of : (bits : ℕ) (c : CPart) → IsControlPart bits c → HasArguments bits c
+arguments_of bits c p =
+    let r = reads bits (control_fields c) p.in_range (fits bits (control_fields c) p.in_range p.number_is) in
+    record { in_range = p.in_range.1; reads = r.1; rest = p.rest }
 
 control_reads : (bits : ℕ) (c : CPart) → IsControlPart bits c → control_part_at bits ≡ c
 control_reads bits c p =

@@ -1,7 +1,7 @@
 -- A word seen a part at a time, by numbers, as the code reads it. Only private contracts cite this.
-use Rattle.std.specs.Prelude.{◌≡◌, ℕ, ◌<◌, ◌/◌, ◌%◌, ◌^◌, true}
-use Rattle.insn_word.specs.Fields.{number_of_fields, AreInRange}
-use Rattle.insn_word.specs.Words.{memory_fields, arithmetic_fields, control_fields, fields}
+use Rattle.std.specs.Prelude.{◌≡◌, ℕ, ◌<◌, ◌/◌, ◌%◌, ◌^◌, true, List, [], ◌∷◌}
+use Rattle.insn_word.specs.Fields.{Field, number_of_fields, AreInRange, total_width, width, value}
+use Rattle.insn_word.specs.Words.{memory_fields, arithmetic_fields, control_fields, argument_fields, fields}
 use Rattle.insn_word.specs.Words.{used_memory, used_arithmetic, used_control, WriteApart}
 use Rattle.insn_word.specs.Operations.{has_operation}
 use Rattle.insn_word.specs.declared.profiles.Profile.{Profile}
@@ -27,6 +27,17 @@ pub record IsArithmeticPart (bits : ℕ) (a : APart) : Type 0 where
 pub record IsControlPart (bits : ℕ) (c : CPart) : Type 0 where
   pub in_range : AreInRange (control_fields c)
   pub number_is : number_of_fields (control_fields c) ≡ bits
+  pub rest : used_control c.op c ≡ c
+
+-- the fields' values stand in the number's digits
+abbrev pub Reads : ℕ → List Field → Type 0
+Reads n [] = Unit {0}
+Reads n (f ∷ fs) = (n / 2 ^ total_width fs % 2 ^ width f ≡ value f) × Reads n fs
+
+-- the arguments of this control part stand in these digits
+pub record HasArguments (bits : ℕ) (c : CPart) : Type 0 where
+  pub in_range : AreInRange (argument_fields c.op c)
+  pub reads : Reads bits (argument_fields c.op c)
   pub rest : used_control c.op c ≡ c
 
 -- The word spells this instruction, in this profile.

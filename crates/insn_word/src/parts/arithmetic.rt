@@ -1,6 +1,6 @@
 //! The arithmetic part of a normal word, to and from its 21 digits.
 
-ghost use Rattle.std.specs.Prelude.{◌≡◌, ◌<◌, ◌^◌, ◌↔◌, IsTrue};
+ghost use Rattle.std.specs.Prelude.{◌≡◌, ◌<◌, ◌^◌, ◌↔◌, IsTrue, IfSome};
 ghost use Rattle.insn_word.specs.Fields.{number_of_fields, AreInRange};
 ghost use Rattle.insn_word.specs.Words.{arithmetic_fields, used_arithmetic, arithmetic_destination};
 ghost use Rattle.insn_word.specs.Parts.{IsArithmeticPart};
@@ -42,15 +42,27 @@ impl APart {
         requires { bits < 2 ^ 21 }
         ensures { (a : APart) → (result ≡ Some a) ↔ IsArithmeticPart bits a }
     {
-        let part = APart {
+        let part = APart::with_fields(bits)?;
+        if part.is_bare() { Some(part) } else { None }
+    }
+
+    /// The part whose fields the digits are, also where a field that its operation does not use is not zero.
+    #[inline(always)]
+    fn with_fields(bits: u64) -> Option<APart>
+        requires { bits < 2 ^ 21 }
+        ensures in_range { IfSome result (λ a. AreInRange (arithmetic_fields a)) }
+        ensures number { IfSome result (λ a. number_of_fields (arithmetic_fields a) ≡ bits) }
+        ensures only { (a : APart) → AreInRange (arithmetic_fields a) → number_of_fields (arithmetic_fields a) ≡ bits
+            → result ≡ Some a }
+    {
+        Some(APart {
             op: ArithmeticOp::from_number(field(bits, OPERATION_PLACE, OPERATION_WIDTH))?,
             test: field(bits, TEST_PLACE, 1) == 1,
             imm: field(bits, IMMEDIATE_PLACE, 1) == 1,
             rd: small_field(bits, RD_PLACE, REGISTER_WIDTH),
             ra: small_field(bits, RA_PLACE, REGISTER_WIDTH),
             rb: small_field(bits, 0, REGISTER_WIDTH),
-        };
-        if part.is_bare() { Some(part) } else { None }
+        })
     }
 
     /// The 21 digits of the part.

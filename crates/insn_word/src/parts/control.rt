@@ -5,7 +5,7 @@ ghost use Rattle.insn_word.specs.Operations.{condition_number};
 ghost use Rattle.insn_word.specs.Fields.{number_of_fields, AreInRange};
 ghost use Rattle.insn_word.specs.Words.{argument_fields, control_fields, used_control, control_destination};
 ghost use Rattle.insn_word.specs.ShortInsns.{short_control_part};
-ghost use Rattle.insn_word.specs.Parts.{IsControlPart};
+ghost use Rattle.insn_word.specs.Parts.{IsControlPart, HasArguments};
 ghost use Rattle.insn_word.specs.declared.operations.Condition.{Condition};
 ghost use Rattle.insn_word.specs.declared.insn.CPart.{CPart};
 
@@ -65,7 +65,7 @@ impl CPart {
     fn with_arguments(op: ControlOp, bits: u64) -> Option<CPart>
         ensures asked { IfSome result (λ c. c.op ≡ op) }
         ensures kind { IfSome result (λ c. AreInRange (control_fields c) × (used_control c.op c ≡ c)) }
-        ensures only { (c : CPart) → c.op ≡ op → IsControlPart bits c → result ≡ Some c }
+        ensures only { (c : CPart) → c.op ≡ op → HasArguments bits c → result ≡ Some c }
     {
         let none = CPart { op, ..CPart::NOP };
         let t = small_field(bits, TARGET_PLACE, TARGET_WIDTH);
