@@ -112,18 +112,20 @@ fn number(matches: &ArgMatches, argument: &str) -> usize
 fn tool_parser<'a>(alloc: Global) -> Result<Command<'a>, AllocError>
     ensures { IfOk result (λ command. app_of command ≡ tool_app) }
 {
-    Command::new(alloc, "mta_sim")
-        .about("Simulates processors of the Tera MTA")
-        .long_about(help::TOOL)
-        .after_help(help::STATUSES)
-        .version(VERSION)
-        .subcommand_required(true)
-        .subcommand(words_parser(alloc))?
-        .subcommand(asm_parser(alloc)?)?
-        .subcommand(list_parser(alloc)?)?
-        .subcommand(run_parser(alloc)?)?
-        .subcommand(threads_parser(alloc)?)?
-        .subcommand(debug_parser(alloc)?)
+    described(
+        alloc,
+        "mta_sim",
+        "Simulates processors of the Tera MTA",
+        help::TOOL,
+    )
+    .version(VERSION)
+    .subcommand_required(true)
+    .subcommand(words_parser(alloc))?
+    .subcommand(asm_parser(alloc)?)?
+    .subcommand(list_parser(alloc)?)?
+    .subcommand(run_parser(alloc)?)?
+    .subcommand(threads_parser(alloc)?)?
+    .subcommand(debug_parser(alloc)?)
 }
 
 /// The parser of `words`.
@@ -153,7 +155,7 @@ fn asm_parser<'a>(alloc: Global) -> Result<Command<'a>, AllocError>
     );
     let source = file(alloc, "SOURCE", help::SOURCE);
     let image = file(alloc, "IMAGE", help::IMAGE_TO_WRITE);
-    with_files(asm, source, image)
+    with_two(asm, source, image)
 }
 
 /// The parser of `list`.
@@ -184,7 +186,7 @@ fn run_parser<'a>(alloc: Global) -> Result<Command<'a>, AllocError>
     );
     let image = file(alloc, "IMAGE", help::IMAGE);
     let schedule = file(alloc, "SCHEDULE", help::SCHEDULE);
-    with_files(run, image, schedule)
+    with_two(run, image, schedule)
 }
 
 /// The parser of `threads`.
@@ -192,13 +194,15 @@ fn threads_parser<'a>(alloc: Global) -> Result<Command<'a>, AllocError>
     ensures app { IfOk result (λ command. app_of command ≡ threads_app) }
     ensures local { IfOk result (λ command. (fields_of command).has_globals ≡ false) }
 {
-    Command::new(alloc, "threads")
-        .about("Runs an image's processors at once, and writes a schedule that does the same")
-        .long_about(help::THREADS)
-        .after_help(help::STATUSES)
-        .arg(file(alloc, "IMAGE", help::IMAGE))?
-        .arg(fuel(alloc))?
-        .arg(file(alloc, "SCHEDULE", help::SCHEDULE_TO_WRITE))
+    let threads = described(
+        alloc,
+        "threads",
+        "Runs an image's processors at once, and writes a schedule that does the same",
+        help::THREADS,
+    )
+    .arg(file(alloc, "IMAGE", help::IMAGE))?;
+    let schedule = file(alloc, "SCHEDULE", help::SCHEDULE_TO_WRITE);
+    with_two(threads, fuel(alloc), schedule)
 }
 
 /// The argument that says how many steps each processor takes at most.
@@ -227,7 +231,7 @@ fn debug_parser<'a>(alloc: Global) -> Result<Command<'a>, AllocError>
     );
     let image = file(alloc, "IMAGE", help::IMAGE);
     let schedule = file(alloc, "SCHEDULE", help::SCHEDULE);
-    with_files(debug, image, schedule)
+    with_two(debug, image, schedule)
 }
 
 /// The parser of a command, and what `--help` says of it.
@@ -241,8 +245,8 @@ fn described<'a>(alloc: Global, name: &'a str, about: &'a str, long_about: &'a s
         .after_help(help::STATUSES)
 }
 
-/// The parser of a command that takes two files more.
-fn with_files<'a>(
+/// The parser of a command that takes two arguments more.
+fn with_two<'a>(
     command: Command<'a>,
     first: Arg<'a>,
     second: Arg<'a>,

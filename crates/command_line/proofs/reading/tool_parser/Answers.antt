@@ -1,20 +1,22 @@
-use Rattle.std.proofs.Common.{rules, ◌≡◌, ◌∙◌, ap, ap₂, codes, true, []}
+use Rattle.std.proofs.Common.{◌≡◌, ◌∙◌, ap, ap₂, true}
 use Rattle.std.proofs.lemmas.Result.{IfOk-weaker}
-use Rattle.clap.specs.Words.{App, app_of, with_subcommand}
-use Rattle.clap.specs.Simple.{new_shape}
+use Rattle.clap.specs.Words.{App, with_subcommand}
+use Rattle.clap.specs.Simple.{Shape, app_of_fields, on_top}
+use Rattle.clap.specs.declared.builder.command.Command.{Command}
+use Rattle.clap.specs.declared.builder.command.Command.TheOpen.{Command-F}
 use Rattle.command_line.proofs.reading.tool_parser.Goals as goal
 
--- the tool, before its commands
-abbrev bare_app : App
-bare_app = record {
-  top = record (new_shape (codes "mta_sim")) { has_version = true; subcommand_required = true };
-  subs = [];
-}
+abbrev requiring : Command-F Command → Command-F Command
+requiring f = record f { subcommand_required = true }
+
+abbrev versioned : Shape → Shape
+versioned s = record s { has_version = true; subcommand_required = true }
 
 pub returns : goal.returns
 returns c =
-    let bare : app_of c.subcommand_required.result ≡ bare_app =
-    search (rules, c.new.ensures.app, c.about.ensures, c.version.ensures, c.subcommand_required.ensures) in
+    let bare = ap app_of_fields c.subcommand_required.ensures
+    ∙ ap (λ (f : Command-F Command). app_of_fields (requiring f)) c.version.ensures
+    ∙ ap (on_top versioned) c.described.ensures.app in
     let words = c.in_ok-subcommand.ensures.shape c.words_parser.ensures.local
     ∙ ap₂ with_subcommand bare (ap (λ (a : App). a.top) c.words_parser.ensures.app) in
     let asm = c.in_ok-subcommand-2.ensures.shape c.in_ok-asm_parser.ensures.local
