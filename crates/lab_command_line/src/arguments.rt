@@ -41,9 +41,9 @@ pub(crate) fn parser_of<'a>(alloc: Global, argument: &Argument) -> Result<Arg<'a
     match form {
         Form::Needed => Ok(word(alloc, name, about).required(true)),
         Form::OneOf(words) => Ok(word(alloc, name, about).required(true).value_parser(words)),
-        Form::Optional(excluded) => excluding(word(alloc, name, about), excluded),
+        Form::Optional(excluded) => word(alloc, name, about).conflicts_with_all(excluded),
         Form::Files => Ok(files(alloc, name, about)),
-        Form::Flag(excluded) => excluding(flag(alloc, name, about), excluded),
+        Form::Flag(excluded) => flag(alloc, name, about).conflicts_with_all(excluded),
         Form::Option(value) => Ok(option(alloc, name, value, about)),
         Form::NeededOption(value) => Ok(option(alloc, name, value, about).required(true)),
         Form::OptionOf(value, words) => {
@@ -57,15 +57,6 @@ pub(crate) fn parser_of<'a>(alloc: Global, argument: &Argument) -> Result<Arg<'a
             Ok(number(alloc, name, value, about, least, most).required(true))
         }
     }
-}
-
-/// An argument that does not go with the options of these names.
-fn excluding<'a>(argument: Arg<'a>, names: &[&'static str]) -> Result<Arg<'a>, AllocError> {
-    let mut argument = argument;
-    for name in names.iter() {
-        argument = argument.conflicts_with(*name)?;
-    }
-    Ok(argument)
 }
 
 /// A word.

@@ -8,13 +8,21 @@ use std::alloc::{AllocError, Global};
 
 /// The parser of the command lines, with the texts that it prints.
 pub(crate) fn lab_parser<'a>(alloc: Global) -> Result<Command<'a>, AllocError> {
-    let mut parser = Command::new(alloc, "mta_lab")
-        .about("Shows what programs of the Tera MTA do")
-        .long_about(help::TOOL)
-        .after_help(help::STATUSES)
+    let about = "Shows what programs of the Tera MTA do";
+    let tool = described(alloc, "mta_lab", about, help::TOOL)
         .version(VERSION)
         .subcommand_required(true);
-    for words in COMMANDS.iter() {
+    with_commands(alloc, tool, &COMMANDS)
+}
+
+/// The parser with these commands below it.
+fn with_commands<'a>(
+    alloc: Global,
+    parser: Command<'a>,
+    commands: &[CommandWords],
+) -> Result<Command<'a>, AllocError> {
+    let mut parser = parser;
+    for words in commands.iter() {
         parser = parser.subcommand(command_parser(alloc, words)?)?;
     }
     Ok(parser)
@@ -22,11 +30,16 @@ pub(crate) fn lab_parser<'a>(alloc: Global) -> Result<Command<'a>, AllocError> {
 
 /// The parser of a command, and what `--help` says of it.
 fn command_parser<'a>(alloc: Global, words: &CommandWords) -> Result<Command<'a>, AllocError> {
-    let parser = Command::new(alloc, words.name)
-        .about(words.about)
-        .long_about(words.long)
-        .after_help(help::STATUSES);
+    let parser = described(alloc, words.name, words.about, words.long);
     with_arguments(alloc, parser, words.arguments)
+}
+
+/// The parser of the tool or of a command, before its arguments, and what `--help` says of it.
+fn described<'a>(alloc: Global, name: &'a str, about: &'a str, long: &'a str) -> Command<'a> {
+    Command::new(alloc, name)
+        .about(about)
+        .long_about(long)
+        .after_help(help::STATUSES)
 }
 
 /// The parser with these arguments too.

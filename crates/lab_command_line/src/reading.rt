@@ -27,11 +27,9 @@ pub fn read_lab_command<'a, S: AsStr>(
 
 /// Whether `schedule` has a seed that says nothing: its rule is not `random`.
 fn has_idle_seed(matches: &ArgMatches) -> bool {
-    match matches.subcommand() {
-        Some(("schedule", found)) => {
-            word(found, "RULE") != "random" && found.get_one::<u64>("seed").is_some()
-        }
-        _ => false,
+    match matches.subcommand_matches("schedule") {
+        Some(found) => word(found, "RULE") != "random" && found.contains_id("seed"),
+        None => false,
     }
 }
 
@@ -95,19 +93,23 @@ fn maker_of(found: &ArgMatches) -> Maker {
 
 /// What `check` is asked.
 fn check_of<'a>(alloc: Global, found: &ArgMatches<'a>) -> Result<CheckRequest<'a>, AllocError> {
-    let kind = match text(found, "as") {
-        Some("source") => Some(FileKind::Source),
-        Some("image") => Some(FileKind::Image),
-        Some("schedule") => Some(FileKind::Schedule),
-        _ => None,
-    };
     Ok(CheckRequest {
         files: words(alloc, found, "FILE")?,
-        kind,
+        kind: kind_of(text(found, "as")),
         program: text(found, "program"),
         strict: found.get_flag("strict"),
         json: found.get_flag("json"),
     })
+}
+
+/// The kind of files of this name.
+fn kind_of(name: Option<&str>) -> Option<FileKind> {
+    match name? {
+        "source" => Some(FileKind::Source),
+        "image" => Some(FileKind::Image),
+        "schedule" => Some(FileKind::Schedule),
+        _ => None,
+    }
 }
 
 /// What `view` is asked.
