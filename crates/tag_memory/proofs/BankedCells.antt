@@ -1,6 +1,6 @@
 -- The words that eight banks keep.
 use Rattle.std.proofs.Common.{◌≡◌, ◌≢◌, ℕ, ◌+◌, ◌*◌, ◌/◌, ◌%◌, ◌<◌, ◌≤◌, Bool, true, false, ◌==◌}
-use Rattle.std.proofs.Common.{if◌then◌else◌, refl, sym, ◌∙◌, ap, subst, inl, inr, ◌⊎◌, arith, List, [], ◌∷◌, length}
+use Rattle.std.proofs.Common.{if◌then◌else◌, refl, sym, ◌∙◌, ap, subst, inl, inr, ◌⊎◌, arith, List, [], length}
 use Rattle.std.proofs.Common.{get_or}
 use Rattle.std.proofs.Common.{set, Option, Some, None, is_some, slice_get, length-set, get_or-set_same}
 use Rattle.std.proofs.Common.{get_or-set_other, ext_get_or}

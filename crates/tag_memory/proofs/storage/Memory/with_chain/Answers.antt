@@ -2,7 +2,6 @@
 use Rattle.std.proofs.Common.{◌≢◌, ◌∙◌, ◌<◌, ap, arith, [], below_more, length, length-set}
 use Rattle.std.proofs.Common.{get_or-set_same, get_or-set_other}
 use Rattle.tag_memory.specs.Storage.{memory_with_chain}
-use Rattle.tag_memory.specs.Banks.{bank_count, every_eighth}
 use Rattle.tag_memory.proofs.BankedCells.{kept_eighths, banked_cells-eighths}
 use Rattle.tag_memory.proofs.storage.Memory.with_chain.Goals as goal
 
