@@ -9,7 +9,7 @@ SOURCE ?= examples/lock.asm
 SCHEDULE ?= examples/lock.lost_update.schedule
 # the crates whose edits make edits tries, all of them without any; those that make affected is asked of
 CRATES ?=
-# how many of them are tried side by side
+# how many crates' edits are tried side by side
 JOBS ?= $(shell nproc)
 
 .PHONY: help run run-lab try test cases checks trust minutes affected edits refuse hostile spaces pages editors documents bench build dist check-dist install uninstall clean

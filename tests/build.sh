@@ -1,6 +1,6 @@
 #!/usr/bin/env bash
 # build.sh [PROGRAM..]: proves what these programs need and no more, and builds them; both where none is named. It is rt ci
-# over them and the crates below them alone, without tests and must-fail edits, in a folder of its own. A line is printed
+# over them and the crates below them alone, without tests and edits, in a folder of its own. A line is printed
 # for each crate that is proved. The programs lie at crates/NAME/out/NAME then. Where they were built of the very same
 # files nothing is done.
 set -eu
@@ -22,15 +22,8 @@ echo "== proving the $(echo "$needed" | wc -l) crates that these programs need: 
 for name in $programs; do tests/built.sh stamp "$name" >"out/stamp.$name"; done
 work=$(mktemp -d)
 trap 'rm -rf "$work"' EXIT
-mkdir "$work/.git" "$work/crates"
-cp HANDLES "$work"
-grep -E "^($(echo "$needed" | paste -sd '|'))[ :]" crates.txt >"$work/crates.txt"
-for name in $needed; do
-  mkdir "$work/crates/$name"
-  for part in src specs proofs data stdin stdout args status; do
-    [ ! -e "crates/$name/$part" ] || cp -r "crates/$name/$part" "$work/crates/$name"
-  done
-done
+# shellcheck disable=SC2086
+tests/lay_out.sh "$work" $needed
 (cd "$work" && "$root/tests/progress.sh" "$root/out/build.log" rt ci)
 for name in $programs; do
   install -D -m 755 "$work/crates/$name/out/$name" "crates/$name/out/$name"

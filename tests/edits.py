@@ -3,12 +3,18 @@
 A crate has its edits in two folders: must-fail/ has those that the gate tries each time, edits/ the others, in the
 same form.
 
-  edits.py [--jobs N] [CRATE..]   tries all edits of these crates, of all crates without any: some minutes a crate
+  edits.py [--jobs N] [CRATE..]   tries all edits of these crates, of all crates without any: half a minute an edit
+  edits.py --gate                 tries those in must-fail/ alone, but none that was refused here over the same files
   edits.py --apply                says only which edits can't be applied: a second, and nothing is proved
+
+Over a crate that is proved as it stands it is enough to prove the function that an edit changes: where its proof fails,
+so does the crate's. Where it is still proved, its module is tried, and then the whole crate. An edit that shows only in
+another function names that by a line `only: MODULE::FUNCTION`.
 
 It prints for each crate how many edits were refused, and each that was not. The last line is 'N passed, M failed'."""
 
 import argparse
+import hashlib
 import os
 import re
 import shutil
@@ -20,11 +26,18 @@ from concurrent.futures import ThreadPoolExecutor
 
 ROOT = os.path.dirname(os.path.dirname(os.path.abspath(__file__)))
 FOLDERS = ("must-fail", "edits")
-# what a check of a crate reads, and what rt keeps of a library that it built, if it is still of these sources
-COPIED = ("src", "specs", "proofs", "out/rlib")
+# what a proof of a crate reads of it, and where rt puts the library
+SOURCES = ("src", "specs", "proofs")
+BUILT = "out/rlib"
+# what the gate has seen refused: an edit's name and the sum of all that it stands on, a line each
+KNOWN = f"{ROOT}/out/refused"
 NAME = re.compile(r"[A-Za-z0-9_-][A-Za-z0-9_.-]*\.edit")
-ANSWER = re.compile(r"rt: must-fail \w+/(\S+\.edit): (.*)")
-REFUSED = "refused, as it must be"
+# what the prover says of the functions that it was asked for, of a crate, and of a function that is not there
+ANSWER = re.compile(r"(?m)^only=(\d+) proved=(\d+)$")
+NOT_PROVED = re.compile(r"(?m)^logic=not-proved")
+NO_SUCH = re.compile("has no function|several functions are named")
+FUNCTION = re.compile(r"( *)(?:pub(?:\([a-z]+\))? )?(?:const )?fn (\w+)")
+IMPL = re.compile(r"impl(?:<.*?>)? (?:\S+ for )?(\w+)")
 
 
 def crates():
@@ -42,9 +55,9 @@ def with_those_below(names, lines):
     return [name for name in lines if name in found]
 
 
-def edits_of(crate):
+def edits_of(crate, folders=FOLDERS):
     """The paths of the crate's edits, below the repository's root."""
-    folders = [f"crates/{crate}/{folder}" for folder in FOLDERS if os.path.isdir(f"{ROOT}/crates/{crate}/{folder}")]
+    folders = [f"crates/{crate}/{folder}" for folder in folders if os.path.isdir(f"{ROOT}/crates/{crate}/{folder}")]
     return [f"{folder}/{name}" for folder in folders for name in sorted(os.listdir(f"{ROOT}/{folder}"))]
 
 
@@ -62,110 +75,211 @@ def faults_of(crate):
             yield edit, "the name of an edit is of letters, digits, _, - and ., and ends in .edit"
         elif names.count(name) > 1:
             yield edit, f"{' and '.join(FOLDERS)} both have an edit of this name"
-        elif fault := fault_of(read(f"{ROOT}/{edit}"), f"{ROOT}/crates/{crate}"):
-            yield edit, fault
+        else:
+            try:
+                Edit(f"{ROOT}/{edit}", f"{ROOT}/crates/{crate}")
+            except ValueError as fault:
+                yield edit, fault
 
 
-def fault_of(text, folder):
-    """Why an edit of this text can't be applied to the crate in the folder, if it can't. It has lines `file: PATH`, and
-    pairs of lines `old: TEXT` and `new: TEXT`; each old text stands in the file once, after the pairs before it."""
-    path, old, pairs, texts = None, None, 0, {}
-    for line in text.splitlines():
-        if line.startswith("file: ") and old is None:
-            path = line.removeprefix("file: ").strip()
-            if not path.startswith(("src/", "specs/", "proofs/")) or not os.path.isfile(f"{folder}/{path}"):
-                return f"the crate has no {path}"
-            texts.setdefault(path, read(f"{folder}/{path}"))
-        elif line.startswith("old: ") and path and old is None:
-            old = line.removeprefix("old: ")
-        elif line.startswith("new:") and old:
-            count = texts[path].count(old)
-            if count != 1:
-                return f"{path} has its old text {count} times, and not once: {old}"
-            texts[path] = texts[path].replace(old, line.removeprefix("new:").removeprefix(" "))
-            old, pairs = None, pairs + 1
-        elif line.strip():
-            return f"a line out of place: {line}"
-    return None if pairs and old is None else "an old text without a new one, or no pair of them at all"
+class Edit:
+    """An edit, as its text says: a line `file: PATH`, pairs of lines `old: TEXT` and `new: TEXT`, each old text once in
+    the file, after the pairs before it; and before them a line `only: MODULE::FUNCTION`, where that is to be proved."""
+
+    def __init__(self, path, folder):
+        self.name, self.texts, self.asked, self.places = os.path.basename(path), {}, None, []
+        file = old = None
+        for line in read(path).splitlines():
+            if line.startswith("file: ") and old is None:
+                file = line.removeprefix("file: ").strip()
+                if not file.startswith(tuple(f"{it}/" for it in SOURCES)) or not os.path.isfile(f"{folder}/{file}"):
+                    raise ValueError(f"the crate has no {file}")
+                self.texts.setdefault(file, read(f"{folder}/{file}"))
+            elif line.startswith("only: ") and not self.places:
+                self.asked = line.removeprefix("only: ").strip()
+            elif line.startswith("old: ") and file and old is None:
+                old = line.removeprefix("old: ")
+            elif line.startswith("new:") and old:
+                self.change(file, old, line.removeprefix("new:").removeprefix(" "))
+                old = None
+            elif line.strip():
+                raise ValueError(f"a line out of place: {line}")
+        if not self.places or old is not None:
+            raise ValueError("an old text without a new one, or no pair of them at all")
+
+    def change(self, file, old, new):
+        text = self.texts[file]
+        if text.count(old) != 1:
+            raise ValueError(f"{file} has its old text {text.count(old)} times, and not once: {old}")
+        self.places.append((file, text[: text.index(old)].count("\n")))
+        self.texts[file] = text.replace(old, new)
+
+    def parts(self):
+        """What is to be proved with the edit, the least first; the last is the whole crate."""
+        if self.asked:
+            return [self.asked, None]
+        file, line = self.places[0]
+        module = "::".join(it for it in file.removesuffix(".rt").split("/")[1:] if it not in ("lib", "main"))
+        found = function_at(self.texts[file].splitlines(), line)
+        own = "::".join(it for it in (module, found) if it)
+        return [it for it in dict.fromkeys((own, module)) if it] + [None]
 
 
-def lay_out(room, names, lines):
-    """Copies these crates and those below them to a folder of their own, and all edits of these to must-fail/ there."""
-    needed = with_those_below(names, lines)
-    with open(f"{room}/crates.txt", "w", encoding="utf-8") as file:
-        file.writelines(f"{lines[crate]}\n" for crate in needed)
-    shutil.copy(f"{ROOT}/HANDLES", room)
-    for crate in needed:
-        for part in COPIED:
-            if os.path.isdir(f"{ROOT}/crates/{crate}/{part}"):
-                shutil.copytree(f"{ROOT}/crates/{crate}/{part}", f"{room}/crates/{crate}/{part}")
-    for crate in names:
-        os.mkdir(f"{room}/crates/{crate}/must-fail")
-        for edit in edits_of(crate):
-            shutil.copy(f"{ROOT}/{edit}", f"{room}/crates/{crate}/must-fail")
+def function_at(lines, number):
+    """The function in which a line stands, with its type where it is a method; none where it stands in no function."""
+    indent = len(lines[number]) - len(lines[number].lstrip())
+    name = None
+    for line in reversed(lines[: number + 1]):
+        if name is None and (found := FUNCTION.match(line)) and len(found[1]) <= indent:
+            indent, name = len(found[1]), found[2]
+        elif name and indent and (found := IMPL.match(line)):
+            return f"{found[1]}::{name}"
+        elif name is None and line.startswith("}"):
+            return None
+        if name and not indent:
+            return name
+    return name
 
 
-def rt(folder, *words):
-    """Whether rt ended well in the folder, and what it printed. It tries one edit at a time: crates are side by side."""
-    ran = subprocess.run(["rt", *words], cwd=folder, stdin=subprocess.DEVNULL, stdout=subprocess.PIPE,
-                         stderr=subprocess.STDOUT, errors="replace", check=False, env={**os.environ, "RT_JOBS": "1"})
-    return ran.returncode == 0, ran.stdout
+class Proved:
+    """Crates as they stand, proved, with their libraries."""
 
+    def __init__(self, folder, lines):
+        self.folder, self.lines = folder, lines
 
-def is_proved(room, crate, jobs):
-    """Whether the crate is proved as it stands. Libraries below it are built first, where they are not yet."""
-    print(f"== {crate} as it stands", flush=True)
-    is_program = os.path.isfile(f"{room}/crates/{crate}/src/main.rt")
-    well, said = rt(f"{room}/crates/{crate}", "check" if is_program else "lib", "--jobs", str(jobs))
-    if not well:
-        print(said, f"{crate}: NOT PROVED as it stands, so its edits tell nothing", sep="\n", flush=True)
-    return well
+    def words(self, crate):
+        """What the prover is called with for the crate; its libraries are named, those below them have their folders told."""
+        kit = os.path.dirname(os.path.dirname(os.path.realpath(shutil.which("rt"))))
+        built = f"{self.folder}/crates/{{0}}/{BUILT}"
+        root = "main" if os.path.isfile(f"{self.folder}/crates/{crate}/src/main.rt") else "lib"
+        words = [f"{kit}/bin/rattle", "check", "--jobs", "1", "--crate-name", crate, f"src/{root}.rt"]
+        for name in ("std", *self.lines[crate].partition(":")[2].split()):
+            library = f"{built.format(name)}/{name}.rlib" if name in self.lines else f"{kit}/rlibs/{name}.rlib"
+            words += ["--extern", f"{name}={library}"]
+        for folder in (f"{kit}/rlibs", *map(built.format, with_those_below([crate], self.lines)[:-1])):
+            words += ["-L", f"dependency={folder}"]
+        return words + ["--antt-project", f"{kit}/rattle/logic/antt-project.json", "--logic-built", f"{kit}/logic_built"]
 
+    def faults_of(self, crate, edits):
+        """By edit of the crate why it is not refused, or None. What one try has proved the next takes."""
+        with tempfile.TemporaryDirectory(prefix="edits-") as room:
+            for part in SOURCES:
+                if os.path.isdir(f"{self.folder}/crates/{crate}/{part}"):
+                    shutil.copytree(f"{self.folder}/crates/{crate}/{part}", f"{room}/{part}")
+            return {path: self.fault_of(room, crate, Edit(f"{ROOT}/{path}", room)) for path in edits}
 
-def refused_of(room, crate):
-    """Tries the edits of a crate that is proved, and returns how many were refused."""
-    begin = time.monotonic()
-    _, said = rt(room, "must-fail", crate)
-    answers = dict(found.groups() for found in map(ANSWER.match, said.splitlines()) if found)
-    edits = edits_of(crate)
-    wrong = [edit for edit in edits if not answers.get(os.path.basename(edit), "").startswith(REFUSED)]
-    for edit in wrong:
-        print(f"{edit}: {answers.get(os.path.basename(edit)) or said[-600:]}")
-    refused = len(edits) - len(wrong)
-    print(f"{crate}: {refused} of {len(edits)} refused, {time.monotonic() - begin:.0f} s", flush=True)
-    return refused
+    def fault_of(self, room, crate, edit):
+        """Why the edit is not refused in this copy of the crate, if it is not."""
+        kept = {file: read(f"{room}/{file}") for file in edit.texts}
+        write(room, edit.texts)
+        try:
+            for part in edit.parts():
+                only = [f"--only={part}"] if part else []
+                ended, said = run(room, *self.words(crate), "--incremental", f"{room}/kept", *only)
+                answer = ANSWER.search(said)
+                if answer and int(answer[2]) < int(answer[1]) or not part and NOT_PROVED.search(said):
+                    return None
+                if ended and not answer and not NO_SUCH.search(said):
+                    return f"not tried: {said[-600:]}"
+            return "NOT REFUSED: the crate is still proved with it"
+        finally:
+            write(room, kept)
 
-
-def try_all(names, lines, jobs):
-    """Tries the edits of these crates, `jobs` crates at a time, and returns how many were refused."""
-    with tempfile.TemporaryDirectory(prefix="edits-") as room:
-        lay_out(room, names, lines)
-        proved = [crate for crate in names if is_proved(room, crate, jobs)]
-        proved.sort(key=lambda crate: -len(edits_of(crate)))
+    def refused_of(self, edits, jobs):
+        """Tries these edits, some crates at a time, says what was not refused, and returns what was."""
+        by_crate = {}
+        for edit in edits:
+            by_crate.setdefault(crate_of(edit), []).append(edit)
+        longest_first, refused = sorted(by_crate, key=lambda crate: -len(by_crate[crate])), []
         with ThreadPoolExecutor(jobs) as pool:
-            return sum(pool.map(lambda crate: refused_of(room, crate), proved))
+            tried = pool.map(lambda crate: (crate, self.faults_of(crate, by_crate[crate])), longest_first)
+            for crate, faults in tried:
+                for edit, fault in faults.items():
+                    print(f"{edit}: {fault}\n" if fault else "", end="")
+                refused += [edit for edit, fault in faults.items() if not fault]
+                print(f"{crate}: {len({*refused} & {*faults})} of {len(faults)} refused", flush=True)
+        return refused
+
+
+def write(folder, texts):
+    for file, text in texts.items():
+        with open(f"{folder}/{file}", "w", encoding="utf-8", newline="") as out:
+            out.write(text)
+
+
+def crate_of(edit):
+    return edit.split("/")[1]
+
+
+def run(folder, *words):
+    """The status of a command that is run in the folder, and what it printed."""
+    ran = subprocess.run(words, cwd=folder, stdin=subprocess.DEVNULL, stdout=subprocess.PIPE, stderr=subprocess.STDOUT,
+                         errors="replace", check=False)
+    return ran.returncode, ran.stdout
+
+
+def try_all(edits, lines, jobs):
+    """Tries these edits over their crates, which are proved first in a folder of their own, and returns those that were
+    refused. What the kit has kept of the crates is not proved again."""
+    with tempfile.TemporaryDirectory(prefix="edits-") as room:
+        subprocess.run([f"{ROOT}/tests/lay_out.sh", room, *with_those_below(map(crate_of, edits), lines)], check=True)
+        ended, said = run(room, "rt", "ci")
+        if ended:
+            print(said, "the crates are not proved as they stand, so their edits tell nothing", sep="\n")
+            return []
+        return Proved(room, lines).refused_of(edits, jobs)
+
+
+def sum_of(edit, lines):
+    """The sum of all that a try of the edit stands on: the kit, the edit, the crate's files and those of all below it."""
+    made = hashlib.sha256(run(ROOT, "rt", "version")[1].encode())
+    folders = [f"crates/{it}/{part}" for it in with_those_below([crate_of(edit)], lines) for part in SOURCES]
+    files = [f"{at}/{name}" for folder in folders for at, _, names in os.walk(f"{ROOT}/{folder}") for name in names]
+    for path in (f"{ROOT}/{edit}", *sorted(files)):
+        with open(path, "rb") as file:
+            made.update(f"{os.path.relpath(path, ROOT)} {hashlib.sha256(file.read()).hexdigest()}\n".encode())
+    return f"{edit} {made.hexdigest()}\n"
+
+
+def gate(edits, lines, jobs):
+    """Tries these edits over the crates as the gate has just proved them, but those that were refused here before over the
+    same files; returns those that are refused."""
+    known = set()
+    if os.path.isfile(KNOWN) and not os.environ.get("ANEW"):
+        known.update(read(KNOWN).splitlines(keepends=True))
+    sums = {edit: sum_of(edit, lines) for edit in edits}
+    kept = [edit for edit in edits if sums[edit] in known]
+    print(f"{len(kept)} of {len(edits)} edits were refused here before, over the same files")
+    refused = kept + Proved(ROOT, lines).refused_of([edit for edit in edits if edit not in kept], jobs)
+    os.makedirs(os.path.dirname(KNOWN), exist_ok=True)
+    with open(KNOWN, "w", encoding="utf-8") as file:
+        file.writelines(sums[edit] for edit in refused)
+    return refused
 
 
 def main():
     parser = argparse.ArgumentParser(description=__doc__, formatter_class=argparse.RawDescriptionHelpFormatter)
     parser.add_argument("--apply", action="store_true", help="say which edits can't be applied, and try none")
-    parser.add_argument("--jobs", type=int, default=os.cpu_count(), help="how many crates are tried at a time")
+    parser.add_argument("--gate", action="store_true", help="try those in must-fail/ alone")
+    parser.add_argument("--jobs", type=int, default=os.cpu_count(), help="how many edits are tried at a time")
     parser.add_argument("crates", nargs="*", metavar="CRATE", help="crates with edits; all, where none is named")
     asked, lines = parser.parse_args(), crates()
     with_edits = [crate for crate in lines if edits_of(crate)]
-    names = [crate for crate in with_edits if not asked.crates or crate in asked.crates]
     if unknown := {*asked.crates} - {*with_edits}:
         parser.error(f"no crate with edits: {', '.join(sorted(unknown))}")
+    names = [crate for crate in with_edits if not asked.crates or crate in asked.crates]
     faults = [found for crate in names for found in faults_of(crate)]
     for edit, fault in faults:
         print(f"{edit}: {fault}")
-    if asked.apply:
+    if asked.apply or faults:
         sys.exit(1 if faults else 0)
-    count, begin = sum(len(edits_of(crate)) for crate in names), time.monotonic()
-    passed = 0 if faults else try_all(names, lines, asked.jobs)
-    print(f"{count} edits of {len(names)} crates in {(time.monotonic() - begin) / 60:.0f} minutes")
-    print(f"{passed} passed, {count - passed} failed")
-    sys.exit(0 if passed == count else 1)
+    edits = [edit for crate in names for edit in edits_of(crate, FOLDERS[:1] if asked.gate else FOLDERS)]
+    begin = time.monotonic()
+    refused = (gate if asked.gate else try_all)(edits, lines, asked.jobs)
+    print(f"{len(edits)} edits in {(time.monotonic() - begin) / 60:.0f} minutes")
+    print(f"{len(refused)} passed, {len(edits) - len(refused)} failed")
+    sys.exit(0 if len(refused) == len(edits) else 1)
 
 
-main()
+if __name__ == "__main__":
+    main()

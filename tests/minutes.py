@@ -1,7 +1,7 @@
 #!/usr/bin/env python3
 """What a check costs, in processor seconds of each crate.
 
-  minutes.py watch COMMAND..   runs a gate of the kit (rt ci), and writes to out/minutes.tsv what it took of each crate
+  minutes.py watch COMMAND..   runs a command that proves crates, and writes to out/minutes.tsv what it took of each crate
   minutes.py table             writes the table of docs/ARCHITECTURE.md ("What a check costs") from out/minutes.tsv
   minutes.py affected CRATE..  says which crates a change of these proves again, and their minutes by that table
 
@@ -59,7 +59,7 @@ def job_of(process):
         return None
     if os.path.basename(words[0]) != "rattle" or "--crate-name" not in words:
         return None
-    kind = "edits" if "/rt-edit-" in folder else "tests" if "--test" in words else "proof"
+    kind = "edits" if "/edits-" in folder else "tests" if "--test" in words else "proof"
     return words[words.index("--crate-name") + 1], kind
 
 

@@ -15,7 +15,7 @@ told() {
   if [[ $1 =~ ^rt:\ ([a-z_]+\ (NOT\ PROVED|proved))$ ]]; then
     count=$((count + 1))
     echo "[$count/$all] ${BASH_REMATCH[1]}, $SECONDS s"
-  elif [[ $1 =~ ^rt:\ ([a-z_]+:\ (its\ tests\ are|trying\ its\ must-fail\ edits).*) ]]; then
+  elif [[ $1 =~ ^rt:\ ([a-z_]+:\ its\ tests\ are.*) ]]; then
     echo "        ${BASH_REMATCH[1]}, $SECONDS s"
   fi
 }

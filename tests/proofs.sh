@@ -1,16 +1,31 @@
 #!/usr/bin/env bash
-# Proves every crate from nothing, tries the edits in must-fail/, runs the tests in Rattle and the programs, all by rt ci.
-# A kit that keeps what passed on this machine proves and tries again only what has changed and the crates above it, and its
-# line "rt: ok" says how much that was; with ANEW=1 in the environment all is done anew. out/minutes.tsv has the processor
+# Proves every crate from nothing, and runs the tests in Rattle and the programs, by rt ci over all crates, in a folder of
+# its own without the edits: tests/edits.py tries those by the functions that they change, where rt ci would begin with the
+# whole crate's proof once more. What is built comes back into the crates' out/.
+# A kit that keeps what passed on this machine proves again only what has changed and the crates above it, and its line
+# "rt: ok" says how much that was; with ANEW=1 in the environment all is done anew. out/minutes.tsv has the processor
 # seconds of each crate.
 set -u
 cd "$(dirname "$0")/.." || exit 1
+root=$PWD
 
 mapfile -t programs < <(tests/built.sh programs)
 stamps=()
 for name in "${programs[@]}"; do stamps+=("$(tests/built.sh stamp "$name")"); done
-tests/progress.sh out/test.log python3 tests/minutes.py watch rt ci ${ANEW:+--anew}
+work=$(mktemp -d)
+trap 'rm -rf "$work"' EXIT
+mapfile -t crates < <(grep -oE '^[a-z][a-z0-9_]*' crates.txt)
+tests/lay_out.sh "$work" "${crates[@]}"
+(cd "$work" && "$root/tests/progress.sh" "$root/out/test.log" python3 "$root/tests/minutes.py" watch rt ci ${ANEW:+--anew})
 status=$?
+for folder in "$work"/crates/*/out; do
+  to=crates/$(basename "$(dirname "$folder")")/out
+  mkdir -p "$to"
+  for made in "$folder"/*; do
+    rm -rf "${to:?}/$(basename "$made")"
+    mv "$made" "$to"
+  done
+done
 if [ "$status" -eq 0 ]; then
   for at in "${!programs[@]}"; do tests/built.sh keep "${programs[$at]}" "${stamps[$at]}"; done
 fi
