@@ -1,3 +1,4 @@
+pub mod AllMarks
 mod Before
 mod Between
 mod Chains
@@ -6,7 +7,10 @@ mod Glimpses
 mod Held
 mod Looks
 mod LostUpdates
+pub mod Needed
 mod Overwritten
+pub mod OwnSteps
 mod Parted
+pub mod SourceSteps
 mod TornReads
 mod UnreadStores

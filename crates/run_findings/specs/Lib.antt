@@ -11,3 +11,6 @@ pub mod TornReads
 pub mod Links
 pub mod Sought
 pub mod Rounds
+pub mod Own
+pub mod Needs
+pub mod Sources

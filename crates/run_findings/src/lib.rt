@@ -6,10 +6,13 @@ mod actions;
 mod links;
 mod lost;
 mod marks;
+mod needs;
+mod own;
 mod pairs;
 mod parting;
 mod rounds;
 mod searching;
+mod sources;
 mod torn;
 mod unread;
 

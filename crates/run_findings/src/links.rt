@@ -12,7 +12,7 @@ use std::collections::HashMap;
 
 /// The last step so far that met each word.
 #[derive(Drop)]
-struct Latest {
+pub(crate) struct Latest {
     steps: HashMap<u64, usize>,
 }
 
@@ -22,7 +22,7 @@ impl Latest {
 
     /// None has met any.
     #[tactic(auto, unfolding(crate::specs::Links::latest_of))]
-    fn new(alloc: Global) -> Latest
+    pub(crate) fn new(alloc: Global) -> Latest
         ensures { (a : ℕ) → latest_of result a ≡ None }
     {
         Latest {
@@ -32,7 +32,7 @@ impl Latest {
 
     /// The last step that met a word, where there is one.
     #[tactic(auto, unfolding(crate::specs::Links::latest_of))]
-    fn before(&self, word: Option<u64>) -> Option<usize>
+    pub(crate) fn before(&self, word: Option<u64>) -> Option<usize>
         ensures { result ≡ latest_in self.now word }
     {
         match word {
@@ -43,7 +43,7 @@ impl Latest {
 
     /// Notes the word that a step meets, if it does.
     #[tactic(auto, unfolding(crate::specs::Links::latest_of))]
-    fn note(&mut self, word: Option<u64>, step: usize) -> Result<(), AllocError>
+    pub(crate) fn note(&mut self, word: Option<u64>, step: usize) -> Result<(), AllocError>
         ensures { OnOk result ((a : ℕ) → latest_of self.new a ≡ with_step a word step (latest_of self.old a)) }
     {
         if let Some(address) = word {

@@ -3,14 +3,16 @@
 ghost use Rattle.std.specs.Prelude.{◌≡◌, ◌↔◌, ◌<◌, length, map, Contains, AllPairs, IfOk, slice_get};
 ghost use Rattle.run_findings.specs.LostUpdates.{IsLostUpdate, lost_at, full_store, is_source};
 ghost use Rattle.run_findings.specs.Places.{last_below};
-ghost use Rattle.run_findings.specs.Marks.{is_made_of};
+ghost use Rattle.run_findings.specs.Sources.{AreSources, is_needed_read};
 ghost use Rattle.run_findings.specs.Links.{AreWrites, AreReads};
 
 use crate::actions::{Access, Action, is_store};
 use crate::links::links;
 use crate::marks::Marks;
+use crate::own::own_before;
 use crate::parting::Meeting;
 use crate::searching::last_written_or_read;
+use crate::sources::Sources;
 use std::alloc::{AllocError, Global};
 
 /// That another stream's write was lost: it was stored over by a stream that had read the word before that write and not
@@ -34,9 +36,10 @@ pub fn lost_updates(alloc: Global, actions: &[Action]) -> Result<Vec<LostUpdate>
 {
     let past_writes = links(alloc, actions, Meeting::Writes)?;
     let past_reads = links(alloc, actions, Meeting::Reads)?;
+    let sources = Sources::of(alloc, actions)?;
     let mut found = Vec::new(alloc);
     for stored in 0..actions.len() {
-        if let Some(update) = lost_at(actions, &past_writes, &past_reads, stored) {
+        if let Some(update) = lost_at(actions, &past_writes, &past_reads, &sources, stored) {
             found.push(update)?;
         }
     }
@@ -49,11 +52,13 @@ pub(crate) fn lost_at(
     actions: &[Action],
     past_writes: &[Option<usize>],
     past_reads: &[Option<usize>],
+    sources: &Sources,
     stored: usize,
 ) -> Option<LostUpdate>
     requires stored_in { stored < length actions.now }
     requires writes_linked { AreWrites actions.now past_writes.now }
     requires reads_linked { AreReads actions.now past_reads.now }
+    requires sources { AreSources actions.now sources.now }
     ensures { result ≡ lost_at actions.now stored }
 {
     let action = &actions[stored];
@@ -69,7 +74,7 @@ pub(crate) fn lost_at(
     if actions[over].is_by(action.stream) {
         return None;
     }
-    let read = last_source(actions, stored, action, word, over)?;
+    let read = last_source(actions, sources, stored, action, word, over)?;
     Some(LostUpdate {
         word,
         read,
@@ -82,6 +87,7 @@ pub(crate) fn lost_at(
 /// what it stores was computed.
 fn last_source(
     actions: &[Action],
+    sources: &Sources,
     stored: usize,
     action: &Action,
     word: u64,
@@ -89,27 +95,31 @@ fn last_source(
 ) -> Option<usize>
     requires end_in { end < stored }
     requires stored_in { stored < length actions.now }
+    requires stands { slice_get actions.now stored ≡ Some action.now }
+    requires sources { AreSources actions.now sources.now }
     ensures { result ≡ last_below (is_source actions.now stored action.now word) end }
 {
-    let mut place = end;
-    while place > 0 {
-        place -= 1;
-        if is_source(actions, stored, action, word, place) {
-            return Some(place);
+    let mut needed = Marks::needed_to_store(&action.deed, &sources.marks_before(actions, stored));
+    let mut step = stored;
+    while let Some(own) = own_before(actions, &sources.own, step) {
+        if needed.are_none() {
+            return None;
         }
+        let reader = &actions[own];
+        if own < end && is_needed_read(reader, word, &needed) {
+            return Some(own);
+        }
+        needed = needed.needed_before(&reader.deed, &sources.marks_before(actions, own));
+        step = own;
     }
     None
 }
 
-/// Whether the stream of step `stored`, which this is, read this word in step `place`, and what it stores was computed
-/// from what it read there.
-fn is_source(actions: &[Action], stored: usize, action: &Action, word: u64, place: usize) -> bool
-    requires place_in { place < stored }
-    requires stored_in { stored < length actions.now }
-    ensures { result ≡ is_source actions.now stored action.now word place }
+/// Whether a step read this word, into a register that is needed.
+fn is_needed_read(reader: &Action, word: u64, needed: &Marks) -> bool
+    ensures { result ≡ is_needed_read reader.now word needed.now }
 {
-    let reader = &actions[place];
-    reader.is_by(action.stream) && reader.reads(word) && is_made_of(actions, place, stored, action)
+    reader.reads(word) && needed.are_read(&reader.deed)
 }
 
 /// The word into which a STORE stored that found it full.
@@ -120,13 +130,4 @@ fn full_store(access: &Option<Access>) -> Option<u64>
         Some(access) if is_store(access.op) && access.full => Some(access.address),
         _ => None,
     }
-}
-
-/// Whether a step stores what was computed from what its stream had read in step `read`.
-fn is_made_of(actions: &[Action], read: usize, stored: usize, action: &Action) -> bool
-    requires read_in { read < stored }
-    requires stored_in { stored < length actions.now }
-    ensures { result ≡ is_made_of actions.now read stored action.now }
-{
-    Marks::before(actions, action.stream, read, stored).are_stored(&action.deed)
 }

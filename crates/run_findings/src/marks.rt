@@ -13,13 +13,13 @@ use processor::Step;
 /// The marked registers of a stream.
 #[derive(Clone, Copy)]
 pub(crate) struct Marks {
-    registers: [bool; 32],
-    targets: [bool; 8],
+    pub(crate) registers: [bool; 32],
+    pub(crate) targets: [bool; 8],
 }
 
 impl Marks {
     /// No register is marked.
-    const NONE: Marks = Marks {
+    pub(crate) const NONE: Marks = Marks {
         registers: [false; 32],
         targets: [false; 8],
     };
@@ -49,7 +49,7 @@ impl Marks {
     }
 
     /// The marks after what a step did to its stream, where the memory's answer is marked or not.
-    fn after_deed(self, deed: &Deed, answer: bool) -> Marks
+    pub(crate) fn after_deed(self, deed: &Deed, answer: bool) -> Marks
         ensures { result ≡ marks_after_deed self deed.now answer }
     {
         match deed {
@@ -77,7 +77,7 @@ impl Marks {
         }
     }
 
-    fn after_wide(self, op: WideOp, reg: u8) -> Marks
+    pub(crate) fn after_wide(self, op: WideOp, reg: u8) -> Marks
         ensures { result ≡ marks_after_wide self op reg }
     {
         match op {
@@ -167,7 +167,7 @@ impl Marks {
 }
 
 /// Whether an operation ends its stream.
-fn is_quit(op: ControlOp) -> bool
+pub(crate) fn is_quit(op: ControlOp) -> bool
     ensures { result ≡ is_quit op }
 {
     match op {
@@ -186,14 +186,14 @@ fn is_quit(op: ControlOp) -> bool
     }
 }
 
-fn mark_at(marks: &[bool], number: u8) -> bool
+pub(crate) fn mark_at(marks: &[bool], number: u8) -> bool
     ensures { result ≡ mark_at marks.now number }
 {
     marks.get(usize::from(number)).copied().unwrap_or(false)
 }
 
 /// The marks with another one for a register. Of r0, and from 32 on, none is kept.
-fn with_mark(marks: [bool; 32], register: u8, mark: bool) -> [bool; 32]
+pub(crate) fn with_mark(marks: [bool; 32], register: u8, mark: bool) -> [bool; 32]
     ensures { result ≡ with_mark marks register mark }
 {
     let mut marks = marks;
@@ -205,7 +205,7 @@ fn with_mark(marks: [bool; 32], register: u8, mark: bool) -> [bool; 32]
 }
 
 /// The marks with another one for a target register. From 8 on none is kept.
-fn with_target_mark(marks: [bool; 8], target: u8, mark: bool) -> [bool; 8]
+pub(crate) fn with_target_mark(marks: [bool; 8], target: u8, mark: bool) -> [bool; 8]
     ensures { result ≡ slice_set marks target mark }
 {
     let mut marks = marks;

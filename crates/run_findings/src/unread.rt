@@ -3,12 +3,14 @@
 ghost use Rattle.std.specs.Prelude.{◌≡◌, ◌↔◌, ◌<◌, length, Contains, AllPairs, IfOk};
 ghost use Rattle.run_findings.specs.UnreadStores.{IsUnreadStore, unread_at, is_unread, store_of};
 ghost use Rattle.run_findings.specs.Links.{AreWrites, AreReads};
+ghost use Rattle.run_findings.specs.Sources.{AreSources};
 
 use crate::actions::{Access, Action, is_store};
 use crate::links::links;
 use crate::lost::lost_at;
 use crate::parting::Meeting;
 use crate::searching::last_met;
+use crate::sources::Sources;
 use std::alloc::{AllocError, Global};
 
 /// That a stream stored over another stream's store of another value, which nobody had read, and that this is not the
@@ -30,9 +32,10 @@ pub fn unread_stores(alloc: Global, actions: &[Action]) -> Result<Vec<UnreadStor
 {
     let past_writes = links(alloc, actions, Meeting::Writes)?;
     let past_reads = links(alloc, actions, Meeting::Reads)?;
+    let sources = Sources::of(alloc, actions)?;
     let mut found = Vec::new(alloc);
     for stored in 0..actions.len() {
-        if let Some(store) = unread_at(actions, &past_writes, &past_reads, stored) {
+        if let Some(store) = unread_at(actions, &past_writes, &past_reads, &sources, stored) {
             found.push(store)?;
         }
     }
@@ -45,11 +48,13 @@ fn unread_at(
     actions: &[Action],
     past_writes: &[Option<usize>],
     past_reads: &[Option<usize>],
+    sources: &Sources,
     stored: usize,
 ) -> Option<UnreadStore>
     requires stored_in { stored < length actions.now }
     requires writes_linked { AreWrites actions.now past_writes.now }
     requires reads_linked { AreReads actions.now past_reads.now }
+    requires sources { AreSources actions.now sources.now }
     ensures { result ≡ unread_at actions.now stored }
 {
     let action = &actions[stored];
@@ -58,7 +63,7 @@ fn unread_at(
     if !is_unread(action, &store, &actions[over]) {
         return None;
     }
-    match lost_at(actions, past_writes, past_reads, stored) {
+    match lost_at(actions, past_writes, past_reads, sources, stored) {
         Some(_) => None,
         None => Some(UnreadStore {
             word: store.address,
