@@ -1,23 +1,25 @@
--- Worlds that agree stay so under each schedule.
-use Rattle.std.proofs.Common.{◌≡◌, ◌≢◌, ℕ, ◌⊎◌, inl, inr, true, false, sym, ap, ◌∙◌, subst, List, [], ◌∷◌, set, Some, slice_get}
-use Rattle.std.proofs.lemmas.List.{get_or-set_same, get_or-set_other}
+-- Chains of links: both ways, one after the other, and under each schedule.
+use Rattle.std.proofs.Common.{◌≡◌, ◌≢◌, ℕ, ◌⊎◌, inl, inr, true, false, refl, sym, ap, ◌∙◌, arith, subst, List, [], ◌∷◌, length, set, Some, slice_get}
+use Rattle.std.proofs.lemmas.List.{length-set, get_or-set_same, get_or-set_other, set-set, set-get_or}
 use Rattle.image_file.specs.ImageValue.{ImageValue}
+use Rattle.stream_core.specs.Registers.{register_at}
 use Rattle.stream_core.specs.Streams.{StreamValue, idle, cannot_trap}
-use Rattle.processor.specs.Processors.{ProcessorValue, stream_at}
+use Rattle.processor.specs.Processors.{ProcessorValue, is_idle, stream_at}
 use Rattle.processor.specs.Records.{is_running}
 use Rattle.processor.specs.Row.{with_stream}
 use Rattle.processor.specs.World.{World, world_step, after, steps}
 use Rattle.processor.specs.declared.steps.Step.{Step}
 use Rattle.processor.proofs.Histories.{get_set_other}
 use Rattle.local_steps.proofs.Commuting.{there_same}
+use Rattle.local_steps.proofs.Ended.{set_itself}
 use Rattle.local_steps.proofs.Orders.{same_or_other}
 use Rattle.program_flow.specs.Agreement.{with_registers}
-use Rattle.program_flow.specs.Flow.{IsClosed}
-use Rattle.same_futures.specs.Links.{IsLinked, TellsHandlers, AreLinked, WorldsAgree}
+use Rattle.program_flow.specs.Flow.{Matters, IsClosed}
+use Rattle.same_futures.specs.Links.{HasOtherRegisters, IsLinked, TellsHandlers, AreLinked, WorldsAgree}
 use Rattle.same_futures.proofs.Linked.{links_kept}
 
 -- a running stream of a linked world may trap where that of the first one may
-told_linked : (handled : Type 0) (named : ℕ → Type 0) (live : ℕ → ℕ → Type 0) (a b : World) → TellsHandlers handled a
+pub told_linked : (handled : Type 0) (named : ℕ → Type 0) (live : ℕ → ℕ → Type 0) (a b : World) → TellsHandlers handled a
     → IsLinked named live a b → TellsHandlers handled b
 told_linked handled named live a b told l p k proc there runs may =
     by_processor (same_or_other p l.p)
@@ -48,6 +50,81 @@ told_linked handled named live a b told l p k proc there runs may =
       where
         inside : {u v : ProcessorValue} → Some u ≡ Some v → u ≡ v
         inside e = cc
+
+told_chain : (handled : Type 0) (named : ℕ → Type 0) (live : ℕ → ℕ → Type 0) (cs : List World) (a b : World)
+    → TellsHandlers handled a → AreLinked named live a cs b → TellsHandlers handled b
+told_chain handled named live [] a b told e = subst (TellsHandlers handled) (sym e) told
+told_chain handled named live (c ∷ cs) a b told l =
+    told_chain handled named live cs c b (told_linked handled named live a c told l.0) l.1
+
+-- so it is with worlds that agree
+pub told_agreeing : (handled : Type 0) (named : ℕ → Type 0) (live : ℕ → ℕ → Type 0) (a b : World)
+    → TellsHandlers handled a → WorldsAgree named live a b → TellsHandlers handled b
+told_agreeing handled named live a b told g = told_chain handled named live g.0 a b told g.1
+
+module _ (named : ℕ → Type 0) (live : ℕ → ℕ → Type 0) where
+  -- one chain behind another
+
+  chained : (cs : List World) (a b c : World) → AreLinked named live a cs b → WorldsAgree named live b c
+      → WorldsAgree named live a c
+  chained [] a b c e g = subst (λ w. WorldsAgree named live w c) e g
+  chained (d ∷ cs) a b c l g = let more = chained cs d b c l.1 g in (d ∷ more.0, (l.0, more.1))
+
+  pub agree_itself : (a : World) → WorldsAgree named live a a
+  agree_itself a = ([], refl)
+
+  pub agree_next : (a b c : World) → WorldsAgree named live a b → WorldsAgree named live b c → WorldsAgree named live a c
+  agree_next a b c g h = chained g.0 a b c g.1 h
+
+  pub agree_link : (a b : World) → IsLinked named live a b → WorldsAgree named live a b
+  agree_link a b l = (b ∷ [], (l, refl))
+
+  -- and back
+
+  moved_back : (k : ℕ) (from to : ProcessorValue) → HasOtherRegisters named live k from to
+      → HasOtherRegisters named live k to from
+  moved_back k from to m = subst (λ q. HasOtherRegisters named live k q from) (sym m.is) (record {
+    within = omega (arith, m.within, length-set from.streams k x);
+    awake = ap is_idle held ∙ m.awake;
+    registers = s.registers;
+    sizes = sym m.sizes ∙ ap (λ (y : StreamValue). length y.registers) (sym held);
+    each = subst (λ (y : StreamValue). (r : ℕ) → Matters named live y r → register_at s.registers r ≡ register_at y.registers r)
+        (sym held) (λ r l. sym (m.each r l));
+    is =
+        sym (ap (λ (y : StreamValue). with_stream (with_stream from k x) k (with_registers y s.registers)) held
+        ∙ ap (λ ss. record { streams = ss; scur = from.scur; sres = from.sres })
+        (set-set from.streams k x s ∙ set-get_or from.streams k idle));
+  })
+    where
+      s : StreamValue
+      s = stream_at from.streams k
+
+      x : StreamValue
+      x = with_registers s m.registers
+
+      held : stream_at (with_stream from k x).streams k ≡ x
+      held = get_or-set_same from.streams k x idle m.within
+
+  linked_back : (a b : World) → IsLinked named live a b → IsLinked named live b a
+  linked_back a b l = subst (λ w. IsLinked named live w a) (sym l.is) (record {
+    p = l.p;
+    k = l.k;
+    from = l.to;
+    to = l.from;
+    there = there_same a.processors l.p l.from l.to l.there;
+    moved = moved_back l.k l.from l.to l.moved;
+    is = λ i. record {
+      processors = sym (set-set a.processors l.p l.to l.from ∙ set_itself a.processors l.p l.from l.there) i;
+      memory = a.memory;
+    };
+  })
+
+  chain_back : (cs : List World) (a b : World) → AreLinked named live a cs b → WorldsAgree named live b a
+  chain_back [] a b e = ([], sym e)
+  chain_back (c ∷ cs) a b l = agree_next b c a (chain_back cs c b l.1) (agree_link c a (linked_back a c l.0))
+
+  pub agree_back : (a b : World) → WorldsAgree named live a b → WorldsAgree named live b a
+  agree_back a b g = chain_back g.0 a b g.1
 
 module _ (image : ImageValue) (handled : Type 0) (named : ℕ → Type 0) (live : ℕ → ℕ → Type 0)
     (closed : IsClosed image.profile image.program handled named live) where

@@ -126,14 +126,14 @@ module _ (image : ImageValue) (named : ℕ → Type 0) (live : ℕ → ℕ → T
       }
 
 -- A step of the stream itself that does not run.
-rests_status : (st : Status) → (st ≡ Running) ⊎ (is_running_status st ≡ false)
+pub rests_status : (st : Status) → (st ≡ Running) ⊎ (is_running_status st ≡ false)
 rests_status Idle = inr refl
 rests_status Running = inl refl
 rests_status (Stopped kd) = inr refl
 
 module _ (image : ImageValue) (handled : Type 0) (named : ℕ → Type 0) (live : ℕ → ℕ → Type 0)
     (closed : IsClosed image.profile image.program handled named live) where
-  closed_here : (s : StreamValue) → s.status ≡ Running → IsClosedAt handled live s.ssw.pc (image_fetch image s)
+  pub closed_here : (s : StreamValue) → s.status ≡ Running → IsClosedAt handled live s.ssw.pc (image_fetch image s)
   unfolding fetch_of
   closed_here s runs =
       subst (IsClosedAt handled live s.ssw.pc)

@@ -29,9 +29,9 @@ use Rattle.stream_core.specs.declared.steps.Control.{Control}
 use Rattle.stream_core.specs.declared.steps.Control.TheVariants as asks
 use Rattle.processor.specs.Processors.{ProcessorValue, is_idle, stream_at}
 use Rattle.processor.specs.Row.{lacks_stream, image_fetch, step_fetch_from, step_fetch, step_fetch_at, step_fetch_of}
-use Rattle.processor.specs.Row.{request_on_fetch, grant_of, with_stream, lowest_idle, after_control}
+use Rattle.processor.specs.Row.{request_on_fetch, next_asking, next_on_fetch, next_of, grant_of, with_stream, lowest_idle, after_control}
 use Rattle.processor.specs.Row.{after_control_if_done, row_on_fetch, memory_reply, row_over_memory}
-use Rattle.processor.proofs.Begun.{row_over_memory_begun}
+use Rattle.processor.proofs.Begun.{next_begun, row_over_memory_begun}
 use Rattle.processor.proofs.Awake.{awake-trapped, awake-row_asking}
 use Rattle.local_steps.proofs.Beside.{never_first, lacks_same, grant_same, over_memory_beside}
 use Rattle.local_steps.proofs.Commuting.{kept_stream}
@@ -322,6 +322,19 @@ module _ (image : ImageValue) (handled : Type 0) (named : ℕ → Type 0) (live 
         let own = own_fetch e.1 f f_closed in
         subst (λ v. Close (row_over_memory image proc k m) v) left_x
         (subst (λ v. Close v (row_on_fetch image px k e.1 x f, e.0)) left_s (own.0, (refl, own.1)))
+
+    next_moved : (h : Fetch) → AgreeOn (reads_at h) rs s.registers → next_on_fetch x h ≡ next_on_fetch s h
+    next_moved fetch.Rest e = refl
+    next_moved (fetch.Trap kd) e = refl
+    next_moved (fetch.Instruction i) e = ap next_asking (same_request s rs i e)
+
+    -- its step needs the same
+    pub own_next : next_of image px k ≡ next_of image proc k
+    own_next =
+        sym (next_begun image px k f begins_x)
+        ∙ ap (λ z. next_on_fetch z f) got
+        ∙ next_moved f (reads f f_closed)
+        ∙ next_begun image proc k f begins_s
 
   -- a step of another stream of the processor
   pub beside_close : (n : ℕ) → n ≢ k → (each : (r : ℕ) → Matters named live s r → Same rs s.registers r)

@@ -2,6 +2,11 @@
 //! "One step").
 #![tactic(auto)]
 
+mod handlers;
 mod laws;
 
-pub use laws::{links_are_kept, schedules_agree};
+pub use handlers::may_have_handlers;
+pub use laws::{
+    agreeing_worlds_are_alike, agreeing_worlds_end_alike, handlers_stay_out, links_are_kept,
+    schedules_agree,
+};
