@@ -5,3 +5,4 @@ pub mod Distances
 pub mod Mirrors
 pub mod Settled
 pub mod Homes
+pub mod LeadingPlaces

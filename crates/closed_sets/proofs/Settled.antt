@@ -7,7 +7,7 @@ use Rattle.closed_sets.specs.declared.links.Link.{Link}
 use Rattle.closed_sets.specs.Ways.{IsWay, IsFrom, Leads, link_at}
 use Rattle.closed_sets.specs.Values.{IsLowest}
 use Rattle.closed_sets.specs.Sets.{IsSettled, IsLeast, AreHomes}
-use Rattle.closed_sets.specs.Marks.{AreNumbers, AreLeast, AreLeft, IsStray, AreStrays, AreHomeMarks, IsHeld, AreHeld}
+use Rattle.closed_sets.specs.Marks.{AreSpread, AreNumbers, AreLeast, AreLeft, IsStray, AreStrays, AreHomeMarks, IsHeld, AreHeld}
 use Rattle.closed_sets.specs.Marks.{flip, AreTold}
 use Rattle.closed_sets.proofs.Ways.{way_inside, leads_on}
 use Rattle.closed_sets.proofs.Mirrors.{Mirrors, leads_back, mirrors, mirrored}
@@ -133,52 +133,59 @@ settled_held links least strays are lost k below settled =
 
 -- The marks.
 
-pub strays_by : (links : List Link) (least left new : List ℕ) → AreLeft links least left → IsLowest links 0 left new
-    → AreStrays links least new
-strays_by links least left new are low = record {
-  many = many;
+pub spread_by : (links : List Link) (old new : List ℕ) → IsLowest links 0 old new → AreSpread links old new
+spread_by links old new low = record {
+  many = low.many;
   found = λ k below zero_there.
-      let to = lowest_found links left new low k (omega (arith, below, many)) in
-      let link = are.found to.0 (omega (arith, to.1, many)) (sym to.3 ∙ zero_there) in (
+      let to = lowest_found links old new low k (omega (arith, below, low.many)) in (
+        to.0,
+        omega (arith, to.1, low.many),
+        sym to.3 ∙ zero_there,
+        subst (λ (m : ℕ). Leads m links k to.0) low.many to.2,
+      );
+  all = λ k j below zero_there leads.
+      let leads_too = subst (λ (m : ℕ). Leads m links k j) (sym low.many) leads in
+      let less = lowest_all links old new low k j (omega (arith, below, low.many)) leads_too in
+      omega (arith, less, zero_there);
+}
+
+pub strays_by : (links : List Link) (least left new : List ℕ) → AreLeft links least left → AreSpread links left new
+    → AreStrays links least new
+strays_by links least left new are spread = record {
+  many = spread.many ∙ are.many;
+  found = λ k below zero_there.
+      let to = spread.found k (omega (arith, below, are.many)) zero_there in
+      let link = are.found to.0 (omega (arith, to.1, are.many)) to.2 in (
         link.0,
         link.1,
         link.3,
-        subst (Leads (length least) links k) (sym link.2) (subst (λ (m : ℕ). Leads m links k to.0) many to.2),
+        subst (Leads (length least) links k) (sym link.2) (subst (λ (m : ℕ). Leads m links k to.0) are.many to.3),
       );
   all = λ k below stray.
       let from = (link_at links stray.0).from in
-      let leads = subst (λ (m : ℕ). Leads m links k from) (sym many) stray.3 in
-      let less = lowest_all links left new low k from (omega (arith, below, many)) leads in
-      let none = are.all stray.0 stray.1 stray.2 in
-      omega (arith, less, none);
-} where
-  many : length new ≡ length least
-  many = low.many ∙ are.many
+      let leads = subst (λ (m : ℕ). Leads m links k from) (sym are.many) stray.3 in
+      spread.all k from (omega (arith, below, are.many)) (are.all stray.0 stray.1 stray.2) leads;
+}
 
 pub held_by : (links back : List Link) (least strays homes new : List ℕ) → back ≡ map flip (reverse links)
-    → AreHomeMarks least strays homes → IsLowest back 0 homes new → AreHeld links least strays new
-held_by links back least strays homes new is are low = record {
-  many = many;
+    → AreHomeMarks least strays homes → AreSpread back homes new → AreHeld links least strays new
+held_by links back least strays homes new is are spread = record {
+  many = spread.many ∙ are.many;
   found = λ k below zero_there.
-      let to = lowest_found back homes new low k (omega (arith, below, many)) in
-      let inside : to.0 < length least = omega (arith, to.1, many) in
-      let leads = subst (λ (m : ℕ). Leads m back k to.0) many to.2 in (
+      let to = spread.found k (omega (arith, below, are.many)) zero_there in
+      let inside : to.0 < length least = omega (arith, to.1, are.many) in
+      let leads = subst (λ (m : ℕ). Leads m back k to.0) are.many to.3 in (
         to.0,
         inside,
-        are.found to.0 inside (sym to.3 ∙ zero_there),
+        are.found to.0 inside to.2,
         leads_back (length least) back links (subst (λ (xs : List Link). Mirrors xs links) (sym is) (mirrors links)) leads.0 k to.0 leads.1,
       );
   all = λ k below on.
       let leads =
       leads_back (length least) links back (subst (Mirrors links) (sym is) (mirrored links)) on.3.0 on.0 k on.3.1 in
-      let less =
-      lowest_all back homes new low k on.0 (omega (arith, below, many))
-      (subst (λ (m : ℕ). Leads m back k on.0) (sym many) leads) in
-      let none = are.all on.0 on.1 on.2 in
-      omega (arith, less, none);
-} where
-  many : length new ≡ length least
-  many = low.many ∙ are.many
+      spread.all k on.0 (omega (arith, below, are.many)) (are.all on.0 on.1 on.2)
+      (subst (λ (m : ℕ). Leads m back k on.0) (sym are.many) leads);
+}
 
 -- All together.
 

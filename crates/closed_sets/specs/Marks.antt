@@ -1,8 +1,30 @@
--- Marks by which the sets are found: 0 where a place is marked.
-use Rattle.std.specs.Prelude.{◌≡◌, ◌≢◌, ℕ, ◌<◌, Option, Some, None, List, length, slice_index, slice_index_or}
+-- Marks of places: 0 where a place is marked. How they spread along links, and those by which the sets are found.
+use Rattle.std.specs.Prelude.{◌≡◌, ◌≢◌, ◌↔◌, ℕ, ◌<◌, Bool, Option, Some, None, List, length, slice_index, slice_index_or}
+use Rattle.std.specs.Prelude.{Contains}
 use Rattle.closed_sets.specs.declared.links.Link.{Link}
 use Rattle.closed_sets.specs.Ways.{Leads, link_at}
+use Rattle.closed_sets.specs.Leading.{IsMarked}
 use Rattle.closed_sets.specs.Sets.{IsLeast}
+
+-- the places are marked from which a way leads to one that was marked
+pub record AreSpread (links : List Link) (old new : List ℕ) : Type 0 where
+  pub many : length new ≡ length old
+  pub found :
+      (k : ℕ) → k < length old → slice_index new k ≡ 0
+      → (j : ℕ) × (j < length old) × (slice_index old j ≡ 0) × Leads (length old) links k j
+  pub all :
+      (k j : ℕ) → k < length old → slice_index old j ≡ 0 → Leads (length old) links k j → slice_index new k ≡ 0
+
+-- there is a mark for each of n places, and the goals among them are marked
+pub record AreGoalMarks (n : ℕ) (goals marks : List ℕ) : Type 0 where
+  pub many : length marks ≡ n
+  pub found : (k : ℕ) → k < n → slice_index marks k ≡ 0 → Contains goals k
+  pub all : (k : ℕ) → k < n → Contains goals k → slice_index marks k ≡ 0
+
+-- which places are marked
+pub record AreRead (marks : List ℕ) (are : List Bool) : Type 0 where
+  pub many : length are ≡ length marks
+  pub each : (k : ℕ) → k < length marks → IsMarked are k ↔ (slice_index marks k ≡ 0)
 
 -- each number is its own place
 pub record AreNumbers (n : ℕ) (values : List ℕ) : Type 0 where

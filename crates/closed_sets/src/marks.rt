@@ -1,11 +1,18 @@
-//! Marks by which the sets are found: 0 where a place is marked, else 1.
+//! Marks of places: 0 where a place is marked, else 1. How they spread along links, and those by which the sets are found.
 
 ghost use Rattle.std.specs.Prelude.{◌≡◌, ◌<◌, ◌↔◌, length, map, reverse, IfOk, IsTrue, nat_eq, slice_index};
-ghost use Rattle.closed_sets.specs.Marks.{AreLeft, Leaves, AreStrays, AreHomeMarks, IsHome, AreHeld, flip};
+ghost use Rattle.closed_sets.specs.Marks.{AreSpread, AreLeft, Leaves, AreStrays, AreHomeMarks, IsHome, AreHeld, flip};
 
 use crate::links::Link;
 use crate::lowest::lowest_of;
 use std::alloc::{AllocError, Global};
+
+/// Marks the places that lead to a marked place.
+pub(crate) fn spread(links: &[Link], marks: Vec<usize>) -> Vec<usize>
+    ensures { AreSpread links.now marks.items result.items }
+{
+    lowest_of(links, 0, marks)
+}
 
 /// Marks the places that lead to a place from which a link leads to one with another least place.
 pub(crate) fn strays(
@@ -16,7 +23,7 @@ pub(crate) fn strays(
     ensures { IfOk result (λ v. AreStrays links.now least.now v.items) }
 {
     let left = left_places(alloc, links, least)?;
-    Ok(lowest_of(links, 0, left))
+    Ok(spread(links, left))
 }
 
 /// Marks the places from which a link leads to one with another least place.
@@ -53,7 +60,7 @@ pub(crate) fn held(
 {
     let homes = home_marks(alloc, least, strays)?;
     let back = flipped(alloc, links)?;
-    Ok(lowest_of(&back, 0, homes))
+    Ok(spread(&back, homes))
 }
 
 /// Marks the places that are the least which they lead to and do not stray.

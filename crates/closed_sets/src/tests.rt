@@ -1,5 +1,6 @@
 //! Small graphs, with answers worked out by hand.
 
+use crate::leading::places_leading_to;
 use crate::links::Link;
 use crate::rounds::way_round;
 use crate::sets::closed_sets;
@@ -26,6 +27,39 @@ fn homes_of_seven(alloc: Global) -> Option<bool> {
 #[test]
 fn sets_of_seven_places(rt: HostRuntime) {
     assert!(rt; homes_of_seven(rt.alloc()) == Some(true));
+}
+
+/// Which of six places lead to some: 0 leads to 1 and 2, 1 to 3, and 2 to 4 and back; no link leaves 3, 4 leads to 2, and 5
+/// to 0.
+fn leading_of_six(alloc: Global, goals: &[usize]) -> Option<Vec<bool>> {
+    let links = [
+        Link { from: 0, to: 1 },
+        Link { from: 0, to: 2 },
+        Link { from: 1, to: 3 },
+        Link { from: 2, to: 4 },
+        Link { from: 4, to: 2 },
+        Link { from: 5, to: 0 },
+        Link { from: 3, to: 9 },
+    ];
+    places_leading_to(alloc, 6, &links, goals).ok()
+}
+
+/// Whether these are the marks.
+fn are(marks: Option<Vec<bool>>, expected: &[bool]) -> bool {
+    match marks {
+        Some(marks) => marks.as_slice() == expected,
+        None => false,
+    }
+}
+
+#[test]
+fn places_that_lead_to_one_or_to_some(rt: HostRuntime) {
+    let of_one = leading_of_six(rt.alloc(), &[3]);
+    assert!(rt; are(of_one, &[true, true, false, true, false, true]));
+    let of_two = leading_of_six(rt.alloc(), &[4, 1, 9]);
+    assert!(rt; are(of_two, &[true, true, true, false, true, true]));
+    let of_none = leading_of_six(rt.alloc(), &[]);
+    assert!(rt; are(of_none, &[false, false, false, false, false, false]));
 }
 
 /// The shortest way round from a place of four, which are a ring with a link from 2 back to 0 and one from 3 to itself.

@@ -1,10 +1,10 @@
 use Rattle.std.proofs.Common.{rules}
-use Rattle.closed_sets.specs.Values.{IsLowest}
+use Rattle.closed_sets.specs.Marks.{AreSpread}
 use Rattle.closed_sets.proofs.Settled.{held_by}
 use Rattle.closed_sets.proofs.marks.held.Goals as goal
 
 pub returns : goal.returns
 returns c =
-    let low : IsLowest c.in_ok-back.back.items 0 c.in_ok-homes.homes.items c.lowest_of.result.items = search rules in
+    let spread : AreSpread c.in_ok-back.back.items c.in_ok-homes.homes.items c.spread.result.items = search rules in
     held_by c.args.links.now c.in_ok-back.back.items c.args.least.now c.args.strays.now c.in_ok-homes.homes.items
-    c.lowest_of.result.items c.in_ok-back.ensures c.in_ok-homes.ensures low
+    c.spread.result.items c.in_ok-back.ensures c.in_ok-homes.ensures spread
