@@ -8,7 +8,7 @@ use Rattle.run_findings.specs.Places.{last_before}
 use Rattle.run_findings.specs.TornReads.{word_loaded, word_changed, is_change_of, glimpse_between, glimpse_of, glimpse_from}
 use Rattle.run_findings.specs.TornReads.{glimpse_word, glimpse_step, glimpse_at}
 use Rattle.run_findings.specs.declared.actions.Action.{Action}
-use Rattle.run_findings.specs.declared.torn.Glimpse.{Glimpse}
+use Rattle.run_findings.specs.declared.glimpse.Glimpse.{Glimpse}
 use Rattle.run_findings.proofs.Finding.{both_true}
 
 pub not_true : (b : Bool) → not b ≡ true → b ≡ false

@@ -5,7 +5,7 @@ mod Chains
 mod Finding
 mod Glimpses
 mod Held
-mod Looks
+pub mod Looks
 mod LostUpdates
 pub mod Needed
 mod Overwritten

@@ -1,19 +1,24 @@
--- Where the reader read no other word near a glimpse.
-use Rattle.std.proofs.Common.{◌≡◌, ◌≢◌, ℕ, ◌<◌, ◌≤◌, ◌==◌, Bool, true, false, not, cond, nat_lt, ◌&&◌, List, [], length}
-use Rattle.std.proofs.Common.{Option, Some, None, refl, sym, ap, ◌∙◌, ne_eqb, ltb-true, ⊎_elim}
+-- The reads of other words near a glimpse.
+use Rattle.std.proofs.Common.{◌≡◌, ◌≢◌, ℕ, ◌<◌, ◌==◌, Bool, true, false, not, cond, nat_lt, ◌&&◌, List, [], length}
+use Rattle.std.proofs.Common.{Option, Some, None, refl, sym, ap, ◌∙◌, ne_eqb, ltb-true, ⊎_elim, suc, ◌∷◌, ◌++◌, get_or, take}
+use Rattle.std.proofs.Common.{append-nil, append_assoc, length-append, subst, arith}
 use Rattle.std.specs.List.{slice_get}
-use Rattle.std.proofs.lemmas.Bool.{false≢true, eqb-true, cases_lt, false_from_ne_true}
+use Rattle.std.proofs.Math.Seq.{take-suc}
+use Rattle.std.proofs.lemmas.Bool.{false≢true, eqb-true, cases_lt, false_from_ne_true, and_right}
+use Rattle.std.proofs.lemmas.List.{get_or_append_left, get_or_push}
+use Rattle.std.proofs.lemmas.Option.{slice_get-get_or}
 use Rattle.run_findings.specs.Actions.{is_by}
 use Rattle.run_findings.specs.Places.{passes}
 use Rattle.run_findings.specs.TornReads.{word_loaded, is_load_of, loaded_by, are_parted, is_torn_pair, torn_by_read}
-use Rattle.run_findings.specs.TornReads.{torn_by_word, torn_by_write, other_half}
+use Rattle.run_findings.specs.TornReads.{torn_by_word, torn_by_write, other_half, half_by, half_in, is_other_half, word_changed}
+use Rattle.run_findings.specs.Found.{list_of, found_to}
+use Rattle.run_findings.specs.Stale.{found_in, with_look, AreWithin, AreLooks}
 use Rattle.run_findings.specs.Rounds.{is_other, is_look, is_stale_look}
 use Rattle.run_findings.specs.Links.{is_overwritten}
 use Rattle.run_findings.specs.declared.actions.Action.{Action}
 use Rattle.run_findings.specs.declared.parting.Meeting.TheVariants as meeting
-use Rattle.run_findings.specs.declared.torn.Glimpse.{Glimpse}
+use Rattle.run_findings.specs.declared.glimpse.Glimpse.{Glimpse}
 use Rattle.run_findings.specs.declared.torn.TornRead.{TornRead}
-use Rattle.run_findings.proofs.Parted.{none_by_read, found_begin}
 use Rattle.run_findings.proofs.TornReads.{other_word, half-writes}
 use Rattle.run_findings.proofs.Overwritten.{overwritten}
 
@@ -86,22 +91,97 @@ by_look ds g a k i false look half none =
 by_look ds g a k i true look half none =
     by_load ds g a k i (passes (loaded_by g.reader a) (slice_get ds i)) refl half none
 
-by_word : (ds : List Action) (g : Glimpse) (k : ℕ) (o : Option ℕ) → other_half ds g k ≡ o
-    → ((a i : ℕ) → other_half ds g k ≡ Some a → i < length ds → torn_by_read ds g a k i ≡ None)
-    → torn_by_word ds g k o ≡ []
-by_word ds g k None is none = refl
-by_word ds g k (Some a) is none = found_begin (torn_by_read ds g a k) (length ds) (λ i h. none a i is h)
+pub stale_only : (ds : List Action) (g : Glimpse) (a k i : ℕ) → other_half ds g k ≡ Some a → is_stale_look ds g i ≡ false
+    → torn_by_read ds g a k i ≡ None
+stale_only ds g a k i half none = by_look ds g a k i (passes (is_look g) (slice_get ds i)) refl half none
 
-pub none_near : (ds : List Action) (g : Glimpse) (start end : ℕ)
-    → ((a i : ℕ) → i < start → are_parted ds meeting.Reads g.reader a g.fresh i g.fresh_read ≡ true)
-    → ((i : ℕ) → start ≤ i → i < end → is_stale_look ds g i ≡ false)
-    → ((a i : ℕ) → end ≤ i → i < length ds → are_parted ds meeting.Reads g.reader a g.fresh i g.fresh_read ≡ true)
-    → (k : ℕ) → torn_by_write ds g k ≡ []
+-- The reads near a glimpse.
+
+in_push : {F : Type 0} (at : ℕ → Option F) (ks : List ℕ) (k : ℕ)
+    → found_in at (ks ++ k ∷ []) ≡ found_in at ks ++ list_of (at k)
+in_push at [] k = append-nil (list_of (at k))
+in_push at (j ∷ ks) k =
+    ap (λ x. list_of (at j) ++ x) (in_push at ks k)
+    ∙ sym (append_assoc (list_of (at j)) (found_in at ks) (list_of (at k)))
+
+pub in_more : {F : Type 0} (at : ℕ → Option F) (ks : List ℕ) (i next d : ℕ) → suc i ≡ next → i < length ks
+    → found_in at (take next ks) ≡ found_in at (take i ks) ++ list_of (at (get_or ks i d))
+in_more at ks i next d is within =
+    ap (λ j. found_in at (take j ks)) (sym is)
+    ∙ ap (found_in at) (take-suc ks i d within)
+    ∙ in_push at (take i ks) (get_or ks i d)
+
+look_by : (ds : List Action) (g : Glimpse) (a k n : ℕ) (ks : List ℕ) (t : Bool) → is_stale_look ds g n ≡ t
+    → other_half ds g k ≡ Some a → found_in (torn_by_read ds g a k) ks ≡ found_to (torn_by_read ds g a k) n
+    → found_in (torn_by_read ds g a k) (with_look t ks n) ≡ found_to (torn_by_read ds g a k) (suc n)
+look_by ds g a k n ks true is half so_far =
+    let at = torn_by_read ds g a k in in_push at ks n ∙ ap (λ x. x ++ list_of (at n)) so_far
+look_by ds g a k n ks false is half so_far =
+    let at = torn_by_read ds g a k in
+    so_far ∙ sym (append-nil (found_to at n))
+    ∙ ap (λ o. found_to at n ++ list_of o) (sym (stale_only ds g a k n half is))
+
+pub look_more : (ds : List Action) (g : Glimpse) (a k n next : ℕ) (ks : List ℕ) → suc n ≡ next
+    → other_half ds g k ≡ Some a → found_in (torn_by_read ds g a k) ks ≡ found_to (torn_by_read ds g a k) n
+    → found_in (torn_by_read ds g a k) (with_look (is_stale_look ds g n) ks n) ≡ found_to (torn_by_read ds g a k) next
+look_more ds g a k n next ks is half so_far =
+    look_by ds g a k n ks (is_stale_look ds g n) refl half so_far ∙ ap (found_to (torn_by_read ds g a k)) is
+
+pub within_more : (ds : List Action) (ks : List ℕ) (t : Bool) (n : ℕ) → n < length ds → AreWithin ds ks
+    → AreWithin ds (with_look t ks n)
+within_more ds ks false n inside within j other below = within j other below
+within_more ds ks true n inside within j other below = ⊎_elim
+    (λ h. subst (λ m. m < length ds) (sym (get_or_append_left ks (n ∷ []) other j h)) (within j other h))
+    (λ h.
+    let longer = length-append ks (n ∷ []) in
+    let last : length ks ≡ j = omega (arith, below, longer) in
+    subst (λ m. m < length ds) (sym (get_or_push ks n other j last)) inside)
+    (cases_lt j (length ks))
+
+pub empty_from : (ks : List ℕ) → (length ks == 0) ≡ true → ks ≡ []
+empty_from [] none = refl
+empty_from (k ∷ ks) none = let count = eqb-true (length (k ∷ ks)) 0 none in absurd (omega (arith, count))
+
+-- A write of a word of which none of them is.
+
+pub unloaded : (ds : List Action) (g : Glimpse) (a k i : ℕ) (d : Action) → i < length ds
+    → is_load_of (word_loaded (get_or ds i d).access) a ≡ false → torn_by_read ds g a k i ≡ None
+unloaded ds g a k i d within none =
+    let e = get_or ds i d in
+    unread_none ds g a k i (ap (passes (loaded_by g.reader a)) (slice_get-get_or ds i d within)
+    ∙ and_right (is_by g.reader e) (is_load_of (word_loaded e.access) a) none)
+
+half_by_test : (ds : List Action) (g : Glimpse) (looks : List ℕ) (k a : ℕ) (t : Bool) → AreLooks ds g looks
+    → found_in (torn_by_read ds g a k) looks ≡ [] → other_half ds g k ≡ cond t (Some a) None
+    → torn_by_word ds g k (cond t (Some a) None) ≡ []
+half_by_test ds g looks k a true are none is = sym (are.all a k is) ∙ none
+half_by_test ds g looks k a false are none is = refl
+
+half_by_change : (ds : List Action) (g : Glimpse) (k : ℕ) (d : Action) (o : Option ℕ) → slice_get ds k ≡ Some d
+    → word_changed d.access ≡ o → other_half ds g k ≡ half_by ds g k d.stream o
+unfolding other_half
+half_by_change ds g k d o stands is = ap (half_in ds g k) stands ∙ ap (half_by ds g k d.stream) is
+
+pub none_by_change : (ds : List Action) (g : Glimpse) (k : ℕ) (d : Action) → slice_get ds k ≡ Some d
+    → word_changed d.access ≡ None → torn_by_write ds g k ≡ []
 unfolding torn_by_write
-none_near ds g start end before none behind k = by_word ds g k (other_half ds g k) refl (λ a i half within. ⊎_elim
-    (λ h. none_by_read ds g a k i (before a i h))
-    (λ low. ⊎_elim
-    (λ h. by_look ds g a k i (passes (is_look g) (slice_get ds i)) refl half (none i low h))
-    (λ high. none_by_read ds g a k i (behind a i high within))
-    (cases_lt i end))
-    (cases_lt i start))
+none_by_change ds g k d stands is = ap (torn_by_word ds g k) (half_by_change ds g k d None stands is)
+
+pub none_by_looks : (ds : List Action) (g : Glimpse) (looks : List ℕ) (k a : ℕ) (d : Action) → slice_get ds k ≡ Some d
+    → word_changed d.access ≡ Some a → AreLooks ds g looks → found_in (torn_by_read ds g a k) looks ≡ []
+    → torn_by_write ds g k ≡ []
+unfolding torn_by_write
+none_by_looks ds g looks k a d stands is are none =
+    let half = half_by_change ds g k d (Some a) stands is in
+    ap (torn_by_word ds g k) half ∙ half_by_test ds g looks k a (is_other_half ds g a d.stream k) are none half
+
+no_looks : (ds : List Action) (g : Glimpse) (looks : List ℕ) (k : ℕ) (o : Option ℕ) → AreLooks ds g looks → looks ≡ []
+    → other_half ds g k ≡ o → torn_by_word ds g k o ≡ []
+no_looks ds g looks k None are none half = refl
+no_looks ds g looks k (Some a) are none half =
+    sym (are.all a k half) ∙ ap (found_in (torn_by_read ds g a k)) none
+
+pub none_looked_at : (ds : List Action) (g : Glimpse) (looks : List ℕ) → AreLooks ds g looks → looks ≡ [] → (k : ℕ)
+    → torn_by_write ds g k ≡ []
+unfolding torn_by_write
+none_looked_at ds g looks are none k = no_looks ds g looks k (other_half ds g k) are none refl

@@ -15,7 +15,7 @@ use Rattle.run_findings.specs.Links.{news_in, news_at}
 use Rattle.run_findings.specs.declared.actions.Action.{Action}
 use Rattle.run_findings.specs.declared.parting.Meeting.{Meeting}
 use Rattle.run_findings.specs.declared.parting.Meeting.TheVariants as meeting
-use Rattle.run_findings.specs.declared.torn.Glimpse.{Glimpse}
+use Rattle.run_findings.specs.declared.glimpse.Glimpse.{Glimpse}
 use Rattle.run_findings.proofs.Between.{one-between}
 
 -- A step that meets one of the words parts.

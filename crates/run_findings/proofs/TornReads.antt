@@ -12,7 +12,7 @@ use Rattle.run_findings.specs.TornReads.{torn_by_read, torn_by_word, torn_by_wri
 use Rattle.run_findings.specs.TornReads.{torn_reads, loaded_by, lets_go, is_of_later_round, is_torn_pair}
 use Rattle.run_findings.specs.declared.actions.Action.{Action}
 use Rattle.run_findings.specs.declared.parting.Meeting.TheVariants as meeting
-use Rattle.run_findings.specs.declared.torn.Glimpse.{Glimpse}
+use Rattle.run_findings.specs.declared.glimpse.Glimpse.{Glimpse}
 use Rattle.run_findings.specs.declared.torn.TornRead.{TornRead}
 use Rattle.run_findings.proofs.Finding.{both_true, found-cases, found-there, lists-cases, lists-there}
 use Rattle.run_findings.proofs.Overwritten.{change-writes}

@@ -14,3 +14,4 @@ pub mod Rounds
 pub mod Own
 pub mod Needs
 pub mod Sources
+pub mod Stale

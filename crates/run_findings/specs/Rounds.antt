@@ -7,7 +7,7 @@ use Rattle.run_findings.specs.Links.{is_overwritten}
 use Rattle.run_findings.specs.TornReads.{meets, word_loaded}
 use Rattle.run_findings.specs.declared.actions.Action.{Action}
 use Rattle.run_findings.specs.declared.parting.Meeting.{Meeting}
-use Rattle.run_findings.specs.declared.torn.Glimpse.{Glimpse}
+use Rattle.run_findings.specs.declared.glimpse.Glimpse.{Glimpse}
 
 -- whether a step is of a stream, and reads, or writes, a word
 abbrev pub meets_by : Meeting → Step → ℕ → Action → Bool

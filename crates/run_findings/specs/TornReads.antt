@@ -8,7 +8,7 @@ use Rattle.run_findings.specs.Pairs.{is_half}
 use Rattle.run_findings.specs.Found.{found_to, lists_to}
 use Rattle.run_findings.specs.declared.actions.Access.{Access}
 use Rattle.run_findings.specs.declared.actions.Action.{Action}
-use Rattle.run_findings.specs.declared.torn.Glimpse.{Glimpse}
+use Rattle.run_findings.specs.declared.glimpse.Glimpse.{Glimpse}
 use Rattle.run_findings.specs.declared.torn.TornRead.{TornRead}
 use Rattle.run_findings.specs.declared.parting.Meeting.{Meeting}
 use Rattle.run_findings.specs.declared.parting.Meeting.TheVariants as meeting

@@ -3,6 +3,8 @@
 #![tactic(auto)]
 
 mod actions;
+mod glimpse;
+mod halves;
 mod links;
 mod lost;
 mod marks;
@@ -13,6 +15,7 @@ mod parting;
 mod rounds;
 mod searching;
 mod sources;
+mod stale;
 mod torn;
 mod unread;
 

@@ -2,6 +2,7 @@ use Rattle.std.proofs.Common.{◌≡◌, ◌++◌, length, sym, ap, ◌∙◌, a
 use Rattle.run_findings.specs.Found.{lists_to}
 use Rattle.run_findings.specs.TornReads.{torn_by_write}
 use Rattle.run_findings.proofs.Parted.{none_by_write, lists_begin, lists_rest}
+use Rattle.run_findings.proofs.Looks.{empty_from, none_looked_at}
 use Rattle.run_findings.proofs.torn.push_torn.Goals as goal
 
 pub loop-write-init : goal.loop-write-init
@@ -13,13 +14,15 @@ loop-write-init c =
     ∙ ap (λ x. before ++ x) (sym (lists_begin (torn_by_write ds g) c.start-start.result
     (λ k h. none_by_write ds g k (λ a. c.start-start.ensures.parted a k h))))
 
-pub returns-then-not-has_stale_looks : goal.returns-then-not-has_stale_looks
-returns-then-not-has_stale_looks c =
+pub returns-then-is_empty : goal.returns-then-is_empty
+returns-then-is_empty c =
     let ds = c.args.actions.now in
     let before = c.args.found.now.items in
+    let g = c.args.glimpse.now in
+    let none = empty_from c.args.looks.now (sym c.is_empty.ensures ∙ c.if-is_empty.true) in
     sym (append-nil before)
-    ∙ ap (λ x. before ++ x) (sym (lists_begin (torn_by_write ds c.args.glimpse.now) (length ds)
-    (λ k h. c.has_stale_looks.ensures c.if-not-has_stale_looks.true k)))
+    ∙ ap (λ x. before ++ x) (sym (lists_begin (torn_by_write ds g) (length ds)
+    (λ k h. none_looked_at ds g c.args.looks.now c.requires.looks none k)))
 
 pub returns : goal.returns
 returns c =

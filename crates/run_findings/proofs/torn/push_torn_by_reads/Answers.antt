@@ -1,26 +1,19 @@
-use Rattle.std.proofs.Common.{◌≡◌, ◌++◌, length, sym, ap, ◌∙◌, arith, append-nil}
-use Rattle.run_findings.specs.Found.{found_to}
+use Rattle.std.proofs.Common.{◌+◌, ◌++◌, get_or, take, sym, ap, ◌∙◌, arith, append_assoc}
+use Rattle.run_findings.specs.Found.{list_of}
 use Rattle.run_findings.specs.TornReads.{torn_by_read}
-use Rattle.run_findings.proofs.Parted.{none_by_read, found_begin, found_rest}
+use Rattle.run_findings.specs.Stale.{found_in}
+use Rattle.run_findings.proofs.Looks.{in_more}
 use Rattle.run_findings.proofs.torn.push_torn_by_reads.Goals as goal
 
-pub loop-read-init : goal.loop-read-init
-loop-read-init c =
-    let ds = c.args.actions.now in
-    let g = c.args.glimpse.now in
+pub loop-look-preserved : goal.loop-look-preserved
+loop-look-preserved c =
+    let at = torn_by_read c.args.actions.now c.args.glimpse.now c.args.stale c.args.write in
     let before = c.args.found.now.items in
-    sym (append-nil before)
-    ∙ ap (λ x. before ++ x) (sym (found_begin (torn_by_read ds g c.args.stale c.args.write) c.start-start.result
-    (λ i h. none_by_read ds g c.args.stale c.args.write i (c.start-start.ensures.parted c.args.stale i h))))
-
-pub returns : goal.returns
-returns c =
-    let ds = c.args.actions.now in
-    let g = c.args.glimpse.now in
-    let before = c.args.found.now.items in
-    let at = torn_by_read ds g c.args.stale c.args.write in
-    let all : c.loop-read.read ≡ c.end-end.result = omega arith in
-    c.loop-read.invariant
-    ∙ ap (λ n. before ++ found_to at n) all
-    ∙ ap (λ x. before ++ x) (found_rest at c.end-end.result (length ds) c.end-end.ensures.within
-    (λ i low high. none_by_read ds g c.args.stale c.args.write i (c.end-end.ensures.parted c.args.stale i low high)))
+    let looks = c.args.looks.now in
+    let i = c.loop-look.look-index in
+    let so_far = found_in at (take i looks) in
+    let here = list_of (at (get_or looks i 0)) in
+    c.in_ok-push_torn_by_read.ensures
+    ∙ ap (λ x. x ++ here) c.loop-look.invariant
+    ∙ append_assoc before so_far here
+    ∙ ap (λ x. before ++ x) (sym (in_more at looks i (i + 1) 0 (omega arith) c.loop-look-test.true))
