@@ -1,2 +1,2 @@
--- What public contracts promise: worlds in which dead registers hold 0, and what is true of them.
+-- What public contracts promise: worlds in which registers that do not matter hold 0.
 pub mod Clearing

@@ -1,9 +1,9 @@
-//! Worlds in which running streams hold 0 in each register that is dead, which is never read again: they agree with those
-//! of the machine, and end alike (docs/MACHINE.md, "One step").
+//! Worlds in which streams hold 0 in each register that does not matter, since it is never read again: they agree with
+//! those of the machine, and end alike (docs/MACHINE.md, "One step").
 #![tactic(auto)]
 
 mod laws;
 mod live_registers;
 
-pub use laws::{cleared_worlds_agree, dead_registers_are_cleared};
+pub use laws::{cleared_worlds_agree, registers_are_cleared};
 pub use live_registers::LiveRegisters;

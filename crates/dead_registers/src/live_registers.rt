@@ -1,15 +1,15 @@
 //! What is live in the programs of images, and what streams hold there.
 
 ghost use Rattle.std.specs.Prelude.{◌≡◌, ◌++◌, List, IfOk};
-ghost use Rattle.std.specs.Option.{option_copied};
 ghost use Rattle.stream_core.specs.Registers.{register_at};
+ghost use Rattle.processor.specs.Processors.{is_idle};
 ghost use Rattle.processor.specs.Records.{is_running};
 ghost use Rattle.processor.specs.World.{run, stream_of};
 ghost use Rattle.processor.specs.declared.steps.Step.{Step};
-ghost use Rattle.program_flow.specs.Tables.{is_live_by, is_live_at};
+ghost use Rattle.program_flow.specs.Tables.{is_live_by, is_live_at, is_named_by};
 ghost use Rattle.same_futures.specs.Agreeing.{EndAlike};
-ghost use Rattle.dead_registers.specs.Clearing.{live_registers, cleared, cleared_steps, registers_seen};
-ghost use Rattle.dead_registers.specs.Clearing.{IsLiveTable, AgreeBy};
+ghost use Rattle.dead_registers.specs.Clearing.{matters, kept_registers, cleared, cleared_steps, registers_seen};
+ghost use Rattle.dead_registers.specs.Clearing.{IsLive, AgreeBy};
 
 use image_file::Image;
 use machine::Machine;
@@ -20,65 +20,59 @@ use std::marker::Model;
 use stream_core::{Status, Stream};
 
 /// Which registers are live at each word of an image's program: they may be read from there on, before they are written.
-/// Contracts see the table of them. A register that is not live is dead.
+/// Those that are named matter all the same, since somebody else looks at them.
 #[derive(Drop)]
 pub struct LiveRegisters {
+    names: Row,
     table: Vec<Row>,
 }
 
 impl Model for LiveRegisters {
-    ghost use Rattle.std.specs.Prelude.{Bool, List};
+    ghost use Rattle.dead_registers.specs.Clearing.{LiveValue};
 
-    ghost Value = { List (List Bool) };
+    ghost Value = { LiveValue };
 
-    ghost view = { λ l. l.table.items };
+    ghost view = { λ l. record { names = l.names; table = l.table.items } };
 }
 
 impl LiveRegisters {
-    /// What is live in the program of an image. `names` says which registers are live at each word all the same, since
-    /// somebody else looks at them.
+    /// What is live in the program of an image, with the registers that `names` says.
     ///
-    /// Where each world is cleared, so that running streams hold 0 in their dead registers, each schedule that begins with
-    /// `begin` comes to a world that agrees with the one without that, and ends alike. An error where memory is refused.
+    /// Where each world is cleared, so that its streams hold 0 in all registers that do not matter, each schedule that
+    /// begins with `begin` comes to a world that agrees with the one without that, and ends alike. An error where memory
+    /// is refused.
     pub fn of(alloc: Global, image: &Image, names: &Row) -> Result<LiveRegisters, AllocError>
-        ensures live { IfOk result (λ l. IsLiveTable image.now names.now l) }
-        ensures agree { IfOk result (λ l. (begin ts : List Step) → AgreeBy names.now l (run image.now (begin ++ ts))
-            (cleared_steps (is_live_at l) image.now (run image.now begin) ts)) }
+        ensures names { IfOk result (λ l. l.names ≡ names.now) }
+        ensures live { IfOk result (λ l. IsLive image.now l) }
+        ensures agree { IfOk result (λ l. (begin ts : List Step) → AgreeBy l (run image.now (begin ++ ts))
+            (cleared_steps l image.now (run image.now begin) ts)) }
         ensures ends { IfOk result (λ l. (begin ts : List Step) → EndAlike image.now (run image.now (begin ++ ts))
-            (cleared_steps (is_live_at l) image.now (run image.now begin) ts)) }
+            (cleared_steps l image.now (run image.now begin) ts)) }
     {
         let handled = may_have_handlers(image);
         let table = live_table(alloc, image.profile(), image.program(), handled, names)?;
-        Ok(LiveRegisters { table })
+        Ok(LiveRegisters {
+            names: *names,
+            table,
+        })
     }
 
-    /// Whether a register is live at a place of the program.
-    pub fn is_live(&self, place: u32, register: u8) -> bool
-        ensures { result ≡ is_live_at self.now place register }
-    {
-        match self.table.get(place as usize) {
-            Some(row) => is_live_by(row, register),
-            None => true,
-        }
-    }
-
-    /// The registers of stream `s` of processor `p` in the world of a machine that is cleared, so that running streams
-    /// hold 0 in their dead registers. None where there is no such stream.
+    /// The registers of stream `s` of processor `p` in the cleared world of a machine. None where there is no such stream.
     pub fn registers_of<const S: usize>(
         &self,
         machine: &Machine<'_, S>,
         p: u8,
         s: u8,
     ) -> Option<[u64; 32]>
-        ensures { result ≡ registers_seen (stream_of S (cleared (is_live_at self.now) machine.now.world) p s) }
+        ensures { result ≡ registers_seen (stream_of S (cleared self.now machine.now.world) p s) }
     {
         let stream = machine.stream(p, s)?;
         Some(self.registers(stream))
     }
 
-    /// The registers of a stream, where it runs with 0 in place of each that is dead at its pc.
+    /// The registers of a stream, where it is not idle with 0 in place of each that does not matter.
     pub fn registers(&self, stream: &Stream) -> [u64; 32]
-        ensures { result ≡ live_registers (is_live_at self.now) stream.now }
+        ensures { result ≡ kept_registers self.now stream.now }
     {
         // their clauses say that these are all
         let _ends = (stream.reg(31), stream.reg(32));
@@ -91,12 +85,30 @@ impl LiveRegisters {
 
     /// One of them.
     fn register(&self, stream: &Stream, register: u8) -> u64
-        ensures { result ≡ register_at (live_registers (is_live_at self.now) stream.now) register }
+        ensures { result ≡ register_at (kept_registers self.now stream.now) register }
     {
-        if is_running(stream) && !self.is_live(stream.ssw().pc, register) {
+        if !is_idle(stream) && !self.matters(stream, register) {
             return 0;
         }
         stream.reg(register).unwrap_or(0)
+    }
+
+    /// Whether a register of a stream matters: it is named, or the stream runs and the register is live at its pc.
+    pub fn matters(&self, stream: &Stream, register: u8) -> bool
+        ensures { result ≡ matters self.now stream.now register }
+    {
+        is_named(&self.names, register)
+            || is_running(stream) && self.is_live(stream.ssw().pc, register)
+    }
+
+    /// Whether a register is live at a place of the program.
+    fn is_live(&self, place: u32, register: u8) -> bool
+        ensures { result ≡ is_live_at self.now.table place register }
+    {
+        match self.table.get(place as usize) {
+            Some(row) => is_live_by(row, register),
+            None => true,
+        }
     }
 }
 
@@ -105,6 +117,23 @@ fn is_live_by(row: &Row, register: u8) -> bool
     ensures { result ≡ is_live_by row.now register }
 {
     row.get(usize::from(register)).copied().unwrap_or(true)
+}
+
+/// Whether a register is named.
+fn is_named(names: &Row, register: u8) -> bool
+    ensures { result ≡ is_named_by names.now register }
+{
+    names.get(usize::from(register)).copied().unwrap_or(false)
+}
+
+/// Whether a stream is idle.
+fn is_idle(stream: &Stream) -> bool
+    ensures { result ≡ is_idle stream.now }
+{
+    match stream.status() {
+        Status::Idle => true,
+        Status::Running | Status::Stopped(_) => false,
+    }
 }
 
 /// Whether a stream runs.

@@ -1,0 +1,182 @@
+-- What worlds that were found stand for, where those that agree count as one.
+use Rattle.std.proofs.Common.{◌≡◌, ℕ, zero, suc, ◌+◌, ◌<◌, ◌≤◌, ◌⊎◌, inl, inr, refl, sym, ap, ◌∙◌, subst, arith}
+use Rattle.std.proofs.Common.{List, [], ◌∷◌, ◌++◌, length}
+use Rattle.processor.specs.World.{World, after, steps}
+use Rattle.processor.specs.declared.steps.Step.{Step}
+use Rattle.processor.proofs.Histories.{steps-append}
+use Rattle.end_kinds.specs.declared.kinds.EndKind.TheVariants as kind
+use Rattle.same_futures.specs.Links.{TellsHandlers, WorldsAgree}
+use Rattle.same_futures.specs.Agreeing.{EndAlike}
+use Rattle.same_futures.proofs.Chains.{agree_itself, agree_next, agree_back, schedules_agree}
+use Rattle.same_futures.proofs.Alike.{agreeing_end_alike}
+use Rattle.agreeing_ends.specs.Followed.{IsEnd, CanEnd, FoundWorlds, IsTaken, IsExpanded, IsTakenAlone, AllExpanded, AllFollowed}
+use Rattle.agreeing_ends.specs.Followed.{HasAllWorlds, HasAllEnds, IsDistinct, HasShortestEnds, TellsWhetherAllEnd, IsGrounded}
+use Rattle.agreeing_ends.proofs.Moving.{moved_or_left, moved}
+
+-- The end to which a schedule leads from the world at a place is one that another one stands for, which is near.
+record IsReached (R : World → World → Type 0) (v : FoundWorlds) (k : ℕ) (ts : List Step) : Type 0 where
+  place : ℕ
+  below : place < v.count
+  stands : R (v.world place) (steps v.image (v.world k) ts)
+  short : v.depth place ≤ v.depth k + length ts
+
+module _ (handled : Type 0) (named : ℕ → Type 0) (live : ℕ → ℕ → Type 0) (v : FoundWorlds)
+    (ground : IsGrounded handled named live v) where
+  abbrev Agree : World → World → Type 0
+  Agree = WorldsAgree named live
+
+  -- wherever the world leads
+  abbrev AllTold : World → Type 0
+  AllTold w = (us : List Step) → TellsHandlers handled (steps v.image w us)
+
+  told_on : (w : World) (ts : List Step) → AllTold w → AllTold (steps v.image w ts)
+  told_on w ts told us = subst (TellsHandlers handled) (steps-append v.image w ts us) (told (ts ++ us))
+
+  agree_on : (a b : World) (ts : List Step) → AllTold a → Agree a b → Agree (steps v.image a ts) (steps v.image b ts)
+  agree_on a b ts told g = schedules_agree v.image handled named live ground.closed ts a b told g
+
+  -- Ends of worlds that agree.
+
+  end_over : (a b : World) → TellsHandlers handled a → Agree a b → IsEnd v.image a → IsEnd v.image b
+  end_over a b told g end = by (agreeing_end_alike v.image handled named live ground.closed a b told g) end where
+    by : EndAlike v.image a b → IsEnd v.image a → IsEnd v.image b
+    by alike (inl finished) = inl (λ some. finished (some.0, sym (alike.run some.0) ∙ some.1))
+    by alike (inr still) = inr ((alike.kinds kind.Deadlock).0 still)
+
+  can_over : (a b : World) → AllTold a → Agree a b → CanEnd v.image a → CanEnd v.image b
+  can_over a b told g can =
+      (can.0, end_over (steps v.image a can.0) (steps v.image b can.0) (told can.0) (agree_on a b can.0 told g) can.1)
+
+  -- One step more in front.
+
+  over : (k : ℕ) (t : Step) (us : List Step) (e : IsTaken Agree v k t)
+      → Agree (steps v.image (v.world e.to) us) (steps v.image (after v.image (v.world k) t) us)
+  over k t us e =
+      agree_on (v.world e.to) (after v.image (v.world k) t) us (ground.told e.to e.within) e.leads
+
+  reached_on : (k : ℕ) (t : Step) (ts us : List Step) (e : IsTaken Agree v k t) → length ts ≡ suc (length us)
+      → steps v.image (after v.image (v.world k) t) us ≡ steps v.image (v.world k) ts
+      → IsReached Agree v e.to us → IsReached Agree v k ts
+  reached_on k t ts us e one_less leads r = record {
+    place = r.place;
+    below = r.below;
+    stands = subst (Agree (v.world r.place)) leads
+        (agree_next named live (v.world r.place) (steps v.image (v.world e.to) us)
+        (steps v.image (after v.image (v.world k) t) us) r.stands (over k t us e));
+    short = omega (arith, r.short, e.near, one_less);
+  }
+
+  end_on : (k : ℕ) (t : Step) (ts us : List Step) (e : IsTaken Agree v k t) → k < v.count
+      → steps v.image (after v.image (v.world k) t) us ≡ steps v.image (v.world k) ts
+      → IsEnd v.image (steps v.image (v.world k) ts) → IsEnd v.image (steps v.image (v.world e.to) us)
+  end_on k t ts us e below leads end =
+      end_over (steps v.image (after v.image (v.world k) t) us) (steps v.image (v.world e.to) us)
+      (ground.told k below (t ∷ us))
+      (agree_back named live (steps v.image (v.world e.to) us) (steps v.image (after v.image (v.world k) t) us) (over k t us e))
+      (subst (IsEnd v.image) (sym leads) end)
+
+  can_on : (k : ℕ) (t : Step) (us : List Step) (e : IsTaken Agree v k t) → CanEnd v.image (steps v.image (v.world e.to) us)
+      → CanEnd v.image (steps v.image (after v.image (v.world k) t) us)
+  can_on k t us e can =
+      can_over (steps v.image (v.world e.to) us) (steps v.image (after v.image (v.world k) t) us)
+      (told_on (v.world e.to) us (ground.told e.to e.within)) (over k t us e) can
+
+  itself : (k : ℕ) → k < v.count → IsReached Agree v k []
+  itself k below =
+      record { place = k; below = below; stands = agree_itself named live (v.world k); short = omega arith }
+
+  -- Where all steps are taken.
+
+  all_reached : AllExpanded Agree v → (ts : List Step) (k : ℕ) → k < v.count → IsReached Agree v k ts
+  all_reached all [] k below = itself k below
+  all_reached all (t ∷ ts) k below =
+      let e = all k below t in
+      reached_on k t (t ∷ ts) ts e refl refl (all_reached all ts e.to e.within)
+
+  pub has_all_worlds : AllExpanded Agree v → HasAllWorlds Agree v
+  has_all_worlds all ts =
+      let r = all_reached all ts 0 ground.some in
+      record { place = r.place; below = r.below; stands = r.stands; short = r.short }
+
+  -- Where one may be taken alone.
+
+  module _ (all : AllFollowed Agree v) where
+    reached : (n k : ℕ) (ts : List Step) → length ts ≤ n → k < v.count → IsEnd v.image (steps v.image (v.world k) ts)
+        → IsReached Agree v k ts
+    reached n k [] few below end = itself k below
+    reached zero k (t ∷ ts) few below end = absurd (omega (arith, few))
+    reached (suc n) k (t ∷ ts) few below end =
+        elim (all k below) [
+          | inl each ↦
+              reached_on k t (t ∷ ts) ts (each t) refl refl
+              (reached n (each t).to ts (omega (arith, few)) (each t).within (end_on k t (t ∷ ts) ts (each t) below refl end))
+          | inr one ↦
+              let m = moved v.image (v.world k) one.step (t ∷ ts) one.alone end in
+              reached_on k one.step (t ∷ ts) m.others one.taken m.one_less m.leads
+              (reached n one.taken.to m.others (omega (arith, few, m.one_less)) one.taken.within
+              (end_on k one.step (t ∷ ts) m.others one.taken below m.leads end))
+        ]
+
+    pub has_all_ends : HasAllEnds Agree v
+    has_all_ends ts end =
+        let r = reached (length ts) 0 ts (omega arith) ground.some end in
+        record { place = r.place; below = r.below; stands = r.stands; short = r.short }
+
+    pub has_shortest_ends : IsDistinct Agree v → HasShortestEnds Agree v
+    has_shortest_ends distinct k below end ts g =
+        let after_ts = steps v.image (v.world 0) ts in
+        let r = reached (length ts) 0 ts (omega arith) ground.some
+        (end_over (v.world k) after_ts (ground.told k below []) g end) in
+        let same : r.place ≡ k =
+        distinct r.place k r.below below
+        (agree_next named live (v.world r.place) after_ts (v.world k) r.stands (agree_back named live (v.world k) after_ts g)) in
+        subst (λ (j : ℕ). v.depth j ≤ v.depth 0 + length ts) same r.short
+
+    -- from a place, by a schedule: what is known of each shorter schedule, and of the same one from where an end is nearer
+    onward_by : (k : ℕ) (ts es : List Step) → k < v.count → IsExpanded Agree v k ⊎ IsTakenAlone Agree v k
+        → (t : Step) (rest : List Step) → ts ≡ t ∷ rest → IsEnd v.image (steps v.image (v.world k) es)
+        → ((j : ℕ) (us : List Step) → suc (length us) ≡ length ts → j < v.count
+        → CanEnd v.image (steps v.image (v.world j) us))
+        → ((j : ℕ) (us : List Step) → suc (length us) ≡ length es → j < v.count
+        → IsEnd v.image (steps v.image (v.world j) us) → CanEnd v.image (steps v.image (v.world j) ts))
+        → CanEnd v.image (steps v.image (v.world k) ts)
+    onward_by k ts es below (inl each) t rest same end shorter nearer =
+        let e = each t in
+        subst (CanEnd v.image) (ap (steps v.image (v.world k)) (sym same))
+        (can_on k t rest e (shorter e.to rest (sym (ap length same)) e.within))
+    onward_by k ts es below (inr one) t rest same end shorter nearer =
+        let off = moved v.image (v.world k) one.step es one.alone end in
+        elim (moved_or_left v.image (v.world k) one.step ts one.alone) [
+          | inl on ↦
+              subst (CanEnd v.image) on.leads
+              (can_on k one.step on.others one.taken (shorter one.taken.to on.others (sym on.one_less) one.taken.within))
+          | inr left ↦
+              let there = can_on k one.step ts one.taken
+              (nearer one.taken.to off.others (sym off.one_less) one.taken.within
+              (end_on k one.step es off.others one.taken below off.leads end)) in
+              (one.step ∷ there.0, subst (λ x. IsEnd v.image (steps v.image x there.0)) left.leads there.1)
+        ]
+
+    onward : (n m k : ℕ) (ts es : List Step) → length ts ≤ n → length es ≤ m → k < v.count
+        → ((j : ℕ) → j < v.count → CanEnd v.image (v.world j)) → IsEnd v.image (steps v.image (v.world k) es)
+        → CanEnd v.image (steps v.image (v.world k) ts)
+    onward n m k [] es few less below can end = (es, end)
+    onward zero m k (t ∷ ts) es few less below can end = absurd (omega (arith, few))
+    onward (suc n) zero k (t ∷ ts) es few less below can end =
+        onward_by k (t ∷ ts) es below (all k below) t ts refl end
+        (λ j us one_less there.
+        let first = can j there in
+        onward n (length first.0) j us first.0 (omega (arith, few, one_less)) (omega arith) there can first.1)
+        (λ j us one_less there end. absurd (omega (arith, less, one_less)))
+    onward (suc n) (suc m) k (t ∷ ts) es few less below can end =
+        onward_by k (t ∷ ts) es below (all k below) t ts refl end
+        (λ j us one_less there.
+        let first = can j there in
+        onward n (length first.0) j us first.0 (omega (arith, few, one_less)) (omega arith) there can first.1)
+        (λ j us one_less there end.
+        onward (suc n) m j (t ∷ ts) us few (omega (arith, less, one_less)) there can end)
+
+    pub tells_whether_all_end : TellsWhetherAllEnd v
+    tells_whether_all_end can ts =
+        let first = can 0 ground.some in
+        onward (length ts) (length first.0) 0 ts first.0 (omega arith) (omega arith) ground.some can first.1

@@ -1,0 +1,2 @@
+-- What public contracts promise: when worlds that were found stand for all that schedules lead to, or for all ends.
+pub mod Followed

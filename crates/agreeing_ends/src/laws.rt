@@ -1,0 +1,29 @@
+//! What holds of worlds of which each step was taken, or one that can be taken before all others.
+
+ghost use Rattle.std.specs.Prelude.{ℕ, Bool, IsTrue};
+ghost use Rattle.same_futures.specs.Links.{WorldsAgree};
+ghost use Rattle.agreeing_ends.specs.Followed.{FoundWorlds, IsGrounded, AllExpanded, AllFollowed, HasAllWorlds, HasAllEnds};
+ghost use Rattle.agreeing_ends.specs.Followed.{IsDistinct, HasShortestEnds, TellsWhetherAllEnd};
+
+/// Where each step from each world that was found leads to one that agrees with another one that was found, they stand
+/// for all worlds that schedules lead to. Where of some only one step was taken, which can be taken before all others,
+/// they stand for all ends, by schedules that are as short as any where no two of them agree, and tell whether an end can
+/// be reached from wherever a schedule leads.
+pub fn followed_worlds_have_all_ends()
+    ensures worlds { (handled : Bool) (named : ℕ → Bool) (live : ℕ → ℕ → Bool) (v : FoundWorlds)
+        → IsGrounded (IsTrue handled) (λ r. IsTrue (named r)) (λ k r. IsTrue (live k r)) v
+        → AllExpanded (WorldsAgree (λ r. IsTrue (named r)) (λ k r. IsTrue (live k r))) v
+        → HasAllWorlds (WorldsAgree (λ r. IsTrue (named r)) (λ k r. IsTrue (live k r))) v }
+    ensures ends { (handled : Bool) (named : ℕ → Bool) (live : ℕ → ℕ → Bool) (v : FoundWorlds)
+        → IsGrounded (IsTrue handled) (λ r. IsTrue (named r)) (λ k r. IsTrue (live k r)) v
+        → AllFollowed (WorldsAgree (λ r. IsTrue (named r)) (λ k r. IsTrue (live k r))) v
+        → HasAllEnds (WorldsAgree (λ r. IsTrue (named r)) (λ k r. IsTrue (live k r))) v }
+    ensures shortest { (handled : Bool) (named : ℕ → Bool) (live : ℕ → ℕ → Bool) (v : FoundWorlds)
+        → IsGrounded (IsTrue handled) (λ r. IsTrue (named r)) (λ k r. IsTrue (live k r)) v
+        → AllFollowed (WorldsAgree (λ r. IsTrue (named r)) (λ k r. IsTrue (live k r))) v
+        → IsDistinct (WorldsAgree (λ r. IsTrue (named r)) (λ k r. IsTrue (live k r))) v
+        → HasShortestEnds (WorldsAgree (λ r. IsTrue (named r)) (λ k r. IsTrue (live k r))) v }
+    ensures tells { (handled : Bool) (named : ℕ → Bool) (live : ℕ → ℕ → Bool) (v : FoundWorlds)
+        → IsGrounded (IsTrue handled) (λ r. IsTrue (named r)) (λ k r. IsTrue (live k r)) v
+        → AllFollowed (WorldsAgree (λ r. IsTrue (named r)) (λ k r. IsTrue (live k r))) v → TellsWhetherAllEnd v }
+{}

@@ -1,0 +1,7 @@
+//! Worlds that a search found, of which one stands for all that agree with it: when they have all worlds that schedules
+//! lead to, or all ends (docs/LAB.md, "Every schedule").
+#![tactic(auto)]
+
+mod laws;
+
+pub use laws::followed_worlds_have_all_ends;
