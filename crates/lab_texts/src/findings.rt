@@ -10,12 +10,15 @@ use std::alloc::{AllocError, Global};
 /// Of each kind of findings so many are told, and how many more there are.
 const MOST_OF_A_KIND: usize = 10;
 
+/// The most steps of a run whose torn reads are looked for: how long that takes may grow faster than the run.
+pub const MOST_STEPS_OF_TORN: usize = 20_000;
+
 /// The findings of a run (docs/FINDINGS.md).
 #[derive(Drop)]
 pub struct FindingsOfRun {
     /// Its lost updates.
     pub lost: Vec<LostUpdate>,
-    /// Its torn reads.
+    /// Its torn reads; none of a run of more than 20,000 steps.
     pub torn: Vec<TornRead>,
     /// Its unread stores.
     pub unread: Vec<UnreadStore>,
@@ -24,9 +27,14 @@ pub struct FindingsOfRun {
 impl FindingsOfRun {
     /// The findings of a run with these steps.
     pub fn of(alloc: Global, actions: &[Action]) -> Result<FindingsOfRun, AllocError> {
+        let torn = if actions.len() > MOST_STEPS_OF_TORN {
+            Vec::new(alloc)
+        } else {
+            torn_reads(alloc, actions)?
+        };
         Ok(FindingsOfRun {
             lost: lost_updates(alloc, actions)?,
-            torn: torn_reads(alloc, actions)?,
+            torn,
             unread: unread_stores(alloc, actions)?,
         })
     }

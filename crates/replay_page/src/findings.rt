@@ -1,28 +1,22 @@
 //! Findings as JSON.
 
-use run_findings::{
-    Action, LostUpdate, TornRead, UnreadStore, lost_updates, torn_reads, unread_stores,
-};
+use lab_texts::FindingsOfRun;
+use run_findings::{Action, LostUpdate, TornRead, UnreadStore};
 use serde_json::{Value, json};
 use std::alloc::{AllocError, Global};
 
-/// The most steps of a run whose findings are looked for: how long that takes grows faster than the run.
-const MOST_STEPS: usize = 2_000;
-
-/// What went wrong in a run of these actions: lost updates, torn reads, unread stores (docs/FINDINGS.md); nothing of a run
-/// of more than 2,000 steps. Steps count from 1 here.
+/// What went wrong in a run of these actions: lost updates, torn reads, unread stores (docs/FINDINGS.md); no torn reads of
+/// a run of more than 20,000 steps. Steps count from 1 here.
 pub(crate) fn findings_value(alloc: Global, actions: &[Action]) -> Result<Value, AllocError> {
+    let found = FindingsOfRun::of(alloc, actions)?;
     let mut findings = Vec::new(alloc);
-    if actions.len() > MOST_STEPS {
-        return Ok(Value::Array(findings));
-    }
-    for lost in &lost_updates(alloc, actions)? {
+    for lost in &found.lost {
         findings.push(lost_value(alloc, lost)?)?;
     }
-    for torn in &torn_reads(alloc, actions)? {
+    for torn in &found.torn {
         findings.push(torn_value(alloc, torn)?)?;
     }
-    for unread in &unread_stores(alloc, actions)? {
+    for unread in &found.unread {
         findings.push(unread_value(alloc, unread)?)?;
     }
     Ok(Value::Array(findings))

@@ -13,4 +13,5 @@ pub mod OwnSteps
 mod Parted
 pub mod SourceSteps
 mod TornReads
+pub mod Unmarked
 mod UnreadStores

@@ -1,6 +1,7 @@
 -- Which registers a value is computed from.
 use Rattle.std.proofs.Common.{◌≡◌, ℕ, zero, suc, ◌<◌, ◌≤◌, ◌==◌, Bool, true, false, not, cond, List, [], ◌∷◌, length, get_or, set, drop}
 use Rattle.std.proofs.Common.{refl, sym, ap, ◌∙◌, arith, ◌&&◌, ◌||◌}
+use Rattle.std.proofs.lemmas.Bool.{or_parts}
 use Rattle.std.proofs.lemmas.List.{length-set}
 use Rattle.insn_word.specs.Words.{memory_destination, arithmetic_destination, control_destination}
 use Rattle.insn_word.specs.declared.insn.MPart.{MPart}
@@ -10,7 +11,7 @@ use Rattle.insn_word.specs.declared.operations.WideOp.{WideOp}
 use Rattle.insn_word.specs.declared.operations.WideOp.TheVariants as wide
 use Rattle.run_findings.specs.Marks.{no_marks, mark_at, with_mark, arithmetic_mark, control_mark, target_marks}
 use Rattle.run_findings.specs.Marks.{marks_after_parts, marks_after_wide}
-use Rattle.run_findings.specs.Needs.{is_any, any_both, are_shared, is_needed, is_control_needed, is_arithmetic_needed}
+use Rattle.run_findings.specs.Needs.{is_any, are_any, any_both, are_shared, is_needed, is_control_needed, is_arithmetic_needed}
 use Rattle.run_findings.specs.Needs.{without_written, without_target, with_targets}
 use Rattle.run_findings.specs.declared.marks.Marks.{Marks}
 
@@ -43,10 +44,11 @@ shared_none m =
     either (any_both no_marks.registers m.registers) (any_both no_marks.targets m.targets)
     (none_left no_marks.registers m.registers refl) (none_left no_marks.targets m.targets refl)
 
-pub none_needed : (m n : Marks) → is_any n.registers ≡ false → is_any n.targets ≡ false → are_shared m n ≡ false
-none_needed m n registers targets =
+pub none_needed : (m n : Marks) → are_any n ≡ false → are_shared m n ≡ false
+none_needed m n none =
+    let both = or_parts (is_any n.registers) (is_any n.targets) none in
     either (any_both m.registers n.registers) (any_both m.targets n.targets)
-    (none_right m.registers n.registers registers) (none_right m.targets n.targets targets)
+    (none_right m.registers n.registers both.0) (none_right m.targets n.targets both.1)
 
 -- One mark more or less.
 

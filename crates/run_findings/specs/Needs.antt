@@ -13,6 +13,10 @@ abbrev pub is_any : List Bool → Bool
 is_any [] = false
 is_any (x ∷ xs) = x || is_any xs
 
+-- whether a register is marked
+abbrev pub are_any : Marks → Bool
+are_any m = is_any m.registers || is_any m.targets
+
 -- whether one is marked among both
 abbrev pub any_both : List Bool → List Bool → Bool
 any_both [] ys = false

@@ -102,7 +102,7 @@ fn last_source(
     let mut needed = Marks::needed_to_store(&action.deed, &sources.marks_before(actions, stored));
     let mut step = stored;
     while let Some(own) = own_before(actions, &sources.own, step) {
-        if needed.are_none() {
+        if !needed.are_any() {
             return None;
         }
         let reader = &actions[own];

@@ -4,7 +4,7 @@
 ghost use Rattle.std.specs.Prelude.{◌≡◌, ◌&&◌, ◌||◌, Bool, List, true, false, length, slice_set};
 ghost use Rattle.run_findings.specs.Marks.{no_marks, mark_at, with_mark, arithmetic_mark, control_mark, marks_after_parts};
 ghost use Rattle.run_findings.specs.Marks.{marks_after, marks_after_wide, marks_after_deed, stores_marked, target_marks};
-ghost use Rattle.run_findings.specs.Needs.{is_any, any_both, are_shared, is_needed, is_control_needed};
+ghost use Rattle.run_findings.specs.Needs.{is_any, are_any, any_both, are_shared, is_needed, is_control_needed};
 ghost use Rattle.run_findings.specs.Needs.{is_arithmetic_needed, without_written, without_target, with_targets};
 ghost use Rattle.run_findings.specs.Needs.{IsPart, IsSized};
 ghost use Rattle.run_findings.specs.declared.actions.Deed.TheVariants.{Instruction};
@@ -222,12 +222,11 @@ impl Marks {
         any_both(&self.registers, &others.registers) || any_both(&self.targets, &others.targets)
     }
 
-    /// Whether no register is marked.
-    #[tactic(auto, using(crate::proofs::Needed::none_needed))]
-    pub(crate) fn are_none(&self) -> bool
-        ensures { result ≡ true → (m : Marks) → are_shared m self.now ≡ false }
+    /// Whether a register is marked.
+    pub(crate) fn are_any(&self) -> bool
+        ensures { result ≡ are_any self.now }
     {
-        !is_any(&self.registers) && !is_any(&self.targets)
+        is_any(&self.registers) || is_any(&self.targets)
     }
 }
 

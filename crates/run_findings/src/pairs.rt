@@ -135,13 +135,17 @@ fn computes_from_both(actions: &[Action], stream: Step, one: usize, other: usize
     mixes(&actions[other + 1..actions.len()], stream, of_one, of_other)
 }
 
-/// Whether a step of a stream among these has an operation with operands of both marks, from these on.
+/// Whether a step of a stream among these has an operation with operands of both marks, from these on. None has where
+/// nothing has one of them.
 fn mixes(actions: &[Action], stream: Step, one: Marks, other: Marks) -> bool
     ensures { result ≡ mixes stream one other actions.now }
 {
     let mut of_one = one;
     let mut of_other = other;
     for action in actions {
+        if !(of_one.are_any() && of_other.are_any()) {
+            return false;
+        }
         if action.is_by(stream) && deed_mixes(&action.deed, &of_one, &of_other) {
             return true;
         }

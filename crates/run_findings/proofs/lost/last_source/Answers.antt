@@ -1,5 +1,6 @@
 use Rattle.std.proofs.Common.{◌<◌, length, sym, ◌∙◌, arith}
 use Rattle.std.proofs.lemmas.Option.{slice_get-get_or}
+use Rattle.run_findings.proofs.Needed.{none_needed}
 use Rattle.run_findings.proofs.SourceSteps.{first_walk, no_walk, end_walk, found_walk, next_walk}
 use Rattle.run_findings.proofs.lost.last_source.Goals.{else-own-end-via-then-own-end+else-is_needed_read, else-own-end-via-else-own-end}
 use Rattle.run_findings.proofs.lost.last_source.Goals as goal
@@ -9,10 +10,10 @@ loop-own-init c =
     first_walk c.args.actions.now c.args.stored c.args.action.now c.args.word c.args.end _ _ c.requires.end_in
     c.requires.stands c.marks_before.ensures c.needed_to_store-needed.ensures
 
-pub returns-then-are_none : goal.returns-then-are_none
-returns-then-are_none c =
+pub returns-then-not-are_any : goal.returns-then-not-are_any
+returns-then-not-are_any c =
     no_walk c.args.actions.now c.args.stored c.args.action.now c.args.word c.args.end c.loop-own.step c.loop-own.needed
-    c.loop-own.invariant (c.are_none.ensures c.if-are_none.true)
+    c.loop-own.invariant (λ marks. none_needed marks c.loop-own.needed (sym c.are_any.ensures ∙ c.if-not-are_any.true))
 
 pub returns-then-is_needed_read : goal.returns-then-is_needed_read
 returns-then-is_needed_read c =
