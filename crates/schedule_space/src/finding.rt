@@ -88,7 +88,7 @@ impl<'i> Found<'i> {
         let mut contents = Table::new(alloc);
         let key = world_key(alloc, &mut contents, first)?;
         let mut keys = Table::new(alloc);
-        keys.push(key)?;
+        keys.push(&key)?;
         let mut fates = Vec::new(alloc);
         fates.push(fate)?;
         Ok(Found {
@@ -204,7 +204,7 @@ fn push_world<'i, const S: usize>(
     frontier.reserve(1)?;
     links.reserve(1)?;
     fates.reserve(1)?;
-    keys.push(world.key)?;
+    keys.push(&world.key)?;
     links.push_reserved(world.link);
     fates.push_reserved(world.fate);
     frontier.push_back_reserved(world.machine);

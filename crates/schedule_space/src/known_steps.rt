@@ -57,19 +57,14 @@ impl KnownSteps {
     }
 
     /// Keeps what a step left, where there is room and it is not kept yet.
-    pub(crate) fn keep(
-        &mut self,
-        alloc: Global,
-        asked: &[u32],
-        left: Places,
-    ) -> Result<(), AllocError>
+    pub(crate) fn keep(&mut self, asked: &[u32], left: Places) -> Result<(), AllocError>
         ensures { (a : List ℕ) (l : Places) → IsSeen self.new a l → IsSeen self.old a l ⊎ ((a ≡ asked.now) × (l ≡ left)) }
     {
         if self.left.len() >= MOST_STEPS || self.asked.find(asked).is_some() {
             return Ok(());
         }
         self.left.reserve(1)?;
-        self.asked.push(Vec::from_slice(alloc, asked)?)?;
+        self.asked.push(asked)?;
         self.left.push_reserved(left);
         Ok(())
     }

@@ -73,7 +73,7 @@ fn left_by<const S: usize>(
         return Ok(left);
     }
     let left = left_anew(alloc, contents, &mut steps.by_stream, before, machine, step)?;
-    steps.by_processor.keep(alloc, &asked, left)?;
+    steps.by_processor.keep(&asked, left)?;
     Ok(left)
 }
 
@@ -106,13 +106,12 @@ fn left_anew<const S: usize>(
         return Ok(Places { content, ..left });
     }
     let left = places_after(alloc, contents, before, machine, step)?;
-    keep_stream(alloc, contents, steps, &asked, machine, step, left)?;
+    keep_stream(contents, steps, &asked, machine, step, left)?;
     Ok(left)
 }
 
 /// Keeps what a step left that was taken, where it changed its stream and the memory alone.
 fn keep_stream<const S: usize>(
-    alloc: Global,
     contents: &Table,
     steps: &mut KnownSteps,
     asked: &[u32],
@@ -135,7 +134,7 @@ fn keep_stream<const S: usize>(
         return Ok(());
     };
     let content = mark.content;
-    steps.keep(alloc, asked, Places { content, ..left })
+    steps.keep(asked, Places { content, ..left })
 }
 
 /// The same, by taking the step.

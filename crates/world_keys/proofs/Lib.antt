@@ -1,4 +1,6 @@
 pub mod Places
+pub mod RowLists
+pub mod Linking
 pub mod Digits
 pub mod Streams
 pub mod Memories

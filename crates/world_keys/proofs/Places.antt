@@ -1,12 +1,9 @@
 -- Places in tables, also in those that are extended.
-use Rattle.std.proofs.Common.{◌≡◌, ℕ, zero, suc, ◌+◌, ◌<◌, Bool, true, false, refl, sym, ap, ◌∙◌, subst, arith}
-use Rattle.std.proofs.Common.{List, [], ◌∷◌, ◌++◌, length, get_or, cond, not, ◌||◌, Option, Some, None, ◌↔◌}
-use Rattle.std.proofs.Common.{IsSome, is_some, append-nil, IfSome, bytes_eq, position, nat_lt, length-append, append_assoc, Vec, Global}
-use Rattle.std.specs.List.{list_any, position_or_len}
+use Rattle.std.proofs.Common.{◌≡◌, ℕ, zero, suc, ◌<◌, Bool, true, false, refl, sym, ap, ◌∙◌, arith}
+use Rattle.std.proofs.Common.{List, [], ◌∷◌, ◌++◌, length, get_or, cond}
+use Rattle.std.proofs.Common.{append-nil, bytes_eq, length-append, append_assoc}
 use Rattle.std.proofs.lemmas.Slice.Eq.{bytes_eq-Decides}
-use Rattle.std.proofs.lemmas.Bool.{ltb-true, ltb-false}
-use Rattle.std.proofs.lemmas.List.{map-append}
-use Rattle.world_keys.specs.Tables.{place_in, Has, Extends, lists_of}
+use Rattle.world_keys.specs.Tables.{place_in, Has, Extends}
 
 -- What one list more means, by whether it is the one.
 
@@ -91,71 +88,6 @@ has_put t new x none is =
       ap length is,
       length-append t (x ∷ []),
     )
-
--- What the set of vectors says.
-
-abbrev pub holds : List ℕ → Vec ℕ Global → Bool
-holds ns v = bytes_eq ns v.items
-
-turned : (b : Bool) (n m : ℕ) → n ≡ m → cond (not b) (1 + n) 0 ≡ cond b 0 (suc m)
-turned true n m same = refl
-turned false n m same = omega arith
-
-pub place_is : (vs : List (Vec ℕ Global)) (ns : List ℕ) → position_or_len (holds ns) vs ≡ place_in (lists_of vs) ns
-unfolding place_in
-place_is [] ns = refl
-place_is (v ∷ vs) ns =
-    turned (holds ns v) (position_or_len (holds ns) vs) (place_in (lists_of vs) ns) (place_is vs ns)
-
-pub length-lists : (vs : List (Vec ℕ Global)) → length (lists_of vs) ≡ length vs
-length-lists [] = refl
-length-lists (v ∷ vs) = ap (λ k. suc k) (length-lists vs)
-
-found_by : (b : Bool) (n m k : ℕ) (o : Option ℕ) → o ≡ cond b (Some k) None → (b ≡ true → n < m)
-    → (b ≡ false → ¬ (n < m)) → IsSome o ↔ (n < m)
-found_by true n m k o is on off = (λ _. on refl, λ _. ap is_some is)
-found_by false n m k o is on off = (λ some. absurd cc, λ within. absurd (off refl within))
-
--- a found place is the list's, and is found where the table has the list
-pub found : (vs : List (Vec ℕ Global)) (ns : List ℕ) (o : Option ℕ) → o ≡ position (holds ns) vs
-    → IsSome o ↔ Has (lists_of vs) ns
-found vs ns o is =
-    let same = place_is vs ns in
-    let many = length-lists vs in
-    found_by (nat_lt (position_or_len (holds ns) vs) (length vs)) (place_in (lists_of vs) ns) (length (lists_of vs))
-    (position_or_len (holds ns) vs) o is (λ on. omega (arith, ltb-true _ _ on)) (λ off. omega (arith, ltb-false _ _ off))
-
-place_by : (b : Bool) (k : ℕ) (o : Option ℕ) (P : ℕ → Type 0) → o ≡ cond b (Some k) None → P k → IfSome o P
-place_by true k o P is holds_k = subst (λ x. IfSome x P) (sym is) holds_k
-place_by false k o P is holds_k = subst (λ x. IfSome x P) (sym is) tt
-
-pub found_place : (vs : List (Vec ℕ Global)) (ns : List ℕ) (o : Option ℕ) → o ≡ position (holds ns) vs
-    → IfSome o (λ k. k ≡ place_in (lists_of vs) ns)
-found_place vs ns o is =
-    place_by (nat_lt (position_or_len (holds ns) vs) (length vs)) (position_or_len (holds ns) vs) o
-    (λ k. k ≡ place_in (lists_of vs) ns) is (place_is vs ns)
-
-any_first : (b c : Bool) (n m : ℕ) → (b || c) ≡ true → (c ≡ true → n < m) → cond b 0 (suc n) < suc m
-any_first true c n m some later = omega arith
-any_first false c n m some later = let rest = later some in omega arith
-
-any_has : (vs : List (Vec ℕ Global)) (ns : List ℕ) → list_any (holds ns) vs ≡ true → Has (lists_of vs) ns
-unfolding place_in
-any_has [] ns some = absurd cc
-any_has (v ∷ vs) ns some =
-    any_first (holds ns v) (list_any (holds ns) vs) (place_in (lists_of vs) ns) (length (lists_of vs)) some
-    (any_has vs ns)
-
-pushed_by : (b : Bool) (vs ws : List (Vec ℕ Global)) (v : Vec ℕ Global) → ws ≡ cond b vs (vs ++ v ∷ [])
-    → (b ≡ true → ⊥) → lists_of ws ≡ lists_of vs ++ v.items ∷ []
-pushed_by true vs ws v is never = absurd (never refl)
-pushed_by false vs ws v is never = ap lists_of is ∙ map-append (λ (u : Vec ℕ Global). u.items) vs (v ∷ [])
-
--- what is put in is behind the others, where it was not there
-pub pushed : (vs ws : List (Vec ℕ Global)) (v : Vec ℕ Global)
-    → ws ≡ cond (list_any (holds v.items) vs) vs (vs ++ v ∷ []) → ¬ (Has (lists_of vs) v.items)
-    → lists_of ws ≡ lists_of vs ++ v.items ∷ []
-pushed vs ws v is none = pushed_by (list_any (holds v.items) vs) vs ws v is (λ some. none (any_has vs v.items some))
 
 later : (b : Bool) (n m : ℕ) → n < m → cond b 0 (suc n) < suc m
 later true n m within = omega arith

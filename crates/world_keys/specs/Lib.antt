@@ -1,5 +1,7 @@
 -- What public contracts promise: the numbers by which worlds are told apart.
 pub mod Tables
+pub mod RowLists
+pub mod Buckets
 pub mod StreamNumbers
 pub mod MemoryNumbers
 pub mod WorldKeys

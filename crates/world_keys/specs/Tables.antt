@@ -1,6 +1,5 @@
 -- Tables of lists of numbers, each list known by its place.
-use Rattle.std.specs.Prelude.{◌≡◌, ℕ, suc, ◌<◌, List, [], ◌∷◌, ◌++◌, length, map, if◌then◌else◌, bytes_eq, Vec}
-use Rattle.std.specs.Global.{Global}
+use Rattle.std.specs.Prelude.{◌≡◌, ℕ, suc, ◌<◌, List, [], ◌∷◌, ◌++◌, length, if◌then◌else◌, bytes_eq}
 
 -- the first place at which a table has this list of numbers; its length where it does not have it
 unfoldable pub place_in : List (List ℕ) → List ℕ → ℕ
@@ -14,7 +13,3 @@ Has table ns = place_in table ns < length table
 -- the later table begins with the earlier one
 abbrev pub Extends : List (List ℕ) → List (List ℕ) → Type 0
 Extends old new = (more : List (List ℕ)) × (new ≡ old ++ more)
-
--- what vectors hold
-abbrev pub lists_of : List (Vec ℕ Global) → List (List ℕ)
-lists_of vs = map (λ (v : Vec ℕ Global). v.items) vs

@@ -2,11 +2,13 @@
 //! (docs/MACHINE.md, "Machines").
 #![tactic(auto)]
 
+mod buckets;
 mod halves;
 mod keys;
 mod laws;
 mod memory_numbers;
 mod next_keys;
+mod row_lists;
 mod stream_numbers;
 mod tables;
 

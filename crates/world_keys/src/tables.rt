@@ -4,7 +4,8 @@ ghost use Rattle.std.specs.Prelude.{◌≡◌, ◌++◌, ℕ, [], ◌∷◌, len
 ghost use Rattle.std.specs.Option.{option_copied};
 ghost use Rattle.world_keys.specs.Tables.{place_in, Has, Extends};
 
-use indexmap::IndexSet;
+use crate::buckets::{bucket_of, find_linked, make_room};
+use crate::row_lists::RowLists;
 use std::alloc::{AllocError, Global};
 use std::marker::Model;
 
@@ -12,16 +13,20 @@ use std::marker::Model;
 #[derive(Drop)]
 pub struct Table {
     alloc: Global,
-    lists: IndexSet<Vec<u32>>,
+    lists: RowLists,
+    heads: Vec<u32>,
+    earlier: Vec<u32>,
 }
 
 impl Model for Table {
     ghost use Rattle.std.specs.Prelude.{ℕ, List};
-    ghost use Rattle.world_keys.specs.Tables.{lists_of};
+    ghost use Rattle.world_keys.specs.Buckets.{IsLinked};
 
     ghost Value = { List (List ℕ) };
 
-    ghost view = { λ t. lists_of t.lists.keys };
+    ghost view = { λ t. t.lists };
+
+    ghost invariant = { λ t. IsLinked t.lists t.heads.items t.earlier.items };
 }
 
 impl Table {
@@ -31,7 +36,9 @@ impl Table {
     {
         Table {
             alloc,
-            lists: IndexSet::new(alloc),
+            lists: RowLists::new(alloc),
+            heads: Vec::new(alloc),
+            earlier: Vec::new(alloc),
         }
     }
 
@@ -47,24 +54,32 @@ impl Table {
         ensures place { IfSome result (λ k. k ≡ place_in self.now list.now) }
         ensures there { IsSome result ↔ Has self.now list.now }
     {
-        self.lists.get_index_of(list)
+        find_linked(&self.lists, &self.heads, &self.earlier, list)
     }
 
     /// The list at a place; None from the table's length on.
     pub fn list(&self, place: usize) -> Option<&[u32]>
         ensures { option_copied result ≡ slice_get self.now place }
     {
-        let list = self.lists.get_index(place)?;
-        Some(list)
+        self.lists.list(place)
     }
 
     /// Puts a list that the table does not have behind the others.
-    pub fn push(&mut self, list: Vec<u32>) -> Result<(), AllocError>
-        requires { ¬ (Has self.old list.items) }
-        ensures pushed { OnOk result (self.new ≡ self.old ++ list.items ∷ []) }
+    pub fn push(&mut self, list: &[u32]) -> Result<(), AllocError>
+        requires { ¬ (Has self.old list.now) }
+        ensures pushed { OnOk result (self.new ≡ self.old ++ list.now ∷ []) }
         ensures stays { OnErr result (self.new ≡ self.old) }
     {
-        self.lists.insert(list)?;
+        let place = self.lists.len();
+        if place >= u32::MAX as usize {
+            return Err(AllocError);
+        }
+        make_room(self.alloc, &self.lists, &mut self.heads, &mut self.earlier)?;
+        self.earlier.reserve(1)?;
+        self.lists.push(list)?;
+        let bucket = bucket_of(list, self.heads.len());
+        self.earlier.push_reserved(self.heads[bucket]);
+        self.heads[bucket] = place as u32 + 1;
         Ok(())
     }
 
@@ -89,19 +104,7 @@ impl Table {
         if let Some(place) = self.find(list) {
             return Ok(place);
         }
-        let place = self.put(list)?;
-        Ok(place)
-    }
-
-    /// Puts a list that the table does not have behind the others, and says at which place.
-    fn put(&mut self, list: &[u32]) -> Result<usize, AllocError>
-        requires { ¬ (Has self.old list.now) }
-        ensures place { IfOk result (λ k. k ≡ length self.old) }
-        ensures put { OnOk result (self.new ≡ self.old ++ list.now ∷ []) }
-        ensures stays { OnErr result (self.new ≡ self.old) }
-    {
         let place = self.len();
-        let list = Vec::from_slice(self.alloc, list)?;
         self.push(list)?;
         Ok(place)
     }

@@ -7,11 +7,11 @@ pub returns-clause-place : goal.returns-clause-place
 returns-clause-place c =
     let old = c.args.self.now in
     let list = c.args.list.now in
-    c.in_ok-place.ensures.place
+    c.len-place.ensures
     ∙ sym (place_put old list (λ has. let e = c.in_default.ensures.there.1 has in absurd cc))
-    ∙ sym (ap (λ t. place_in t list) c.in_ok-place.ensures.put)
+    ∙ sym (ap (λ t. place_in t list) c.in_ok-push.ensures.pushed)
 
 pub returns-clause-there : goal.returns-clause-there
 returns-clause-there c =
-    has_put c.args.self.now c.put.new.self c.args.list.now
-    (λ has. let e = c.in_default.ensures.there.1 has in absurd cc) c.in_ok-place.ensures.put
+    has_put c.args.self.now c.push.new.self c.args.list.now
+    (λ has. let e = c.in_default.ensures.there.1 has in absurd cc) c.in_ok-push.ensures.pushed
