@@ -1,5 +1,5 @@
--- A step that neither starts a stream nor ends one keeps the other streams of its processor.
-use Rattle.std.proofs.Common.{◌≡◌, ◌≢◌, ℕ, zero, suc, refl, sym, ap, ◌∙◌, subst, arith, List, [], ◌∷◌}
+-- A step that starts no stream keeps the other streams of its processor.
+use Rattle.std.proofs.Common.{◌≡◌, ◌≢◌, ◌≤◌, ℕ, zero, suc, refl, sym, ap, ◌∙◌, subst, arith, List, [], ◌∷◌}
 use Rattle.std.proofs.Common.{◌⊎◌, inl, inr, Option, Some, None, length, get_or, set, slice_get}
 use Rattle.std.proofs.lemmas.List.{get_or-set_same, set-get_or}
 use Rattle.std.proofs.lemmas.Option.{slice_get_within, get_or_from_slice_get}
@@ -36,7 +36,7 @@ same_but (x ∷ xs) (y ∷ ys) (suc n) d many same =
     let rest = same_but xs ys n d (omega arith) (λ k apart. same (suc k) (λ e. apart (omega (arith, e)))) in
     λ i. first i ∷ rest i
 
-kept_streams : (n : ℕ) (old new : ProcessorValue) → KeepsOthers n old new → new.scur ≡ old.scur
+kept_streams : (n : ℕ) (old new : ProcessorValue) → KeepsOthers n old new → new.scur ≤ old.scur
     → new.streams ≡ set old.streams n (stream_at new.streams n)
 kept_streams n old new keeps current =
     same_but old.streams new.streams n idle keeps.as_many (λ k apart. by_case k (keeps.others k apart)) where
@@ -45,9 +45,9 @@ kept_streams n old new keeps current =
       by_case k (inl same) = same
       by_case k (inr started) = absurd (omega (arith, started.1, current))
 
--- a step keeps the other streams where as many are current as before
+-- a step keeps the other streams where no more are current than before
 others_kept : (image : ImageValue) (w : World) (t : Step)
-    → (processor_in (after image w t) t.p).scur ≡ (processor_in w t.p).scur
+    → (processor_in (after image w t) t.p).scur ≤ (processor_in w t.p).scur
     → (processor_in (after image w t) t.p).streams
     ≡ set (processor_in w t.p).streams t.s (stream_at (processor_in (after image w t) t.p).streams t.s)
 others_kept image w t current = by_processor (slice_get w.processors t.p) refl where
@@ -74,10 +74,10 @@ others_kept image w t current = by_processor (slice_get w.processors t.p) refl w
 
 -- the same of a world that is that after the step
 pub others_next : (image : ImageValue) (w next : World) (t : Step) → next ≡ after image w t
-    → (processor_in next t.p).scur ≡ (processor_in w t.p).scur
+    → (processor_in next t.p).scur ≤ (processor_in w t.p).scur
     → (processor_in next t.p).streams
     ≡ set (processor_in w t.p).streams t.s (stream_at (processor_in next t.p).streams t.s)
 others_next image w next t is =
-    subst (λ (x : World). (processor_in x t.p).scur ≡ (processor_in w t.p).scur
+    subst (λ (x : World). (processor_in x t.p).scur ≤ (processor_in w t.p).scur
     → (processor_in x t.p).streams ≡ set (processor_in w t.p).streams t.s (stream_at (processor_in x t.p).streams t.s))
     (sym is) (others_kept image w t)

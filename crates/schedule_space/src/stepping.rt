@@ -1,6 +1,6 @@
 //! A step from a machine's world, and what it can change.
 
-ghost use Rattle.std.specs.Prelude.{◌≡◌, ◌≢◌, ◌<◌, length, true, IfOk};
+ghost use Rattle.std.specs.Prelude.{◌≡◌, ◌≢◌, ◌<◌, ◌≤◌, length, true, IfOk};
 ghost use Rattle.processor.specs.World.{after};
 ghost use Rattle.world_keys.specs.WorldKeys.{processor_in};
 ghost use Rattle.world_keys.specs.Changes.{HasOthersOf};
@@ -56,7 +56,7 @@ pub(crate) fn stepped<'i, const S: usize>(
 }
 
 /// What the step changed that led from one machine to the next: the other streams of its processor are as they were
-/// where as many are current.
+/// where no more are current.
 pub(crate) fn change_of<const S: usize>(
     machine: &Machine<'_, S>,
     next: &Machine<'_, S>,
@@ -73,7 +73,7 @@ pub(crate) fn change_of<const S: usize>(
     Change {
         step,
         is_memory_kept: is_memory_kept(reach),
-        are_others_kept: are_as_many_current(machine, next, step.p),
+        are_others_kept: are_no_more_current(machine, next, step.p),
     }
 }
 
@@ -87,16 +87,16 @@ fn is_memory_kept(reach: Reach) -> bool
     }
 }
 
-/// Whether processor `p` has as many current streams in both machines.
-fn are_as_many_current<const S: usize>(
+/// Whether processor `p` has no more current streams in the next machine.
+fn are_no_more_current<const S: usize>(
     machine: &Machine<'_, S>,
     next: &Machine<'_, S>,
     p: u8,
 ) -> bool
-    ensures { result ≡ true → (processor_in next.now.world p).scur ≡ (processor_in machine.now.world p).scur }
+    ensures { result ≡ true → (processor_in next.now.world p).scur ≤ (processor_in machine.now.world p).scur }
 {
     match (machine.counts(p), next.counts(p)) {
-        (Some((before, _)), Some((after, _))) => before == after,
+        (Some((before, _)), Some((after, _))) => after <= before,
         _ => false,
     }
 }

@@ -8,4 +8,5 @@ pub mod Marks
 pub mod Readings
 pub mod Worlds
 pub mod Replacing
+pub mod Removing
 pub mod Nexts

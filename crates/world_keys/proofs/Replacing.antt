@@ -25,11 +25,11 @@ later_mark n q ms (suc k) a later is =
     let less = later k (subst (λ j. slice_get (n ∷ q ∷ ms) j ≡ Some a) at is) in
     omega (arith, less)
 
-no_mark : (n q : ℕ) (ms : List ℕ) (b : Bool) → b ≡ true → cond b [] (n ∷ q ∷ []) ++ ms ≡ ms
+pub no_mark : (n q : ℕ) (ms : List ℕ) (b : Bool) → b ≡ true → cond b [] (n ∷ q ∷ []) ++ ms ≡ ms
 no_mark n q ms true on = refl
 no_mark n q ms false on = absurd cc
 
-one_mark : (n q : ℕ) (ms : List ℕ) (b : Bool) → b ≡ false → cond b [] (n ∷ q ∷ []) ++ ms ≡ n ∷ q ∷ ms
+pub one_mark : (n q : ℕ) (ms : List ℕ) (b : Bool) → b ≡ false → cond b [] (n ∷ q ∷ []) ++ ms ≡ n ∷ q ∷ ms
 one_mark n q ms true off = absurd cc
 one_mark n q ms false off = refl
 

@@ -1,7 +1,7 @@
 //! The key of a machine's world after a step, from the key before it.
 
 ghost use Rattle.std.specs.Prelude.{◌≡◌, ◌≢◌, ◌<◌, ◌+◌, ◌*◌, ℕ, true, Some, None, length, slice_get, slice_index_or};
-ghost use Rattle.std.specs.Prelude.{IfOk, OnOk, IfSome};
+ghost use Rattle.std.specs.Prelude.{◌++◌, take, drop, slice_set, IfOk, OnOk, IfSome};
 ghost use Rattle.world_keys.specs.Tables.{place_in, Has, Extends};
 ghost use Rattle.world_keys.specs.MemoryNumbers.{memory_numbers};
 ghost use Rattle.world_keys.specs.WorldKeys.{processor_in, processor_numbers, processor_place, key_of};
@@ -101,8 +101,7 @@ fn changed_place<const S: usize>(
     }
 }
 
-/// The numbers of a processor where only the stream of the step changed, and neither started nor ended; None where that
-/// is not known.
+/// The numbers of a processor where only the stream of the step changed, or ended; None where that is not known.
 fn changed_numbers<const S: usize>(
     alloc: Global,
     contents: &mut Table,
@@ -122,7 +121,7 @@ fn changed_numbers<const S: usize>(
     let Some(stream) = machine.stream(p, s) else {
         return Ok(None);
     };
-    if !change.are_others_kept || is_idle(stream.status()) {
+    if !change.are_others_kept {
         return Ok(None);
     }
     let Some(marks) = contents.list(before as usize) else {
@@ -131,13 +130,35 @@ fn changed_numbers<const S: usize>(
     let Some(mark) = mark_of(marks, s) else {
         return Ok(None);
     };
+    let (_, sres) = machine.counts(p).unwrap();
+    let reserved = u32::from(sres);
+    if is_idle(stream.status()) {
+        let rest = numbers_without(alloc, marks, mark, reserved)?;
+        return Ok(Some(rest));
+    }
     let mut numbers = Vec::from_slice(alloc, marks)?;
     let held = stream_numbers(alloc, stream)?;
     let place = contents.place(&held)?;
-    let (_, sres) = machine.counts(p).unwrap();
-    numbers[0] = u32::from(sres);
+    numbers[0] = reserved;
     numbers[2 * mark + 2] = place;
     Ok(Some(numbers))
+}
+
+/// The numbers of a processor without one of its marks, and with how many streams are reserved now.
+fn numbers_without(
+    alloc: Global,
+    marks: &[u32],
+    mark: usize,
+    sres: u32,
+) -> Result<Vec<u32>, AllocError>
+    requires { 2 * mark + 2 < length marks.now }
+    ensures { IfOk result (λ v. v.items
+        ≡ slice_set (take (2 * mark + 1) marks.now ++ drop (2 * mark + 3) marks.now) 0 sres) }
+{
+    let mut numbers = Vec::from_slice(alloc, &marks[..2 * mark + 1])?;
+    numbers.extend_from_slice(&marks[2 * mark + 3..])?;
+    numbers[0] = sres;
+    Ok(numbers)
 }
 
 /// Which of the marks in a processor's numbers, which stand in twos behind the first number, is that of this stream;
