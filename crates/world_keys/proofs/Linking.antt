@@ -9,7 +9,7 @@ use Rattle.std.proofs.lemmas.Option.{slice_get-get_or, slice_get_within}
 use Rattle.std.proofs.lemmas.Slice.Eq.{bytes_eq-Decides}
 use Rattle.std.specs.Option.{option_copied}
 use Rattle.world_keys.specs.Tables.{place_in, Has}
-use Rattle.world_keys.specs.Buckets.{bucket_of, bucket_at, IsLast, AreLinked, IsLinked}
+use Rattle.world_keys.specs.Buckets.{bucket_of, bucket_at, IsLast, AreLinked, HasBuckets}
 use Rattle.world_keys.proofs.Places.{place_get, place_kept, place_put, has_at}
 
 -- One list more is linked.
@@ -110,11 +110,11 @@ places_put ls x none places k below = by_place (cases_lt k (length ls)) where
       (ap (λ n. get_or (ls ++ x ∷ []) n []) (sym at) ∙ get_or-append_seam ls x [] [])
       ∙ place_put ls x none ∙ at
 
-pub linked_put : (ls new : List (List ℕ)) (hs more es later : List ℕ) (x : List ℕ) (b : ℕ) → IsLinked ls hs es
+pub linked_put : (ls new : List (List ℕ)) (hs more es later : List ℕ) (x : List ℕ) (b : ℕ) → HasBuckets ls hs es
     → ¬ (Has ls x) → length ls < length hs → length ls + 1 < 2 ^ 32 → b ≡ bucket_of (length hs) x → b < length hs
-    → new ≡ ls ++ x ∷ [] → later ≡ es ++ get_or hs b 0 ∷ [] → more ≡ set hs b (length ls + 1) → IsLinked new more later
+    → new ≡ ls ++ x ∷ [] → later ≡ es ++ get_or hs b 0 ∷ [] → more ≡ set hs b (length ls + 1) → HasBuckets new more later
 linked_put ls new hs more es later x b is none room few bucket below put linked headed =
-    subst (λ (t : List (List ℕ)). IsLinked t more later) (sym put) (record {
+    subst (λ (t : List (List ℕ)). HasBuckets t more later) (sym put) (record {
       places = places_put ls x none is.places;
       each =
           omega (
@@ -152,7 +152,7 @@ linked_put ls new hs more es later x b is none room few bucket below put linked 
           (bucket ∙ ap (bucket_of (length hs)) (sym (get_or-append_seam ls x [] []))) below headed last others
 
 -- the table without a list
-pub linked_empty : (ls : List (List ℕ)) (hs es : List ℕ) → ls ≡ [] → hs ≡ [] → es ≡ [] → IsLinked ls hs es
+pub linked_empty : (ls : List (List ℕ)) (hs es : List ℕ) → ls ≡ [] → hs ≡ [] → es ≡ [] → HasBuckets ls hs es
 linked_empty ls hs es no_list no_head no_link =
     let none : length ls ≡ 0 = ap (λ (t : List (List ℕ)). length t) no_list in
     let empty : length hs ≡ 0 = ap (λ (xs : List ℕ). length xs) no_head in
@@ -176,7 +176,7 @@ pub record IsSought (ls : List (List ℕ)) (size : ℕ) (x : List ℕ) (link : �
   pub in_it : (k : ℕ) → link ≡ k + 1 → bucket_at ls size k ≡ bucket_of size x
   pub none_since : (k : ℕ) → link ≤ k → k < length ls → get_or ls k [] ≢ x
 
-pub sought_first : (ls : List (List ℕ)) (hs es x : List ℕ) (b link : ℕ) → IsLinked ls hs es → b ≡ bucket_of (length hs) x
+pub sought_first : (ls : List (List ℕ)) (hs es x : List ℕ) (b link : ℕ) → HasBuckets ls hs es → b ≡ bucket_of (length hs) x
     → b < length hs → link ≡ get_or hs b 0 → IsSought ls (length hs) x link
 sought_first ls hs es x b link is bucket below at =
     let last = subst (IsLast ls (length hs) b (length ls)) (sym at) (is.linked.last b below) in
@@ -187,7 +187,7 @@ sought_first ls hs es x b link is bucket below at =
           last.none_since k from before (ap (bucket_of (length hs)) same ∙ sym bucket);
     }
 
-pub sought_next : (ls : List (List ℕ)) (hs es x : List ℕ) (k link next : ℕ) → IsLinked ls hs es → link ≡ k + 1
+pub sought_next : (ls : List (List ℕ)) (hs es x : List ℕ) (k link next : ℕ) → HasBuckets ls hs es → link ≡ k + 1
     → IsSought ls (length hs) x link → get_or ls k [] ≢ x → next ≡ get_or es k 0 → IsSought ls (length hs) x next
 sought_next ls hs es x k link next is at so other to =
     let below : k < length ls = omega (arith, at, so.within) in
@@ -214,7 +214,7 @@ pub sought_none : (ls : List (List ℕ)) (size : ℕ) (x : List ℕ) (link : ℕ
 sought_none ls size x link none so has =
     so.none_since (place_in ls x) (omega (arith, none)) has (place_get ls x [] has)
 
-pub found_at : (ls : List (List ℕ)) (hs es x : List ℕ) (k : ℕ) → IsLinked ls hs es → k < length ls → get_or ls k [] ≡ x
+pub found_at : (ls : List (List ℕ)) (hs es x : List ℕ) (k : ℕ) → HasBuckets ls hs es → k < length ls → get_or ls k [] ≡ x
     → k ≡ place_in ls x
 found_at ls hs es x k is below same = sym (is.places k below) ∙ ap (place_in ls) same
 

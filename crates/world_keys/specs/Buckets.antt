@@ -27,7 +27,7 @@ pub record AreLinked (lists : List (List ℕ)) (size : ℕ) (heads earlier : Lis
   pub before : (k : ℕ) → k < count → IsLast lists size (bucket_at lists size k) k (slice_index_or earlier k 0)
 
 -- What holds of a table: no list is there twice, each is linked, and there are as many buckets.
-pub record IsLinked (lists : List (List ℕ)) (heads earlier : List ℕ) : Type 0 where
+pub record HasBuckets (lists : List (List ℕ)) (heads earlier : List ℕ) : Type 0 where
   pub places : (k : ℕ) → k < length lists → place_in lists (slice_index_or lists k []) ≡ k
   pub each : length earlier ≡ length lists
   pub room : length lists ≤ length heads

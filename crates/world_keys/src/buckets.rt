@@ -3,7 +3,7 @@
 
 ghost use Rattle.std.specs.Prelude.{◌≡◌, ◌<◌, ◌≤◌, ◌^◌, ◌↔◌, ℕ, length, slice_index_or, IfSome, IsSome, OnOk};
 ghost use Rattle.world_keys.specs.Tables.{place_in, Has};
-ghost use Rattle.world_keys.specs.Buckets.{bucket_of, AreLinked, IsLinked};
+ghost use Rattle.world_keys.specs.Buckets.{bucket_of, AreLinked, HasBuckets};
 
 use crate::row_lists::RowLists;
 use std::alloc::{AllocError, Global};
@@ -21,7 +21,7 @@ pub(crate) fn find_linked(
     earlier: &[u32],
     list: &[u32],
 ) -> Option<usize>
-    requires { IsLinked lists.now heads.now earlier.now }
+    requires { HasBuckets lists.now heads.now earlier.now }
     ensures place { IfSome result (λ k. k ≡ place_in lists.now list.now) }
     ensures there { IsSome result ↔ Has lists.now list.now }
 {
@@ -46,8 +46,8 @@ pub(crate) fn make_room(
     heads: &mut Vec<u32>,
     earlier: &mut Vec<u32>,
 ) -> Result<(), AllocError>
-    requires { IsLinked lists.now heads.old.items earlier.old.items }
-    ensures linked { IsLinked lists.now heads.new.items earlier.new.items }
+    requires { HasBuckets lists.now heads.old.items earlier.old.items }
+    ensures linked { HasBuckets lists.now heads.new.items earlier.new.items }
     ensures room { OnOk result (length lists.now < length heads.new.items) }
 {
     if lists.len() < heads.len() {

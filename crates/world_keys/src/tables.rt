@@ -20,13 +20,13 @@ pub struct Table {
 
 impl Model for Table {
     ghost use Rattle.std.specs.Prelude.{ℕ, List};
-    ghost use Rattle.world_keys.specs.Buckets.{IsLinked};
+    ghost use Rattle.world_keys.specs.Buckets.{HasBuckets};
 
     ghost Value = { List (List ℕ) };
 
     ghost view = { λ t. t.lists };
 
-    ghost invariant = { λ t. IsLinked t.lists t.heads.items t.earlier.items };
+    ghost invariant = { λ t. HasBuckets t.lists t.heads.items t.earlier.items };
 }
 
 impl Table {
