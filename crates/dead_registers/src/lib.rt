@@ -4,6 +4,8 @@
 
 mod laws;
 mod live_registers;
+#[cfg(test)]
+mod tests;
 
 pub use laws::{cleared_worlds_agree, registers_are_cleared};
 pub use live_registers::LiveRegisters;

@@ -28,7 +28,7 @@ use Rattle.local_steps.proofs.Orders.{same_or_other}
 use Rattle.program_flow.specs.Agreement.{with_registers}
 use Rattle.program_flow.specs.Flow.{Matters, AgreeIn, IsClosed}
 use Rattle.same_futures.specs.Links.{HasOtherRegisters, IsLinked, TellsHandlers, AreLinked, WorldsAgree}
-use Rattle.same_futures.specs.Agreeing.{stream_in, AreAlike, EndAlike}
+use Rattle.same_futures.specs.Agreeing.{stream_in, DifferInRegisters, EndAlike}
 use Rattle.same_futures.proofs.Own.{own_next}
 use Rattle.same_futures.proofs.Linked.{rests_status, closed_here}
 use Rattle.same_futures.proofs.Chains.{told_linked, told_agreeing, agree_back}
@@ -106,11 +106,11 @@ module _ (named : ℕ → Type 0) (live : ℕ → ℕ → Type 0) where
           (subst (AgreeAt (slice_get a.processors l.p)) (sym (there_same a.processors l.p l.from l.to l.there))
           (subst (λ o. AgreeAt o (Some l.to)) (sym l.there) (counts, agree_moved l.k l.from l.to l.moved)))
 
-  alike_itself : (a : World) → AreAlike named live a a
+  alike_itself : (a : World) → DifferInRegisters named live a a
   alike_itself a =
       record { memory = refl; as_many = refl; counts = λ p. refl; streams = λ p k. agree_itself (stream_in a p k) }
 
-  alike_linked : (a b : World) → IsLinked named live a b → AreAlike named live a b
+  alike_linked : (a b : World) → IsLinked named live a b → DifferInRegisters named live a b
   alike_linked a b l = record {
     memory = ap (λ (w : World). w.memory) l.is;
     as_many = ap (λ (w : World). length w.processors) l.is ∙ length-set a.processors l.p l.to;
@@ -118,7 +118,7 @@ module _ (named : ℕ → Type 0) (live : ℕ → ℕ → Type 0) where
     streams = λ p k. (at_linked a b l p).1 k;
   }
 
-  alike_on : (a b c : World) → AreAlike named live a b → AreAlike named live b c → AreAlike named live a c
+  alike_on : (a b c : World) → DifferInRegisters named live a b → DifferInRegisters named live b c → DifferInRegisters named live a c
   alike_on a b c g h = record {
     memory = h.memory ∙ g.memory;
     as_many = h.as_many ∙ g.as_many;
@@ -126,22 +126,22 @@ module _ (named : ℕ → Type 0) (live : ℕ → ℕ → Type 0) where
     streams = λ p k. agree_on (stream_in a p k) (stream_in b p k) (stream_in c p k) (g.streams p k) (h.streams p k);
   }
 
-  alike_chain : (cs : List World) (a b : World) → AreLinked named live a cs b → AreAlike named live a b
-  alike_chain [] a b e = subst (AreAlike named live a) (sym e) (alike_itself a)
+  alike_chain : (cs : List World) (a b : World) → AreLinked named live a cs b → DifferInRegisters named live a b
+  alike_chain [] a b e = subst (DifferInRegisters named live a) (sym e) (alike_itself a)
   alike_chain (c ∷ cs) a b l = alike_on a c b (alike_linked a c l.0) (alike_chain cs c b l.1)
 
-  pub agreeing_alike : (a b : World) → WorldsAgree named live a b → AreAlike named live a b
+  pub agreeing_alike : (a b : World) → WorldsAgree named live a b → DifferInRegisters named live a b
   agreeing_alike a b g = alike_chain g.0 a b g.1
 
   -- Who runs and who was stopped.
 
-  run_alike : (a b : World) → AreAlike named live a b → (t : Step) → runs_in b t ≡ runs_in a t
+  run_alike : (a b : World) → DifferInRegisters named live a b → (t : Step) → runs_in b t ≡ runs_in a t
   run_alike a b g t =
       runs_or_idle (streams_at (slice_get b.processors t.p)) t.s
       ∙ ap is_running (g.streams t.p t.s).rest
       ∙ sym (runs_or_idle (streams_at (slice_get a.processors t.p)) t.s)
 
-  stopped_alike : (a b : World) → AreAlike named live a b → (t : Step) → stopped_in b t ≡ stopped_in a t
+  stopped_alike : (a b : World) → DifferInRegisters named live a b → (t : Step) → stopped_in b t ≡ stopped_in a t
   stopped_alike a b g t =
       stopped_or_idle (streams_at (slice_get b.processors t.p)) t.s
       ∙ ap (λ (s : StreamValue). is_stopped_status s.status) (g.streams t.p t.s).rest

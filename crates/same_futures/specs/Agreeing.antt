@@ -17,7 +17,7 @@ stream_in w p k = stream_at (streams_at (slice_get w.processors p)) k
 
 -- Both have the same memory and the same counts, and each stream of theirs is the same but for registers, which hold the
 -- same where it matters.
-pub record AreAlike (named : ℕ → Type 0) (live : ℕ → ℕ → Type 0) (a b : World) : Type 0 where
+pub record DifferInRegisters (named : ℕ → Type 0) (live : ℕ → ℕ → Type 0) (a b : World) : Type 0 where
   pub memory : b.memory ≡ a.memory
   pub as_many : length b.processors ≡ length a.processors
   pub counts : (p : ℕ) → counts_of b p ≡ counts_of a p

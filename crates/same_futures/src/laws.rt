@@ -6,7 +6,7 @@ ghost use Rattle.processor.specs.World.{World, after, steps};
 ghost use Rattle.processor.specs.declared.steps.Step.{Step};
 ghost use Rattle.program_flow.specs.Flow.{IsClosed};
 ghost use Rattle.same_futures.specs.Links.{IsLinked, TellsHandlers, KeepsLink, WorldsAgree};
-ghost use Rattle.same_futures.specs.Agreeing.{AreAlike, EndAlike};
+ghost use Rattle.same_futures.specs.Agreeing.{DifferInRegisters, EndAlike};
 ghost use Rattle.same_futures.specs.Handlers.{may_have_handlers, NobodyHasHandlers};
 
 /// The same step of two worlds that differ in registers of one stream, but not in those that matter, comes out the same,
@@ -44,7 +44,7 @@ pub fn agreeing_worlds_are_alike()
         → WorldsAgree (λ r. IsTrue (named r)) (λ k r. IsTrue (live k r)) a c }
     ensures alike { (named : ℕ → Bool) (live : ℕ → ℕ → Bool) (a b : World)
         → WorldsAgree (λ r. IsTrue (named r)) (λ k r. IsTrue (live k r)) a b
-        → AreAlike (λ r. IsTrue (named r)) (λ k r. IsTrue (live k r)) a b }
+        → DifferInRegisters (λ r. IsTrue (named r)) (λ k r. IsTrue (live k r)) a b }
 {}
 
 /// In two worlds that agree the same streams run, the same are stuck and the same were stopped by a trap, and if no step
