@@ -1,6 +1,7 @@
 //! The steps by which it goes round in a set of worlds that spins.
 
-use closed_sets::{Link, way_round};
+use crate::links::links_of;
+use closed_sets::way_round;
 use lab_texts::{ProgramNames, push_stream};
 use machine::Machine;
 use processor::Step;
@@ -10,18 +11,6 @@ use waiting::{is_stuck, running_streams};
 
 /// The most steps that are told one by one.
 const MOST_TOLD: usize = 12;
-
-/// The links between the places of a space's worlds, in the order of its edges.
-pub(crate) fn links_of(alloc: Global, edges: &[Edge]) -> Result<Vec<Link>, AllocError> {
-    let mut links = Vec::with_capacity(alloc, edges.len())?;
-    for edge in edges {
-        links.push(Link {
-            from: edge.from,
-            to: edge.to,
-        })?;
-    }
-    Ok(links)
-}
 
 /// The steps of a shortest way round along the edges of a space from the world at a place, a machine's, back to it: where
 /// none leads back, a step that goes on and leaves the world as it is. Empty where there is neither.

@@ -1,8 +1,9 @@
 //! Sets of worlds that no step leads out of, and in which it goes on for ever.
 
 use crate::every_end::{EndTold, SpaceEnd, SpaceEndKind, new_end};
+use crate::links::links_of;
 use crate::machines::machine_at;
-use crate::rounds::{links_of, push_round, round_of};
+use crate::rounds::{push_round, round_of};
 use crate::set_words::push_set;
 use closed_sets::closed_sets;
 use end_kinds::EndKind;

@@ -1,0 +1,7 @@
+-- The steps of a space as links between its places.
+use Rattle.closed_sets.specs.declared.links.Link.{Link}
+use Rattle.schedule_space.specs.declared.links.Edge.{Edge}
+
+-- the link that an edge is
+abbrev pub link_of : Edge → Link
+link_of e = record { from = e.from; to = e.to }
