@@ -8,7 +8,7 @@ _mta_lab_options() {
     view) echo '--fair --seed --steps --from --to --only --word --columns --hex --json' ;;
     compare) echo '--hex --json' ;;
     survey) echo '--seeds --from --steps --expect --explore --states --hex --json' ;;
-    explore) echo '--expect --from --states --plain --keep --hex --json' ;;
+    explore) echo '--expect --from --states --plain --keep --dot --hex --json' ;;
     grade) echo '--expect --seeds --steps --explore --states --hex --json' ;;
     debug) echo '--fair --seed --steps' ;;
     page | picture) echo '--fair --rounds --seed --steps --title --out' ;;

@@ -238,6 +238,23 @@ def kept_over_inputs(tally, folder):
     tally.check("explore leaves its output", read(os.path.join(at, "1.schedule")) == lab(["explore", one]).out)
 
 
+def drawn_over_inputs(tally, folder):
+    """`explore --dot` leaves the schedule, the program and the expectations that it has read, and prints the ends."""
+    for name, words in (("from", ["--from", "from"]), ("wanted", ["--expect", "wanted"]), ("one.asm", [])):
+        at = room(folder, "drawn")
+        write(at, "one.asm", ONE)
+        write(at, "from", b"0 0\n")
+        write(at, "wanted", b"finished\n")
+        printed = within(at, ["explore", "one.asm", *words]).out
+        for out in names_of(at, name):
+            before = seen(at)
+            ended = within(at, ["explore", "one.asm", *words, "--dot", out])
+            tally.runs += 1
+            named = out.encode() + b": not written: " in ended.err and name.encode() in ended.err
+            tally.check(f"explore draws over {out}: {ended}", (ended.status, ended.out) == (1, printed) and named)
+            tally.check(f"explore leaves {name} by {out}", seen(at) == before)
+
+
 def bystanders(tally, folder):
     """Files of others, whatever their names, are not touched, and nothing is left beside what was written."""
     at = room(folder, "bystanders")
@@ -400,7 +417,7 @@ def kept(tally, folder):
 def part(_, folder):
     """All of it."""
     tally = Tally()
-    for of in (fifos, specials, over_inputs, edited, kept_over_inputs, bystanders, failures, at_once, replaced, protected,
-               kept):
+    for of in (fifos, specials, over_inputs, edited, kept_over_inputs, drawn_over_inputs, bystanders, failures, at_once,
+               replaced, protected, kept):
         of(tally, folder)
     return tally

@@ -281,7 +281,8 @@ def control_bytes():
                           ["view", name, "b\x07.schedule"], ["survey", name, "--seeds", "3"], ["explore", name],
                           ["explore", name, "--expect", "c.expect"], ["explore", name, "--expect", "b\x07.schedule"],
                           ["compare", name, "s.schedule", "s.schedule"], ["debug", name], ["schedule", "fair", name],
-                          ["asm", name, "--out", "no\x1b/ne"], ["page", name, "--out", "no\x1b/ne"]):
+                          ["asm", name, "--out", "no\x1b/ne"], ["page", name, "--out", "no\x1b/ne"],
+                          ["explore", name, "--dot", "no\x1b/ne"]):
                 ended = lab(*words, given=b"list\nstep 2\nsave no\x1b/ne\n\x1b\x07\n", folder=folder)
                 yield f"{words}", None, CONTROL.search(ended.out + EXCERPT.sub(without_tabs, ended.err))
 

@@ -203,7 +203,7 @@ const SURVEY_ARGUMENTS: [Argument; 9] = [
     Argument("json", help::JSON, Form::Flag(&[])),
 ];
 
-const EXPLORE_ARGUMENTS: [Argument; 8] = [
+const EXPLORE_ARGUMENTS: [Argument; 9] = [
     Argument("PROGRAM", help::PROGRAM, Form::Needed),
     Argument("expect", help::EXPECT, Form::Option("FILE")),
     Argument("from", help::BEGIN, Form::Option("SCHEDULE")),
@@ -213,6 +213,11 @@ const EXPLORE_ARGUMENTS: [Argument; 8] = [
         "keep",
         "writes the schedule to each end into this folder",
         Form::Option("FOLDER"),
+    ),
+    Argument(
+        "dot",
+        "writes the worlds as a graph for Graphviz, FILE.dot",
+        Form::Option("FILE"),
     ),
     Argument("hex", help::HEX, Form::Flag(&[])),
     Argument("json", help::JSON, Form::Flag(&[])),

@@ -86,8 +86,13 @@ word ADDRESS is|above|below VALUE, word ADDRESS full|empty, or at most N of P.S 
 above and below compare signed where VALUE has a sign (-1, +3), or signed stands behind it
 (below 0 signed); else a word is a number from 0 on, so that -1 is above 5 and none is below 0.
 
-Example:
-  mta_lab explore lock.asm";
+With --dot FILE the worlds are also written as a graph for Graphviz, up to 2000 of them: each coloured
+by the ends that can still be reached from it, the schedules to the ends bold. It has the worlds that
+were looked at, so use --plain to see all.
+
+Examples:
+  mta_lab explore lock.asm
+  mta_lab explore race.asm --plain --dot race.dot && dot -Tsvg race.dot > race.svg";
 
 pub(crate) const GRADE: &str = "\
 Judges submissions by many random schedules each: a line a submission, which is right, wrong,

@@ -181,6 +181,7 @@ fn explore_of<'a>(found: &ArgMatches<'a>) -> ExploreRequest<'a> {
         most: count(found, "states", USUAL_WORLDS),
         is_plain: found.get_flag("plain"),
         keep: text(found, "keep"),
+        dot: text(found, "dot"),
         shown: shown_of(found),
     }
 }

@@ -46,27 +46,38 @@ fn push_head(
     is_json: bool,
     found: &Explored,
 ) -> Result<(), AllocError> {
-    let worlds = found.worlds;
-    let steps = found.steps;
-    let complete = found.is_complete;
-    let is_plain = found.is_of_all_worlds;
-    let begin = found.begin;
     if is_json {
+        let worlds = found.worlds;
+        let steps = found.steps;
+        let complete = found.is_complete;
+        let is_plain = found.is_of_all_worlds;
+        let begin = found.begin;
         let value = json!(in alloc; {
             "version": VERSION, "worlds": worlds, "steps": steps, "complete": complete, "plain": is_plain,
             "begin": begin
         })?;
         return push_object(alloc, out, &value);
     }
+    push_head_line(out, found)
+}
+
+/// Adds how much was found, in words.
+pub(crate) fn push_head_line(out: &mut String, found: &Explored) -> Result<(), AllocError> {
+    let worlds = found.worlds;
+    let steps = found.steps;
     let which = schedules_of(found);
-    let end = if complete {
+    let end = if found.is_complete {
         "complete"
     } else {
         "not complete: nothing is said of the others"
     };
     let some_worlds = plural(worlds);
     let some_steps = plural(steps);
-    let looked_at = if is_plain { "" } else { " looked at" };
+    let looked_at = if found.is_of_all_worlds {
+        ""
+    } else {
+        " looked at"
+    };
     write!(
         out,
         "{which}: {worlds} world{some_worlds}{looked_at}, {steps} step{some_steps}, {end}\n"

@@ -7,6 +7,7 @@ ghost use Rattle.schedule_verdicts.specs.KeptClaims.{AreKeptOnTheWay};
 ghost use Rattle.schedule_verdicts.specs.RightSpaces.{EndsRight, IsRightOnEachWay, IsRightThroughout};
 
 use crate::explored_words::answer_of;
+use crate::graphs::{graph_asked, write_graph};
 use crate::spaces::space_of;
 use crate::wished::wishes_of;
 use command_parts::{
@@ -36,6 +37,8 @@ pub struct Search<'a> {
     pub most: usize,
     /// Whether all worlds are looked for, also where the ends need fewer.
     pub is_plain: bool,
+    /// Whether the graph of the worlds is drawn.
+    pub is_drawn: bool,
     /// How the numbers of ends are told.
     pub style: NumberStyle,
 }
@@ -72,6 +75,8 @@ pub struct Explored {
     pub begin: usize,
     /// Their ends.
     pub ends: Vec<SpaceEnd>,
+    /// The graph of the worlds, where it is asked for, and they are no more than a graph has.
+    pub graph: Option<String>,
     /// Whether they are all, something is wished of them, and every schedule is right: its end, and each world on its way
     /// (PROMISES.md, "Every schedule is right").
     pub is_right: bool,
@@ -104,7 +109,9 @@ pub fn show_every_end<F: Files, R: Read>(
     let made = make_folder(alloc, inputs, request.keep);
     let found = found_by(alloc, request, &program, &names, &wishes, &begin)?;
     let mut answer = answer_of(alloc, request, &wishes.ends, &found)?;
-    answer.fault = keep_schedules(alloc, inputs, request.keep, made, &found.ends).err();
+    let kept = keep_schedules(alloc, inputs, request.keep, made, &found.ends);
+    let drawn = write_graph(alloc, inputs, request.dot, &found);
+    answer.fault = kept.and(drawn).err();
     Ok(answer)
 }
 
@@ -162,6 +169,7 @@ fn found_by(
         begin,
         most: request.most,
         is_plain: request.is_plain,
+        is_drawn: request.dot.is_some(),
         style: style_of(request.shown),
     };
     explore_program(alloc, program, names, &asked)
@@ -228,6 +236,7 @@ fn explore_on<const S: usize>(
         is_of_all_worlds,
     )?;
     let ends = space_ends::<S>(alloc, names, asked.style, asked.wishes, &space, is_complete)?;
+    let graph = graph_asked(alloc, asked.is_drawn, &space, &ends)?;
     let is_asked = asked.is_judged();
     let is_right = are_all_right::<S>(alloc, asked.wishes, &space, is_complete, is_asked)?;
     Ok(Explored {
@@ -237,6 +246,7 @@ fn explore_on<const S: usize>(
         is_of_all_worlds,
         begin: asked.begin.len(),
         ends,
+        graph,
         is_right,
     })
 }

@@ -5,6 +5,7 @@ mod claim_texts;
 mod expectation_texts;
 mod explored_words;
 mod exploring;
+mod graphs;
 mod spaces;
 mod widths;
 mod wished;

@@ -32,6 +32,7 @@ pub(crate) fn explored_verdict(
         begin: &begin,
         most,
         is_plain: false,
+        is_drawn: false,
         style: style_of(request.shown),
     };
     let found = explore_program(alloc, program, &names, &asked)?;

@@ -94,6 +94,7 @@ fn every_end(
         begin: &begin,
         most,
         is_plain: false,
+        is_drawn: false,
         style,
     };
     explore_program(alloc, program, &names, &asked)

@@ -123,6 +123,8 @@ pub struct ExploreRequest<'a> {
     pub is_plain: bool,
     /// The folder for the shortest schedules.
     pub keep: Option<&'a str>,
+    /// The file for the graph of the worlds.
+    pub dot: Option<&'a str>,
     /// How it is printed.
     pub shown: Shown,
 }

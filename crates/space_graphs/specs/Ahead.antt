@@ -1,0 +1,47 @@
+-- Which ends can still be reached from the worlds of a space.
+use Rattle.std.specs.Prelude.{◌≡◌, ℕ, ◌+◌, ◌<◌, Bool, List, length, map, Contains, Vec}
+use Rattle.std.specs.List.{HoldsAt}
+use Rattle.std.specs.Global.{Global}
+use Rattle.closed_sets.specs.declared.links.Link.{Link}
+use Rattle.closed_sets.specs.Leading.{AreLeading, IsMarked, LeadsToOne}
+use Rattle.schedule_space.specs.Spaces.{SpaceValue, count}
+use Rattle.lab_ends.specs.Links.{link_of}
+use Rattle.lab_ends.specs.declared.every_end.SpaceEnd.{SpaceEnd}
+
+-- from the world at a place some steps between worlds of the space, or none, lead to one of the end
+abbrev pub CanStillCome : SpaceValue → ℕ → SpaceEnd → Type 0
+CanStillCome v k end = LeadsToOne (count v) (map link_of v.edges) end.places.items k
+
+-- the numbers of the ends, which count from 1, that can still be reached from the world at a place
+pub record AreAhead (v : SpaceValue) (ends : List SpaceEnd) (k : ℕ) (numbers : List ℕ) : Type 0 where
+  pub sound :
+      (m : ℕ) → Contains numbers m
+      → (i : ℕ) × (i < length ends) × (m ≡ i + 1) × HoldsAt (CanStillCome v k) ends i
+  pub all : (i : ℕ) → i < length ends → HoldsAt (CanStillCome v k) ends i → Contains numbers (i + 1)
+
+-- those of each world
+pub record AreEndsAhead (v : SpaceValue) (ends : List SpaceEnd) (ahead : List (Vec ℕ Global)) : Type 0 where
+  pub many : length ahead ≡ count v
+  pub each : (k : ℕ) → k < count v → HoldsAt (λ w. AreAhead v ends k w.items) ahead k
+
+-- the marks are those of the places that lead to one of the end with a number, which counts from 0
+abbrev pub IsOfEnd : ℕ → List Link → List SpaceEnd → ℕ → Vec Bool Global → Type 0
+IsOfEnd n links ends i mark = HoldsAt (λ end. AreLeading n links end.places.items mark.items) ends i
+
+-- for each end there are such marks
+pub record AreMarks (n : ℕ) (links : List Link) (ends : List SpaceEnd) (marks : List (Vec Bool Global)) : Type 0 where
+  pub many : length marks ≡ length ends
+  pub each : (i : ℕ) → i < length ends → HoldsAt (IsOfEnd n links ends i) marks i
+
+-- the place is marked
+abbrev pub IsMarkedIn : ℕ → Vec Bool Global → Type 0
+IsMarkedIn k mark = IsMarked mark.items k
+
+-- the numbers, which count from 1, of the first n marks at which a place is marked
+pub record AreMarkNumbers (marks : List (Vec Bool Global)) (k n : ℕ) (numbers : List ℕ) : Type 0 where
+  pub sound : (m : ℕ) → Contains numbers m → (i : ℕ) × (i < n) × (m ≡ i + 1) × HoldsAt (IsMarkedIn k) marks i
+  pub all : (i : ℕ) → i < n → HoldsAt (IsMarkedIn k) marks i → Contains numbers (i + 1)
+
+-- the same of all marks, as a vector
+abbrev pub AreNumbersIn : List (Vec Bool Global) → ℕ → Vec ℕ Global → Type 0
+AreNumbersIn marks k numbers = AreMarkNumbers marks k (length marks) numbers.items

@@ -1,0 +1,13 @@
+//! The worlds of a space as a graph for Graphviz (docs/LAB.md, "The graph of worlds").
+#![tactic(auto)]
+
+mod ahead;
+mod graphs;
+mod legend;
+mod paths;
+mod sets;
+mod texts;
+mod worlds;
+
+pub use ahead::ends_ahead;
+pub use graphs::{MOST_DRAWN, graph_of};
