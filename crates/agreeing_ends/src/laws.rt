@@ -1,7 +1,11 @@
 //! What holds of worlds of which each step was taken, or one that can be taken before all others.
 
-ghost use Rattle.std.specs.Prelude.{ℕ, Bool, IsTrue};
+ghost use Rattle.std.specs.Prelude.{◌≡◌, ℕ, ◌<◌, Bool, IsTrue, List};
+ghost use Rattle.processor.specs.World.{run};
+ghost use Rattle.processor.specs.declared.steps.Step.{Step};
+ghost use Rattle.program_flow.specs.Tables.{is_live_at, is_named_by, IsClosedTable};
 ghost use Rattle.same_futures.specs.Links.{WorldsAgree};
+ghost use Rattle.same_futures.specs.Handlers.{may_have_handlers};
 ghost use Rattle.agreeing_ends.specs.Followed.{FoundWorlds, IsGrounded, AllExpanded, AllFollowed, HasAllWorlds, HasAllEnds};
 ghost use Rattle.agreeing_ends.specs.Followed.{IsDistinct, HasShortestEnds, TellsWhetherAllEnd};
 
@@ -26,4 +30,14 @@ pub fn followed_worlds_have_all_ends()
     ensures tells { (handled : Bool) (named : ℕ → Bool) (live : ℕ → ℕ → Bool) (v : FoundWorlds)
         → IsGrounded (IsTrue handled) (λ r. IsTrue (named r)) (λ k r. IsTrue (live k r)) v
         → AllFollowed (WorldsAgree (λ r. IsTrue (named r)) (λ k r. IsTrue (live k r))) v → TellsWhetherAllEnd v }
+{}
+
+/// Worlds that schedules of an image lead to are grounded, by a table of what is live in its program that was made with
+/// what `may_have_handlers` says.
+pub fn worlds_of_schedules_are_grounded()
+    ensures { (names : List Bool) (table : List (List Bool)) (v : FoundWorlds) (schedules : ℕ → List Step)
+        → IsClosedTable v.image.profile v.image.program (may_have_handlers v.image) names table → 0 < v.count
+        → ((k : ℕ) → k < v.count → v.world k ≡ run v.image (schedules k))
+        → IsGrounded (IsTrue (may_have_handlers v.image)) (λ r. IsTrue (is_named_by names r))
+        (λ k r. IsTrue (is_live_at table k r)) v }
 {}

@@ -4,4 +4,4 @@
 
 mod laws;
 
-pub use laws::followed_worlds_have_all_ends;
+pub use laws::{followed_worlds_have_all_ends, worlds_of_schedules_are_grounded};
