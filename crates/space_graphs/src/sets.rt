@@ -8,8 +8,7 @@ const COLOURS: [&str; 12] = [
     "#fccde5", "#c8c8c8", "#ccebc5", "#ffed6f",
 ];
 
-/// For each world the first one with the same numbers, so that the worlds of a group have one number; and those first
-/// worlds, in order.
+/// Groups of worlds, by the numbers of the ends that can still be reached from them.
 #[derive(Drop)]
 pub(crate) struct Groups {
     /// The places of the first worlds of the groups, in order.
