@@ -110,6 +110,23 @@ def assembling(tally, library, folder):
     tally.check("asm on a full disk", (small.returncode, read(image)) == (1, b"before"))
 
 
+def drawing(tally, library, folder):
+    """`explore --dot` under refused memory: the graph is whole, or what was there stays, and that is told."""
+    graph = os.path.join(folder, "race.dot")
+    words = ["explore", os.path.join(GRADED, "racing.asm"), "--dot", graph]
+    ample, whole = lab(words), read(graph)
+    variables = refused_allocation(library, folder, 0)
+    lab(words, **variables)
+    for number in range(1, int(read(variables["COUNT"])) + 1):
+        write(folder, "race.dot", b"before")
+        ended = lab(words, **refused_allocation(library, folder, number))
+        tally.runs += 1
+        as_ever = (ended.status, ended.out, ended.err, read(graph)) == (ample.status, ample.out, ample.err, whole)
+        told = ended.status in (1, 2) and ended.out in (b"", ample.out) and b"memory" in ended.err and read(graph) == b"before"
+        bounded = ended.status in STATUSES and NOT_ALL.search(ended.out) is not None
+        tally.check(f"explore --dot: allocation {number} refused: {ended}", as_ever or told or bounded)
+
+
 def outputs(tally):
     """An output that is full is told, and one that nobody reads is not."""
     for words in ([LAB, "view", example("lock.asm"), "--json"], [LAB, "--help"]):
@@ -211,6 +228,7 @@ def part(pool, folder):
     for one in pool.map(partial(refuse_each, library, folder), commands(folder)):
         tally.add(one)
     assembling(tally, library, folder)
+    drawing(tally, library, folder)
     outputs(tally)
     without_threads(tally, library, folder)
     small_stacks(tally, folder)
