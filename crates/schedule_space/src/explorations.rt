@@ -2,17 +2,21 @@
 
 ghost use Rattle.std.specs.Prelude.{◌≡◌, ◌<◌, ◌≤◌, ◌↔◌, ℕ, true, IsTrue, IfOk, Contains};
 ghost use Rattle.schedule_space.specs.declared.links.Edge.{Edge};
-ghost use Rattle.schedule_space.specs.Spaces.{count, IsComplete, IsDistinct, IsShortest, IsEdge, HasAllEdges};
-ghost use Rattle.schedule_space.specs.Finding.{IsExpanded};
+ghost use Rattle.dead_registers.specs.Clearing.{IsLive};
+ghost use Rattle.schedule_space.specs.Spaces.{count, IsComplete, IsDistinct, IsShortest, HasAllEdges};
+ghost use Rattle.schedule_space.specs.Spaces.{AreAllApart, StandAlone, IsEdgeToStandIn};
+ghost use Rattle.schedule_space.specs.Finding.{IsExpanded, NamesAll};
 ghost use Rattle.schedule_space.specs.Followed.{AllFollowed, HasAllEnds, HasShortestEnds, TellsWhetherAllEnd};
 ghost use Rattle.schedule_space.specs.Answers.{space_in, is_complete};
 
 use crate::expanding::Wanted;
 use crate::finding::Found;
 use crate::spaces::Space;
+use dead_registers::LiveRegisters;
 use image_file::Image;
 use machine::{LoadFault, Machine};
 use processor::Step;
+use program_flow::Row;
 use std::alloc::Global;
 use std::collections::VecDeque;
 
@@ -46,38 +50,43 @@ pub fn explore<'i, const S: usize>(
     ensures within { IfOk result (λ e. count (space_in e) ≤ most) }
     ensures streams { (result ≡ Err LoadFault.Streams) ↔ (S < image.entry.now.slim) }
 {
-    search::<S>(alloc, image, begin, Wanted::Worlds, most)
+    search::<S>(alloc, image, begin, &[true; 32], Wanted::Worlds, most)
 }
 
 /// Looks for the ends of an image, worlds from which nothing goes on, that schedules lead to which begin with `begin`,
 /// in the same way, but of fewer worlds: where a step concerns its own stream alone, or ends the last stream of its
-/// processor that runs, and leads to a later place, only that one is taken. Where the search is complete, each end is
-/// there, by a schedule that is as short as any.
+/// processor that runs, and leads to a later place, only that one is taken, and one world stands for all that differ from
+/// it in registers alone that nobody reads again. Registers in `names` matter at each place, r0 to r31. Where the search is
+/// complete, some world stands for each end, by a schedule that is as short as any.
 pub fn explore_ends<'i, const S: usize>(
     alloc: Global,
     image: &'i Image,
     begin: &[Step],
+    names: &Row,
     most: usize,
 ) -> Result<Exploration<'i>, LoadFault>
     requires { 1 ≤ most }
     ensures image { IfOk result (λ e. (space_in e).image ≡ image.entry.now) }
     ensures begin { IfOk result (λ e. (space_in e).begin ≡ begin.now) }
+    ensures names { IfOk result (λ e. (space_in e).live.names ≡ names.now) }
+    ensures live { IfOk result (λ e. IsLive (space_in e).image (space_in e).live) }
     ensures ends { IfOk result (λ e. is_complete e ≡ true → HasAllEnds (space_in e)) }
     ensures followed { IfOk result (λ e. is_complete e ≡ true → AllFollowed (space_in e)) }
     ensures tells { IfOk result (λ e. is_complete e ≡ true → TellsWhetherAllEnd (space_in e)) }
-    ensures distinct { IfOk result (λ e. IsDistinct (space_in e)) }
+    ensures distinct { IfOk result (λ e. AreAllApart (space_in e)) }
     ensures shortest { IfOk result (λ e. is_complete e ≡ true → HasShortestEnds (space_in e)) }
     ensures within { IfOk result (λ e. count (space_in e) ≤ most) }
     ensures streams { (result ≡ Err LoadFault.Streams) ↔ (S < image.entry.now.slim) }
 {
-    search::<S>(alloc, image, begin, Wanted::Ends, most)
+    search::<S>(alloc, image, begin, names, Wanted::Ends, most)
 }
 
-/// Looks for what is wanted.
+/// Looks for what is wanted; one world stands for all that differ from it in registers alone that do not matter.
 fn search<'i, const S: usize>(
     alloc: Global,
     image: &'i Image,
     begin: &[Step],
+    names: &Row,
     wanted: Wanted,
     most: usize,
 ) -> Result<Exploration<'i>, LoadFault>
@@ -87,15 +96,19 @@ fn search<'i, const S: usize>(
     ensures expanded { IfOk result (λ e. wanted ≡ Wanted.Worlds → is_complete e ≡ true
         → (k : ℕ) → k < count (space_in e) → IsExpanded (space_in e) k) }
     ensures followed { IfOk result (λ e. is_complete e ≡ true → AllFollowed (space_in e)) }
-    ensures edges { IfOk result (λ e. (d : Edge) → Contains (space_in e).edges d → IsEdge (space_in e) d) }
-    ensures distinct { IfOk result (λ e. IsDistinct (space_in e)) }
+    ensures names { IfOk result (λ e. (space_in e).live.names ≡ names.now) }
+    ensures live { IfOk result (λ e. IsLive (space_in e).image (space_in e).live) }
+    ensures edges { IfOk result (λ e. (d : Edge) → Contains (space_in e).edges d → IsEdgeToStandIn (space_in e) d) }
+    ensures distinct { IfOk result (λ e. AreAllApart (space_in e)) }
+    ensures alone { IfOk result (λ e. NamesAll (space_in e).live → StandAlone (space_in e)) }
     ensures shortest { IfOk result (λ e. wanted ≡ Wanted.Worlds → IsShortest (space_in e)) }
     ensures within { IfOk result (λ e. count (space_in e) ≤ most) }
     ensures streams { (result ≡ Err LoadFault.Streams) ↔ (S < image.entry.now.slim) }
 {
     let mut first = Machine::<S>::load(alloc, image)?;
     first.run(begin);
-    let mut found = Found::begin(alloc, begin, &first)?;
+    let live = LiveRegisters::of(alloc, image, names)?;
+    let mut found = Found::begin(alloc, begin, &first, live)?;
     let mut frontier = VecDeque::new(alloc);
     frontier.push_back(first)?;
     let limit = world_limit(most);
