@@ -16,10 +16,10 @@ use Rattle.schedule_space.specs.Finding.{found_in}
 use Rattle.schedule_space.proofs.Schedules.{first-schedule, run-push}
 
 module _ (l : LiveValue) where
-  abbrev Named : ℕ → Type 0
+  abbrev pub Named : ℕ → Type 0
   Named r = IsTrue (is_named_by l.names r)
 
-  abbrev Live : ℕ → ℕ → Type 0
+  abbrev pub Live : ℕ → ℕ → Type 0
   Live k r = IsTrue (is_live_at l.table k r)
 
   pub agree_same : (a b : World) → a ≡ b → AgreeBy l a b

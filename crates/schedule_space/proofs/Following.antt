@@ -60,10 +60,10 @@ module _ (v : SpaceValue) (live : IsLive v.image v.live) (all : AllFollowed v) w
       by_edge (inr has) = back (record { from = k; step = t; to = e.step.to }) has mark
 
     -- the same end, of the world that a step leads to
-    on : (k : ℕ) (t : Step) (ts us : List Step) (e : IsTaken v k t) → k < count v
+    same_end : (k : ℕ) (t : Step) (ts us : List Step) (e : IsTaken v k t) → k < count v
         → steps v.image (world_of v k) (t ∷ us) ≡ steps v.image (world_of v k) ts
         → IsEnd v.image (steps v.image (world_of v k) ts) → IsEnd v.image (steps v.image (world_of v e.step.to) us)
-    on k t ts us e = end_on Handled (Named v.live) (Live v.live) (found_in v) (ground v live) k t ts us e.step
+    same_end k t ts us e = end_on Handled (Named v.live) (Live v.live) (found_in v) (ground v live) k t ts us e.step
 
     pub marked_from : (n k : ℕ) (ts : List Step) → length ts ≤ n → k < count v
         → IsEnd v.image (steps v.image (world_of v k) ts) → IsMarked marks k
@@ -74,12 +74,12 @@ module _ (v : SpaceValue) (live : IsLive v.image v.live) (all : AllFollowed v) w
           | inl each ↦
               back_over k t (each t)
               (marked_from n (each t).step.to ts (omega (arith, few)) (each t).step.within
-              (on k t (t ∷ ts) ts (each t) below refl end))
+              (same_end k t (t ∷ ts) ts (each t) below refl end))
           | inr one ↦
               let m = moved v.image (world_of v k) one.step (t ∷ ts) one.alone end in
               back_over k one.step one.taken
               (marked_from n one.taken.step.to m.others (omega (arith, few, m.one_less)) one.taken.step.within
-              (on k one.step (t ∷ ts) m.others one.taken below m.leads end))
+              (same_end k one.step (t ∷ ts) m.others one.taken below m.leads end))
         ]
 
     pub marked_all : (k : ℕ) → k < count v → CanEnd v.image (world_of v k) → IsMarked marks k

@@ -1,8 +1,9 @@
-use Rattle.std.proofs.Common.{◌≡◌, ap, ◌∙◌, arith, rules, false}
+use Rattle.std.proofs.Common.{◌≡◌, sym, ap, ◌∙◌, subst, arith, rules, false}
 use Rattle.std.specs.Result.{is_err}
+use Rattle.image_file.specs.ImageValue.{ImageValue}
 use Rattle.machine.specs.MachineValue.{MachineValue}
 use Rattle.processor.specs.World.{steps}
-use Rattle.dead_registers.specs.Clearing.{LiveValue}
+use Rattle.dead_registers.specs.Clearing.{LiveValue, IsLive}
 use Rattle.schedule_space.specs.Spaces.{SpaceValue, count, schedule_of, machine_after}
 use Rattle.schedule_space.specs.Finding.{IsExpanded, IsExpanding}
 use Rattle.schedule_space.proofs.Parts.{frontier_front, frontier_empty}
@@ -18,7 +19,9 @@ begin-requires g c = (
   omega arith,
   (
     loaded c.args.image.now c.in_ok-first.first c.run.new.self c.args.begin.now c.in_ok-first.ensures.is c.run.ensures,
-    ?,
+    subst (λ (i : ImageValue). IsLive i c.in_ok-live.live)
+        (sym (ap (λ (m : MachineValue). m.image) (c.run.ensures ∙ ap (λ (m : MachineValue). record m { world = steps m.image m.world c.args.begin.now }) c.in_ok-first.ensures.is)))
+        c.in_ok-live.ensures.live,
   ),
 )
 
