@@ -1,23 +1,34 @@
 -- A space in the making.
 use Rattle.std.specs.Prelude.{◌≡◌, ℕ, ◌+◌, ◌<◌, ◌≤◌, List, [], ◌∷◌, ◌++◌, length, map, drop, slice_index_or, Contains, ◌⊎◌}
+use Rattle.std.specs.Prelude.{IsTrue}
 use Rattle.image_file.specs.ImageValue.{ImageValue}
-use Rattle.processor.specs.World.{after, run}
+use Rattle.processor.specs.World.{World, run}
 use Rattle.processor.specs.declared.steps.Step.{Step}
 use Rattle.machine.specs.MachineValue.{MachineValue}
+use Rattle.program_flow.specs.Tables.{is_named_by}
+use Rattle.dead_registers.specs.Clearing.{LiveValue, cleared, IsLive, AgreeBy}
+use Rattle.agreeing_ends.specs.Followed.{FoundWorlds}
+use Rattle.agreeing_ends.specs.Followed as found
 use Rattle.world_keys.specs.WorldKeys.{key_of, IsKnown}
 use Rattle.schedule_space.specs.declared.links.Link.{Link}
 use Rattle.schedule_space.specs.declared.links.Edge.{Edge}
 use Rattle.schedule_space.specs.declared.fates.Fate.{Fate}
 use Rattle.schedule_space.specs.declared.fates.Fate.TheVariants as fate
-use Rattle.schedule_space.specs.Spaces.{schedules, SpaceValue, count, schedule_of, world_of, machine_after, IsEdge}
-use Rattle.schedule_space.specs.Spaces.{IsDistinct}
+use Rattle.schedule_space.specs.Spaces.{schedules, SpaceValue, count, schedule_of, world_of, machine_after}
+use Rattle.schedule_space.specs.Spaces.{AreAllApart, IsEdgeToStandIn}
 use Rattle.schedule_space.specs.Fates.{IsFate}
 use Rattle.schedule_space.specs.declared.known_steps.StepsSeen.{StepsSeen}
 use Rattle.schedule_space.specs.StreamSteps.{AreAllLeft}
 
 -- the space of these parts
-abbrev pub space_of : ImageValue → List Step → List Link → List Edge → SpaceValue
-space_of image begin links edges = record { image = image; begin = begin; links = links; edges = edges }
+abbrev pub space_of : ImageValue → LiveValue → List Step → List Link → List Edge → SpaceValue
+space_of image live begin links edges =
+    record { image = image; live = live; begin = begin; links = links; edges = edges }
+
+-- its worlds, each with the length of its schedule
+abbrev pub found_in : SpaceValue → FoundWorlds
+found_in v =
+    record { image = v.image; count = count v; world = world_of v; depth = λ k. length (schedule_of v k) }
 
 -- the space with one more world
 abbrev pub with_link : SpaceValue → Link → SpaceValue
@@ -27,18 +38,28 @@ with_link v l = record v { links = v.links ++ l ∷ [] }
 abbrev pub with_edge : SpaceValue → Edge → SpaceValue
 with_edge v e = record v { edges = v.edges ++ e ∷ [] }
 
--- What holds of the parts of a space: each link names an earlier world, each edge is one, and each world has its fate.
+-- What holds of the parts of a space: what may be read again is live, each link names an earlier world, each edge is one,
+-- and each world has its fate.
 pub record IsSpace (v : SpaceValue) (fs : List Fate) : Type 0 where
+  pub live : IsLive v.image v.live
   pub earlier : (k : ℕ) (l : Link) → k < length v.links → (slice_index_or v.links k l).from ≤ k
-  pub edges : (e : Edge) → Contains v.edges e → IsEdge v e
+  pub edges : (e : Edge) → Contains v.edges e → IsEdgeToStandIn v e
   pub each : length fs ≡ count v
   pub fates : (k : ℕ) → k < count v → IsFate v.image (world_of v k) (slice_index_or fs k fate.GoesOn)
 
--- Keys are those of the worlds, in a table, and no world is there twice.
+-- the world after a schedule, with 0 in each register that does not matter
+abbrev pub cleared_after : SpaceValue → List Step → World
+cleared_after v ts = cleared v.live (run v.image ts)
+
+-- Keys are those of the worlds, cleared, in a table, and no world stands for another one.
 pub record IsKeyed (v : SpaceValue) (table ks : List (List ℕ)) : Type 0 where
-  pub keys : ks ≡ map (λ ts. key_of table v.image (run v.image ts)) (schedules v.begin v.links)
-  pub known : (k : ℕ) → k < count v → IsKnown table v.image (world_of v k)
-  pub distinct : IsDistinct v
+  pub keys : ks ≡ map (λ ts. key_of table v.image (cleared_after v ts)) (schedules v.begin v.links)
+  pub known : (k : ℕ) → k < count v → IsKnown table v.image (cleared_after v (schedule_of v k))
+  pub apart : AreAllApart v
+
+-- the registers of a stream are all named, r0 to r31
+abbrev pub NamesAll : LiveValue → Type 0
+NamesAll l = (r : ℕ) → r < 32 → IsTrue (is_named_by l.names r)
 
 -- what holds of a space in the making
 pub record IsFound (v : SpaceValue) (fates : List Fate) (table keys : List (List ℕ)) : Type 0 where
@@ -49,7 +70,7 @@ pub record IsFound (v : SpaceValue) (fates : List Fate) (table keys : List (List
 pub record IsInTheMaking (v : SpaceValue) (fates : List Fate) (table keys : List (List ℕ)) (steps : StepsSeen)
     : Type 0 where
   pub found : IsFound v fates table keys
-  pub left : AreAllLeft v.image table steps
+  pub left : AreAllLeft v.image v.live table steps
 
 -- the machines are those of the worlds from this place on, in order
 abbrev pub IsFrontier : SpaceValue → List MachineValue → ℕ → Type 0
@@ -58,19 +79,17 @@ IsFrontier v ms n = ms ≡ map (machine_after v.image) (drop n (schedules v.begi
 -- the later space has the same worlds at the same places, perhaps more behind them, and the same edges, perhaps more
 pub record IsGrown (old new : SpaceValue) : Type 0 where
   pub image : new.image ≡ old.image
+  pub live : new.live ≡ old.live
   pub begin : new.begin ≡ old.begin
   pub more : length old.links ≤ length new.links
   pub same : (k : ℕ) → k < count old → schedule_of new k ≡ schedule_of old k
   pub edges : (e : Edge) → Contains old.edges e → Contains new.edges e
 
--- A step from the world at this place leads to a world of the space, whose schedule is at most one step longer, and
--- there is an edge for it unless it leaves the world as it is.
+-- A step from the world at this place leads to one for which a world of the space stands, whose schedule is at most one
+-- step longer, and there is an edge for it unless it is the same world.
 pub record IsTaken (v : SpaceValue) (from : ℕ) (t : Step) : Type 0 where
-  pub to : ℕ
-  pub within : to < count v
-  pub leads : world_of v to ≡ after v.image (world_of v from) t
-  pub near : length (schedule_of v to) ≤ length (schedule_of v from) + 1
-  pub edge : (to ≡ from) ⊎ Contains v.edges (record { from = from; step = t; to = to })
+  pub step : found.IsTaken (AgreeBy v.live) (found_in v) from t
+  pub edge : (step.to ≡ from) ⊎ Contains v.edges (record { from = from; step = t; to = step.to })
 
 -- each step from the world at this place is taken
 abbrev pub IsExpanded : SpaceValue → ℕ → Type 0

@@ -1,10 +1,10 @@
 -- Spaces that have all ends, but not all worlds: of the steps from a world one may be taken alone that can be taken before
--- all others.
-use Rattle.std.specs.Prelude.{◌≡◌, ℕ, ◌<◌, ◌≤◌, ◌++◌, ◌⊎◌, List, length}
+-- all others, and one world may stand for many.
+use Rattle.std.specs.Prelude.{ℕ, ◌<◌, ◌≤◌, ◌++◌, ◌⊎◌, List, length}
 use Rattle.processor.specs.World.{run}
 use Rattle.processor.specs.declared.steps.Step.{Step}
 use Rattle.local_steps.specs.FreeSteps.{IsFreeStep}
-use Rattle.schedule_space.specs.Spaces.{SpaceValue, count, schedule_of, world_of, Has}
+use Rattle.schedule_space.specs.Spaces.{SpaceValue, count, schedule_of, world_of, StandsFor, HasStandIn}
 use Rattle.schedule_space.specs.Reaching.{IsEnd, CanEnd}
 use Rattle.schedule_space.specs.Finding.{IsTaken, IsExpanded}
 
@@ -22,15 +22,16 @@ IsFollowed v k = IsExpanded v k ⊎ IsTakenAlone v k
 abbrev pub AllFollowed : SpaceValue → Type 0
 AllFollowed v = (k : ℕ) → k < count v → IsFollowed v k
 
--- each end that a schedule leads to which goes on from the beginning is a world of the space
+-- some world of the space stands for each end that a schedule leads to which goes on from the beginning
 abbrev pub HasAllEnds : SpaceValue → Type 0
-HasAllEnds v = (ts : List Step) → IsEnd v.image (run v.image (v.begin ++ ts)) → Has v (run v.image (v.begin ++ ts))
+HasAllEnds v = (ts : List Step) → IsEnd v.image (run v.image (v.begin ++ ts)) → HasStandIn v (run v.image (v.begin ++ ts))
 
--- no schedule that goes on from the beginning to an end is shorter than the one that the links give
+-- no schedule that goes on from the beginning to a world for which an end of the space stands is shorter than the one that
+-- the links give for that
 abbrev pub HasShortestEnds : SpaceValue → Type 0
 HasShortestEnds v =
     (k : ℕ) → k < count v → IsEnd v.image (world_of v k)
-    → (ts : List Step) → run v.image (v.begin ++ ts) ≡ world_of v k
+    → (ts : List Step) → StandsFor v k (run v.image (v.begin ++ ts))
     → length (schedule_of v k) ≤ length (v.begin ++ ts)
 
 -- where an end can be reached from each world of the space, one can be from each world that a schedule leads to which

@@ -1,21 +1,9 @@
 -- From which worlds an end can still be reached.
-use Rattle.std.specs.Prelude.{◌≡◌, ℕ, suc, ◌<◌, ◌↔◌, ◌⊎◌, Bool, false, IsTrue, List, [], ◌∷◌, length, slice_index_or}
+use Rattle.std.specs.Prelude.{◌≡◌, ℕ, suc, ◌<◌, ◌↔◌, Bool, false, IsTrue, List, [], ◌∷◌, length, slice_index_or}
 use Rattle.std.specs.Prelude.{Contains, if◌then◌else◌}
-use Rattle.image_file.specs.ImageValue.{ImageValue}
-use Rattle.processor.specs.World.{World, steps}
-use Rattle.processor.specs.declared.steps.Step.{Step}
-use Rattle.waiting.specs.Stuck.{IsStandstill}
+pub use Rattle.agreeing_ends.specs.Followed.{IsEnd, CanEnd}
 use Rattle.schedule_space.specs.declared.links.Edge.{Edge}
 use Rattle.schedule_space.specs.Spaces.{SpaceValue, count, world_of}
-use Rattle.schedule_space.specs.Fates.{IsFinished}
-
--- a world at which a run ends: no stream runs, or it is a standstill
-abbrev pub IsEnd : ImageValue → World → Type 0
-IsEnd image w = IsFinished w ⊎ IsStandstill image w
-
--- some schedule leads from the world to an end
-abbrev pub CanEnd : ImageValue → World → Type 0
-CanEnd image w = (ts : List Step) × IsEnd image (steps image w ts)
 
 -- Marks at the places of a space.
 

@@ -5,6 +5,7 @@ use Rattle.image_file.specs.ImageValue.{ImageValue}
 use Rattle.processor.specs.World.{World, after, run}
 use Rattle.processor.specs.declared.steps.Step.{Step}
 use Rattle.machine.specs.MachineValue.{MachineValue}
+use Rattle.dead_registers.specs.Clearing.{LiveValue, AgreeBy}
 use Rattle.schedule_space.specs.declared.links.Link.{Link}
 use Rattle.schedule_space.specs.declared.links.Edge.{Edge}
 
@@ -21,9 +22,11 @@ unfoldable pub schedules : List Step → List Link → List (List Step)
 schedules begin links = schedules_after (begin ∷ []) links
 
 -- A space, as contracts see it: its worlds are those that the schedules of its links lead to, and its edges say which
--- step leads from which of them to which. All schedules start with those of its beginning.
+-- step leads from which of them to which. All schedules start with those of its beginning. `live` says which registers of
+-- its worlds matter.
 pub record SpaceValue : Type 0 where
   pub image : ImageValue
+  pub live : LiveValue
   pub begin : List Step
   pub links : List Link
   pub edges : List Edge
@@ -60,6 +63,25 @@ IsComplete v = (ts : List Step) → Has v (run v.image (v.begin ++ ts))
 abbrev pub IsDistinct : SpaceValue → Type 0
 IsDistinct v = (k j : ℕ) → k < count v → j < count v → world_of v k ≡ world_of v j → k ≡ j
 
+-- A world stands for each one that is the same but for registers that do not matter: nobody reads them again, and they are
+-- not named.
+
+-- the world at a place stands for this one
+abbrev pub StandsFor : SpaceValue → ℕ → World → Type 0
+StandsFor v k w = AgreeBy v.live (world_of v k) w
+
+-- some world of the space stands for this one
+abbrev pub HasStandIn : SpaceValue → World → Type 0
+HasStandIn v w = (k : ℕ) × (k < count v) × StandsFor v k w
+
+-- none of its worlds stands for another one of them
+abbrev pub AreAllApart : SpaceValue → Type 0
+AreAllApart v = (k j : ℕ) → k < count v → j < count v → StandsFor v k (world_of v j) → k ≡ j
+
+-- each of its worlds stands for itself alone
+abbrev pub StandAlone : SpaceValue → Type 0
+StandAlone v = (k : ℕ) → k < count v → (w : World) → StandsFor v k w → world_of v k ≡ w
+
 -- no schedule that goes on from the beginning to the world at a place is shorter than the one that the links give
 abbrev pub IsShortest : SpaceValue → Type 0
 IsShortest v =
@@ -76,3 +98,10 @@ pub record IsEdge (v : SpaceValue) (e : Edge) : Type 0 where
 -- the space has an edge for each step that leads away from a world of it
 abbrev pub HasAllEdges : SpaceValue → Type 0
 HasAllEdges v = (e : Edge) → Contains v.edges e ↔ IsEdge v e
+
+-- the step of the edge leads from one world of the space to one for which another world of it stands
+pub record IsEdgeToStandIn (v : SpaceValue) (e : Edge) : Type 0 where
+  pub from : e.from < count v
+  pub to : e.to < count v
+  pub apart : e.to ≢ e.from
+  pub leads : StandsFor v e.to (after v.image (world_of v e.from) e.step)

@@ -1,12 +1,15 @@
-//! A space in the making: worlds are told apart by their keys.
+//! A space in the making: worlds are told apart by their keys, which are those of the worlds with 0 in each register that
+//! does not matter.
 
 ghost use Rattle.std.specs.Prelude.{◌≡◌, ◌<◌, ◌≤◌, ◌+◌, [], ◌∷◌, ◌++◌, length, true, IfOk, OnOk, OnErr, Contains};
 ghost use Rattle.image_file.specs.ImageValue.{ImageValue};
-ghost use Rattle.processor.specs.World.{start, after};
-ghost use Rattle.schedule_space.specs.Spaces.{count, schedule_of, world_of, machine_after, IsDistinct, IsEdge};
+ghost use Rattle.processor.specs.World.{after};
+ghost use Rattle.dead_registers.specs.Clearing.{IsLive};
+ghost use Rattle.schedule_space.specs.Spaces.{count, schedule_of, machine_after};
+ghost use Rattle.schedule_space.specs.Spaces.{StandsFor, AreAllApart, StandAlone, IsEdgeToStandIn};
 ghost use Rattle.schedule_space.specs.declared.links.Edge.{Edge};
 ghost use Rattle.world_keys.specs.Tables.{Has};
-ghost use Rattle.schedule_space.specs.Finding.{space_of, with_edge, IsGrown, IsExpanding};
+ghost use Rattle.schedule_space.specs.Finding.{space_of, with_edge, IsGrown, IsExpanding, NamesAll};
 ghost use Rattle.schedule_space.specs.declared.finding.Stop.TheVariants.{NoMemory};
 
 use crate::fates::{Fate, fate_of};
@@ -15,12 +18,14 @@ use crate::links::{Edge, Link};
 use crate::next_worlds::key_after;
 use crate::spaces::Space;
 use crate::stepping::stepped;
+use dead_registers::LiveRegisters;
 use image_file::Image;
 use machine::Machine;
 use processor::Step;
 use std::alloc::{AllocError, AllocFailed, Global};
 use std::collections::VecDeque;
 use std::marker::Model;
+use std::mem::size_of;
 use world_keys::{Table, world_key};
 
 /// The worlds that were found so far, with their keys.
@@ -28,6 +33,7 @@ use world_keys::{Table, world_key};
 pub(crate) struct Found<'i> {
     pub(crate) alloc: Global,
     image: &'i Image,
+    live: LiveRegisters,
     begin: Vec<Step>,
     pub(crate) links: Vec<Link>,
     edges: Vec<Edge>,
@@ -43,10 +49,10 @@ impl<'i> Model for Found<'i> {
 
     ghost Value = { SpaceValue };
 
-    ghost view = { λ f. space_of f.image.now f.begin.items f.links.items f.edges.items };
+    ghost view = { λ f. space_of f.image.now f.live f.begin.items f.links.items f.edges.items };
 
-    ghost invariant = { λ f. IsInTheMaking (space_of f.image.now f.begin.items f.links.items f.edges.items) f.fates.items
-        f.contents f.keys f.steps };
+    ghost invariant = { λ f. IsInTheMaking (space_of f.image.now f.live f.begin.items f.links.items f.edges.items)
+        f.fates.items f.contents f.keys f.steps };
 }
 
 /// Why a search stopped before its end.
@@ -80,13 +86,15 @@ impl<'i> Found<'i> {
         alloc: Global,
         begin: &[Step],
         first: &Machine<'i, S>,
+        live: LiveRegisters,
     ) -> Result<Found<'i>, AllocError>
-        requires { first.now ≡ machine_after first.now.image begin.now }
-        ensures { IfOk result (λ v. v ≡ space_of first.now.image begin.now [] []) }
+        requires machine { first.now ≡ machine_after first.now.image begin.now }
+        requires live { IsLive first.now.image live }
+        ensures { IfOk result (λ v. v ≡ space_of first.now.image live begin.now [] []) }
     {
         let fate = fate_of(first);
         let mut contents = Table::new(alloc);
-        let key = world_key(alloc, &mut contents, first)?;
+        let key = world_key(alloc, &live, &mut contents, first)?;
         let mut keys = Table::new(alloc);
         keys.push(&key)?;
         let mut fates = Vec::new(alloc);
@@ -94,6 +102,7 @@ impl<'i> Found<'i> {
         Ok(Found {
             alloc,
             image: first.image(),
+            live,
             begin: Vec::from_slice(alloc, begin)?,
             links: Vec::new(alloc),
             edges: Vec::new(alloc),
@@ -104,18 +113,40 @@ impl<'i> Found<'i> {
         })
     }
 
+    /// How many worlds were found.
+    pub(crate) fn len(&self) -> usize {
+        self.fates.len()
+    }
+
+    /// How many bytes it holds: the room of its lists and tables.
+    pub(crate) fn bytes(&self) -> usize {
+        let links = self.links.capacity().saturating_mul(size_of::<Link>());
+        let edges = self.edges.capacity().saturating_mul(size_of::<Edge>());
+        let fates = self.fates.capacity().saturating_mul(size_of::<Fate>());
+        let tables = self.contents.bytes().saturating_add(self.keys.bytes());
+        links
+            .saturating_add(edges)
+            .saturating_add(fates)
+            .saturating_add(tables)
+            .saturating_add(self.steps.bytes())
+    }
+
     /// The space.
     pub(crate) fn into_space(self) -> Space<'i>
         ensures is { result ≡ self.entry }
-        ensures distinct { IsDistinct result }
-        ensures edges { (e : Edge) → Contains result.edges e → IsEdge result e }
+        ensures live { IsLive result.image result.live }
+        ensures apart { AreAllApart result }
+        ensures alone { NamesAll result.live → StandAlone result }
+        ensures edges { (e : Edge) → Contains result.edges e → IsEdgeToStandIn result e }
     {
-        Space::from_parts(self.image, self.begin, self.links, self.edges, self.fates)
+        Space::from_parts(
+            self.image, self.live, self.begin, self.links, self.edges, self.fates,
+        )
     }
 
     /// Puts an edge behind the others.
     pub(crate) fn add_edge(&mut self, edge: Edge) -> Result<(), AllocError>
-        requires { IsEdge self.old edge }
+        requires { IsEdgeToStandIn self.old edge }
         ensures added { OnOk result (self.new ≡ with_edge self.old edge) }
         ensures stays { OnErr result (self.new ≡ self.old) }
     {
@@ -123,8 +154,8 @@ impl<'i> Found<'i> {
         Ok(())
     }
 
-    /// The place of the world to which a step leads from the world at a place, the machine's. A new world is put behind
-    /// the others, and its machine behind the frontier.
+    /// The place of a world that stands for the one to which a step leads from the world at a place, the machine's. A new
+    /// world is put behind the others, and its machine behind the frontier.
     pub(crate) fn place<const S: usize>(
         &mut self,
         frontier: &mut VecDeque<Machine<'i, S>>,
@@ -137,11 +168,12 @@ impl<'i> Found<'i> {
         ensures grown { IsGrown self.old self.new }
         ensures expanding { IsExpanding self.new frontier.new.items link.from most }
         ensures there { IfOk result (λ k. k < count self.new) }
-        ensures is { IfOk result (λ k. world_of self.new k ≡ after machine.now.image machine.now.world link.step) }
+        ensures stands { IfOk result (λ k. StandsFor self.new k (after machine.now.image machine.now.world link.step)) }
     {
         let before = self.keys.list(link.from as usize).unwrap();
         let key = key_after(
             self.alloc,
+            &self.live,
             &mut self.contents,
             &mut self.steps,
             before,

@@ -1,13 +1,15 @@
 //! A space of worlds, and what can be read of it.
 
 ghost use Rattle.std.specs.Prelude.{◌≡◌, ◌<◌, ◌↔◌, ◌++◌, length, IfOk, reverse, Contains};
+ghost use Rattle.dead_registers.specs.Clearing.{IsLive};
 ghost use Rattle.schedule_space.specs.declared.links.Edge.{Edge};
-ghost use Rattle.schedule_space.specs.Spaces.{count, schedule_of, world_of, machine_after, IsEdge, HasEarlierLinks};
+ghost use Rattle.schedule_space.specs.Spaces.{count, schedule_of, world_of, machine_after, IsEdgeToStandIn, HasEarlierLinks};
 ghost use Rattle.schedule_space.specs.Fates.{IsFate};
 ghost use Rattle.schedule_space.specs.Finding.{space_of, IsSpace};
 
 use crate::fates::Fate;
 use crate::links::{Edge, Link};
+use dead_registers::LiveRegisters;
 use image_file::Image;
 use machine::{LoadFault, Machine};
 use processor::Step;
@@ -15,11 +17,13 @@ use std::alloc::{AllocError, Global};
 use std::marker::Model;
 
 /// Worlds of an image, each once, that schedules lead to: the first is that of the schedule with which all begin, and
-/// each other one has a link, which says by which step from which earlier world it was found. Contracts see the image,
-/// the beginning, the links and the edges; the worlds are those that the schedules of the links lead to.
+/// each other one has a link, which says by which step from which earlier world it was found. Each stands for all that
+/// differ from it in registers alone that do not matter. Contracts see the image, which registers matter, the beginning,
+/// the links and the edges; the worlds are those that the schedules of the links lead to.
 #[derive(Drop)]
 pub struct Space<'i> {
     image: &'i Image,
+    live: LiveRegisters,
     begin: Vec<Step>,
     links: Vec<Link>,
     edges: Vec<Edge>,
@@ -32,25 +36,28 @@ impl<'i> Model for Space<'i> {
 
     ghost Value = { SpaceValue };
 
-    ghost view = { λ s. space_of s.image.now s.begin.items s.links.items s.edges.items };
+    ghost view = { λ s. space_of s.image.now s.live s.begin.items s.links.items s.edges.items };
 
-    ghost invariant = { λ s. IsSpace (space_of s.image.now s.begin.items s.links.items s.edges.items) s.fates.items };
+    ghost invariant = { λ s. IsSpace (space_of s.image.now s.live s.begin.items s.links.items s.edges.items)
+        s.fates.items };
 }
 
 impl<'i> Space<'i> {
     /// The space of these parts.
     pub(crate) fn from_parts(
         image: &'i Image,
+        live: LiveRegisters,
         begin: Vec<Step>,
         links: Vec<Link>,
         edges: Vec<Edge>,
         fates: Vec<Fate>,
     ) -> Space<'i>
-        requires { IsSpace (space_of image.now begin.items links.items edges.items) fates.items }
-        ensures { result ≡ space_of image.entry.now begin.items links.items edges.items }
+        requires { IsSpace (space_of image.now live begin.items links.items edges.items) fates.items }
+        ensures { result ≡ space_of image.entry.now live begin.items links.items edges.items }
     {
         Space {
             image,
+            live,
             begin,
             links,
             edges,
@@ -65,6 +72,14 @@ impl<'i> Space<'i> {
         self.image
     }
 
+    /// Which registers of its worlds matter: worlds that differ in others alone are one.
+    pub fn live(&self) -> &LiveRegisters
+        ensures is { result.now ≡ self.now.live }
+        ensures live { IsLive self.now.image self.now.live }
+    {
+        &self.live
+    }
+
     /// The schedule with which all schedules of its worlds begin.
     pub fn begin(&self) -> &[Step]
         ensures { result.now ≡ self.now.begin }
@@ -72,10 +87,11 @@ impl<'i> Space<'i> {
         &self.begin
     }
 
-    /// How many worlds it has, each but the first found by a step from an earlier one.
+    /// How many worlds it has, each but the first found by a step from an earlier one. All that may be read matters.
     pub fn len(&self) -> usize
         ensures count { result ≡ count self.now }
         ensures links { HasEarlierLinks self.now }
+        ensures live { IsLive self.now.image self.now.live }
     {
         self.fates.len()
     }
@@ -87,10 +103,11 @@ impl<'i> Space<'i> {
         self.edges.len()
     }
 
-    /// The steps that lead from one world to another, in the order of the worlds that they lead from.
+    /// The steps that lead from one world to one for which another stands, in the order of the worlds that they lead from.
     pub fn edges(&self) -> &[Edge]
         ensures edges { result.now ≡ self.now.edges }
-        ensures each { (e : Edge) → Contains self.now.edges e → IsEdge self.now e }
+        ensures each { (e : Edge) → Contains self.now.edges e → IsEdgeToStandIn self.now e }
+        ensures live { IsLive self.now.image self.now.live }
     {
         &self.edges
     }
