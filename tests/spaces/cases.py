@@ -180,7 +180,8 @@ def of_each_end(space, expected, ends):
     """In what the ends differ: how many worlds each kind has, as expected or not, and each schedule."""
     wanted, told = {}, {}
     for world, kind in space.ends().items():
-        key = kind, wishes.missed(expected, world) is None and not wishes.is_trapped(expected, world)
+        is_met = wishes.missed(expected, world) is None and not wishes.is_trapped(expected, world)
+        key = kind, is_met and kind != "deadlock"
         count, least = wanted.get(key, (0, space.distance[world]))
         wanted[key] = count + 1, min(least, space.distance[world])
     for end in ends:
