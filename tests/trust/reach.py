@@ -94,6 +94,9 @@ class Reach:
             self.kit.setdefault(module, set()).add(name)
             return
         found = specs.module(file).find(name)
+        if found is None and name in specs.module(file).names.paths:
+            self.add_path(specs.module(file).names.paths[name])
+            return
         if found is None:
             raise SystemExit(f"{path}: no such definition in {file}")
         self.add_definition(found)

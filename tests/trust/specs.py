@@ -58,8 +58,8 @@ class Module:
                 line = line[2:]
             elif line.strip() and not line.startswith(" "):
                 frame = ""
-            if line.startswith("use "):
-                uses.append(line)
+            if line.startswith(("use ", "pub use ")):
+                uses.append(line.removeprefix("pub "))
             elif line.startswith("--"):
                 begin = begin or number
                 comment.append(line.lstrip("- "))
