@@ -29,7 +29,7 @@ module _ (handled : Type 0) (named : ℕ → Type 0) (live : ℕ → ℕ → Typ
   abbrev AllTold : World → Type 0
   AllTold w = (us : List Step) → TellsHandlers handled (steps v.image w us)
 
-  told_on : (w : World) (ts : List Step) → AllTold w → AllTold (steps v.image w ts)
+  pub told_on : (w : World) (ts : List Step) → AllTold w → AllTold (steps v.image w ts)
   told_on w ts told us = subst (TellsHandlers handled) (steps-append v.image w ts us) (told (ts ++ us))
 
   agree_on : (a b : World) (ts : List Step) → AllTold a → Agree a b → Agree (steps v.image a ts) (steps v.image b ts)
@@ -43,7 +43,7 @@ module _ (handled : Type 0) (named : ℕ → Type 0) (live : ℕ → ℕ → Typ
     by alike (inl finished) = inl (λ some. finished (some.0, sym (alike.run some.0) ∙ some.1))
     by alike (inr still) = inr ((alike.kinds kind.Deadlock).0 still)
 
-  can_over : (a b : World) → AllTold a → Agree a b → CanEnd v.image a → CanEnd v.image b
+  pub can_over : (a b : World) → AllTold a → Agree a b → CanEnd v.image a → CanEnd v.image b
   can_over a b told g can =
       (can.0, end_over (steps v.image a can.0) (steps v.image b can.0) (told can.0) (agree_on a b can.0 told g) can.1)
 
@@ -66,7 +66,7 @@ module _ (handled : Type 0) (named : ℕ → Type 0) (live : ℕ → ℕ → Typ
     short = omega (arith, r.short, e.near, one_less);
   }
 
-  end_on : (k : ℕ) (t : Step) (ts us : List Step) (e : IsTaken Agree v k t) → k < v.count
+  pub end_on : (k : ℕ) (t : Step) (ts us : List Step) (e : IsTaken Agree v k t) → k < v.count
       → steps v.image (after v.image (v.world k) t) us ≡ steps v.image (v.world k) ts
       → IsEnd v.image (steps v.image (v.world k) ts) → IsEnd v.image (steps v.image (v.world e.to) us)
   end_on k t ts us e below leads end =

@@ -1,14 +1,18 @@
 -- What a search has found, by what it was asked for.
-use Rattle.std.proofs.Common.{◌≡◌, ℕ, ◌<◌, true, refl}
-use Rattle.std.specs.Prelude.{Result, Ok, Err, IfOk}
+use Rattle.std.proofs.Common.{◌≡◌, ℕ, ◌<◌, true, refl, sym, subst, List, Bool}
+use Rattle.std.specs.Prelude.{Result, Ok, Err, IfOk, IsTrue}
 use Rattle.std.specs.List.{Contains}
+use Rattle.program_flow.specs.Tables.{is_named_by}
+use Rattle.dead_registers.specs.Clearing.{IsLive}
 use Rattle.schedule_space.specs.declared.explorations.Exploration.{Exploration}
 use Rattle.schedule_space.specs.declared.expanding.Wanted.{Wanted}
 use Rattle.schedule_space.specs.declared.links.Edge.{Edge}
 use Rattle.schedule_space.specs.Answers.{space_in, is_complete}
-use Rattle.schedule_space.specs.Spaces.{count, IsComplete, IsDistinct, IsEdge, HasAllEdges}
-use Rattle.schedule_space.specs.Finding.{IsExpanded}
+use Rattle.schedule_space.specs.Spaces.{SpaceValue, count, world_of, IsComplete, IsDistinct, HasAllEdges}
+use Rattle.schedule_space.specs.Spaces.{AreAllApart, StandAlone, IsEdgeToStandIn}
+use Rattle.schedule_space.specs.Finding.{IsExpanded, NamesAll}
 use Rattle.schedule_space.specs.Followed.{AllFollowed, HasAllEnds, HasShortestEnds, TellsWhetherAllEnd}
+use Rattle.schedule_space.proofs.Agreeing.{agree_same}
 use Rattle.schedule_space.proofs.Breadth.{complete_from, all_edges}
 use Rattle.schedule_space.proofs.Following.{ends_all, ends_shortest, tells_all}
 
@@ -20,30 +24,53 @@ AreAllExpanded e = is_complete e ≡ true → (k : ℕ) → k < count (space_in 
 abbrev pub AreAllFollowed : Exploration → Type 0
 AreAllFollowed e = is_complete e ≡ true → AllFollowed (space_in e)
 
+abbrev IsLiveIn : Exploration → Type 0
+IsLiveIn e = IsLive (space_in e).image (space_in e).live
+
+-- where all registers are named, each world stands for itself alone
+abbrev StandAloneIn : Exploration → Type 0
+StandAloneIn e = NamesAll (space_in e).live → StandAlone (space_in e)
+
 module _ {E : Type 0} where
-  pub complete_if : (a : Wanted) (r : Result Exploration E) → IfOk r (λ e. a ≡ a → AreAllExpanded e)
+  alone_if : (names : List Bool) (e : Exploration) → ((r : ℕ) → r < 32 → IsTrue (is_named_by names r))
+      → (space_in e).live.names ≡ names → StandAloneIn e → StandAlone (space_in e)
+  alone_if names e all same alone =
+      alone (subst (λ (ns : List Bool). (r : ℕ) → r < 32 → IsTrue (is_named_by ns r)) (sym same) all)
+
+  pub complete_if : (names : List Bool) (a : Wanted) (r : Result Exploration E)
+      → ((n : ℕ) → n < 32 → IsTrue (is_named_by names n)) → IfOk r (λ e. (space_in e).live.names ≡ names)
+      → IfOk r StandAloneIn → IfOk r IsLiveIn → IfOk r (λ e. a ≡ a → AreAllExpanded e)
       → IfOk r (λ e. is_complete e ≡ true → IsComplete (space_in e))
-  complete_if a (Ok e) all = λ on. complete_from (space_in e) (all refl on)
-  complete_if a (Err f) all = all
+  complete_if names a (Ok e) named is alone live all = λ on.
+      complete_from (space_in e) live (alone_if names e named is alone) (all refl on)
+  complete_if names a (Err f) named is alone live all = all
 
-  pub edges_if : (a : Wanted) (r : Result Exploration E) → IfOk r (λ e. a ≡ a → AreAllExpanded e)
-      → IfOk r (λ e. IsDistinct (space_in e))
-      → IfOk r (λ e. (d : Edge) → Contains (space_in e).edges d → IsEdge (space_in e) d)
+  pub edges_if : (names : List Bool) (a : Wanted) (r : Result Exploration E)
+      → ((n : ℕ) → n < 32 → IsTrue (is_named_by names n)) → IfOk r (λ e. (space_in e).live.names ≡ names)
+      → IfOk r StandAloneIn → IfOk r (λ e. a ≡ a → AreAllExpanded e) → IfOk r (λ e. AreAllApart (space_in e))
+      → IfOk r (λ e. (d : Edge) → Contains (space_in e).edges d → IsEdgeToStandIn (space_in e) d)
       → IfOk r (λ e. is_complete e ≡ true → HasAllEdges (space_in e))
-  edges_if a (Ok e) all distinct edges = λ on. all_edges (space_in e) distinct (all refl on) edges
-  edges_if a (Err f) all distinct edges = all
+  edges_if names a (Ok e) named is alone all apart edges = λ on.
+      all_edges (space_in e) apart (alone_if names e named is alone) (all refl on) edges
+  edges_if names a (Err f) named is alone all apart edges = all
 
-  pub ends_if : (r : Result Exploration E) → IfOk r AreAllFollowed
+  pub distinct_if : (r : Result Exploration E) → IfOk r (λ e. AreAllApart (space_in e))
+      → IfOk r (λ e. IsDistinct (space_in e))
+  distinct_if (Ok e) apart = λ k j kb jb same.
+      apart k j kb jb (agree_same (space_in e).live (world_of (space_in e) k) (world_of (space_in e) j) same)
+  distinct_if (Err f) apart = apart
+
+  pub ends_if : (r : Result Exploration E) → IfOk r IsLiveIn → IfOk r AreAllFollowed
       → IfOk r (λ e. is_complete e ≡ true → HasAllEnds (space_in e))
-  ends_if (Ok e) all = λ on. ends_all (space_in e) (all on)
-  ends_if (Err f) all = all
+  ends_if (Ok e) live all = λ on. ends_all (space_in e) live (all on)
+  ends_if (Err f) live all = all
 
-  pub tells_if : (r : Result Exploration E) → IfOk r AreAllFollowed
+  pub tells_if : (r : Result Exploration E) → IfOk r IsLiveIn → IfOk r AreAllFollowed
       → IfOk r (λ e. is_complete e ≡ true → TellsWhetherAllEnd (space_in e))
-  tells_if (Ok e) all = λ on. tells_all (space_in e) (all on)
-  tells_if (Err f) all = all
+  tells_if (Ok e) live all = λ on. tells_all (space_in e) live (all on)
+  tells_if (Err f) live all = all
 
-  pub shortest_if : (r : Result Exploration E) → IfOk r AreAllFollowed → IfOk r (λ e. IsDistinct (space_in e))
-      → IfOk r (λ e. is_complete e ≡ true → HasShortestEnds (space_in e))
-  shortest_if (Ok e) all distinct = λ on. ends_shortest (space_in e) (all on) distinct
-  shortest_if (Err f) all distinct = all
+  pub shortest_if : (r : Result Exploration E) → IfOk r IsLiveIn → IfOk r AreAllFollowed
+      → IfOk r (λ e. AreAllApart (space_in e)) → IfOk r (λ e. is_complete e ≡ true → HasShortestEnds (space_in e))
+  shortest_if (Ok e) live all apart = λ on. ends_shortest (space_in e) live (all on) apart
+  shortest_if (Err f) live all apart = all

@@ -6,7 +6,8 @@ use Rattle.image_file.specs.ImageValue.{ImageValue}
 use Rattle.machine.specs.MachineValue.{MachineValue}
 use Rattle.processor.specs.World.{start, steps}
 use Rattle.processor.specs.declared.steps.Step.{Step}
-use Rattle.schedule_space.specs.Spaces.{schedules, SpaceValue, count, machine_after, IsDistinct, IsShortest}
+use Rattle.dead_registers.specs.Clearing.{LiveValue, IsLive}
+use Rattle.schedule_space.specs.Spaces.{schedules, SpaceValue, count, machine_after, AreAllApart, IsShortest}
 use Rattle.schedule_space.specs.Finding.{space_of, IsGrown, IsExpanded, IsFrontier, IsBreadthFirst}
 use Rattle.schedule_space.proofs.Schedules.{one_schedule}
 use Rattle.schedule_space.proofs.Growing.{expanded_grown}
@@ -21,9 +22,9 @@ loaded image m n begin is ran =
     at ∙ sym (ap (λ (i : ImageValue). machine_after i begin) (ap (λ (x : MachineValue). x.image) at))
 
 -- the frontier of the first world
-pub begun_frontier : (v : SpaceValue) (m : MachineValue) (ms : List MachineValue) (begin : List Step)
-    → v ≡ space_of m.image begin [] [] → m ≡ machine_after m.image begin → ms ≡ m ∷ [] → IsFrontier v ms 0
-begun_frontier v m ms begin is at one =
+pub begun_frontier : (v : SpaceValue) (m : MachineValue) (ms : List MachineValue) (live : LiveValue)
+    (begin : List Step) → v ≡ space_of m.image live begin [] [] → m ≡ machine_after m.image begin → ms ≡ m ∷ [] → IsFrontier v ms 0
+begun_frontier v m ms live begin is at one =
     one
     ∙ (λ i. at i ∷ [])
     ∙ sym (ap (map (machine_after m.image)) (one_schedule begin))
@@ -31,9 +32,10 @@ begun_frontier v m ms begin is at one =
 
 -- where an expansion stopped before its end, schedules are as short as any
 pub shortest_stopped : (v w : SpaceValue) (n : ℕ) → IsGrown v w → n < count v
-    → ((k : ℕ) → k < n → IsExpanded v k) → IsBreadthFirst w n → IsDistinct w → IsShortest w
-shortest_stopped v w n g inside all breadth distinct =
-    shortest_below w n distinct breadth (λ k less. expanded_grown v w k g (omega (arith, less, inside)) (all k less))
+    → ((k : ℕ) → k < n → IsExpanded v k) → IsBreadthFirst w n → IsLive w.image w.live → AreAllApart w
+    → IsShortest w
+shortest_stopped v w n g inside all breadth live apart =
+    shortest_below w n live apart breadth (λ k less. expanded_grown v w k g (omega (arith, less, inside)) (all k less))
 
 -- where nothing was taken from the front there is nothing
 pub nothing_left : (ms rest : List MachineValue) → ms ≡ rest → rest ≡ drop 1 ms → ms ≡ []
@@ -46,9 +48,12 @@ pub same_expanded : (v w : SpaceValue) → w ≡ v → ((k : ℕ) → k < count 
 same_expanded v w is all = subst (λ (x : SpaceValue). (k : ℕ) → k < count x → IsExpanded x k) (sym is) all
 
 pub same_shortest : (v w u : SpaceValue) (n : ℕ) → u ≡ w → IsGrown v w → n < count v
-    → ((k : ℕ) → k < n → IsExpanded v k) → IsBreadthFirst w n → IsDistinct u → IsShortest u
-same_shortest v w u n is g inside all breadth distinct =
-    subst IsShortest (sym is) (shortest_stopped v w n g inside all breadth (subst IsDistinct is distinct))
+    → ((k : ℕ) → k < n → IsExpanded v k) → IsBreadthFirst w n → IsLive u.image u.live → AreAllApart u
+    → IsShortest u
+same_shortest v w u n is g inside all breadth live apart =
+    subst IsShortest (sym is)
+    (shortest_stopped v w n g inside all breadth (subst (λ (x : SpaceValue). IsLive x.image x.live) is live)
+    (subst AreAllApart is apart))
 
 -- what holds where a call ended well, where it did
 pub ended_well : {A E : Type 0} (r : Result A E) (P : Type 0) → is_err r ≡ false → OnOk r P → P

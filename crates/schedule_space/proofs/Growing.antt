@@ -4,16 +4,24 @@ use Rattle.std.proofs.Common.{inl, inr, length, get_or, length-append}
 use Rattle.std.proofs.lemmas.List.{get_or_append_left}
 use Rattle.std.proofs.lemmas.List.Elements.{Contains-append_left}
 use Rattle.std.proofs.Math.Seq.{get_or-append_seam}
-use Rattle.processor.specs.World.{after, run}
+use Rattle.processor.specs.World.{World, after, run}
 use Rattle.processor.specs.declared.steps.Step.{Step}
+use Rattle.dead_registers.specs.Clearing.{LiveValue, AgreeBy}
 use Rattle.schedule_space.specs.declared.links.Link.{Link}
 use Rattle.schedule_space.specs.declared.links.Edge.{Edge}
-use Rattle.schedule_space.specs.Spaces.{schedules, SpaceValue, count, schedule_of, world_of, IsEdge}
+use Rattle.schedule_space.specs.Spaces.{schedules, SpaceValue, count, schedule_of, world_of, StandsFor, IsEdgeToStandIn}
 use Rattle.schedule_space.specs.Finding.{with_link, with_edge, IsGrown, IsTaken, IsExpanded}
 use Rattle.schedule_space.proofs.Schedules.{one_more, schedules-push, length-schedules, run-push}
 
 pub grown_refl : (v : SpaceValue) → IsGrown v v
-grown_refl v = record { image = refl; begin = refl; more = omega arith; same = λ k below. refl; edges = λ e has. has }
+grown_refl v = record {
+  image = refl;
+  live = refl;
+  begin = refl;
+  more = omega arith;
+  same = λ k below. refl;
+  edges = λ e has. has;
+}
 
 pub grown_to : (v w : SpaceValue) → w ≡ v → IsGrown v w
 grown_to v w is = subst (λ (x : SpaceValue). IsGrown v x) (sym is) (grown_refl v)
@@ -21,6 +29,7 @@ grown_to v w is = subst (λ (x : SpaceValue). IsGrown v x) (sym is) (grown_refl 
 pub grown_trans : (u v w : SpaceValue) → IsGrown u v → IsGrown v w → IsGrown u w
 grown_trans u v w g h = record {
   image = h.image ∙ g.image;
+  live = h.live ∙ g.live;
   begin = h.begin ∙ g.begin;
   more = omega (arith, g.more, h.more);
   same = λ k below. h.same k (omega (arith, g.more, below)) ∙ g.same k below;
@@ -59,6 +68,7 @@ last_world v l = ap (run v.image) (last_schedule v l) ∙ run-push v.image (sche
 pub with_link_grown : (v : SpaceValue) (l : Link) → IsGrown v (with_link v l)
 with_link_grown v l = record {
   image = refl;
+  live = refl;
   begin = refl;
   more = omega (arith, length-append v.links (l ∷ []));
   same = λ k below. other_schedule v l k below;
@@ -68,6 +78,7 @@ with_link_grown v l = record {
 pub with_edge_grown : (v : SpaceValue) (e : Edge) → IsGrown v (with_edge v e)
 with_edge_grown v e = record {
   image = refl;
+  live = refl;
   begin = refl;
   more = omega arith;
   same = λ k below. refl;
@@ -76,34 +87,43 @@ with_edge_grown v e = record {
 
 -- What stays.
 
-pub edge_grown : (v w : SpaceValue) (e : Edge) → IsGrown v w → IsEdge v e → IsEdge w e
+stands_grown : (v w : SpaceValue) (k from : ℕ) (t : Step) → IsGrown v w → k < count v → from < count v
+    → StandsFor v k (after v.image (world_of v from) t) → StandsFor w k (after w.image (world_of w from) t)
+stands_grown v w k from t g below there is =
+    let next : after v.image (world_of v from) t ≡ after w.image (world_of w from) t =
+    λ i. after (sym g.image i) (sym (world_grown v w from g there) i) t in
+    subst (λ (l : LiveValue). AgreeBy l (world_of w k) (after w.image (world_of w from) t)) (sym g.live)
+    (subst (λ (a : World). AgreeBy v.live a (after w.image (world_of w from) t)) (sym (world_grown v w k g below))
+    (subst (AgreeBy v.live (world_of v k)) next is))
+
+pub edge_grown : (v w : SpaceValue) (e : Edge) → IsGrown v w → IsEdgeToStandIn v e → IsEdgeToStandIn w e
 edge_grown v w e g is = record {
   from = omega (arith, g.more, is.from);
   to = omega (arith, g.more, is.to);
   apart = is.apart;
-  leads =
-      world_grown v w e.to g is.to
-      ∙ is.leads
-      ∙ (λ i. after (sym g.image i) (sym (world_grown v w e.from g is.from) i) e.step);
+  leads = stands_grown v w e.to e.from e.step g is.to is.from is.leads;
 }
 
 pub taken_grown : (v w : SpaceValue) (k : ℕ) (t : Step) → IsGrown v w → k < count v → IsTaken v k t → IsTaken w k t
-taken_grown v w k t g below is = record {
-  to = is.to;
-  within = omega (arith, g.more, is.within);
-  leads =
-      world_grown v w is.to g is.within
-      ∙ is.leads
-      ∙ (λ i. after (sym g.image i) (sym (world_grown v w k g below) i) t);
-  near =
-      subst (λ (n : ℕ). n ≤ length (schedule_of w k) + 1) (sym (ap length (g.same is.to is.within)))
-      (subst (λ (n : ℕ). length (schedule_of v is.to) ≤ n + 1) (sym (ap length (g.same k below))) is.near);
-  edge =
-      elim is.edge [
-        | inl same ↦ inl same
-        | inr has ↦ inr (g.edges (record { from = k; step = t; to = is.to }) has)
-      ];
-}
+taken_grown v w k t g below is =
+    let to = is.step.to in
+    let within : to < count v = is.step.within in
+    let near : length (schedule_of v to) ≤ length (schedule_of v k) + 1 = is.step.near in
+    record {
+      step = record {
+        to = to;
+        within = omega (arith, g.more, within);
+        leads = stands_grown v w to k t g within below is.step.leads;
+        near =
+            subst (λ (n : ℕ). n ≤ length (schedule_of w k) + 1) (sym (ap length (g.same to within)))
+            (subst (λ (n : ℕ). length (schedule_of v to) ≤ n + 1) (sym (ap length (g.same k below))) near);
+      };
+      edge =
+          elim is.edge [
+            | inl same ↦ inl same
+            | inr has ↦ inr (g.edges (record { from = k; step = t; to = to }) has)
+          ];
+    }
 
 pub expanded_grown : (v w : SpaceValue) (k : ℕ) → IsGrown v w → k < count v → IsExpanded v k → IsExpanded w k
 expanded_grown v w k g below all t = taken_grown v w k t g below (all t)

@@ -6,12 +6,14 @@ pub mod Others
 pub mod KnownSteps
 pub mod PlainSteps
 pub mod StreamSteps
+pub mod Agreeing
 pub mod Growing
 pub mod Parts
 pub mod Keys
 pub mod Breadth
 pub mod Placing
 pub mod Taking
+pub mod Plain
 pub mod Exploring
 pub mod Reading
 pub mod Marking

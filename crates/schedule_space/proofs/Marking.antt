@@ -12,20 +12,29 @@ use Rattle.std.proofs.Math.Seq.{get_or-append_seam}
 use Rattle.image_file.specs.ImageValue.{ImageValue}
 use Rattle.processor.specs.World.{World, after, run, steps}
 use Rattle.processor.specs.declared.steps.Step.{Step}
+use Rattle.same_futures.specs.Handlers.{may_have_handlers}
+use Rattle.dead_registers.specs.Clearing.{IsLive}
+use Rattle.agreeing_ends.proofs.Reached.{can_over}
 use Rattle.schedule_space.specs.declared.links.Edge.{Edge}
-use Rattle.schedule_space.specs.Spaces.{SpaceValue, count, schedule_of, world_of, Has, HasEarlierLinks, IsComplete, IsEdge, HasAllEdges}
+use Rattle.schedule_space.specs.Spaces.{SpaceValue, count, schedule_of, world_of, Has, HasEarlierLinks, IsComplete, IsEdgeToStandIn, HasAllEdges}
 use Rattle.schedule_space.specs.declared.fates.Fate.{Fate}
 use Rattle.schedule_space.specs.declared.fates.Fate.TheVariants as fate
 use Rattle.schedule_space.specs.Fates.{IsFate, is_end}
 use Rattle.schedule_space.specs.Reaching.{IsEnd, CanEnd, IsMarked, AreEnds, CanAllEnd, AreMarkedBack}
 use Rattle.schedule_space.specs.Reaching.{HasEndsMarked, marked}
+use Rattle.schedule_space.specs.Finding.{found_in}
 use Rattle.schedule_space.proofs.Schedules.{goes_on, run-push}
+use Rattle.schedule_space.proofs.Agreeing.{Named, Live, ground}
 
 -- from where an edge leads to a world that can end
-pub can_end_before : (v : SpaceValue) (e : Edge) → IsEdge v e → CanEnd v.image (world_of v e.to)
-    → CanEnd v.image (world_of v e.from)
-can_end_before v e is can =
-    (e.step ∷ can.0, subst (λ (w : World). IsEnd v.image (steps v.image w can.0)) is.leads can.1)
+pub can_end_before : (v : SpaceValue) (e : Edge) → IsLive v.image v.live → IsEdgeToStandIn v e
+    → CanEnd v.image (world_of v e.to) → CanEnd v.image (world_of v e.from)
+can_end_before v e live is can =
+    let g = ground v live in
+    let next =
+    can_over (IsTrue (may_have_handlers v.image)) (Named v.live) (Live v.live) (found_in v) g (world_of v e.to)
+    (after v.image (world_of v e.from) e.step) (g.told e.to is.to) is.leads can in
+    (e.step ∷ next.0, next.1)
 
 -- Marks.
 
@@ -48,16 +57,16 @@ marked_too (b ∷ bs) zero (suc k) is = is
 marked_too (b ∷ bs) (suc n) zero is = is
 marked_too (b ∷ bs) (suc n) (suc k) is = marked_too bs n k is
 
-pub can_more : (v : SpaceValue) (marks : List Bool) (e : Edge) → CanAllEnd v marks → IsEdge v e → IsMarked marks e.to
-    → CanAllEnd v (set marks e.from true)
-can_more v marks e all is to = record {
+pub can_more : (v : SpaceValue) (marks : List Bool) (e : Edge) → IsLive v.image v.live → CanAllEnd v marks
+    → IsEdgeToStandIn v e → IsMarked marks e.to → CanAllEnd v (set marks e.from true)
+can_more v marks e live all is to = record {
   each = length-set marks e.from true ∙ all.each;
   ends = λ k below mark. by_case k below (marked_at marks e.from k mark);
 } where
   by_case : (k : ℕ) → k < count v → IsMarked marks k ⊎ (k ≡ e.from) → CanEnd v.image (world_of v k)
   by_case k below (inl before) = all.ends k below before
   by_case k below (inr same) =
-      subst (λ (n : ℕ). CanEnd v.image (world_of v n)) (sym same) (can_end_before v e is (all.ends e.to is.to to))
+      subst (λ (n : ℕ). CanEnd v.image (world_of v n)) (sym same) (can_end_before v e live is (all.ends e.to is.to to))
 
 pub marked_more : (marks : List Bool) (n : ℕ) (d : Bool) → n < length marks → get_or marks n d ≡ false
     → marked (set marks n true) ≡ suc (marked marks)
@@ -94,8 +103,8 @@ abbrev pub no_edge : Edge
 no_edge = record { from = 0; step = record { p = 0; s = 0 }; to = 0 }
 
 -- the edge at a place of the list is one of the space
-pub edge_at : (v : SpaceValue) (es : List Edge) (n : ℕ) → es ≡ v.edges → ((e : Edge) → Contains v.edges e → IsEdge v e)
-    → n < length es → IsEdge v (get_or es n no_edge)
+pub edge_at : (v : SpaceValue) (es : List Edge) (n : ℕ) → es ≡ v.edges → ((e : Edge) → Contains v.edges e → IsEdgeToStandIn v e)
+    → n < length es → IsEdgeToStandIn v (get_or es n no_edge)
 edge_at v es n same each below =
     each (get_or es n no_edge)
     (subst (λ (xs : List Edge). Contains xs (get_or es n no_edge)) same (Contains-get_or es n no_edge below))

@@ -10,6 +10,7 @@ use Rattle.image_file.specs.ImageValue.{ImageValue}
 use Rattle.processor.specs.World.{World, after, run}
 use Rattle.processor.specs.declared.steps.Step.{Step}
 use Rattle.machine.specs.MachineValue.{MachineValue}
+use Rattle.dead_registers.specs.Clearing.{LiveValue, IsLive}
 use Rattle.world_keys.specs.Tables.{Extends}
 use Rattle.world_keys.specs.WorldKeys.{key_of, IsKnown}
 use Rattle.world_keys.proofs.Worlds.{key_kept, known_kept}
@@ -17,9 +18,9 @@ use Rattle.schedule_space.specs.declared.links.Link.{Link}
 use Rattle.schedule_space.specs.declared.links.Edge.{Edge}
 use Rattle.schedule_space.specs.declared.fates.Fate.{Fate}
 use Rattle.schedule_space.specs.declared.fates.Fate.TheVariants as fate
-use Rattle.schedule_space.specs.Spaces.{schedules, SpaceValue, count, schedule_of, world_of, machine_after, IsEdge}
+use Rattle.schedule_space.specs.Spaces.{schedules, SpaceValue, count, schedule_of, world_of, machine_after, IsEdgeToStandIn}
 use Rattle.schedule_space.specs.Fates.{IsFate}
-use Rattle.schedule_space.specs.Finding.{space_of, with_link, with_edge, IsSpace, IsKeyed, IsFrontier}
+use Rattle.schedule_space.specs.Finding.{space_of, with_link, with_edge, IsSpace, IsKeyed, IsFrontier, cleared_after}
 use Rattle.schedule_space.proofs.Schedules.{one_more, schedules-push, length-schedules, run-push, one_schedule}
 use Rattle.schedule_space.proofs.Growing.{world_grown, count-link}
 use Rattle.schedule_space.proofs.Growing.{last_world, with_link_grown, with_edge_grown, edge_grown}
@@ -33,17 +34,19 @@ below_next v l k below = by_case (cases_lt k (count v)) where
 
 -- The parts of a space.
 
-pub begun : (image : ImageValue) (begin : List Step) (f : Fate) (fates : List Fate) → fates ≡ f ∷ []
-    → IsFate image (world_of (space_of image begin [] []) 0) f → IsSpace (space_of image begin [] []) fates
-begun image begin f fates one is = record {
+pub begun : (image : ImageValue) (live : LiveValue) (begin : List Step) (f : Fate) (fates : List Fate)
+    → IsLive image live → fates ≡ f ∷ [] → IsFate image (world_of (space_of image live begin [] []) 0) f
+    → IsSpace (space_of image live begin [] []) fates
+begun image live begin f fates closed one is = record {
+  live = closed;
   earlier = λ k l below. absurd (omega (arith, below));
   edges = λ e has. absurd (omega (arith, has.1));
   each = omega (arith, ap length one);
   fates = λ k below. by_place k below;
 } where
-  by_place : (k : ℕ) → k < count (space_of image begin [] []) → IsFate image (world_of (space_of image begin [] []) k) (get_or fates k fate.GoesOn)
+  by_place : (k : ℕ) → k < count (space_of image live begin [] []) → IsFate image (world_of (space_of image live begin [] []) k) (get_or fates k fate.GoesOn)
   by_place zero below =
-      subst (λ (xs : List Fate). IsFate image (world_of (space_of image begin [] []) 0) (get_or xs 0 fate.GoesOn)) (sym one)
+      subst (λ (xs : List Fate). IsFate image (world_of (space_of image live begin [] []) 0) (get_or xs 0 fate.GoesOn)) (sym one)
       is
   by_place (suc k) below = absurd (omega (arith, below))
 
@@ -51,6 +54,7 @@ pub linked : (v : SpaceValue) (fates more : List Fate) (l : Link) (f : Fate) →
     → IsFate v.image (after v.image (world_of v l.from) l.step) f → more ≡ fates ++ f ∷ []
     → IsSpace (with_link v l) more
 linked v fates more l f is from has one = record {
+  live = is.live;
   earlier = earlier;
   edges = λ e edge. edge_grown v (with_link v l) e (with_link_grown v l) (is.edges e edge);
   each = omega (arith, ap length one, length-append fates (f ∷ []), is.each, count-link v l);
@@ -86,17 +90,18 @@ linked v fates more l f is from has one = record {
       (subst (λ (g : Fate). IsFate v.image (world_of (with_link v l) (count v)) g) (sym at)
       (subst (λ (w : World). IsFate v.image w f) (sym (last_world v l)) has))
 
-pub edged : (v : SpaceValue) (fates : List Fate) (e : Edge) → IsSpace v fates → IsEdge v e
+pub edged : (v : SpaceValue) (fates : List Fate) (e : Edge) → IsSpace v fates → IsEdgeToStandIn v e
     → IsSpace (with_edge v e) fates
 edged v fates e is edge = record {
+  live = is.live;
   earlier = is.earlier;
   edges = λ d has. by_case d (Contains-push_cases v.edges e d has);
   each = is.each;
   fates = is.fates;
 } where
-  by_case : (d : Edge) → Contains v.edges d ⊎ (e ≡ d) → IsEdge (with_edge v e) d
+  by_case : (d : Edge) → Contains v.edges d ⊎ (e ≡ d) → IsEdgeToStandIn (with_edge v e) d
   by_case d (inl has) = edge_grown v (with_edge v e) d (with_edge_grown v e) (is.edges d has)
-  by_case d (inr same) = edge_grown v (with_edge v e) d (with_edge_grown v e) (subst (IsEdge v) same edge)
+  by_case d (inr same) = edge_grown v (with_edge v e) d (with_edge_grown v e) (subst (IsEdgeToStandIn v) same edge)
 
 -- the fate at a place is that of its world
 pub fate_at : (v w : SpaceValue) (fs : List Fate) (k : ℕ) (f : Fate) → IsSpace v fs → v ≡ w → k < count w
@@ -109,36 +114,36 @@ fate_at v w fs k f is view below read =
 
 -- Keys.
 
--- the keys of the worlds
-abbrev pub keys_of : List (List ℕ) → SpaceValue → List (List ℕ)
-keys_of table v = map (λ ts. key_of table v.image (run v.image ts)) (schedules v.begin v.links)
+-- the key of the world after a schedule, cleared
+abbrev pub key_after : List (List ℕ) → SpaceValue → List Step → List ℕ
+key_after table v ts = key_of table v.image (cleared_after v ts)
 
 pub first_key : (v : SpaceValue) (table keys : List (List ℕ)) (key : List ℕ) → v.links ≡ []
-    → key ≡ key_of table v.image (run v.image v.begin) → IsKnown table v.image (run v.image v.begin) → keys ≡ key ∷ []
+    → key ≡ key_after table v v.begin → IsKnown table v.image (cleared_after v v.begin) → keys ≡ key ∷ []
     → IsKeyed v table keys
 first_key v table keys key none is known one = record {
   keys =
       one
       ∙ ap (λ x. x ∷ []) is
-      ∙ sym (ap (map (λ ts. key_of table v.image (run v.image ts))) (ap (schedules v.begin) none ∙ one_schedule v.begin));
+      ∙ sym (ap (map (key_after table v)) (ap (schedules v.begin) none ∙ one_schedule v.begin));
   known = λ k below. by_place k below;
-  distinct = λ k j kb jb same. omega (arith, kb, jb, ap length none);
+  apart = λ k j kb jb same. omega (arith, kb, jb, ap length none);
 } where
-  by_place : (k : ℕ) → k < count v → IsKnown table v.image (world_of v k)
+  by_place : (k : ℕ) → k < count v → IsKnown table v.image (cleared_after v (schedule_of v k))
   by_place k below =
       let at : zero ≡ k = omega (arith, below, ap length none) in
       let first : schedule_of v 0 ≡ v.begin =
       ap (λ ls. get_or (schedules v.begin ls) 0 []) none ∙ ap (λ xs. get_or xs 0 []) (one_schedule v.begin) in
-      subst (λ (n : ℕ). IsKnown table v.image (world_of v n)) at
-      (subst (λ (ts : List Step). IsKnown table v.image (run v.image ts)) (sym first) known)
+      subst (λ (n : ℕ). IsKnown table v.image (cleared_after v (schedule_of v n))) at
+      (subst (λ (ts : List Step). IsKnown table v.image (cleared_after v ts)) (sym first) known)
 
-keys_kept : (image : ImageValue) (old new : List (List ℕ)) (tss : List (List Step)) → Extends old new
-    → ((k : ℕ) → k < length tss → IsKnown old image (run image (get_or tss k [])))
-    → map (λ ts. key_of new image (run image ts)) tss ≡ map (λ ts. key_of old image (run image ts)) tss
-keys_kept image old new [] grown known = refl
-keys_kept image old new (ts ∷ tss) grown known =
-    let here = key_kept old new image (run image ts) grown (known 0 (omega arith)) in
-    let rest = keys_kept image old new tss grown (λ k below. known (suc k) (omega (arith, below))) in
+keys_kept : (v : SpaceValue) (old new : List (List ℕ)) (tss : List (List Step)) → Extends old new
+    → ((k : ℕ) → k < length tss → IsKnown old v.image (cleared_after v (get_or tss k [])))
+    → map (key_after new v) tss ≡ map (key_after old v) tss
+keys_kept v old new [] grown known = refl
+keys_kept v old new (ts ∷ tss) grown known =
+    let here = key_kept old new v.image (cleared_after v ts) grown (known 0 (omega arith)) in
+    let rest = keys_kept v old new tss grown (λ k below. known (suc k) (omega (arith, below))) in
     λ i. here i ∷ rest i
 
 -- the table may be extended
@@ -147,39 +152,29 @@ pub keyed_later : (v : SpaceValue) (old new keys : List (List ℕ)) → Extends 
 keyed_later v old new keys grown is = record {
   keys =
       is.keys
-      ∙ sym (keys_kept v.image old new (schedules v.begin v.links) grown
+      ∙ sym (keys_kept v old new (schedules v.begin v.links) grown
       (λ k below. is.known k (omega (arith, below, length-schedules v.begin v.links))));
-  known = λ k below. known_kept old new v.image (world_of v k) grown (is.known k below);
-  distinct = is.distinct;
+  known = λ k below. known_kept old new v.image (cleared_after v (schedule_of v k)) grown (is.known k below);
+  apart = is.apart;
 }
 
 -- the edges don't matter
-pub keyed_edge : (v w : SpaceValue) (table keys : List (List ℕ)) → w.image ≡ v.image → w.begin ≡ v.begin
-    → w.links ≡ v.links → IsKeyed v table keys → IsKeyed w table keys
-keyed_edge v w table keys image begin links is = record {
-  keys = is.keys ∙ (λ i. map (λ ts. key_of table (sym image i) (run (sym image i) ts)) (schedules (sym begin i) (sym links i)));
-  known = λ k below.
-      subst (λ (x : World). IsKnown table w.image x) (λ i. run (sym image i) (get_or (schedules (sym begin i) (sym links i)) k []))
-      (subst (λ (x : ImageValue). IsKnown table x (world_of v k)) (sym image)
-      (is.known k (omega (arith, below, ap length links))));
-  distinct = λ k j kb jb same.
-      is.distinct k j (omega (arith, kb, ap length links)) (omega (arith, jb, ap length links))
-      ((λ i. run (sym image i) (get_or (schedules (sym begin i) (sym links i)) k [])) ∙ same
-      ∙ (λ i. run (image i) (get_or (schedules (begin i) (links i)) j [])));
-}
+pub keyed_edge : (v : SpaceValue) (e : Edge) (table keys : List (List ℕ)) → IsKeyed v table keys
+    → IsKeyed (with_edge v e) table keys
+keyed_edge v e table keys is = record { keys = is.keys; known = is.known; apart = is.apart }
 
 -- the key at a place
 pub key_at : (v : SpaceValue) (table keys : List (List ℕ)) (k : ℕ) → IsKeyed v table keys → k < count v
-    → get_or keys k [] ≡ key_of table v.image (world_of v k)
+    → get_or keys k [] ≡ key_after table v (schedule_of v k)
 key_at v table keys k is below =
     ap (λ xs. get_or xs k []) is.keys
-    ∙ get_or-map (λ ts. key_of table v.image (run v.image ts)) (schedules v.begin v.links) k [] []
+    ∙ get_or-map (key_after table v) (schedules v.begin v.links) k [] []
     (omega (arith, below, length-schedules v.begin v.links))
 
 pub keys_many : (v : SpaceValue) (table keys : List (List ℕ)) → IsKeyed v table keys → length keys ≡ count v
 keys_many v table keys is =
     ap length is.keys
-    ∙ length-map (schedules v.begin v.links) (λ ts. key_of table v.image (run v.image ts))
+    ∙ length-map (schedules v.begin v.links) (key_after table v)
     ∙ length-schedules v.begin v.links
 
 -- Frontiers.

@@ -9,9 +9,11 @@ use Rattle.machine.specs.MachineValue.{MachineValue}
 use Rattle.processor.specs.World.{World, world_step, after}
 use Rattle.processor.specs.declared.steps.Step.{Step}
 use Rattle.waiting.specs.Running.{runs_in, AreRunning}
+use Rattle.dead_registers.specs.Clearing.{AgreeBy}
 use Rattle.schedule_space.specs.declared.links.Edge.{Edge}
-use Rattle.schedule_space.specs.Spaces.{SpaceValue, count, schedule_of, world_of, machine_after, IsEdge}
+use Rattle.schedule_space.specs.Spaces.{SpaceValue, count, schedule_of, world_of, machine_after, StandsFor, IsEdgeToStandIn}
 use Rattle.schedule_space.specs.Finding.{with_edge, IsGrown, IsTaken, IsExpanded, IsBreadthFirst}
+use Rattle.schedule_space.proofs.Agreeing.{agree_same}
 use Rattle.schedule_space.proofs.Growing.{world_grown, taken_grown, expanded_grown, grown_trans, with_edge_grown}
 use Rattle.schedule_space.proofs.Breadth.{breadth_stays}
 use Rattle.schedule_space.proofs.Resting.{rested}
@@ -20,33 +22,45 @@ use Rattle.schedule_space.proofs.Resting.{rested}
 pub taken_stays : (v : SpaceValue) (from : ℕ) (t : Step) → from < count v
     → after v.image (world_of v from) t ≡ world_of v from → IsTaken v from t
 taken_stays v from t below stays = record {
-  to = from;
-  within = below;
-  leads = sym stays;
-  near = omega arith;
+  step = record {
+    to = from;
+    within = below;
+    leads = agree_same v.live (world_of v from) (after v.image (world_of v from) t) (sym stays);
+    near = omega arith;
+  };
   edge = inl refl;
 }
 
+-- where the world at a place stands for the one that a step led to, it does so in a space that has grown
+stands_for : (old new : SpaceValue) (from to : ℕ) (t : Step) (w : World) → IsGrown old new → from < count old
+    → StandsFor new to w → w ≡ after old.image (world_of old from) t
+    → StandsFor new to (after new.image (world_of new from) t)
+stands_for old new from to t w g below is leads =
+    subst (AgreeBy new.live (world_of new to))
+    (leads ∙ (λ i. after (sym g.image i) (sym (world_grown old new from g below) i) t)) is
+
 -- a step that leads to a place of the space, with an edge unless it is the same place
 pub taken_to : (old new : SpaceValue) (from to : ℕ) (t : Step) (w : World) → IsGrown old new → from < count old
-    → to < count new → world_of new to ≡ w → w ≡ after old.image (world_of old from) t → IsBreadthFirst new from
+    → to < count new → StandsFor new to w → w ≡ after old.image (world_of old from) t → IsBreadthFirst new from
     → (to ≡ from) ⊎ Contains new.edges (record { from = from; step = t; to = to }) → IsTaken new from t
 taken_to old new from to t w g below there is leads breadth edge = record {
-  to = to;
-  within = there;
-  leads = is ∙ leads ∙ (λ i. after (sym g.image i) (sym (world_grown old new from g below) i) t);
-  near = breadth.near to there;
+  step = record {
+    to = to;
+    within = there;
+    leads = stands_for old new from to t w g below is leads;
+    near = breadth.near to there;
+  };
   edge = edge;
 }
 
 pub edge_to : (old new : SpaceValue) (from to : ℕ) (t : Step) (w : World) → IsGrown old new → from < count old
-    → to < count new → world_of new to ≡ w → w ≡ after old.image (world_of old from) t → (to ≢ from)
-    → IsEdge new (record { from = from; step = t; to = to })
+    → to < count new → StandsFor new to w → w ≡ after old.image (world_of old from) t → (to ≢ from)
+    → IsEdgeToStandIn new (record { from = from; step = t; to = to })
 edge_to old new from to t w g below there is leads apart = record {
   from = omega (arith, g.more, below);
   to = there;
   apart = apart;
-  leads = is ∙ leads ∙ (λ i. after (sym g.image i) (sym (world_grown old new from g below) i) t);
+  leads = stands_for old new from to t w g below is leads;
 }
 
 -- the steps so far are taken
@@ -136,7 +150,7 @@ stepped v from m c n o t is same world image =
 
 -- the space with the edge of a step
 pub taken_edge : (old new : SpaceValue) (from to : ℕ) (t : Step) (w : World) (e : Edge) → IsGrown old new
-    → from < count old → to < count new → world_of new to ≡ w → w ≡ after old.image (world_of old from) t
+    → from < count old → to < count new → StandsFor new to w → w ≡ after old.image (world_of old from) t
     → IsBreadthFirst new from → e ≡ record { from = from; step = t; to = to } → IsTaken (with_edge new e) from t
 taken_edge old new from to t w e g below there is leads breadth edge =
     taken_to old (with_edge new e) from to t w (grown_trans old new (with_edge new e) g (with_edge_grown new e)) below

@@ -121,12 +121,7 @@ impl<'i> Found<'i> {
         ensures edges { (e : Edge) → Contains result.edges e → IsEdgeToStandIn result e }
     {
         Space::from_parts(
-            self.image,
-            self.live,
-            self.begin,
-            self.links,
-            self.edges,
-            self.fates,
+            self.image, self.live, self.begin, self.links, self.edges, self.fates,
         )
     }
 

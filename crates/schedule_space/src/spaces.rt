@@ -87,10 +87,11 @@ impl<'i> Space<'i> {
         &self.begin
     }
 
-    /// How many worlds it has, each but the first found by a step from an earlier one.
+    /// How many worlds it has, each but the first found by a step from an earlier one. All that may be read matters.
     pub fn len(&self) -> usize
         ensures count { result ≡ count self.now }
         ensures links { HasEarlierLinks self.now }
+        ensures live { IsLive self.now.image self.now.live }
     {
         self.fates.len()
     }
@@ -106,6 +107,7 @@ impl<'i> Space<'i> {
     pub fn edges(&self) -> &[Edge]
         ensures edges { result.now ≡ self.now.edges }
         ensures each { (e : Edge) → Contains self.now.edges e → IsEdgeToStandIn self.now e }
+        ensures live { IsLive self.now.image self.now.live }
     {
         &self.edges
     }

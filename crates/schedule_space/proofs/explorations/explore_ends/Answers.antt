@@ -2,10 +2,10 @@ use Rattle.schedule_space.proofs.Explored.{ends_if, tells_if, shortest_if}
 use Rattle.schedule_space.proofs.explorations.explore_ends.Goals as goal
 
 pub returns-clause-ends : goal.returns-clause-ends
-returns-clause-ends g c = ends_if c.search.result c.search.ensures.followed
+returns-clause-ends g c = ends_if c.search.result c.search.ensures.live c.search.ensures.followed
 
 pub returns-clause-tells : goal.returns-clause-tells
-returns-clause-tells g c = tells_if c.search.result c.search.ensures.followed
+returns-clause-tells g c = tells_if c.search.result c.search.ensures.live c.search.ensures.followed
 
 pub returns-clause-shortest : goal.returns-clause-shortest
-returns-clause-shortest g c = shortest_if c.search.result c.search.ensures.followed c.search.ensures.distinct
+returns-clause-shortest g c = shortest_if c.search.result c.search.ensures.live c.search.ensures.followed c.search.ensures.distinct

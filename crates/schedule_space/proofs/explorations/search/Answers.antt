@@ -1,7 +1,9 @@
-use Rattle.std.proofs.Common.{◌≡◌, ap, ◌∙◌, arith, rules, false}
+use Rattle.std.proofs.Common.{◌≡◌, sym, ap, ◌∙◌, subst, arith, rules, false}
 use Rattle.std.specs.Result.{is_err}
+use Rattle.image_file.specs.ImageValue.{ImageValue}
 use Rattle.machine.specs.MachineValue.{MachineValue}
 use Rattle.processor.specs.World.{steps}
+use Rattle.dead_registers.specs.Clearing.{LiveValue, IsLive}
 use Rattle.schedule_space.specs.Spaces.{SpaceValue, count, schedule_of, machine_after}
 use Rattle.schedule_space.specs.Finding.{IsExpanded, IsExpanding}
 use Rattle.schedule_space.proofs.Parts.{frontier_front, frontier_empty}
@@ -13,7 +15,15 @@ use Rattle.schedule_space.proofs.Exploring.{loaded, begun_frontier, nothing_left
 use Rattle.schedule_space.proofs.explorations.search.Goals as goal
 
 pub begin-requires : goal.begin-requires
-begin-requires g c = (omega arith, loaded c.args.image.now c.in_ok-first.first c.run.new.self c.args.begin.now c.in_ok-first.ensures.is c.run.ensures)
+begin-requires g c = (
+  omega arith,
+  (
+    loaded c.args.image.now c.in_ok-first.first c.run.new.self c.args.begin.now c.in_ok-first.ensures.is c.run.ensures,
+    subst (λ (i : ImageValue). IsLive i c.in_ok-live.live)
+        (sym (ap (λ (m : MachineValue). m.image) (c.run.ensures ∙ ap (λ (m : MachineValue). record m { world = steps m.image m.world c.args.begin.now }) c.in_ok-first.ensures.is)))
+        c.in_ok-live.ensures.live,
+  ),
+)
 
 pub loop-from-init : goal.loop-from-init
 loop-from-init g c =
@@ -25,12 +35,13 @@ loop-from-init g c =
       image =
           ap (λ (x : SpaceValue). x.image) is ∙ ap (λ (m : MachineValue). m.image) (c.run.ensures ∙ ap (λ (m : MachineValue). record m { world = steps m.image m.world begin }) c.in_ok-first.ensures.is);
       begin = ap (λ (x : SpaceValue). x.begin) is;
+      names = ap (λ (x : SpaceValue). x.live.names) is ∙ c.in_ok-live.ensures.names;
       expanded = λ _ k below. absurd (omega arith);
       followed = λ k below. absurd (omega arith);
       inside = omega arith;
       within = omega (arith, ap count is, c.world_limit-limit.ensures.some);
       frontier =
-          begun_frontier v first c.push_back.new.self.items begin is
+          begun_frontier v first c.push_back.new.self.items c.in_ok-live.live begin is
           (loaded c.args.image.now c.in_ok-first.first first begin c.in_ok-first.ensures.is c.run.ensures) (search rules);
       breadth = λ _. breadth_begun v (ap (λ (x : SpaceValue). x.links) is);
     }
@@ -60,6 +71,10 @@ pub returns-in_default-clause-begin : goal.returns-in_default-clause-begin
 returns-in_default-clause-begin g c =
     ap (λ (x : SpaceValue). x.begin) c.into_space.ensures.is ∙ c.loop-from.invariant.begin
 
+pub returns-in_default-clause-names : goal.returns-in_default-clause-names
+returns-in_default-clause-names g c =
+    ap (λ (x : SpaceValue). x.live.names) c.into_space.ensures.is ∙ c.loop-from.invariant.names
+
 pub returns-in_default-clause-expanded : goal.returns-in_default-clause-expanded
 returns-in_default-clause-expanded g c = λ on _.
     same_expanded c.loop-from.found c.into_space.result c.into_space.ensures.is
@@ -84,7 +99,7 @@ returns-in_default-clause-followed g c = λ _.
 
 pub returns-in_default-clause-shortest : goal.returns-in_default-clause-shortest
 returns-in_default-clause-shortest g c = λ on.
-    shortest_all c.into_space.result c.into_space.ensures.distinct
+    shortest_all c.into_space.result c.into_space.ensures.live c.into_space.ensures.apart
     (same_expanded c.loop-from.found c.into_space.result c.into_space.ensures.is
     (λ k less. c.loop-from.invariant.expanded on k (omega (
       arith,
@@ -106,13 +121,18 @@ pub returns-then-is_err-clause-begin : goal.returns-then-is_err-clause-begin
 returns-then-is_err-clause-begin g c =
     ap (λ (x : SpaceValue). x.begin) c.into_space-then-is_err.ensures.is ∙ c.expand.ensures.grown.begin ∙ c.loop-from.invariant.begin
 
+pub returns-then-is_err-clause-names : goal.returns-then-is_err-clause-names
+returns-then-is_err-clause-names g c =
+    ap (λ (x : SpaceValue). x.live.names) c.into_space-then-is_err.ensures.is ∙ ap (λ (l : LiveValue). l.names) c.expand.ensures.grown.live ∙ c.loop-from.invariant.names
+
 pub returns-then-is_err-clause-shortest : goal.returns-then-is_err-clause-shortest
 returns-then-is_err-clause-shortest g c = λ on.
     let front =
     frontier_front c.loop-from.found c.loop-from.frontier.items c.pop_front.new.self.items c.in-Some.machine
     c.loop-from.from c.loop-from.invariant.frontier c.in-Some.ensures.items in
     same_shortest c.loop-from.found c.expand.new.self c.into_space-then-is_err.result c.loop-from.from c.into_space-then-is_err.ensures.is
-    c.expand.ensures.grown front.0 (c.loop-from.invariant.expanded on) c.expand.ensures.expanding.breadth c.into_space-then-is_err.ensures.distinct
+    c.expand.ensures.grown front.0 (c.loop-from.invariant.expanded on) c.expand.ensures.expanding.breadth c.into_space-then-is_err.ensures.live
+    c.into_space-then-is_err.ensures.apart
 
 pub returns-then-is_err-clause-within : goal.returns-then-is_err-clause-within
 returns-then-is_err-clause-within g c =
@@ -131,6 +151,7 @@ loop-from-preserved g c =
     record {
       image = c.expand.ensures.grown.image ∙ c.loop-from.invariant.image;
       begin = c.expand.ensures.grown.begin ∙ c.loop-from.invariant.begin;
+      names = ap (λ (l : LiveValue). l.names) c.expand.ensures.grown.live ∙ c.loop-from.invariant.names;
       expanded = λ on.
           expanded_more old new n c.expand.ensures.grown front.0 (c.loop-from.invariant.expanded on)
           (ended_well c.expand.result (IsExpanded new n) well (c.expand.ensures.expanded on));
@@ -149,6 +170,10 @@ pub returns-clause-begin : goal.returns-clause-begin
 returns-clause-begin g c =
     ap (λ (x : SpaceValue). x.begin) c.into_space-2.ensures.is ∙ c.loop-from.invariant.begin
 
+pub returns-clause-names : goal.returns-clause-names
+returns-clause-names g c =
+    ap (λ (x : SpaceValue). x.live.names) c.into_space-2.ensures.is ∙ c.loop-from.invariant.names
+
 pub returns-clause-expanded : goal.returns-clause-expanded
 returns-clause-expanded g c = λ on _.
     same_expanded c.loop-from.found c.into_space-2.result c.into_space-2.ensures.is
@@ -161,7 +186,7 @@ returns-clause-followed g c = λ _.
 
 pub returns-clause-shortest : goal.returns-clause-shortest
 returns-clause-shortest g c = λ on.
-    shortest_all c.into_space-2.result c.into_space-2.ensures.distinct
+    shortest_all c.into_space-2.result c.into_space-2.ensures.live c.into_space-2.ensures.apart
     (same_expanded c.loop-from.found c.into_space-2.result c.into_space-2.ensures.is
     (λ k less. c.loop-from.invariant.expanded on k (omega (arith, less, c.loop-from.invariant.within, c.loop-from-test.false))))
 

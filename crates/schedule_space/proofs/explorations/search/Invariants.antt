@@ -10,6 +10,7 @@ abbrev pub invariant-loop-from : goal.invariant-loop-from
 invariant-loop-from g l = record {
   image : l.found.image ≡ l.image;
   begin : l.found.begin ≡ l.begin;
+  names : l.found.live.names ≡ l.names;
   expanded : l.wanted ≡ Wanted.Worlds → (k : ℕ) → k < l.from → IsExpanded l.found k;
   followed : (k : ℕ) → k < l.from → IsFollowed l.found k;
   inside : l.from ≤ count l.found;

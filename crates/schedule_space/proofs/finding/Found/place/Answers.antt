@@ -1,14 +1,15 @@
 use Rattle.std.proofs.Common.{◌≡◌, ◌+◌, ◌<◌, ◌∙◌, refl, sym, ap, subst, arith, rules, length, Some, slice_get}
 use Rattle.std.proofs.Common.{option_copied}
 use Rattle.machine.specs.MachineValue.{MachineValue}
+use Rattle.dead_registers.specs.Clearing.{cleared}
 use Rattle.world_keys.specs.Tables.{place_in, Has}
 use Rattle.world_keys.specs.WorldKeys.{key_of, IsKnown}
-use Rattle.schedule_space.specs.Spaces.{SpaceValue, count, world_of}
+use Rattle.schedule_space.specs.Spaces.{SpaceValue, count, StandsFor}
 use Rattle.schedule_space.specs.Finding.{space_of}
 use Rattle.schedule_space.proofs.Growing.{grown_to, count-link}
 use Rattle.schedule_space.proofs.Keys.{found_later}
-use Rattle.schedule_space.proofs.Placing.{known_at, key_of_at, steps_at, steps_back, machine_next, next_image, next_world}
-use Rattle.schedule_space.proofs.Placing.{has_key, found_at, placed, placed_view, placed_grown, placed_there, placed_is}
+use Rattle.schedule_space.proofs.Placing.{known_at, key_of_at, live_at, told_at, steps_at, steps_back, machine_next, next_image, next_world}
+use Rattle.schedule_space.proofs.Placing.{has_key, found_at, placed, placed_view, placed_grown, placed_there, placed_stands}
 use Rattle.schedule_space.proofs.Placing.{placed_expanding, kept, kept_view, stays_expanding}
 use Rattle.schedule_space.proofs.finding.Found.place.Goals as goal
 
@@ -17,18 +18,25 @@ key_after-requires g c =
     let v = c.args.self.now in
     let m = c.args.machine.now in
     let w =
-    space_of c.self.inside.image.now c.self.inside.begin.items c.self.inside.links.items c.self.inside.edges.items in
+    space_of c.self.inside.image.now c.self.inside.live c.self.inside.begin.items c.self.inside.links.items c.self.inside.edges.items in
     let at : Some c.unwrap-before.result.now ≡ slice_get c.self.inside.keys c.args.link.from =
     sym (ap option_copied c.unwrap-before.ensures) ∙ c.list.ensures in (
       omega arith,
       (
-        known_at w v c.self.inside.fates.items c.self.inside.contents c.self.inside.keys c.args.link.from m
-            c.self.invariant.found c.self.view_is c.requires.expanding.there c.requires.machine,
+        live_at w v c.self.inside.fates.items c.self.inside.contents c.self.inside.keys c.args.link.from m
+            c.self.invariant.found c.self.view_is c.requires.machine,
         (
-          key_of_at w v c.self.inside.fates.items c.self.inside.contents c.self.inside.keys c.unwrap-before.result.now
-              c.args.link.from m c.self.invariant.found c.self.view_is c.requires.expanding.there c.requires.machine at,
-          steps_at w v c.self.inside.contents c.self.inside.steps c.args.link.from m c.self.invariant.left
-              c.self.view_is c.requires.machine,
+          told_at v c.args.link.from m c.requires.machine,
+          (
+            known_at w v c.self.inside.fates.items c.self.inside.contents c.self.inside.keys c.args.link.from m
+                c.self.invariant.found c.self.view_is c.requires.expanding.there c.requires.machine,
+            (
+              key_of_at w v c.self.inside.fates.items c.self.inside.contents c.self.inside.keys c.unwrap-before.result.now
+                  c.args.link.from m c.self.invariant.found c.self.view_is c.requires.expanding.there c.requires.machine at,
+              steps_at w v c.self.inside.contents c.self.inside.steps c.args.link.from m c.self.invariant.left
+                  c.self.view_is c.requires.machine,
+            ),
+          ),
         ),
       ),
     )
@@ -36,14 +44,14 @@ key_after-requires g c =
 pub unwrap-before-requires : goal.unwrap-before-requires
 unwrap-before-requires g c =
     let w =
-    space_of c.self.inside.image.now c.self.inside.begin.items c.self.inside.links.items c.self.inside.edges.items in
+    space_of c.self.inside.image.now c.self.inside.live c.self.inside.begin.items c.self.inside.links.items c.self.inside.edges.items in
     has_key w c.args.self.now c.self.inside.contents c.self.inside.keys c.args.link.from c.list.result
     c.self.invariant.found.keyed c.self.view_is c.requires.expanding.there c.list.ensures
 
 pub invariant_of-self : goal.invariant_of-self
 invariant_of-self g c =
     let w =
-    space_of c.self.inside.image.now c.self.inside.begin.items c.self.inside.links.items c.self.inside.edges.items in
+    space_of c.self.inside.image.now c.self.inside.live c.self.inside.begin.items c.self.inside.links.items c.self.inside.edges.items in
     record {
       found =
           found_later w c.self.inside.fates.items c.self.inside.contents c.key_after.new.contents c.self.inside.keys
@@ -56,7 +64,7 @@ invariant_of-self g c =
 pub invariant_of-self-in-Some : goal.invariant_of-self-in-Some
 invariant_of-self-in-Some g c =
     let w =
-    space_of c.self.inside.image.now c.self.inside.begin.items c.self.inside.links.items c.self.inside.edges.items in
+    space_of c.self.inside.image.now c.self.inside.live c.self.inside.begin.items c.self.inside.links.items c.self.inside.edges.items in
     record {
       found =
           found_later w c.self.inside.fates.items c.self.inside.contents c.key_after.new.contents c.self.inside.keys
@@ -69,7 +77,7 @@ invariant_of-self-in-Some g c =
 pub invariant_of-self-then-place-most : goal.invariant_of-self-then-place-most
 invariant_of-self-then-place-most g c =
     let w =
-    space_of c.self.inside.image.now c.self.inside.begin.items c.self.inside.links.items c.self.inside.edges.items in
+    space_of c.self.inside.image.now c.self.inside.live c.self.inside.begin.items c.self.inside.links.items c.self.inside.edges.items in
     record {
       found =
           found_later w c.self.inside.fates.items c.self.inside.contents c.key_after.new.contents c.self.inside.keys
@@ -82,7 +90,7 @@ invariant_of-self-then-place-most g c =
 pub invariant_of-self-in_err-next : goal.invariant_of-self-in_err-next
 invariant_of-self-in_err-next g c =
     let w =
-    space_of c.self.inside.image.now c.self.inside.begin.items c.self.inside.links.items c.self.inside.edges.items in
+    space_of c.self.inside.image.now c.self.inside.live c.self.inside.begin.items c.self.inside.links.items c.self.inside.edges.items in
     record {
       found =
           found_later w c.self.inside.fates.items c.self.inside.contents c.key_after.new.contents c.self.inside.keys
@@ -95,10 +103,10 @@ invariant_of-self-in_err-next g c =
 pub invariant_of-self-in_err-push_world : goal.invariant_of-self-in_err-push_world
 invariant_of-self-in_err-push_world g c =
     let w =
-    space_of c.self.inside.image.now c.self.inside.begin.items c.self.inside.links.items c.self.inside.edges.items in
+    space_of c.self.inside.image.now c.self.inside.live c.self.inside.begin.items c.self.inside.links.items c.self.inside.edges.items in
     record {
       found =
-          kept c.self.inside.image.now c.self.inside.begin.items c.self.inside.links.items c.push_world.new.links.items c.self.inside.edges.items
+          kept c.self.inside.image.now c.self.inside.live c.self.inside.begin.items c.self.inside.links.items c.push_world.new.links.items c.self.inside.edges.items
           c.self.inside.fates.items c.push_world.new.fates.items c.self.inside.contents c.key_after.new.contents
           c.self.inside.keys c.push_world.new.keys c.self.invariant.found c.key_after.ensures.grown
           c.in_err-push_world.ensures.links c.in_err-push_world.ensures.fates c.in_err-push_world.ensures.keys;
@@ -111,21 +119,21 @@ pub invariant_of-self-2 : goal.invariant_of-self-2
 invariant_of-self-2 g c =
     let v = c.args.self.now in
     let w =
-    space_of c.self.inside.image.now c.self.inside.begin.items c.self.inside.links.items c.self.inside.edges.items in
+    space_of c.self.inside.image.now c.self.inside.live c.self.inside.begin.items c.self.inside.links.items c.self.inside.edges.items in
     let m = c.args.machine.now in
     let u = c.args.link.step in
     let n = c.in_ok-next.next in
     let is : n ≡ machine_next m u = λ i. record { image = c.in_ok-next.ensures.image i; world = c.in_ok-next.ensures.world i } in
     record {
       found =
-          placed c.self.inside.image.now c.self.inside.begin.items c.self.inside.links.items c.push_world.new.links.items c.self.inside.edges.items
+          placed c.self.inside.image.now c.self.inside.live c.self.inside.begin.items c.self.inside.links.items c.push_world.new.links.items c.self.inside.edges.items
           v c.self.inside.fates.items c.push_world.new.fates.items c.self.inside.contents
           c.key_after.new.contents c.self.inside.keys c.push_world.new.keys c.in_ok-key.key.items c.args.link
           c.fate_of-fate.result n c.self.invariant.found c.self.view_is c.key_after.ensures.grown c.requires.expanding.there
           (next_image v c.args.link.from m n u c.requires.machine is)
           (next_world v c.args.link.from m n u c.requires.machine is) c.fate_of-fate.ensures
-          (subst (λ (x : MachineValue). IsKnown c.key_after.new.contents x.image x.world) (sym is) c.in_ok-key.ensures.known)
-          (c.in_ok-key.ensures.is ∙ sym (ap (λ (x : MachineValue). key_of c.key_after.new.contents x.image x.world) is))
+          (subst (λ (x : MachineValue). IsKnown c.key_after.new.contents x.image (cleared c.self.inside.live x.world)) (sym is) c.in_ok-key.ensures.known)
+          (c.in_ok-key.ensures.is ∙ sym (ap (λ (x : MachineValue). key_of c.key_after.new.contents x.image (cleared c.self.inside.live x.world)) is))
           (λ has.
           let e = c.in_default.ensures.there.1 (subst (Has c.self.inside.keys) (sym c.deref.ensures.value) has) in absurd cc)
           c.in_ok-push_world.ensures.link
@@ -137,7 +145,7 @@ invariant_of-self-2 g c =
 
 pub overflow_cast-result : goal.overflow_cast-result
 overflow_cast-result g c =
-    let w = space_of c.self.inside.image.now c.self.inside.begin.items c.self.inside.links.items c.self.inside.edges.items in
+    let w = space_of c.self.inside.image.now c.self.inside.live c.self.inside.begin.items c.self.inside.links.items c.self.inside.edges.items in
     let keys = c.self.inside.keys in
     let key = c.in_ok-key.key.items in
     let at : c.in-Some.place ≡ place_in keys key = search rules in
@@ -151,40 +159,40 @@ overflow_cast-result g c =
 
 pub returns-in_err-key-clause-grown : goal.returns-in_err-key-clause-grown
 returns-in_err-key-clause-grown g c =
-    grown_to c.args.self.now (space_of c.self.inside.image.now c.self.inside.begin.items c.self.inside.links.items c.self.inside.edges.items) c.self.view_is
+    grown_to c.args.self.now (space_of c.self.inside.image.now c.self.inside.live c.self.inside.begin.items c.self.inside.links.items c.self.inside.edges.items) c.self.view_is
 
 pub returns-in_err-key-clause-expanding : goal.returns-in_err-key-clause-expanding
 returns-in_err-key-clause-expanding g c =
-    stays_expanding c.args.self.now (space_of c.self.inside.image.now c.self.inside.begin.items c.self.inside.links.items c.self.inside.edges.items)
+    stays_expanding c.args.self.now (space_of c.self.inside.image.now c.self.inside.live c.self.inside.begin.items c.self.inside.links.items c.self.inside.edges.items)
     c.args.frontier.now.items c.args.frontier.now.items c.args.link.from c.args.most c.self.view_is refl c.requires.expanding
 
 pub returns-in_err-next-clause-grown : goal.returns-in_err-next-clause-grown
 returns-in_err-next-clause-grown g c =
-    grown_to c.args.self.now (space_of c.self.inside.image.now c.self.inside.begin.items c.self.inside.links.items c.self.inside.edges.items) c.self.view_is
+    grown_to c.args.self.now (space_of c.self.inside.image.now c.self.inside.live c.self.inside.begin.items c.self.inside.links.items c.self.inside.edges.items) c.self.view_is
 
 pub returns-in_err-next-clause-expanding : goal.returns-in_err-next-clause-expanding
 returns-in_err-next-clause-expanding g c =
-    stays_expanding c.args.self.now (space_of c.self.inside.image.now c.self.inside.begin.items c.self.inside.links.items c.self.inside.edges.items)
+    stays_expanding c.args.self.now (space_of c.self.inside.image.now c.self.inside.live c.self.inside.begin.items c.self.inside.links.items c.self.inside.edges.items)
     c.args.frontier.now.items c.args.frontier.now.items c.args.link.from c.args.most c.self.view_is refl c.requires.expanding
 
 pub returns-then-place-most : goal.returns-then-place-most
 returns-then-place-most g c =
     let v = c.args.self.now in
-    let w = space_of c.self.inside.image.now c.self.inside.begin.items c.self.inside.links.items c.self.inside.edges.items in
+    let w = space_of c.self.inside.image.now c.self.inside.live c.self.inside.begin.items c.self.inside.links.items c.self.inside.edges.items in
     record {
       grown = grown_to v w c.self.view_is;
       expanding =
           stays_expanding v w c.args.frontier.now.items c.args.frontier.now.items c.args.link.from c.args.most
           c.self.view_is refl c.requires.expanding;
       there = tt;
-      is = tt;
+      stands = tt;
     }
 
 pub returns-in-Some : goal.returns-in-Some
 returns-in-Some g c =
     let v = c.args.self.now in
     let n = machine_next c.args.machine.now c.args.link.step in
-    let w = space_of c.self.inside.image.now c.self.inside.begin.items c.self.inside.links.items c.self.inside.edges.items in
+    let w = space_of c.self.inside.image.now c.self.inside.live c.self.inside.begin.items c.self.inside.links.items c.self.inside.edges.items in
     let keys = c.self.inside.keys in
     let key = c.in_ok-key.key.items in
     let at : c.in-Some.place ≡ place_in keys key = search rules in
@@ -199,24 +207,24 @@ returns-in-Some g c =
           stays_expanding v w c.args.frontier.now.items c.args.frontier.now.items c.args.link.from c.args.most
           c.self.view_is refl c.requires.expanding;
       there = subst (λ (x : SpaceValue). c.in-Some.place < count x) (sym c.self.view_is) here.0;
-      is = subst (λ (x : SpaceValue). world_of x c.in-Some.place ≡ n.world) (sym c.self.view_is) here.1;
+      stands = subst (λ (x : SpaceValue). StandsFor x c.in-Some.place n.world) (sym c.self.view_is) here.1;
     }
 
 pub returns-in_err-push_world-clause-grown : goal.returns-in_err-push_world-clause-grown
 returns-in_err-push_world-clause-grown g c =
     let v = c.args.self.now in
-    let w = space_of c.self.inside.image.now c.self.inside.begin.items c.push_world.new.links.items c.self.inside.edges.items in
+    let w = space_of c.self.inside.image.now c.self.inside.live c.self.inside.begin.items c.push_world.new.links.items c.self.inside.edges.items in
     let is =
-    kept_view c.self.inside.image.now c.self.inside.begin.items c.self.inside.links.items c.push_world.new.links.items c.self.inside.edges.items v
+    kept_view c.self.inside.image.now c.self.inside.live c.self.inside.begin.items c.self.inside.links.items c.push_world.new.links.items c.self.inside.edges.items v
     c.self.view_is c.in_err-push_world.ensures.links in
     grown_to v w is
 
 pub returns-in_err-push_world-clause-expanding : goal.returns-in_err-push_world-clause-expanding
 returns-in_err-push_world-clause-expanding g c =
     let v = c.args.self.now in
-    let w = space_of c.self.inside.image.now c.self.inside.begin.items c.push_world.new.links.items c.self.inside.edges.items in
+    let w = space_of c.self.inside.image.now c.self.inside.live c.self.inside.begin.items c.push_world.new.links.items c.self.inside.edges.items in
     let is =
-    kept_view c.self.inside.image.now c.self.inside.begin.items c.self.inside.links.items c.push_world.new.links.items c.self.inside.edges.items v
+    kept_view c.self.inside.image.now c.self.inside.live c.self.inside.begin.items c.self.inside.links.items c.push_world.new.links.items c.self.inside.edges.items v
     c.self.view_is c.in_err-push_world.ensures.links in
     stays_expanding v w c.args.frontier.now.items c.push_world.new.frontier.items c.args.link.from c.args.most is
     c.in_err-push_world.ensures.machines c.requires.expanding
@@ -231,9 +239,9 @@ returns g c =
     λ i. record { image = c.in_ok-next.ensures.image i; world = c.in_ok-next.ensures.world i } in
     let image = next_image v l.from m n l.step c.requires.machine is_next in
     let world = next_world v l.from m n l.step c.requires.machine is_next in
-    let w = space_of c.self.inside.image.now c.self.inside.begin.items c.push_world.new.links.items c.self.inside.edges.items in
+    let w = space_of c.self.inside.image.now c.self.inside.live c.self.inside.begin.items c.push_world.new.links.items c.self.inside.edges.items in
     let is =
-    placed_view c.self.inside.image.now c.self.inside.begin.items c.self.inside.links.items c.push_world.new.links.items
+    placed_view c.self.inside.image.now c.self.inside.live c.self.inside.begin.items c.self.inside.links.items c.push_world.new.links.items
     c.self.inside.edges.items v l c.self.view_is c.in_ok-push_world.ensures.link in
     let many : c.len-place.result ≡ length c.self.inside.links.items = search rules in
     let at : c.len-place.result + 1 ≡ count v = omega (arith, many, ap count c.self.view_is) in
@@ -244,5 +252,7 @@ returns g c =
           (omega (arith, ap count is, count-link v l, at)) image world c.in_ok-push_world.ensures.machine
           c.requires.expanding;
       there = placed_there v w l (c.len-place.result + 1) is at;
-      is = placed_is v w l n (c.len-place.result + 1) is at world ∙ c.in_ok-next.ensures.world;
+      stands =
+          subst (StandsFor w (c.len-place.result + 1)) c.in_ok-next.ensures.world
+          (placed_stands v w l n (c.len-place.result + 1) is at world);
     }

@@ -13,7 +13,7 @@ pub add_edge-requires : goal.add_edge-requires
 add_edge-requires g c =
     let m = c.args.machine.now in
     edge_to c.args.self.now c.place.new.self c.args.from c.in_ok-to.to c.args.step (after m.image m.world c.args.step)
-    c.place.ensures.grown c.requires.expanding.there c.in_ok-to.ensures.there c.in_ok-to.ensures.is
+    c.place.ensures.grown c.requires.expanding.there c.in_ok-to.ensures.there c.in_ok-to.ensures.stands
     (ap (λ (x : MachineValue). after x.image x.world c.args.step) c.requires.machine) (search rules)
 
 pub returns-then-to-from : goal.returns-then-to-from
@@ -25,7 +25,7 @@ returns-then-to-from g c =
       taken =
           taken_to c.args.self.now c.place.new.self c.args.from c.in_ok-to.to c.args.step
           (after m.image m.world c.args.step) c.place.ensures.grown c.requires.expanding.there c.in_ok-to.ensures.there
-          c.in_ok-to.ensures.is (ap (λ (x : MachineValue). after x.image x.world c.args.step) c.requires.machine)
+          c.in_ok-to.ensures.stands (ap (λ (x : MachineValue). after x.image x.world c.args.step) c.requires.machine)
           c.place.ensures.expanding.breadth (inl (search rules));
     }
 
@@ -56,7 +56,7 @@ returns g c =
       taken =
           subst (λ (x : SpaceValue). IsTaken x c.args.from c.args.step) (sym is)
           (taken_edge v here c.args.from c.in_ok-to.to c.args.step (after m.image m.world c.args.step) e
-          c.place.ensures.grown c.requires.expanding.there c.in_ok-to.ensures.there c.in_ok-to.ensures.is
+          c.place.ensures.grown c.requires.expanding.there c.in_ok-to.ensures.there c.in_ok-to.ensures.stands
           (ap (λ (x : MachineValue). after x.image x.world c.args.step) c.requires.machine)
           c.place.ensures.expanding.breadth refl);
     }

@@ -37,7 +37,7 @@ returns-then-not-mark_before-clause-followed c = λ followed k below can.
     let back : AreMarkedBack v new = search rules in
     let ends : HasEndsMarked v new = λ j less end. kept j (c.loop-pass.invariant.ends j less end) in
     let same = written old new n many (omega (arith, each, many, c.loop-pass.invariant.can.each)) in
-    subst (λ (ms : List Bool). IsMarked ms k) (sym same) (marked_all v followed new ends back k below can)
+    subst (λ (ms : List Bool). IsMarked ms k) (sym same) (marked_all v c.len-pass-end.ensures.live followed new ends back k below can)
 
 pub returns-clause-followed : goal.returns-clause-followed
 returns-clause-followed c = λ _ k below _.

@@ -40,7 +40,7 @@ loop-number-preserved-then-not-marks-edge c =
     let off : get_or marks e.from false ≡ false = search rules in
     let many = marked_more marks e.from false (omega (arith, is.from, c.loop-number.invariant.can.each)) off in
     record {
-      can = can_more v marks e c.loop-number.invariant.can is to;
+      can = can_more v marks e c.edges-edges.ensures.live c.loop-number.invariant.can is to;
       kept = λ k on. marked_too marks e.from k (c.loop-number.invariant.kept k on);
       low = omega (arith, many, c.loop-number.invariant.low);
       more = λ _. omega (arith, many, c.loop-number.invariant.low);

@@ -1,0 +1,74 @@
+-- Where all registers are named, clearing changes nothing, and each world stands for itself alone.
+use Rattle.std.proofs.Common.{◌≡◌, ℕ, zero, suc, ◌+◌, ◌<◌, refl, sym, ap, ◌∙◌, subst, arith, inl, Bool, true, false}
+use Rattle.std.proofs.Common.{List, [], ◌∷◌, length, map, get_or, if◌then◌else◌}
+use Rattle.std.specs.Prelude.{IsTrue}
+use Rattle.image_file.specs.ImageValue.{ImageValue}
+use Rattle.stream_core.specs.Streams.{StreamValue, idle}
+use Rattle.processor.specs.Processors.{ProcessorValue, is_idle}
+use Rattle.processor.specs.World.{World}
+use Rattle.program_flow.specs.Agreement.{with_registers}
+use Rattle.dead_registers.specs.Clearing.{LiveValue, matters, kept_from, cleared_stream, cleared_processor, cleared, AgreeBy}
+use Rattle.dead_registers.proofs.Registers.{all_kept, idle_same, does_matter}
+use Rattle.dead_registers.proofs.Worlds.{agreeing_same}
+use Rattle.world_keys.specs.WorldKeys.{IsKnown, IsKnownStream, IsKnownIf, IsKnownProcessor, no_processor}
+use Rattle.schedule_space.specs.Spaces.{SpaceValue, count, schedule_of, world_of, StandAlone}
+use Rattle.schedule_space.specs.Finding.{NamesAll, IsKeyed}
+
+kept_all : (keeps : ℕ → Bool) (r : ℕ) (xs : List ℕ) → ((k : ℕ) → k < r + length xs → keeps k ≡ true)
+    → kept_from keeps r xs ≡ xs
+kept_all keeps r [] all = refl
+kept_all keeps r (x ∷ xs) all =
+    let here : keeps r ≡ true = all r (omega arith) in
+    let rest : kept_from keeps (r + 1) xs ≡ xs = kept_all keeps (r + 1) xs (λ k below. all k (omega (arith, below))) in
+    λ i. (if here i then x else 0) ∷ rest i
+
+module _ (l : LiveValue) (named : NamesAll l) where
+  awake_same : (s : StreamValue) → is_idle s ≡ false → length s.registers ≡ 32 → cleared_stream l s ≡ s
+  awake_same s awake size =
+      ap (λ (b : Bool). with_registers s (if b then s.registers else kept_from (matters l s) 0 s.registers)) awake
+      ∙ ap (with_registers s)
+      (kept_all (matters l s) 0 s.registers (λ k below. does_matter l s k (inl (named k (omega (arith, below, size))))))
+
+  stream_same : (table : List (List ℕ)) (s : StreamValue) → IsKnownStream table (cleared_stream l s) → cleared_stream l s ≡ s
+  stream_same table s known = by (is_idle s) refl known where
+    by : (b : Bool) → is_idle s ≡ b → IsKnownIf table (cleared_stream l s) (is_idle s) → cleared_stream l s ≡ s
+    by true rests is = idle_same l s rests
+    by false awake is =
+        let read = subst (IsKnownIf table (cleared_stream l s)) awake is in
+        awake_same s awake (sym (all_kept l s) ∙ read.1.registers)
+
+  streams_same : (table : List (List ℕ)) (ss : List StreamValue)
+      → ((n : ℕ) → n < length (map (cleared_stream l) ss)
+      → IsKnownStream table (get_or (map (cleared_stream l) ss) n idle))
+      → map (cleared_stream l) ss ≡ ss
+  streams_same table [] known = refl
+  streams_same table (s ∷ ss) known =
+      let here = stream_same table s (known 0 (omega arith)) in
+      let rest = streams_same table ss (λ n below. known (suc n) (omega (arith, below))) in
+      λ i. here i ∷ rest i
+
+  processors_same : (table : List (List ℕ)) (image : ImageValue) (ps : List ProcessorValue)
+      → ((p : ℕ) → p < length (map (cleared_processor l) ps)
+      → IsKnownProcessor table image (get_or (map (cleared_processor l) ps) p no_processor))
+      → map (cleared_processor l) ps ≡ ps
+  processors_same table image [] known = refl
+  processors_same table image (q ∷ ps) known =
+      let here : cleared_processor l q ≡ q =
+      ap (λ ss. record q { streams = ss }) (streams_same table q.streams (known 0 (omega arith)).held.streams) in
+      let rest = processors_same table image ps (λ p below. known (suc p) (omega (arith, below))) in
+      λ i. here i ∷ rest i
+
+  pub world_same : (table : List (List ℕ)) (image : ImageValue) (w : World) → IsKnown table image (cleared l w)
+      → cleared l w ≡ w
+  unfolding cleared
+  world_same table image w known =
+      ap (λ ps. record { processors = ps; memory = w.memory }) (processors_same table image w.processors known.processors)
+
+-- worlds of which the table has what they hold, cleared
+pub stand_alone : (v : SpaceValue) (table keys : List (List ℕ)) → NamesAll v.live → IsKeyed v table keys → StandAlone v
+stand_alone v table keys named is k below w g =
+    let same : cleared v.live (world_of v k) ≡ cleared v.live w = agreeing_same v.live (world_of v k) w g in
+    let known = is.known k below in
+    sym (world_same v.live named table v.image (world_of v k) known)
+    ∙ same
+    ∙ world_same v.live named table v.image w (subst (IsKnown table v.image) same known)
