@@ -1,5 +1,6 @@
 -- What a search has found, by what it was asked for.
-use Rattle.std.proofs.Common.{◌≡◌, ℕ, ◌<◌, true, refl, sym, subst, List, Bool}
+use Rattle.std.proofs.Common.{◌≡◌, ℕ, ◌<◌, true, false, refl, sym, subst, List, Bool, replicate}
+use Rattle.std.proofs.lemmas.List.{get_or-replicate}
 use Rattle.std.specs.Prelude.{Result, Ok, Err, IfOk, IsTrue}
 use Rattle.std.specs.List.{Contains}
 use Rattle.program_flow.specs.Tables.{is_named_by}
@@ -26,6 +27,10 @@ AreAllFollowed e = is_complete e ≡ true → AllFollowed (space_in e)
 
 abbrev IsLiveIn : Exploration → Type 0
 IsLiveIn e = IsLive (space_in e).image (space_in e).live
+
+-- each of 32 registers is named
+pub all_named : (r : ℕ) → r < 32 → IsTrue (is_named_by (replicate 32 true) r)
+all_named r below = get_or-replicate 32 r true false below
 
 -- where all registers are named, each world stands for itself alone
 abbrev StandAloneIn : Exploration → Type 0
