@@ -7,12 +7,12 @@ CALLS = crates/library_calls/out/library_calls
 # what make try shows: a source text, and a schedule of it
 SOURCE ?= examples/lock.asm
 SCHEDULE ?= examples/lock.lost_update.schedule
-# the crates whose edits make edits tries, all of them without any; those that make affected is asked of
+# the crates whose edits make edits tries, all of them without any; those that make prove and make affected are asked of
 CRATES ?=
 # how many crates' edits are tried side by side
 JOBS ?= $(shell nproc)
 
-.PHONY: help run run-lab try test cases checks trust minutes affected edits refuse hostile spaces pages editors documents bench build dist check-dist install uninstall clean
+.PHONY: help run run-lab try test prove cases checks trust minutes affected edits refuse hostile spaces pages editors documents bench build dist check-dist install uninstall clean
 
 # the targets, each with what it does and how long it takes
 help:
@@ -20,6 +20,7 @@ help:
 	@echo "make run        proves and builds mta_sim, and shows a first run (39 processor minutes)"
 	@echo "make run-lab    the same of mta_lab (135 processor minutes)"
 	@echo "make test       proves everything, tries the edits in must-fail/, runs all tests (191 processor minutes from nothing; ANEW=1: nothing that is kept counts)"
+	@echo "make prove      proves the CRATES and those that they stand on, as make test does (docs/ARCHITECTURE.md has the minutes of each)"
 	@echo "make checks     what make test looks at before any proof (seconds)"
 	@echo "make trust      writes docs/TRUST.md, the definitions that a reader has to trust (seconds)"
 	@echo "make cases      runs the cases below tests/cases on the built program (seconds)"
@@ -60,6 +61,11 @@ try:
 # proves everything from nothing, tries the must-fail edits, runs the tests, the programs, the cases, the documents
 test:
 	@tests/gate.sh
+
+# proves the CRATES and those that they stand on as make test does, with their tests
+prove:
+	@test -n "$(CRATES)" || { echo 'make prove CRATES="NAME .."'; exit 1; }
+	@tests/proofs.sh $(CRATES)
 
 # what needs no proof
 checks:

@@ -1,7 +1,8 @@
 #!/usr/bin/env bash
-# Proves every crate from nothing, and runs the tests in Rattle and the programs, by rt ci over all crates, in a folder of
-# its own without the edits: tests/edits.py tries those by the functions that they change, where rt ci would begin with the
-# whole crate's proof once more. What is built comes back into the crates' out/.
+# proofs.sh [CRATE..]: proves every crate from nothing, or those that are named and the ones below them, and runs their
+# tests in Rattle and the programs. It is rt ci in a folder of its own, without the edits: tests/edits.py tries those by
+# the functions that they change, where rt ci would begin with the whole crate's proof once more. What is built comes back
+# into the crates' out/.
 # A kit that keeps what passed on this machine proves again only what has changed and the crates above it, and its line
 # "rt: ok" says how much that was; with ANEW=1 in the environment all is done anew. out/minutes.tsv has the processor
 # seconds of each crate.
@@ -9,14 +10,21 @@ set -u
 cd "$(dirname "$0")/.." || exit 1
 root=$PWD
 
-mapfile -t programs < <(tests/built.sh programs)
+if [ $# -gt 0 ]; then
+  mapfile -t crates < <(tests/built.sh needed "$@")
+else
+  mapfile -t crates < <(grep -oE '^[a-z][a-z0-9_]*' crates.txt)
+fi
+mapfile -t programs < <(tests/built.sh programs | grep -xF -f <(printf '%s\n' "${crates[@]}"))
 stamps=()
 for name in "${programs[@]}"; do stamps+=("$(tests/built.sh stamp "$name")"); done
 work=$(mktemp -d)
 trap 'rm -rf "$work"' EXIT
-mapfile -t crates < <(grep -oE '^[a-z][a-z0-9_]*' crates.txt)
 tests/lay_out.sh "$work" "${crates[@]}"
-(cd "$work" && "$root/tests/progress.sh" "$root/out/test.log" python3 "$root/tests/minutes.py" watch rt ci ${ANEW:+--anew})
+# (a kit that keeps nothing does all anew each time, and has no word for it)
+anew=
+if [ -n "${ANEW:-}" ] && rt help 2>&1 | grep -q -e --anew; then anew=--anew; fi
+(cd "$work" && "$root/tests/progress.sh" "$root/out/test.log" python3 "$root/tests/minutes.py" watch rt ci $anew)
 status=$?
 for folder in "$work"/crates/*/out; do
   to=crates/$(basename "$(dirname "$folder")")/out

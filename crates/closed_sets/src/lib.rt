@@ -8,8 +8,6 @@ mod lowest;
 mod marks;
 mod rounds;
 mod sets;
-#[cfg(test)]
-mod tests;
 
 pub use leading::places_leading_to;
 pub use links::Link;

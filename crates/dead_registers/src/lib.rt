@@ -4,8 +4,6 @@
 
 mod laws;
 mod live_registers;
-#[cfg(test)]
-mod tests;
 
 pub use laws::{cleared_worlds_agree, registers_are_cleared};
 pub use live_registers::LiveRegisters;

@@ -23,6 +23,8 @@ mod gathered;
 #[cfg(test)]
 mod limits;
 #[cfg(test)]
+mod links;
+#[cfg(test)]
 mod makers;
 #[cfg(test)]
 mod processors;
@@ -30,6 +32,8 @@ mod processors;
 mod records;
 #[cfg(test)]
 mod refused;
+#[cfg(test)]
+mod registers;
 #[cfg(test)]
 mod replays;
 #[cfg(test)]

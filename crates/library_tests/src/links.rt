@@ -1,9 +1,6 @@
-//! Small graphs, with answers worked out by hand.
+//! Links of small graphs: sets, ways and rounds that are worked out by hand.
 
-use crate::leading::places_leading_to;
-use crate::links::Link;
-use crate::rounds::way_round;
-use crate::sets::closed_sets;
+use closed_sets::{Link, closed_sets, places_leading_to, way_round};
 use std::alloc::Global;
 
 /// The sets of seven places: 1 and 2 lead to each other, 3 to itself, and no link leaves 5; 0 and 4 only lead to them, and
