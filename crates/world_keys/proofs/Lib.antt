@@ -5,6 +5,7 @@ pub mod Digits
 pub mod Streams
 pub mod Memories
 pub mod Marks
+pub mod Clearings
 pub mod Readings
 pub mod Worlds
 pub mod Replacing

@@ -18,11 +18,11 @@ use Rattle.world_keys.proofs.Worlds.{places_kept}
 
 -- the memory's place before the step is that after it, where the memory is kept
 pub memory_before : (t : List (List ℕ)) (image : ImageValue) (w : World) (n : ℕ) (c : Change) (key : List ℕ)
-    → (b : IsKeyBefore t image w c key) → n ≡ get_or key 0 n → c.is_memory_kept ≡ true
+    → (b : IsKeyBefore t image w c key) → n ≡ get_or key 0 0 → c.is_memory_kept ≡ true
     → n ≡ place_in t (memory_numbers image w.memory)
 memory_before t image w n c key b is on =
     is
-    ∙ ap (λ xs. get_or xs 0 n) b.is_key
+    ∙ ap (λ xs. get_or xs 0 0) b.is_key
     ∙ sym (ap (λ m. place_in t (memory_numbers image m)) (b.memory on))
 
 pub memory_there : (t : List (List ℕ)) (image : ImageValue) (w : World) (c : Change) (key : List ℕ)

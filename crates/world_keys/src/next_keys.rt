@@ -2,6 +2,7 @@
 
 ghost use Rattle.std.specs.Prelude.{◌≡◌, ◌≢◌, ◌<◌, ◌+◌, ◌*◌, ℕ, true, Some, None, length, slice_get, slice_index_or};
 ghost use Rattle.std.specs.Prelude.{◌++◌, take, drop, slice_set, IfOk, OnOk, IfSome};
+ghost use Rattle.dead_registers.specs.Clearing.{cleared};
 ghost use Rattle.world_keys.specs.Tables.{place_in, Has, Extends};
 ghost use Rattle.world_keys.specs.MemoryNumbers.{memory_numbers};
 ghost use Rattle.world_keys.specs.WorldKeys.{processor_in, processor_numbers, processor_place, key_of};
@@ -12,6 +13,7 @@ use crate::keys::{is_idle, processor_place};
 use crate::memory_numbers::memory_numbers;
 use crate::stream_numbers::stream_numbers;
 use crate::tables::Table;
+use dead_registers::LiveRegisters;
 use machine::Machine;
 use processor::Step;
 use std::alloc::{AllocError, Global};
@@ -31,6 +33,7 @@ pub struct Change {
 /// step can have changed is looked up anew.
 pub fn next_key<const S: usize>(
     alloc: Global,
+    live: &LiveRegisters,
     contents: &mut Table,
     before: &[u32],
     machine: &Machine<'_, S>,
@@ -38,14 +41,14 @@ pub fn next_key<const S: usize>(
 ) -> Result<Vec<u32>, AllocError>
     requires memory { IsMemoryOf machine.now.image machine.now.world.memory }
     requires there { change.step.p < length machine.now.world.processors }
-    requires before { IsKeyBefore contents.old machine.now.image machine.now.world change before.now }
-    ensures is { IfOk result (λ v. v.items ≡ key_of contents.new machine.now.image machine.now.world) }
-    ensures known { OnOk result (IsKnown contents.new machine.now.image machine.now.world) }
+    requires before { IsKeyBefore contents.old machine.now.image (cleared live.now machine.now.world) change before.now }
+    ensures is { IfOk result (λ v. v.items ≡ key_of contents.new machine.now.image (cleared live.now machine.now.world)) }
+    ensures known { OnOk result (IsKnown contents.new machine.now.image (cleared live.now machine.now.world)) }
     ensures grown { Extends contents.old contents.new }
 {
     let here = usize::from(change.step.p) + 1;
     let memory = memory_place(alloc, contents, before[0], machine, change.is_memory_kept)?;
-    let place = changed_place(alloc, contents, before[here], machine, change)?;
+    let place = changed_place(alloc, live, contents, before[here], machine, change)?;
     let mut key = Vec::from_slice(alloc, before)?;
     key[0] = memory;
     key[here] = place;
@@ -79,42 +82,44 @@ fn memory_place<const S: usize>(
 /// The place of what the processor of a step holds, from the one before.
 fn changed_place<const S: usize>(
     alloc: Global,
+    live: &LiveRegisters,
     contents: &mut Table,
     before: u32,
     machine: &Machine<'_, S>,
     change: Change,
 ) -> Result<u32, AllocError>
     requires there { change.step.p < length machine.now.world.processors }
-    requires before { IsPlaceBefore contents.old machine.now.image (processor_in machine.now.world change.step.p) change before }
+    requires before { IsPlaceBefore contents.old machine.now.image (processor_in (cleared live.now machine.now.world) change.step.p) change before }
     ensures is { IfOk result (λ k. k
-        ≡ processor_place contents.new (processor_in machine.now.world change.step.p)) }
+        ≡ processor_place contents.new (processor_in (cleared live.now machine.now.world) change.step.p)) }
     ensures known { OnOk result (IsKnownProcessor contents.new machine.now.image
-        (processor_in machine.now.world change.step.p)) }
+        (processor_in (cleared live.now machine.now.world) change.step.p)) }
     ensures grown { Extends contents.old contents.new }
 {
-    match changed_numbers(alloc, contents, before, machine, change)? {
+    match changed_numbers(alloc, live, contents, before, machine, change)? {
         Some(numbers) => {
             let place = contents.place(&numbers)?;
             Ok(place)
         }
-        None => processor_place(alloc, contents, machine, change.step.p),
+        None => processor_place(alloc, live, contents, machine, change.step.p),
     }
 }
 
 /// The numbers of a processor where only the stream of the step changed, or ended; None where that is not known.
 fn changed_numbers<const S: usize>(
     alloc: Global,
+    live: &LiveRegisters,
     contents: &mut Table,
     before: u32,
     machine: &Machine<'_, S>,
     change: Change,
 ) -> Result<Option<Vec<u32>>, AllocError>
     requires there { change.step.p < length machine.now.world.processors }
-    requires before { IsPlaceBefore contents.old machine.now.image (processor_in machine.now.world change.step.p) change before }
+    requires before { IsPlaceBefore contents.old machine.now.image (processor_in (cleared live.now machine.now.world) change.step.p) change before }
     ensures is { IfOk result (λ o. IfSome o (λ v. v.items
-        ≡ processor_numbers contents.new (processor_in machine.now.world change.step.p))) }
+        ≡ processor_numbers contents.new (processor_in (cleared live.now machine.now.world) change.step.p))) }
     ensures held { IfOk result (λ o. IfSome o (λ _. IsHeld contents.new machine.now.image
-        (processor_in machine.now.world change.step.p))) }
+        (processor_in (cleared live.now machine.now.world) change.step.p))) }
     ensures grown { Extends contents.old contents.new }
 {
     let Step { p, s } = change.step;
@@ -137,7 +142,7 @@ fn changed_numbers<const S: usize>(
         return Ok(Some(rest));
     }
     let mut numbers = Vec::from_slice(alloc, marks)?;
-    let held = stream_numbers(alloc, stream)?;
+    let held = stream_numbers(alloc, live, stream)?;
     let place = contents.place(&held)?;
     numbers[0] = reserved;
     numbers[2 * mark + 2] = place;

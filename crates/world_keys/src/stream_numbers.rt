@@ -1,23 +1,29 @@
-//! What a stream holds, as numbers.
+//! What a stream holds where it is cleared of registers that do not matter, as numbers.
 
 ghost use Rattle.std.specs.Prelude.{◌≡◌, ◌<◌, ◌++◌, length, map, IfOk, OnOk};
 ghost use Rattle.stream_core.specs.StatusWords.{status_number};
+ghost use Rattle.dead_registers.specs.Clearing.{kept_registers, cleared_stream};
 ghost use Rattle.world_keys.specs.StreamNumbers.{all_halves, status_code, stream_numbers, reread, IsReadable};
 
 use crate::halves::push_halves;
+use dead_registers::LiveRegisters;
 use std::alloc::{AllocError, Global};
 use stream_core::{Status, StatusWord, Stream, status_words_are_their_digits};
 
 /// How many numbers of 32 bits there are of a stream.
 const STREAM_NUMBERS: usize = 88;
 
-/// What a stream holds, as numbers: a stream that holds something else has others.
-pub(crate) fn stream_numbers(alloc: Global, stream: &Stream) -> Result<Vec<u32>, AllocError>
-    ensures is { IfOk result (λ v. v.items ≡ stream_numbers stream.now) }
-    ensures readable { OnOk result (IsReadable stream.now) }
+/// What a stream holds as it is cleared, as numbers: one that holds something else then has others.
+pub(crate) fn stream_numbers(
+    alloc: Global,
+    live: &LiveRegisters,
+    stream: &Stream,
+) -> Result<Vec<u32>, AllocError>
+    ensures is { IfOk result (λ v. v.items ≡ stream_numbers (cleared_stream live.now stream.now)) }
+    ensures readable { OnOk result (IsReadable (cleared_stream live.now stream.now)) }
 {
     let mut numbers = Vec::with_capacity(alloc, STREAM_NUMBERS)?;
-    push_registers(&mut numbers, stream)?;
+    push_registers(&mut numbers, live, stream)?;
     push_targets(&mut numbers, stream)?;
     push_halves(&mut numbers, status_bits(stream.ssw()))?;
     push_halves(&mut numbers, stream.xr())?;
@@ -26,15 +32,19 @@ pub(crate) fn stream_numbers(alloc: Global, stream: &Stream) -> Result<Vec<u32>,
     Ok(numbers)
 }
 
-/// Adds the registers.
-fn push_registers(numbers: &mut Vec<u32>, stream: &Stream) -> Result<(), AllocError>
-    ensures is { OnOk result (numbers.new.items ≡ numbers.old.items ++ all_halves stream.now.registers) }
-    ensures all { OnOk result (length stream.now.registers ≡ 32) }
+/// Adds the registers, with 0 in place of those that do not matter.
+fn push_registers(
+    numbers: &mut Vec<u32>,
+    live: &LiveRegisters,
+    stream: &Stream,
+) -> Result<(), AllocError>
+    ensures is { OnOk result (numbers.new.items
+        ≡ numbers.old.items ++ all_halves (kept_registers live.now stream.now)) }
+    ensures all { OnOk result (length (kept_registers live.now stream.now) ≡ 32) }
 {
-    // their clauses say that these are all
-    let _ends = (stream.reg(31), stream.reg(32));
-    for register in 0..32u8 {
-        let value = stream.reg(register).unwrap();
+    let registers = live.registers(stream);
+    for register in 0..32 {
+        let value = registers[register];
         push_halves(numbers, value)?;
     }
     Ok(())

@@ -5,5 +5,5 @@ use Rattle.world_keys.proofs.stream_numbers.push_registers.Given as goal
 
 abbrev pub invariant-loop-register : goal.invariant-loop-register
 invariant-loop-register l =
-    l.numbers.items ++ all_halves (drop l.register l.stream.registers)
-    ≡ l.fn.numbers.items ++ all_halves l.stream.registers
+    l.numbers.items ++ all_halves (drop l.register l.registers)
+    ≡ l.fn.numbers.items ++ all_halves l.registers
