@@ -3,8 +3,9 @@ pub mod Memories
 pub mod Resting
 pub mod Reaches
 pub mod Others
-pub mod KnownSteps
 pub mod PlainSteps
+pub mod AlikeSteps
+pub mod KnownSteps
 pub mod StreamSteps
 pub mod Agreeing
 pub mod Growing

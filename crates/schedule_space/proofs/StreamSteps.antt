@@ -2,7 +2,7 @@
 use Rattle.std.proofs.Common.{◌≡◌, ℕ, zero, suc, ◌+◌, ◌*◌, ◌<◌, ◌≤◌, Bool, true, false, refl, sym, ap, ◌∙◌, subst, arith}
 use Rattle.std.proofs.Common.{List, [], ◌∷◌, ◌++◌, Some, ◌⊎◌, inl, inr, length, set, slice_get, cond}
 use Rattle.std.proofs.lemmas.Bool.{cases_Bool}
-use Rattle.std.proofs.lemmas.List.{get_or-set_same}
+use Rattle.std.proofs.lemmas.List.{length-map, map-set, get_or-set_same}
 use Rattle.std.proofs.lemmas.Option.{slice_get-get_or}
 use Rattle.tag_memory.specs.Storage.{TaggedMemory}
 use Rattle.image_file.specs.ImageValue.{ImageValue}
@@ -12,6 +12,7 @@ use Rattle.processor.specs.Row.{with_stream}
 use Rattle.processor.specs.World.{World, after}
 use Rattle.processor.specs.declared.steps.Step.{Step}
 use Rattle.processor.proofs.Counting.{weight, count-set}
+use Rattle.dead_registers.specs.Clearing.{LiveValue, cleared_stream, cleared_processor, IsLive}
 use Rattle.world_keys.specs.Tables.{place_in, Has, Extends}
 use Rattle.world_keys.specs.StreamNumbers.{stream_numbers, IsReadable}
 use Rattle.world_keys.specs.MemoryNumbers.{memory_numbers}
@@ -20,13 +21,15 @@ use Rattle.world_keys.specs.WorldKeys.{IsKnownStream, IsHeld, IsKnownProcessor}
 use Rattle.world_keys.proofs.Places.{place_same, place_extended, has_extended}
 use Rattle.world_keys.proofs.Streams.{same_stream}
 use Rattle.world_keys.proofs.Memories.{same_memory}
+use Rattle.world_keys.proofs.Clearings.{stream_cleared}
 use Rattle.world_keys.proofs.Replacing.{from_first, before_read, numbers_replaced, held_replaced}
 use Rattle.schedule_space.specs.declared.known_steps.Places.{Places}
 use Rattle.schedule_space.specs.declared.marks.Mark.{Mark}
-use Rattle.schedule_space.specs.KnownSteps.{StepList, no_steps, IsSeen, IsAt}
+use Rattle.schedule_space.specs.KnownSteps.{StepList, no_steps, IsSeen, IsAt, IsTold}
 use Rattle.schedule_space.specs.StreamSteps.{stream_over_memory, IsPlainIn, IsStreamAt, IsStreamLeft, AreStreamsLeft, AreAllLeft}
 use Rattle.schedule_space.specs.declared.known_steps.StepsSeen.{StepsSeen}
 use Rattle.schedule_space.specs.StreamSteps.{IsStreamAsked, IsMark}
+use Rattle.schedule_space.proofs.AlikeSteps.{plain_alike, streams_alike}
 use Rattle.schedule_space.proofs.KnownSteps.{after_parts}
 use Rattle.schedule_space.proofs.KnownSteps.{none_left as one_none}
 use Rattle.schedule_space.proofs.PlainSteps.{plain_processor, plain_memory}
@@ -59,19 +62,20 @@ at_same image t a b m n l k content memory one other = (
 
 -- Lists of steps.
 
-none_left : (image : ImageValue) (t : List (List ℕ)) (v : StepList) → v ≡ no_steps → AreStreamsLeft image t v
-none_left image t v none asked l seen = absurd (omega (arith, seen.1, ap (λ (x : StepList). length x.asked) none))
+none_left : (image : ImageValue) (live : LiveValue) (t : List (List ℕ)) (v : StepList) → v ≡ no_steps
+    → AreStreamsLeft image live t v
+none_left image live t v none asked l seen = absurd (omega (arith, seen.1, ap (λ (x : StepList). length x.asked) none))
 
-pub all_none : (image : ImageValue) (t : List (List ℕ)) (v : StepsSeen)
-    → v ≡ record { by_processor = no_steps; by_stream = no_steps } → AreAllLeft image t v
-all_none image t v none = record {
-  by_processor = one_none image t v.by_processor (ap (λ (x : StepsSeen). x.by_processor) none);
-  by_stream = none_left image t v.by_stream (ap (λ (x : StepsSeen). x.by_stream) none);
+pub all_none : (image : ImageValue) (live : LiveValue) (t : List (List ℕ)) (v : StepsSeen)
+    → v ≡ record { by_processor = no_steps; by_stream = no_steps } → AreAllLeft image live t v
+all_none image live t v none = record {
+  by_processor = one_none image live t v.by_processor (ap (λ (x : StepsSeen). x.by_processor) none);
+  by_stream = none_left image live t v.by_stream (ap (λ (x : StepsSeen). x.by_stream) none);
 }
 
-pub left_kept : (image : ImageValue) (old new : List (List ℕ)) (v : StepList) → Extends old new
-    → AreStreamsLeft image old v → AreStreamsLeft image new v
-left_kept image old new v grown all asked l seen =
+pub left_kept : (image : ImageValue) (live : LiveValue) (old new : List (List ℕ)) (v : StepList) → Extends old new
+    → AreStreamsLeft image live old v → AreStreamsLeft image live new v
+left_kept image live old new v grown all asked l seen =
     let is = all asked l seen in
     let e = stream_over_memory image is.stream is.memory in
     record {
@@ -80,18 +84,19 @@ left_kept image old new v grown all asked l seen =
       before = is.before;
       is_asked = is.is_asked;
       plain = is.plain;
-      at = at_kept image old new is.stream is.memory is.before grown is.at;
-      left = at_kept image old new e.0 e.1 l grown is.left;
+      told = is.told;
+      at = at_kept image old new (cleared_stream live is.stream) is.memory is.before grown is.at;
+      left = at_kept image old new (cleared_stream live e.0) e.1 l grown is.left;
     }
 
-pub left_more : (image : ImageValue) (t : List (List ℕ)) (v more : StepList) (asked : List ℕ) (left : Places)
+pub left_more : (image : ImageValue) (live : LiveValue) (t : List (List ℕ)) (v more : StepList) (asked : List ℕ) (left : Places)
     → ((a : List ℕ) (l : Places) → IsSeen more a l → IsSeen v a l ⊎ ((a ≡ asked) × (l ≡ left)))
-    → AreStreamsLeft image t v → IsStreamLeft image t asked left → AreStreamsLeft image t more
-left_more image t v more asked left each all one a l seen = by_case (each a l seen) where
-  by_case : IsSeen v a l ⊎ ((a ≡ asked) × (l ≡ left)) → IsStreamLeft image t a l
+    → AreStreamsLeft image live t v → IsStreamLeft image live t asked left → AreStreamsLeft image live t more
+left_more image live t v more asked left each all one a l seen = by_case (each a l seen) where
+  by_case : IsSeen v a l ⊎ ((a ≡ asked) × (l ≡ left)) → IsStreamLeft image live t a l
   by_case (inl before) = all a l before
   by_case (inr same) =
-      subst (λ (x : List ℕ × Places). IsStreamLeft image t x.0 x.1) (λ i. (sym same.0 i, sym same.1 i)) one
+      subst (λ (x : List ℕ × Places). IsStreamLeft image live t x.0 x.1) (λ i. (sym same.0 i, sym same.1 i)) one
 
 -- Marks.
 
@@ -208,27 +213,38 @@ stream_held image t proc m l s place at is =
       memory = at.memory;
     }
 
+-- the same of a stream that is cleared
+cleared_held : (image : ImageValue) (live : LiveValue) (t : List (List ℕ)) (proc : ProcessorValue) (m : TaggedMemory)
+    (l : Places) (s place : ℕ) → IsAt image t (cleared_processor live proc) m l
+    → IsAwakeAt t (cleared_processor live proc).streams s place
+    → IsStreamAt image t (cleared_stream live (stream_at proc.streams s)) m (record { content = place; memory = l.memory })
+cleared_held image live t proc m l s place at is =
+    subst (λ (x : StreamValue). IsStreamAt image t x m (record { content = place; memory = l.memory }))
+    (stream_cleared live proc.streams s) (stream_held image t (cleared_processor live proc) m l s place at is)
+
 -- what is asked of the stream of a step
-pub stream_asked : (image : ImageValue) (t : List (List ℕ)) (w : World) (u : Step) (here : Places) (mark : Mark)
-    → IsAt image t (processor_in w u.p) w.memory here → IsMark t here.content u.s mark
-    → IsStreamAsked image t w u (mark.content ∷ here.memory ∷ [])
-stream_asked image t w u here mark at is =
-    let found = mark_stream image t (processor_in w u.p) w.memory here u.s mark at is in
+pub stream_asked : (image : ImageValue) (live : LiveValue) (t : List (List ℕ)) (w : World) (u : Step) (here : Places)
+    (mark : Mark) → IsAt image t (cleared_processor live (processor_in w u.p)) w.memory here → IsMark t here.content u.s mark
+    → IsStreamAsked image live t w u (mark.content ∷ here.memory ∷ [])
+stream_asked image live t w u here mark at is =
+    let proc = processor_in w u.p in
+    let found = mark_stream image t (cleared_processor live proc) w.memory here u.s mark at is in
     record {
       before = record { content = mark.content; memory = here.memory };
       is_asked = refl;
-      there = found.1.there;
-      at = stream_held image t (processor_in w u.p) w.memory here u.s mark.content at found.1;
+      there = omega (arith, found.1.there, length-map proc.streams (cleared_stream live));
+      at = cleared_held image live t proc w.memory here u.s mark.content at found.1;
     }
 
 -- it may be asked where the table is extended
-pub asked_kept : (image : ImageValue) (old new : List (List ℕ)) (w : World) (u : Step) (asked : List ℕ) → Extends old new
-    → IsStreamAsked image old w u asked → IsStreamAsked image new w u asked
-asked_kept image old new w u asked grown is = record {
+pub asked_kept : (image : ImageValue) (live : LiveValue) (old new : List (List ℕ)) (w : World) (u : Step) (asked : List ℕ)
+    → Extends old new → IsStreamAsked image live old w u asked → IsStreamAsked image live new w u asked
+asked_kept image live old new w u asked grown is = record {
   before = is.before;
   is_asked = is.is_asked;
   there = is.there;
-  at = at_kept image old new (stream_at (processor_in w u.p).streams u.s) w.memory is.before grown is.at;
+  at =
+      at_kept image old new (cleared_stream live (stream_at (processor_in w u.p).streams u.s)) w.memory is.before grown is.at;
 }
 
 -- Steps.
@@ -281,30 +297,47 @@ replaced image old new proc numbers s c place x grown held read there awake at b
       },
     )
 
--- what the step of a stream that held the same left, it leaves again
-pub stream_again : (image : ImageValue) (old new : List (List ℕ)) (w : World) (u : Step) (here l more : Places)
-    (mark : Mark) → Extends old new → u.p < length w.processors → IsAt image old (processor_in w u.p) w.memory here
-    → (is : IsMark old here.content u.s mark) → IsStreamLeft image old (mark.content ∷ here.memory ∷ []) l
+-- the processor with another stream is cleared as the stream is
+stream_set : (live : LiveValue) (proc : ProcessorValue) (n : ℕ) (x : StreamValue)
+    → cleared_processor live (with_stream proc n x) ≡ with_stream (cleared_processor live proc) n (cleared_stream live x)
+stream_set live proc n x =
+    ap (λ (ss : List StreamValue). record { streams = ss; scur = proc.scur; sres = proc.sres })
+    (map-set (cleared_stream live) proc.streams n x)
+
+-- what the step of a list left, the same step of a stream that is the same where both are cleared leaves again
+pub stream_again : (image : ImageValue) (live : LiveValue) → IsLive image live → (old new : List (List ℕ)) (w : World)
+    (u : Step) (here l more : Places) (mark : Mark) → Extends old new → u.p < length w.processors
+    → IsAt image old (cleared_processor live (processor_in w u.p)) w.memory here
+    → (is : IsMark old here.content u.s mark) → IsStreamLeft image live old (mark.content ∷ here.memory ∷ []) l
     → more.content ≡ place_in new (set is.numbers (2 * mark.number + 2) l.content)
     → Has new (set is.numbers (2 * mark.number + 2) l.content) → more.memory ≡ l.memory
-    → IsAt image new (processor_in (after image w u) u.p) (after image w u).memory more
-stream_again image old new w u here l more mark grown there at is left more_is put memory_is =
-    let proc = processor_in w u.p in
+    → IsAt image new (cleared_processor live (processor_in (after image w u) u.p)) (after image w u).memory more
+stream_again image live is_live old new w u here l more mark grown there at is left more_is put memory_is =
+    let real = processor_in w u.p in
+    let s = stream_at real.streams u.s in
+    let proc = cleared_processor live real in
     let found = mark_stream image old proc w.memory here u.s mark at is in
-    let now = stream_held image old proc w.memory here u.s mark.content at found.1 in
+    let now = cleared_held image live old real w.memory here u.s mark.content at found.1 in
     let same : left.before.content ∷ left.before.memory ∷ [] ≡ mark.content ∷ here.memory ∷ [] = sym left.is_asked in
     let content : left.before.content ≡ mark.content = cc in
     let memory : left.before.memory ≡ here.memory = cc in
     let held =
-    at_same image old left.stream (stream_at proc.streams u.s) left.memory w.memory left.before
+    at_same image old (cleared_stream live left.stream) (cleared_stream live s) left.memory w.memory left.before
     (record { content = mark.content; memory = here.memory }) content memory left.at now in
-    let e = stream_over_memory image left.stream w.memory in
-    let behind : IsStreamAt image old e.0 e.1 l =
+    let alike = streams_alike image live is_live left.stream s w.memory left.told left.plain held.0 in
+    let e = stream_over_memory image s w.memory in
+    let x = cleared_stream live e.0 in
+    let there_too : IsStreamAt image old (cleared_stream live (stream_over_memory image left.stream w.memory).0)
+    (stream_over_memory image left.stream w.memory).1 l =
     subst (λ (m : TaggedMemory).
-    IsStreamAt image old (stream_over_memory image left.stream m).0 (stream_over_memory image left.stream m).1 l)
+    IsStreamAt image old (cleared_stream live (stream_over_memory image left.stream m).0)
+    (stream_over_memory image left.stream m).1 l)
     held.1 left.left in
-    let parts = plain_parts image w u left.stream there found.1.there held.0 left.plain in
-    let x = e.0 in
+    let behind : IsStreamAt image old x e.1 l =
+    subst (λ (y : StreamValue × TaggedMemory). IsStreamAt image old y.0 y.1 l) (λ i. (alike.0 i, alike.1 i)) there_too in
+    let within : u.s < length real.streams =
+    omega (arith, found.1.there, length-map real.streams (cleared_stream live)) in
+    let parts = plain_parts image w u s there within refl (plain_alike image live left.stream s held.0 left.plain) in
     let place_is : l.content ≡ place_in new (stream_numbers x) =
     behind.content ∙ sym (place_extended old new (stream_numbers x) grown behind.there) in
     let done =
@@ -320,22 +353,27 @@ stream_again image old new w u here l more mark grown there at is left more_is p
       memory =
           memory_is ∙ behind.memory ∙ sym (place_extended old new (memory_numbers image e.1) grown behind.has);
     } in
-    subst (λ (y : ProcessorValue × TaggedMemory). IsAt image new y.0 y.1 more) (λ i. (sym parts.0 i, sym parts.1 i)) here_now
+    let processors : with_stream proc u.s x ≡ cleared_processor live (processor_in (after image w u) u.p) =
+    sym (stream_set live real u.s e.0) ∙ ap (cleared_processor live) (sym parts.0) in
+    subst (λ (y : ProcessorValue × TaggedMemory). IsAt image new y.0 y.1 more)
+    (λ i. (processors i, sym parts.1 i)) here_now
 
 -- a step that was taken
-pub stream_now : (image : ImageValue) (t : List (List ℕ)) (w : World) (u : Step) (asked : List ℕ) (left : Places)
-    (mark : Mark) → u.p < length w.processors → IsStreamAsked image t w u asked
+pub stream_now : (image : ImageValue) (live : LiveValue) (t : List (List ℕ)) (w : World) (u : Step) (asked : List ℕ)
+    (left : Places) (mark : Mark) → u.p < length w.processors → IsStreamAsked image live t w u asked
+    → IsTold image (stream_at (processor_in w u.p).streams u.s)
     → IsPlainIn image (stream_at (processor_in w u.p).streams u.s)
-    → IsAt image t (processor_in (after image w u) u.p) (after image w u).memory left → IsMark t left.content u.s mark
-    → IsStreamLeft image t asked (record { content = mark.content; memory = left.memory })
-stream_now image t w u asked left mark there is plain at marked =
+    → IsAt image t (cleared_processor live (processor_in (after image w u) u.p)) (after image w u).memory left
+    → IsMark t left.content u.s mark
+    → IsStreamLeft image live t asked (record { content = mark.content; memory = left.memory })
+stream_now image live t w u asked left mark there is told plain at marked =
     let proc = processor_in w u.p in
     let next = processor_in (after image w u) u.p in
     let s = stream_at proc.streams u.s in
     let e = stream_over_memory image s w.memory in
     let parts = plain_parts image w u s there is.there refl plain in
-    let found = mark_stream image t next (after image w u).memory left u.s mark at marked in
-    let held = stream_held image t next (after image w u).memory left u.s mark.content at found.1 in
+    let found = mark_stream image t (cleared_processor live next) (after image w u).memory left u.s mark at marked in
+    let held = cleared_held image live t next (after image w u).memory left u.s mark.content at found.1 in
     let stream : stream_at next.streams u.s ≡ e.0 =
     ap (λ (p : ProcessorValue). stream_at p.streams u.s) parts.0 ∙ get_or-set_same proc.streams u.s e.0 idle is.there in
     record {
@@ -344,9 +382,10 @@ stream_now image t w u asked left mark there is plain at marked =
       before = is.before;
       is_asked = is.is_asked;
       plain = plain;
+      told = told;
       at = is.at;
       left =
           subst (λ (y : StreamValue × TaggedMemory).
-          IsStreamAt image t y.0 y.1 (record { content = mark.content; memory = left.memory }))
+          IsStreamAt image t (cleared_stream live y.0) y.1 (record { content = mark.content; memory = left.memory }))
           (λ i. (stream i, parts.1 i)) held;
     }

@@ -1,10 +1,14 @@
 -- What steps left. A step changes its processor and the memory alone, and what it leaves there is told by what both
--- held and by the number of its stream.
-use Rattle.std.specs.Prelude.{◌≡◌, ℕ, ◌<◌, Some, List, [], ◌∷◌, length, slice_get, slice_index_or}
+-- held, but for registers that do not matter, and by the number of its stream.
+use Rattle.std.specs.Prelude.{◌≡◌, ℕ, ◌<◌, false, true, IsTrue, Some, List, [], ◌∷◌, length, slice_get, slice_index_or}
 use Rattle.tag_memory.specs.Storage.{TaggedMemory}
 use Rattle.image_file.specs.ImageValue.{ImageValue}
-use Rattle.processor.specs.Processors.{ProcessorValue}
+use Rattle.stream_core.specs.Streams.{StreamValue, cannot_trap}
+use Rattle.processor.specs.Processors.{ProcessorValue, stream_at}
+use Rattle.processor.specs.Records.{is_running}
 use Rattle.processor.specs.Row.{row_over_memory}
+use Rattle.same_futures.specs.Handlers.{may_have_handlers}
+use Rattle.dead_registers.specs.Clearing.{LiveValue, cleared_processor}
 use Rattle.world_keys.specs.Tables.{place_in, Has}
 use Rattle.world_keys.specs.MemoryNumbers.{memory_numbers}
 use Rattle.world_keys.specs.WorldKeys.{processor_place, IsMemoryOf, IsKnownProcessor}
@@ -36,16 +40,27 @@ pub record IsAt (image : ImageValue) (table : List (List ℕ)) (proc : Processor
 abbrev pub step_numbers : Places → ℕ → List ℕ
 step_numbers before s = before.content ∷ s ∷ before.memory ∷ []
 
--- the step leaves these places, of some processor and memory that hold what is at the places before it
-pub record IsLeft (image : ImageValue) (table : List (List ℕ)) (asked : List ℕ) (l : Places) : Type 0 where
+-- where a trap of the stream has a handler while it runs, the image says that traps may have one
+abbrev pub IsTold : ImageValue → StreamValue → Type 0
+IsTold image s = is_running s ≡ true → cannot_trap s ≡ false → IsTrue (may_have_handlers image)
+
+-- so it is with each stream of the processor
+abbrev pub AreTold : ImageValue → ProcessorValue → Type 0
+AreTold image proc = (k : ℕ) → IsTold image (stream_at proc.streams k)
+
+-- The step leaves these places, of some processor and memory that hold what is at the places before it. Both times the
+-- processor is cleared of registers that do not matter.
+pub record IsLeft (image : ImageValue) (live : LiveValue) (table : List (List ℕ)) (asked : List ℕ) (l : Places) : Type 0 where
   pub processor : ProcessorValue
   pub memory : TaggedMemory
   pub s : ℕ
   pub before : Places
   pub is_asked : asked ≡ step_numbers before s
-  pub at : IsAt image table processor memory before
-  pub left : IsAt image table (row_over_memory image processor s memory).0.0 (row_over_memory image processor s memory).1 l
+  pub told : AreTold image processor
+  pub at : IsAt image table (cleared_processor live processor) memory before
+  pub left : IsAt image table (cleared_processor live (row_over_memory image processor s memory).0.0)
+      (row_over_memory image processor s memory).1 l
 
 -- so does each step of the list
-abbrev pub AreLeft : ImageValue → List (List ℕ) → StepList → Type 0
-AreLeft image table v = (asked : List ℕ) (l : Places) → IsSeen v asked l → IsLeft image table asked l
+abbrev pub AreLeft : ImageValue → LiveValue → List (List ℕ) → StepList → Type 0
+AreLeft image live table v = (asked : List ℕ) (l : Places) → IsSeen v asked l → IsLeft image live table asked l

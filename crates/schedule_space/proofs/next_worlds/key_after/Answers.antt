@@ -1,5 +1,6 @@
 use Rattle.std.proofs.Common.{◌≡◌, ◌+◌, ◌<◌, length, set, sym, ap, ◌∙◌, subst, arith, rules}
 use Rattle.processor.specs.World.{World}
+use Rattle.dead_registers.specs.Clearing.{cleared}
 use Rattle.world_keys.specs.WorldKeys.{key_of, IsKnown}
 use Rattle.schedule_space.proofs.KnownSteps.{key_many, key_is, key_known, absent_stays}
 use Rattle.schedule_space.proofs.next_worlds.key_after.Goals as goal
@@ -11,8 +12,8 @@ returns-then-here-before-clause-is g c =
     let items : c.in_ok-key.key.items ≡ c.args.before.now = search rules in
     let stays =
     absent_stays m.image m.world c.args.step
-    (λ there. omega (arith, there, c.from-here.ensures, key_many m.image t m.world c.args.before.now c.requires.before)) in
-    items ∙ c.requires.before ∙ ap (key_of t m.image) (sym stays)
+    (λ there. omega (arith, there, c.from-here.ensures, key_many m.image c.args.live.now t m.world c.args.before.now c.requires.before)) in
+    items ∙ c.requires.before ∙ ap (λ (w : World). key_of t m.image (cleared c.args.live.now w)) (sym stays)
 
 pub returns-then-here-before-clause-known : goal.returns-then-here-before-clause-known
 returns-then-here-before-clause-known g c =
@@ -20,8 +21,21 @@ returns-then-here-before-clause-known g c =
     let t = c.args.contents.now in
     let stays =
     absent_stays m.image m.world c.args.step
-    (λ there. omega (arith, there, c.from-here.ensures, key_many m.image t m.world c.args.before.now c.requires.before)) in
-    subst (λ (w : World). IsKnown t m.image w) (sym stays) c.requires.known
+    (λ there. omega (arith, there, c.from-here.ensures, key_many m.image c.args.live.now t m.world c.args.before.now c.requires.before)) in
+    subst (λ (w : World). IsKnown t m.image (cleared c.args.live.now w)) (sym stays) c.requires.known
+
+pub left_by-requires : goal.left_by-requires
+left_by-requires g c =
+    let m = c.args.machine.now in
+    let there : c.args.step.p < length m.world.processors =
+    omega (
+      arith,
+      c.from-here.ensures,
+      key_many m.image c.args.live.now c.args.contents.now m.world c.args.before.now c.requires.before,
+    ) in (
+      omega arith,
+      (there, (c.requires.live, (c.requires.told, (c.requires.known, (c.requires.before, c.requires.steps))))),
+    )
 
 pub returns : goal.returns
 returns g c =
@@ -33,15 +47,15 @@ returns g c =
     let l = c.in_ok-left.left in
     let items : c.in_ok-key.key.items ≡ key = search rules in
     let there : u.p < length m.world.processors =
-    omega (arith, c.from-here.ensures, key_many m.image old m.world key c.requires.before) in
+    omega (arith, c.from-here.ensures, key_many m.image c.args.live.now old m.world key c.requires.before) in
     record {
       is =
-          key_is m.image old new m.world u key
+          key_is m.image c.args.live.now old new m.world u key
           (set (set c.in_ok-key.key.items 0 l.memory) (c.from-here.result + 1) l.content) l c.requires.known
           c.requires.before there c.in_ok-left.ensures.grown c.in_ok-left.ensures.left
           (λ i. set (set (items i) 0 l.memory) (c.from-here.ensures i + 1) l.content);
       known =
-          key_known m.image old new m.world u key l c.requires.known c.requires.before there
+          key_known m.image c.args.live.now old new m.world u key l c.requires.known c.requires.before there
           c.in_ok-left.ensures.grown c.in_ok-left.ensures.left;
       steps = c.in_ok-left.ensures.steps;
       grown = c.in_ok-left.ensures.grown;

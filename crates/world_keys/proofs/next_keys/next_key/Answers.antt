@@ -1,4 +1,4 @@
-use Rattle.std.proofs.Common.{◌≡◌, ◌+◌, refl, length, set, get_or, sym, ap, ◌∙◌, subst, rules, arith}
+use Rattle.std.proofs.Common.{◌≡◌, ◌+◌, refl, set, get_or, sym, ap, ◌∙◌, subst, rules, arith}
 use Rattle.tag_memory.specs.Storage.{TaggedMemory}
 use Rattle.dead_registers.specs.Clearing.{cleared}
 use Rattle.world_keys.specs.Tables.{place_in, Has}

@@ -1,4 +1,4 @@
-use Rattle.std.proofs.Common.{◌≡◌, ◌++◌, ap, arith, rules, length, get_or, ◌∙◌, sym}
+use Rattle.std.proofs.Common.{◌≡◌, ◌++◌, ap, arith, length, get_or, ◌∙◌, sym}
 use Rattle.std.proofs.lemmas.Option.{slice_get-get_or}
 use Rattle.world_keys.specs.StreamNumbers.{all_halves}
 use Rattle.world_keys.proofs.Digits.{one_more, no_more}
