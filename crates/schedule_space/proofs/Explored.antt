@@ -36,12 +36,12 @@ all_named r below = get_or-replicate 32 r true false below
 abbrev StandAloneIn : Exploration → Type 0
 StandAloneIn e = NamesAll (space_in e).live → StandAlone (space_in e)
 
-module _ {E : Type 0} where
-  alone_if : (names : List Bool) (e : Exploration) → ((r : ℕ) → r < 32 → IsTrue (is_named_by names r))
-      → (space_in e).live.names ≡ names → StandAloneIn e → StandAlone (space_in e)
-  alone_if names e all same alone =
-      alone (subst (λ (ns : List Bool). (r : ℕ) → r < 32 → IsTrue (is_named_by ns r)) (sym same) all)
+alone_if : (names : List Bool) (e : Exploration) → ((r : ℕ) → r < 32 → IsTrue (is_named_by names r))
+    → (space_in e).live.names ≡ names → StandAloneIn e → StandAlone (space_in e)
+alone_if names e all same alone =
+    alone (subst (λ (ns : List Bool). (r : ℕ) → r < 32 → IsTrue (is_named_by ns r)) (sym same) all)
 
+module _ {E : Type 0} where
   pub complete_if : (names : List Bool) (a : Wanted) (r : Result Exploration E)
       → ((n : ℕ) → n < 32 → IsTrue (is_named_by names n)) → IfOk r (λ e. (space_in e).live.names ≡ names)
       → IfOk r StandAloneIn → IfOk r IsLiveIn → IfOk r (λ e. a ≡ a → AreAllExpanded e)

@@ -89,7 +89,7 @@ impl<'i> Found<'i> {
     ) -> Result<Found<'i>, AllocError>
         requires machine { first.now ≡ machine_after first.now.image begin.now }
         requires live { IsLive first.now.image live }
-        ensures { IfOk result (λ v. v ≡ space_of first.now.image live.entry begin.now [] []) }
+        ensures { IfOk result (λ v. v ≡ space_of first.now.image live begin.now [] []) }
     {
         let fate = fate_of(first);
         let mut contents = Table::new(alloc);

@@ -53,7 +53,7 @@ impl<'i> Space<'i> {
         fates: Vec<Fate>,
     ) -> Space<'i>
         requires { IsSpace (space_of image.now live begin.items links.items edges.items) fates.items }
-        ensures { result ≡ space_of image.entry.now live.entry begin.items links.items edges.items }
+        ensures { result ≡ space_of image.entry.now live begin.items links.items edges.items }
     {
         Space {
             image,
