@@ -7,9 +7,9 @@ _mta_lab_options() {
     schedule) echo '--seed --steps' ;;
     view) echo '--fair --seed --steps --from --to --only --word --columns --hex --json' ;;
     compare) echo '--hex --json' ;;
-    survey) echo '--seeds --from --steps --expect --explore --states --hex --json' ;;
-    explore) echo '--expect --from --states --plain --keep --dot --hex --json' ;;
-    grade) echo '--expect --seeds --steps --explore --states --hex --json' ;;
+    survey) echo '--seeds --from --steps --expect --explore --states --seconds --memory --hex --json' ;;
+    explore) echo '--expect --from --states --seconds --memory --plain --keep --dot --hex --json' ;;
+    grade) echo '--expect --seeds --steps --explore --states --seconds --memory --hex --json' ;;
     debug) echo '--fair --seed --steps' ;;
     page | picture) echo '--fair --rounds --seed --steps --title --out' ;;
     asm) echo '--out' ;;
@@ -26,7 +26,7 @@ _mta_lab() {
     words='rounds fair random'
   elif [[ $current = -* ]]; then
     words="$(_mta_lab_options "$command") --help"
-  elif [[ $before = --@(seed|seeds|steps|states|from|to|only|word|title) && $command$before != explore--from ]]; then
+  elif [[ $before = --@(seed|seeds|steps|states|seconds|memory|from|to|only|word|title) && $command$before != explore--from ]]; then
     words=''
   else
     # a folder gets a slash and no blank, and a name with blanks is quoted

@@ -183,7 +183,7 @@ OBJECTS = {
     "compare lock.asm lock.ends.schedule lock.lost_update.schedule --json": [
         "one other step version", "differ position version", END, END],
     "survey lock.asm --seeds 5 --json": ["end expected finding missed runs seed steps version words"],
-    "explore lock.asm --states 50 --json": ["begin complete plain steps version worlds"],
+    "explore lock.asm --states 50 --json": ["begin bound complete plain steps version worlds"],
     "grade --json --expect wishes --seeds 5 lock.asm": ["submission verdict version why"],
 }
 

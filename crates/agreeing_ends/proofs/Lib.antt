@@ -1,3 +1,4 @@
 pub mod Moving
 pub mod Reached
 pub mod Grounded
+pub mod Keeping

@@ -8,7 +8,7 @@ use Rattle.local_steps.proofs.Orders.{same_or_other}
 use Rattle.local_steps.proofs.Free.{commutes, stays, not_stuck, runs}
 use Rattle.agreeing_ends.specs.Followed.{IsEnd}
 
-same_step : (t u : Step) → (t ≡ u) ⊎ (t ≢ u)
+pub same_step : (t u : Step) → (t ≡ u) ⊎ (t ≢ u)
 same_step t u = by_processor (same_or_other t.p u.p) (same_or_other t.s u.s) where
   by_processor : (t.p ≡ u.p) ⊎ (t.p ≢ u.p) → (t.s ≡ u.s) ⊎ (t.s ≢ u.s) → (t ≡ u) ⊎ (t ≢ u)
   by_processor (inl p) (inl s) = inl (λ i. record { p = p i; s = s i })

@@ -3,5 +3,7 @@
 #![tactic(auto)]
 
 mod laws;
+mod unseen;
 
 pub use laws::{followed_worlds_have_all_ends, worlds_of_schedules_are_grounded};
+pub use unseen::unseen_steps_keep_claims;

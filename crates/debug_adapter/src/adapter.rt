@@ -163,6 +163,7 @@ impl<'a, 'i, 't> Adapter<'a, 'i, 't> {
             | DapCommand::GotoTargets => self.answer_views(command, request, body)?,
             _ => self.answer_moves(command, request, body, events)?,
         }
+        let _ = body.whole()?;
         Ok(Turn::On)
     }
 

@@ -88,12 +88,13 @@ impl<'a, 'i, 't> Adapter<'a, 'i, 't> {
         for p in 0..self.named.session.machine().image().processors() {
             self.add_point(kind, number, &Command::Break(p as u8, word))?;
         }
-        body.open()?;
-        body.number_of("id", number)?;
-        body.truth_of("verified", true)?;
-        self.push_source(body)?;
-        body.number_of("line", self.client_line(word))?;
-        Ok(body.close()?)
+        body.open();
+        body.number_of("id", number);
+        body.truth_of("verified", true);
+        self.push_source("source", body);
+        body.number_of("line", self.client_line(word));
+        body.close();
+        Ok(())
     }
 
     /// Sets the breakpoints on lines.
@@ -104,8 +105,8 @@ impl<'a, 'i, 't> Adapter<'a, 'i, 't> {
     ) -> Result<(), Refusal> {
         self.clear_points(PointKind::Line)?;
         let is_ours = self.is_our_source(request);
-        body.open()?;
-        body.open_list("breakpoints")?;
+        body.open();
+        body.open_list("breakpoints");
         for (index, wanted) in request.list("breakpoints").iter().enumerate() {
             let line = wanted.get("line").and_then(Value::as_u64).unwrap_or(0);
             match self.word_of_client_line(line) {
@@ -114,13 +115,14 @@ impl<'a, 'i, 't> Adapter<'a, 'i, 't> {
                     word,
                     body,
                 )?,
-                Some(_) if is_ours => push_unverified(body, "there are too many breakpoints")?,
-                Some(_) => push_unverified(body, "this is not the program's source")?,
-                None => push_unverified(body, "no instruction stands on this line or behind it")?,
+                Some(_) if is_ours => push_unverified(body, "there are too many breakpoints"),
+                Some(_) => push_unverified(body, "this is not the program's source"),
+                None => push_unverified(body, "no instruction stands on this line or behind it"),
             }
         }
-        body.close_list()?;
-        Ok(body.close()?)
+        body.close_list();
+        body.close();
+        Ok(())
     }
 
     /// Sets the breakpoints on places by name, as `word_of_place` reads them.
@@ -130,8 +132,8 @@ impl<'a, 'i, 't> Adapter<'a, 'i, 't> {
         body: &mut Json,
     ) -> Result<(), Refusal> {
         self.clear_points(PointKind::Function)?;
-        body.open()?;
-        body.open_list("breakpoints")?;
+        body.open();
+        body.open_list("breakpoints");
         for (index, wanted) in request.list("breakpoints").iter().enumerate() {
             let name = wanted.get("name").and_then(Value::as_str).unwrap_or("");
             match self.named.word_of_place(name.trim()) {
@@ -140,12 +142,13 @@ impl<'a, 'i, 't> Adapter<'a, 'i, 't> {
                     word,
                     body,
                 )?,
-                Some(_) => push_unverified(body, "there are too many breakpoints")?,
-                None => push_unverified(body, "the program has no such place")?,
+                Some(_) => push_unverified(body, "there are too many breakpoints"),
+                None => push_unverified(body, "the program has no such place"),
             }
         }
-        body.close_list()?;
-        Ok(body.close()?)
+        body.close_list();
+        body.close();
+        Ok(())
     }
 
     /// Sets the breakpoints on words of the memory.
@@ -155,28 +158,30 @@ impl<'a, 'i, 't> Adapter<'a, 'i, 't> {
         body: &mut Json,
     ) -> Result<(), Refusal> {
         self.clear_points(PointKind::Data)?;
-        body.open()?;
-        body.open_list("breakpoints")?;
+        body.open();
+        body.open_list("breakpoints");
         for (index, wanted) in request.list("breakpoints").iter().enumerate() {
             let text = wanted.get("dataId").and_then(Value::as_str).unwrap_or("");
             match self.watch_of(text) {
                 Some(command) if index < MOST_BREAKPOINTS => self.watch(&command, body)?,
-                Some(_) => push_unverified(body, "there are too many breakpoints")?,
-                None => push_unverified(body, "there is no such word")?,
+                Some(_) => push_unverified(body, "there are too many breakpoints"),
+                None => push_unverified(body, "there is no such word"),
             }
         }
-        body.close_list()?;
-        Ok(body.close()?)
+        body.close_list();
+        body.close();
+        Ok(())
     }
 
     /// Makes a breakpoint on a word, and adds it to the body's list.
     fn watch(&mut self, command: &Command, body: &mut Json) -> Result<(), Refusal> {
         let number = self.new_number();
         self.add_point(PointKind::Data, number, command)?;
-        body.open()?;
-        body.number_of("id", number)?;
-        body.truth_of("verified", true)?;
-        Ok(body.close()?)
+        body.open();
+        body.number_of("id", number);
+        body.truth_of("verified", true);
+        body.close();
+        Ok(())
     }
 
     /// What watches the word of a text: `[8]` for its value and tags, `[8] full/empty` for its tags.
@@ -204,23 +209,24 @@ impl<'a, 'i, 't> Adapter<'a, 'i, 't> {
     ) -> Result<(), Refusal> {
         self.wanted.traps = false;
         self.wanted.blocked = false;
-        body.open()?;
-        body.open_list("breakpoints")?;
+        body.open();
+        body.open_list("breakpoints");
         for filter in request.list("filters") {
             match filter.as_str() {
                 Some("traps") => self.wanted.traps = true,
                 Some("blocked") => self.wanted.blocked = true,
                 _ => {
-                    push_unverified(body, "there is no such filter")?;
+                    push_unverified(body, "there is no such filter");
                     continue;
                 }
             }
-            body.open()?;
-            body.truth_of("verified", true)?;
-            body.close()?;
+            body.open();
+            body.truth_of("verified", true);
+            body.close();
         }
-        body.close_list()?;
-        Ok(body.close()?)
+        body.close_list();
+        body.close();
+        Ok(())
     }
 
     /// What a data breakpoint on a variable would be.
@@ -231,26 +237,28 @@ impl<'a, 'i, 't> Adapter<'a, 'i, 't> {
     ) -> Result<(), Refusal> {
         let name = request.text("name").unwrap_or("");
         let text = self.word_name_of(request, name)?;
-        body.open()?;
+        body.open();
         if self.watch_of(&text).is_none() {
-            body.null_of("dataId")?;
-            body.text_of("description", "only words of the memory are watched")?;
-            return Ok(body.close()?);
+            body.null_of("dataId");
+            body.text_of("description", "only words of the memory are watched");
+            body.close();
+            return Ok(());
         }
-        body.text_of("dataId", &text)?;
-        body.text_of("description", &text)?;
-        body.open_list("accessTypes")?;
-        body.text("write")?;
-        body.close_list()?;
-        body.truth_of("canPersist", true)?;
-        Ok(body.close()?)
+        body.text_of("dataId", &text);
+        body.text_of("description", &text);
+        body.open_list("accessTypes");
+        body.text("write");
+        body.close_list();
+        body.truth_of("canPersist", true);
+        body.close();
+        Ok(())
     }
 }
 
 /// Adds a breakpoint that stops nowhere, and why.
-fn push_unverified(body: &mut Json, words: &str) -> Result<(), Refusal> {
-    body.open()?;
-    body.truth_of("verified", false)?;
-    body.text_of("message", words)?;
-    Ok(body.close()?)
+fn push_unverified(body: &mut Json, words: &str) {
+    body.open();
+    body.truth_of("verified", false);
+    body.text_of("message", words);
+    body.close();
 }

@@ -6,7 +6,6 @@ use crate::memory::whole_number;
 use crate::refusals::Refusal;
 use crate::requests::Request;
 use serde_json::Value;
-use std::alloc::Global;
 
 /// The most instructions that are told at once.
 const MOST_INSTRUCTIONS: i64 = 10_000;
@@ -20,17 +19,17 @@ fn file_name(path: &str) -> &str {
 }
 
 impl<'a, 'i, 't> Adapter<'a, 'i, 't> {
-    /// Adds where the program's text is: its file, or the listing that the client may ask for.
-    pub(crate) fn push_source(&self, body: &mut Json) -> Result<(), Refusal> {
-        body.key("source")?;
-        body.open()?;
-        body.text_of("name", file_name(self.origin.path))?;
+    /// Adds where the program's text is, under this name: its file, or the listing that the client may ask for.
+    pub(crate) fn push_source(&self, name: &str, body: &mut Json) {
+        body.key(name);
+        body.open();
+        body.text_of("name", file_name(self.origin.path));
         if self.origin.listing.is_some() {
-            body.number_of("sourceReference", 1)?;
+            body.number_of("sourceReference", 1);
         } else {
-            body.text_of("path", self.origin.path)?;
+            body.text_of("path", self.origin.path);
         }
-        Ok(body.close()?)
+        body.close();
     }
 
     /// Whether a request's source is the program's.
@@ -52,9 +51,10 @@ impl<'a, 'i, 't> Adapter<'a, 'i, 't> {
         let Some(listing) = self.origin.listing else {
             return Err(Refusal::Words("the source is a file"));
         };
-        body.open()?;
-        body.text_of("content", listing)?;
-        Ok(body.close()?)
+        body.open();
+        body.text_of("content", listing);
+        body.close();
+        Ok(())
     }
 
     /// The line of a program word as the client counts.
@@ -74,24 +74,24 @@ impl<'a, 'i, 't> Adapter<'a, 'i, 't> {
 
     /// The places that `goto` can go to from a line: the program word on it or behind it.
     pub(crate) fn goto_targets(&self, request: &Request, body: &mut Json) -> Result<(), Refusal> {
-        body.open()?;
-        body.open_list("targets")?;
+        body.open();
+        body.open_list("targets");
         let line = request.number("line").unwrap_or(0);
         if self.is_our_source(request)
             && let Some(word) = self.word_of_client_line(line)
         {
             let mut label = String::new(self.alloc);
             self.names.push_place(&mut label, word)?;
-            let reference = format!(in self.alloc; "0x{word:x}")?;
-            body.open()?;
-            body.number_of("id", u64::from(word))?;
-            body.text_of("label", &label)?;
-            body.number_of("line", self.client_line(word))?;
-            body.text_of("instructionPointerReference", &reference)?;
-            body.close()?;
+            body.open();
+            body.number_of("id", u64::from(word));
+            body.text_of("label", &label);
+            body.number_of("line", self.client_line(word));
+            body.reference_of("instructionPointerReference", u64::from(word));
+            body.close();
         }
-        body.close_list()?;
-        Ok(body.close()?)
+        body.close_list();
+        body.close();
+        Ok(())
     }
 
     /// Program words around a place. Those that the program doesn't have are told as no instructions.
@@ -107,51 +107,48 @@ impl<'a, 'i, 't> Adapter<'a, 'i, 't> {
             .unwrap_or(i64::MAX)
             .saturating_add(whole_number(request, "offset")?)
             .saturating_add(whole_number(request, "instructionOffset")?);
-        body.open()?;
-        body.open_list("instructions")?;
+        body.open();
+        body.open_list("instructions");
         for index in 0..count {
             self.push_instruction(first.saturating_add(index), body)?;
         }
-        body.close_list()?;
-        Ok(body.close()?)
+        body.close_list();
+        body.close();
+        Ok(())
     }
 
     /// Adds a program word.
-    fn push_instruction(&self, word: i64, body: &mut Json) -> Result<(), Refusal> {
-        body.open()?;
-        match u32::try_from(word) {
-            Ok(word) if word < self.names.words() => {
-                let address = format!(in self.alloc; "0x{word:x}")?;
-                body.text_of("address", &address)?;
-                body.text_of("instruction", self.names.statement(word))?;
-                let mut symbol = String::new(self.alloc);
-                self.names.push_place(&mut symbol, word)?;
-                body.text_of("symbol", &symbol)?;
-                body.key("location")?;
-                body.open()?;
-                body.text_of("name", file_name(self.origin.path))?;
-                if self.origin.listing.is_some() {
-                    body.number_of("sourceReference", 1)?;
-                } else {
-                    body.text_of("path", self.origin.path)?;
-                }
-                body.close()?;
-                body.number_of("line", self.client_line(word))?;
-            }
-            _ => {
-                let address = outer_address(self.alloc, word)?;
-                body.text_of("address", &address)?;
-                body.text_of("instruction", "no word of the program")?;
-                body.text_of("presentationHint", "invalid")?;
-            }
+    fn push_instruction(&self, number: i64, body: &mut Json) -> Result<(), Refusal> {
+        match u32::try_from(number) {
+            Ok(word) if word < self.names.words() => self.push_program_line(word, body),
+            _ => self.push_outer_line(number, body),
         }
-        Ok(body.close()?)
     }
-}
 
-/// The address of a place that the program doesn't have.
-fn outer_address(alloc: Global, word: i64) -> Result<String, Refusal> {
-    Ok(format!(in alloc; "{word}")?)
+    /// Adds a word that the program has: its place, its instruction, and where that stands.
+    fn push_program_line(&self, word: u32, body: &mut Json) -> Result<(), Refusal> {
+        let mut symbol = String::new(self.alloc);
+        self.names.push_place(&mut symbol, word)?;
+        body.open();
+        body.reference_of("address", u64::from(word));
+        body.text_of("instruction", self.names.statement(word));
+        body.text_of("symbol", &symbol);
+        self.push_source("location", body);
+        body.number_of("line", self.client_line(word));
+        body.close();
+        Ok(())
+    }
+
+    /// Adds a place that the program doesn't have.
+    fn push_outer_line(&self, number: i64, body: &mut Json) -> Result<(), Refusal> {
+        let address = format!(in self.alloc; "{number}")?;
+        body.open();
+        body.text_of("address", &address);
+        body.text_of("instruction", "no word of the program");
+        body.text_of("presentationHint", "invalid");
+        body.close();
+        Ok(())
+    }
 }
 
 /// The number of a reference: decimal, or behind `0x` hexadecimal, perhaps in brackets.

@@ -46,8 +46,9 @@ impl Events {
         }
     }
 
-    /// Adds an event.
+    /// Adds an event, unless memory was refused for its body.
     pub(crate) fn push(&mut self, name: &'static str, body: Json) -> Result<(), AllocError> {
+        let _ = body.whole()?;
         Ok(self.list.push(Event { name, body })?)
     }
 }
@@ -63,22 +64,22 @@ impl Outbox {
 
     /// Sends an event.
     pub fn tell(&mut self, alloc: Global, name: &str, body: &Json) -> Result<(), AllocError> {
-        let mut message = self.begin(alloc, "event")?;
-        message.text_of("event", name)?;
+        let mut message = self.begin(alloc, "event");
+        message.text_of("event", name);
         if !body.is_empty() {
-            message.value_of("body", body)?;
+            message.value_of("body", body);
         }
         self.finish(message)
     }
 
     /// Begins a message of a kind, with its number.
-    fn begin(&mut self, alloc: Global, kind: &str) -> Result<Json, AllocError> {
+    fn begin(&mut self, alloc: Global, kind: &str) -> Json {
         self.sent = self.sent.saturating_add(1);
         let mut message = Json::new(alloc);
-        message.open()?;
-        message.number_of("seq", self.sent)?;
-        message.text_of("type", kind)?;
-        Ok(message)
+        message.open();
+        message.number_of("seq", self.sent);
+        message.text_of("type", kind);
+        message
     }
 
     /// Begins a response to the request of this number.
@@ -88,21 +89,22 @@ impl Outbox {
         request: u64,
         command: &str,
         is_done: bool,
-    ) -> Result<Json, AllocError> {
-        let mut message = self.begin(alloc, "response")?;
-        message.number_of("request_seq", request)?;
-        message.truth_of("success", is_done)?;
-        message.text_of("command", command)?;
-        Ok(message)
+    ) -> Json {
+        let mut message = self.begin(alloc, "response");
+        message.number_of("request_seq", request);
+        message.truth_of("success", is_done);
+        message.text_of("command", command);
+        message
     }
 
-    /// Ends a message, and adds it with its head.
+    /// Ends a message, and adds it with its head, unless memory was refused for a piece of it.
     fn finish(&mut self, message: Json) -> Result<(), AllocError> {
         let mut message = message;
-        message.close()?;
-        let length = message.as_str().len();
+        message.close();
+        let text = message.whole()?;
+        let length = text.len();
         write!(self.out, "Content-Length: {length}\r\n\r\n")?;
-        self.out.push_str(message.as_str())
+        self.out.push_str(text)
     }
 }
 
@@ -130,9 +132,9 @@ impl Connection {
         ensures one { OnOk result (self.new.answered ≡ self.old.answered + 1) }
         ensures whom { OnOk result (self.new.last_answered ≡ request) }
     {
-        let mut message = self.outbox.begin_response(alloc, request, command, true)?;
+        let mut message = self.outbox.begin_response(alloc, request, command, true);
         if !body.is_empty() {
-            message.value_of("body", body)?;
+            message.value_of("body", body);
         }
         self.outbox.finish(message)?;
         self.note_answer(request)
@@ -149,10 +151,9 @@ impl Connection {
         ensures one { OnOk result (self.new.answered ≡ self.old.answered + 1) }
         ensures whom { OnOk result (self.new.last_answered ≡ request) }
     {
-        let mut message = self.outbox.begin_response(alloc, request, command, false)?;
-        message.text_of("message", words)?;
-        let body = error_body(alloc, words)?;
-        message.value_of("body", &body)?;
+        let mut message = self.outbox.begin_response(alloc, request, command, false);
+        message.text_of("message", words);
+        message.value_of("body", &error_body(alloc, words));
         self.outbox.finish(message)?;
         self.note_answer(request)
     }
@@ -172,20 +173,20 @@ impl Connection {
 }
 
 /// The body of a refusal: the words as an error for the user.
-fn error_body(alloc: Global, words: &str) -> Result<Json, AllocError> {
+fn error_body(alloc: Global, words: &str) -> Json {
     let mut error = Json::new(alloc);
-    error.open()?;
-    error.number_of("id", 1)?;
-    error.text_of("format", "{words}")?;
-    error.key("variables")?;
-    error.open()?;
-    error.text_of("words", words)?;
-    error.close()?;
-    error.truth_of("showUser", true)?;
-    error.close()?;
+    error.open();
+    error.number_of("id", 1);
+    error.text_of("format", "{words}");
+    error.key("variables");
+    error.open();
+    error.text_of("words", words);
+    error.close();
+    error.truth_of("showUser", true);
+    error.close();
     let mut body = Json::new(alloc);
-    body.open()?;
-    body.value_of("error", &error)?;
-    body.close()?;
-    Ok(body)
+    body.open();
+    body.value_of("error", &error);
+    body.close();
+    body
 }

@@ -42,10 +42,11 @@ impl<'a, 'i, 't> Adapter<'a, 'i, 't> {
             }
             None => return Err(Refusal::Words("r1, 2.0.r1, [8], 2.0, a label or a line is shown")),
         }
-        body.open()?;
-        body.text_of("result", &out)?;
-        body.number_of("variablesReference", 0)?;
-        Ok(body.close()?)
+        body.open();
+        body.text_of("result", &out);
+        body.number_of("variablesReference", 0);
+        body.close();
+        Ok(())
     }
 
     /// Adds a word of the memory.

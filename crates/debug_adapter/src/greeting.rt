@@ -42,7 +42,7 @@ pub fn greet(
     match command {
         "initialize" => {
             *client = client_of(request);
-            let body = capabilities(alloc)?;
+            let body = capabilities(alloc);
             connection.respond(alloc, request.seq, command, &body)?;
             Ok(Turn::On)
         }
@@ -110,41 +110,36 @@ const CAPABILITIES: [&str; 12] = [
 ];
 
 /// The body that tells it.
-fn capabilities(alloc: Global) -> Result<Json, AllocError> {
+fn capabilities(alloc: Global) -> Json {
     let mut body = Json::new(alloc);
-    body.open()?;
+    body.open();
     for name in CAPABILITIES.iter() {
-        body.truth_of(name, true)?;
+        body.truth_of(name, true);
     }
-    body.open_list("exceptionBreakpointFilters")?;
+    body.open_list("exceptionBreakpointFilters");
     push_filter(
         &mut body,
         "traps",
         "Traps",
         "stops behind a step that trapped",
-    )?;
+    );
     push_filter(
         &mut body,
         "blocked",
         "Blocked steps",
         "stops behind a step that was blocked",
-    )?;
-    body.close_list()?;
-    body.close()?;
-    Ok(body)
+    );
+    body.close_list();
+    body.close();
+    body
 }
 
 /// Adds a filter of exceptions.
-fn push_filter(
-    body: &mut Json,
-    filter: &str,
-    label: &str,
-    description: &str,
-) -> Result<(), AllocError> {
-    body.open()?;
-    body.text_of("filter", filter)?;
-    body.text_of("label", label)?;
-    body.text_of("description", description)?;
-    body.truth_of("default", false)?;
-    body.close()
+fn push_filter(body: &mut Json, filter: &str, label: &str, description: &str) {
+    body.open();
+    body.text_of("filter", filter);
+    body.text_of("label", label);
+    body.text_of("description", description);
+    body.truth_of("default", false);
+    body.close();
 }

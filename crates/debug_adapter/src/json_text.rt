@@ -2,11 +2,13 @@
 
 use std::alloc::{AllocError, Global};
 
-/// A JSON text that is being written.
+/// A JSON text that is being written. Where memory is refused for a piece, the text lacks it, and [`Json::whole`] says so
+/// at the end; so a writer has one place to look, and not one a piece.
 #[derive(Drop)]
 pub struct Json {
     text: String,
     is_fresh: bool,
+    lacks_pieces: bool,
 }
 
 impl Json {
@@ -15,12 +17,17 @@ impl Json {
         Json {
             text: String::new(alloc),
             is_fresh: true,
+            lacks_pieces: false,
         }
     }
 
-    /// The text.
-    pub fn as_str(&self) -> &str {
-        self.text.as_str()
+    /// The text, unless memory was refused for a piece of it.
+    pub fn whole(&self) -> Result<&str, AllocError> {
+        if self.lacks_pieces {
+            Err(AllocError)
+        } else {
+            Ok(self.text.as_str())
+        }
     }
 
     /// Whether nothing has been written.
@@ -28,93 +35,117 @@ impl Json {
         self.text.is_empty()
     }
 
+    /// Adds a piece as it is.
+    fn push(&mut self, piece: &str) {
+        if self.text.push_str(piece).is_err() {
+            self.lacks_pieces = true;
+        }
+    }
+
+    /// Adds a text as a JSON string.
+    fn push_string(&mut self, text: &str) {
+        if push_quoted(&mut self.text, text).is_err() {
+            self.lacks_pieces = true;
+        }
+    }
+
     /// Begins a value: with a comma, where one stands before it.
-    fn begin(&mut self) -> Result<(), AllocError> {
+    fn begin(&mut self) {
         if !self.is_fresh {
-            self.text.push_str(",")?;
+            self.push(",");
         }
         self.is_fresh = false;
-        Ok(())
     }
 
     /// Begins an object.
-    pub fn open(&mut self) -> Result<(), AllocError> {
-        self.begin()?;
+    pub fn open(&mut self) {
+        self.begin();
         self.is_fresh = true;
-        self.text.push_str("{")
+        self.push("{");
     }
 
     /// Ends an object.
-    pub fn close(&mut self) -> Result<(), AllocError> {
+    pub fn close(&mut self) {
         self.is_fresh = false;
-        self.text.push_str("}")
+        self.push("}");
     }
 
     /// Begins a list that is a member.
-    pub fn open_list(&mut self, name: &str) -> Result<(), AllocError> {
-        self.key(name)?;
-        self.is_fresh = true;
-        self.text.push_str("[")
+    pub fn open_list(&mut self, name: &str) {
+        self.key(name);
+        self.push("[");
     }
 
     /// Ends a list.
-    pub fn close_list(&mut self) -> Result<(), AllocError> {
+    pub fn close_list(&mut self) {
         self.is_fresh = false;
-        self.text.push_str("]")
+        self.push("]");
     }
 
     /// Writes a member's name.
-    pub fn key(&mut self, name: &str) -> Result<(), AllocError> {
-        self.begin()?;
-        push_quoted(&mut self.text, name)?;
+    pub fn key(&mut self, name: &str) {
+        self.begin();
+        self.push_string(name);
+        self.push(":");
         self.is_fresh = true;
-        self.text.push_str(":")
     }
 
     /// Writes a number.
-    pub fn number(&mut self, number: u64) -> Result<(), AllocError> {
-        self.begin()?;
-        write!(self.text, "{number}")
+    pub fn number(&mut self, number: u64) {
+        self.begin();
+        if write!(self.text, "{number}").is_err() {
+            self.lacks_pieces = true;
+        }
     }
 
     /// Writes a text.
-    pub fn text(&mut self, text: &str) -> Result<(), AllocError> {
-        self.begin()?;
-        push_quoted(&mut self.text, text)
+    pub fn text(&mut self, text: &str) {
+        self.begin();
+        self.push_string(text);
     }
 
     /// Writes a member that is a text.
-    pub fn text_of(&mut self, name: &str, text: &str) -> Result<(), AllocError> {
-        self.key(name)?;
-        self.is_fresh = false;
-        push_quoted(&mut self.text, text)
+    pub fn text_of(&mut self, name: &str, text: &str) {
+        self.key(name);
+        self.text(text);
     }
 
     /// Writes a member that is a number.
-    pub fn number_of(&mut self, name: &str, number: u64) -> Result<(), AllocError> {
-        self.key(name)?;
-        self.number(number)
+    pub fn number_of(&mut self, name: &str, number: u64) {
+        self.key(name);
+        self.number(number);
+    }
+
+    /// Writes a member that is a reference: a number as a text, hexadecimal behind `0x`.
+    pub fn reference_of(&mut self, name: &str, number: u64) {
+        self.key(name);
+        self.is_fresh = false;
+        if write!(self.text, "\"0x{number:x}\"").is_err() {
+            self.lacks_pieces = true;
+        }
+    }
+
+    /// Writes a member that is written so in JSON.
+    fn plain_of(&mut self, name: &str, value: &str) {
+        self.key(name);
+        self.is_fresh = false;
+        self.push(value);
     }
 
     /// Writes a member that is true or false.
-    pub fn truth_of(&mut self, name: &str, is: bool) -> Result<(), AllocError> {
-        self.key(name)?;
-        self.is_fresh = false;
-        self.text.push_str(if is { "true" } else { "false" })
+    pub fn truth_of(&mut self, name: &str, is: bool) {
+        self.plain_of(name, if is { "true" } else { "false" });
     }
 
     /// Writes a member that is null.
-    pub fn null_of(&mut self, name: &str) -> Result<(), AllocError> {
-        self.key(name)?;
-        self.is_fresh = false;
-        self.text.push_str("null")
+    pub fn null_of(&mut self, name: &str) {
+        self.plain_of(name, "null");
     }
 
-    /// Writes a member that is another text's value.
-    pub fn value_of(&mut self, name: &str, value: &Json) -> Result<(), AllocError> {
-        self.key(name)?;
-        self.is_fresh = false;
-        self.text.push_str(value.as_str())
+    /// Writes a member that is another text's value. What that lacks, this lacks too.
+    pub fn value_of(&mut self, name: &str, value: &Json) {
+        self.plain_of(name, value.text.as_str());
+        self.lacks_pieces = self.lacks_pieces || value.lacks_pieces;
     }
 }
 

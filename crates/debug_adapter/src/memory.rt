@@ -29,13 +29,13 @@ impl<'a, 'i, 't> Adapter<'a, 'i, 't> {
             };
             bytes.push(byte)?;
         }
-        let address = format!(in self.alloc; "0x{first:x}")?;
-        body.open()?;
-        body.text_of("address", &address)?;
-        body.number_of("unreadableBytes", count.saturating_sub(bytes.len() as u64))?;
+        body.open();
+        body.reference_of("address", first);
+        body.number_of("unreadableBytes", count.saturating_sub(bytes.len() as u64));
         let text = STANDARD.encode(self.alloc, &bytes)?;
-        body.text_of("data", &text)?;
-        Ok(body.close()?)
+        body.text_of("data", &text);
+        body.close();
+        Ok(())
     }
 
     /// The byte at a byte address; None where there is none.

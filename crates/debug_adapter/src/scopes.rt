@@ -65,30 +65,26 @@ impl<'a, 'i, 't> Adapter<'a, 'i, 't> {
         let step = self.stream_of(request.number("frameId").unwrap_or(0))?;
         let id = thread_id(step);
         let words = self.named.session.machine().image().cells().len() as u64;
-        body.open()?;
-        body.open_list("scopes")?;
-        push_scope(body, "Registers", REGISTERS.saturating_add(id), None)?;
-        push_scope(body, "Targets", TARGETS.saturating_add(id), None)?;
-        push_scope(body, "Status", STATUS.saturating_add(id), None)?;
-        push_scope(body, "Memory", MEMORY, Some(words))?;
-        body.close_list()?;
-        Ok(body.close()?)
+        body.open();
+        body.open_list("scopes");
+        push_scope(body, "Registers", REGISTERS.saturating_add(id), None);
+        push_scope(body, "Targets", TARGETS.saturating_add(id), None);
+        push_scope(body, "Status", STATUS.saturating_add(id), None);
+        push_scope(body, "Memory", MEMORY, Some(words));
+        body.close_list();
+        body.close();
+        Ok(())
     }
 }
 
 /// Adds a scope; with how many words it has, where those are asked for page by page.
-fn push_scope(
-    body: &mut Json,
-    name: &str,
-    reference: u64,
-    words: Option<u64>,
-) -> Result<(), Refusal> {
-    body.open()?;
-    body.text_of("name", name)?;
-    body.number_of("variablesReference", reference)?;
+fn push_scope(body: &mut Json, name: &str, reference: u64, words: Option<u64>) {
+    body.open();
+    body.text_of("name", name);
+    body.number_of("variablesReference", reference);
     if let Some(words) = words {
-        body.number_of("indexedVariables", words)?;
+        body.number_of("indexedVariables", words);
     }
-    body.truth_of("expensive", false)?;
-    Ok(body.close()?)
+    body.truth_of("expensive", false);
+    body.close();
 }

@@ -64,17 +64,17 @@ impl<'a, 'i, 't> Adapter<'a, 'i, 't> {
         };
         let description = format!(in self.alloc; "after {position} of {steps} steps{end}")?;
         let mut body = Json::new(self.alloc);
-        body.open()?;
-        body.text_of("reason", reason)?;
-        body.text_of("description", &description)?;
-        body.number_of("threadId", thread_id(stream))?;
-        body.truth_of("allThreadsStopped", true)?;
-        body.open_list("hitBreakpointIds")?;
+        body.open();
+        body.text_of("reason", reason);
+        body.text_of("description", &description);
+        body.number_of("threadId", thread_id(stream));
+        body.truth_of("allThreadsStopped", true);
+        body.open_list("hitBreakpointIds");
         for number in numbers {
-            body.number(*number)?;
+            body.number(*number);
         }
-        body.close_list()?;
-        body.close()?;
+        body.close_list();
+        body.close();
         Ok(events.push("stopped", body)?)
     }
 
@@ -92,10 +92,10 @@ impl<'a, 'i, 't> Adapter<'a, 'i, 't> {
             return Ok(());
         };
         let mut body = Json::new(self.alloc);
-        body.open()?;
-        body.text_of("category", "console")?;
-        body.text_of("output", &line)?;
-        body.close()?;
+        body.open();
+        body.text_of("category", "console");
+        body.text_of("output", &line);
+        body.close();
         Ok(events.push("output", body)?)
     }
 
@@ -137,10 +137,11 @@ impl<'a, 'i, 't> Adapter<'a, 'i, 't> {
                 "the last step neither trapped nor was blocked",
             )),
         }
-        body.open()?;
-        body.text_of("exceptionId", &name)?;
-        body.text_of("description", line.trim())?;
-        body.text_of("breakMode", "always")?;
-        Ok(body.close()?)
+        body.open();
+        body.text_of("exceptionId", &name);
+        body.text_of("description", line.trim());
+        body.text_of("breakMode", "always");
+        body.close();
+        Ok(())
     }
 }

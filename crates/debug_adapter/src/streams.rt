@@ -48,8 +48,8 @@ impl<'a, 'i, 't> Adapter<'a, 'i, 't> {
     /// The streams that run, have stopped, or were told of last.
     pub(crate) fn threads(&self, body: &mut Json) -> Result<(), Refusal> {
         let slim = self.named.session.machine().image().slim();
-        body.open()?;
-        body.open_list("threads")?;
+        body.open();
+        body.open_list("threads");
         for p in 0..self.named.session.machine().image().processors() {
             for s in 0..slim.min(256) {
                 let step = Step {
@@ -61,8 +61,9 @@ impl<'a, 'i, 't> Adapter<'a, 'i, 't> {
                 }
             }
         }
-        body.close_list()?;
-        Ok(body.close()?)
+        body.close_list();
+        body.close();
+        Ok(())
     }
 
     /// Adds a stream to the list of threads.
@@ -71,10 +72,11 @@ impl<'a, 'i, 't> Adapter<'a, 'i, 't> {
         push_stream(&mut name, step.p, step.s)?;
         name.push_str(" ")?;
         self.push_place_of(step, &mut name)?;
-        body.open()?;
-        body.number_of("id", thread_id(step))?;
-        body.text_of("name", &name)?;
-        Ok(body.close()?)
+        body.open();
+        body.number_of("id", thread_id(step));
+        body.text_of("name", &name);
+        body.close();
+        Ok(())
     }
 
     /// Adds the place at which a stream stands, or that it is idle.
@@ -90,14 +92,15 @@ impl<'a, 'i, 't> Adapter<'a, 'i, 't> {
     /// The frame of a stream.
     pub(crate) fn stack_trace(&self, request: &Request, body: &mut Json) -> Result<(), Refusal> {
         let step = self.thread_of(request)?;
-        body.open()?;
-        body.open_list("stackFrames")?;
+        body.open();
+        body.open_list("stackFrames");
         if request.number("startFrame").unwrap_or(0) == 0 {
             self.push_frame(step, body)?;
         }
-        body.close_list()?;
-        body.number_of("totalFrames", 1)?;
-        Ok(body.close()?)
+        body.close_list();
+        body.number_of("totalFrames", 1);
+        body.close();
+        Ok(())
     }
 
     /// Adds the frame of a stream.
@@ -105,19 +108,20 @@ impl<'a, 'i, 't> Adapter<'a, 'i, 't> {
         let pc = self.named.pc(step.p, step.s).unwrap_or(0);
         let mut name = String::new(self.alloc);
         self.push_place_of(step, &mut name)?;
-        body.open()?;
-        body.number_of("id", thread_id(step))?;
-        body.text_of("name", &name)?;
+        body.open();
+        body.number_of("id", thread_id(step));
+        body.text_of("name", &name);
         if self.status(step) == Some(Status::Idle) || pc >= self.names.words() {
-            body.number_of("line", 0)?;
-            body.number_of("column", 0)?;
-            return Ok(body.close()?);
+            body.number_of("line", 0);
+            body.number_of("column", 0);
+            body.close();
+            return Ok(());
         }
-        self.push_source(body)?;
-        body.number_of("line", self.client_line(pc))?;
-        body.number_of("column", self.origin.client.first_column)?;
-        let reference = format!(in self.alloc; "0x{pc:x}")?;
-        body.text_of("instructionPointerReference", &reference)?;
-        Ok(body.close()?)
+        self.push_source("source", body);
+        body.number_of("line", self.client_line(pc));
+        body.number_of("column", self.origin.client.first_column);
+        body.reference_of("instructionPointerReference", u64::from(pc));
+        body.close();
+        Ok(())
     }
 }

@@ -35,8 +35,8 @@ impl<'a, 'i, 't> Adapter<'a, 'i, 't> {
             return Err(Refusal::Words("there is nothing of this reference"));
         };
         let style = style_of(request);
-        body.open()?;
-        body.open_list("variables")?;
+        body.open();
+        body.open_list("variables");
         match container {
             Container::Registers(step) => self.push_registers(step, style, body)?,
             Container::Targets(step) => self.push_targets(step, body)?,
@@ -44,8 +44,9 @@ impl<'a, 'i, 't> Adapter<'a, 'i, 't> {
             Container::Memory => self.push_memory(request, style, body)?,
             Container::Word(word) => self.push_word_parts(word, style, body)?,
         }
-        body.close_list()?;
-        Ok(body.close()?)
+        body.close_list();
+        body.close();
+        Ok(())
     }
 
     /// Adds the registers of a stream.
@@ -84,7 +85,7 @@ impl<'a, 'i, 't> Adapter<'a, 'i, 't> {
             };
             let address = wait.address;
             let text = format!(in self.alloc; "for [{address}] to be {wanted}")?;
-            push_variable(body, "waits", &text, 0)?;
+            push_variable(body, "waits", &text, 0);
         }
         Ok(())
     }
@@ -108,7 +109,8 @@ impl<'a, 'i, 't> Adapter<'a, 'i, 't> {
         };
         let mut text = String::new(self.alloc);
         self.push_content(&mut text, style, part, content)?;
-        push_variable(body, name, &text, 0)
+        push_variable(body, name, &text, 0);
+        Ok(())
     }
 
     /// Adds what stands in a part of a stream.
@@ -184,15 +186,15 @@ impl<'a, 'i, 't> Adapter<'a, 'i, 't> {
             text.push_str("   ")?;
             text.push_str(comment)?;
         }
-        let reference = format!(in self.alloc; "0x{address:x}")?;
-        body.open()?;
-        body.text_of("name", &name)?;
-        body.text_of("value", &text)?;
-        body.text_of("evaluateName", &name)?;
-        body.text_of("memoryReference", &reference)?;
-        body.number_of("variablesReference", word_reference(index))?;
-        body.number_of("namedVariables", 5)?;
-        Ok(body.close()?)
+        body.open();
+        body.text_of("name", &name);
+        body.text_of("value", &text);
+        body.text_of("evaluateName", &name);
+        body.reference_of("memoryReference", address);
+        body.number_of("variablesReference", word_reference(index));
+        body.number_of("namedVariables", 5);
+        body.close();
+        Ok(())
     }
 
     /// Adds the parts of a word.
@@ -208,10 +210,11 @@ impl<'a, 'i, 't> Adapter<'a, 'i, 't> {
         };
         let mut value = String::new(self.alloc);
         push_value(&mut value, style, word.value())?;
-        push_variable(body, "value", &value, 0)?;
+        push_variable(body, "value", &value, 0);
         let full = if word.is_full() { "full" } else { "empty" };
-        push_variable(body, "full/empty", full, 0)?;
-        push_other_tags(body, word)
+        push_variable(body, "full/empty", full, 0);
+        push_other_tags(body, word);
+        Ok(())
     }
 
     /// What a variable's name means as a word: of a part of a word, its address is put before.
@@ -230,10 +233,10 @@ impl<'a, 'i, 't> Adapter<'a, 'i, 't> {
 }
 
 /// Adds the other bits of a word.
-fn push_other_tags(body: &mut Json, word: Word) -> Result<(), Refusal> {
-    push_variable(body, "forward", bit(word.is_forward()), 0)?;
-    push_variable(body, "trap0", bit(word.has_trap0()), 0)?;
-    push_variable(body, "trap1", bit(word.has_trap1()), 0)
+fn push_other_tags(body: &mut Json, word: Word) {
+    push_variable(body, "forward", bit(word.is_forward()), 0);
+    push_variable(body, "trap0", bit(word.has_trap0()), 0);
+    push_variable(body, "trap1", bit(word.has_trap1()), 0);
 }
 
 /// A bit as text.
@@ -251,12 +254,12 @@ fn is_place(part: StreamPart, number: u32) -> bool {
 }
 
 /// Adds a variable.
-fn push_variable(body: &mut Json, name: &str, value: &str, reference: u64) -> Result<(), Refusal> {
-    body.open()?;
-    body.text_of("name", name)?;
-    body.text_of("value", value)?;
-    body.number_of("variablesReference", reference)?;
-    Ok(body.close()?)
+fn push_variable(body: &mut Json, name: &str, value: &str, reference: u64) {
+    body.open();
+    body.text_of("name", name);
+    body.text_of("value", value);
+    body.number_of("variablesReference", reference);
+    body.close();
 }
 
 /// How a request wants numbers.

@@ -2,7 +2,7 @@
 
 use crate::arguments::{Argument, Form};
 use crate::help;
-use crate::options::{MOST_SEEDS, MOST_STEPS, MOST_WORLDS};
+use crate::options::{MOST_MEGABYTES, MOST_SECONDS, MOST_SEEDS, MOST_STEPS, MOST_WORLDS};
 
 /// A command.
 #[derive(Clone, Copy)]
@@ -175,7 +175,7 @@ const COMPARE_ARGUMENTS: [Argument; 5] = [
     Argument("json", help::JSON, Form::Flag(&[])),
 ];
 
-const SURVEY_ARGUMENTS: [Argument; 9] = [
+const SURVEY_ARGUMENTS: [Argument; 11] = [
     Argument("PROGRAM", help::PROGRAM, Form::Needed),
     Argument(
         "seeds",
@@ -199,15 +199,31 @@ const SURVEY_ARGUMENTS: [Argument; 9] = [
         help::STATES,
         Form::NumberWith("N", 1, MOST_WORLDS, "explore"),
     ),
+    Argument(
+        "seconds",
+        help::SECONDS,
+        Form::NumberWith("N", 0, MOST_SECONDS, "explore"),
+    ),
+    Argument(
+        "memory",
+        help::MEMORY,
+        Form::NumberWith("MB", 1, MOST_MEGABYTES, "explore"),
+    ),
     Argument("hex", help::HEX, Form::Flag(&[])),
     Argument("json", help::JSON, Form::Flag(&[])),
 ];
 
-const EXPLORE_ARGUMENTS: [Argument; 9] = [
+const EXPLORE_ARGUMENTS: [Argument; 11] = [
     Argument("PROGRAM", help::PROGRAM, Form::Needed),
     Argument("expect", help::EXPECT, Form::Option("FILE")),
     Argument("from", help::BEGIN, Form::Option("SCHEDULE")),
     Argument("states", help::STATES, Form::Number("N", 1, MOST_WORLDS)),
+    Argument("seconds", help::SECONDS, Form::Number("N", 0, MOST_SECONDS)),
+    Argument(
+        "memory",
+        help::MEMORY,
+        Form::Number("MB", 1, MOST_MEGABYTES),
+    ),
     Argument("plain", help::PLAIN, Form::Flag(&[])),
     Argument(
         "keep",
@@ -223,7 +239,7 @@ const EXPLORE_ARGUMENTS: [Argument; 9] = [
     Argument("json", help::JSON, Form::Flag(&[])),
 ];
 
-const GRADE_ARGUMENTS: [Argument; 8] = [
+const GRADE_ARGUMENTS: [Argument; 10] = [
     Argument("expect", help::EXPECT, Form::NeededOption("FILE")),
     Argument(
         "seeds",
@@ -240,6 +256,16 @@ const GRADE_ARGUMENTS: [Argument; 8] = [
         "states",
         help::STATES,
         Form::NumberWith("N", 1, MOST_WORLDS, "explore"),
+    ),
+    Argument(
+        "seconds",
+        help::SECONDS,
+        Form::NumberWith("N", 0, MOST_SECONDS, "explore"),
+    ),
+    Argument(
+        "memory",
+        help::MEMORY,
+        Form::NumberWith("MB", 1, MOST_MEGABYTES, "explore"),
     ),
     Argument(
         "SUBMISSION",

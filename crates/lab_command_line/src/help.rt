@@ -136,7 +136,11 @@ pub(crate) const SEED: &str = "steps are random, by a generator with this seed";
 
 pub(crate) const BEGIN: &str = "a schedule: only those that begin with it [none]";
 
-pub(crate) const STATES: &str = "of every schedule, the most worlds that are looked for [20000000]";
+pub(crate) const STATES: &str = "of every schedule, the most worlds that are looked for [5000000]";
+
+pub(crate) const SECONDS: &str = "of every schedule, the most seconds of the search [none]";
+
+pub(crate) const MEMORY: &str = "of every schedule, the most megabytes of the search [none]";
 
 pub(crate) const PLAIN: &str = "looks at all worlds, also where the ends need fewer";
 

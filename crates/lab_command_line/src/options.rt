@@ -16,7 +16,13 @@ pub(crate) const USUAL_STEPS: usize = 10_000;
 pub(crate) const MOST_WORLDS: u64 = 1_000_000_000;
 
 /// How many worlds it looks for at most, where none are said.
-pub(crate) const USUAL_WORLDS: usize = 20_000_000;
+pub(crate) const USUAL_WORLDS: usize = 5_000_000;
+
+/// The most seconds that it may be asked to take: more than ten years.
+pub(crate) const MOST_SECONDS: u64 = 1_000_000_000;
+
+/// The most megabytes that it may be asked to hold.
+pub(crate) const MOST_MEGABYTES: u64 = 1_000_000_000;
 
 /// How many seeds `grade` tries, where none are said.
 pub(crate) const USUAL_SEEDS: usize = 200;

@@ -5,7 +5,7 @@ use crate::parsers::lab_parser;
 use clap::error::ErrorKind;
 use clap::{ArgMatches, Error};
 use lab_requests::{
-    CheckRequest, ExploreRequest, FileKind, GradeRequest, LabCommand, Maker, PageRequest,
+    Bounds, CheckRequest, ExploreRequest, FileKind, GradeRequest, LabCommand, Maker, PageRequest,
     RunChoice, Shown, SurveyRequest, ViewRequest,
 };
 use std::alloc::{AllocError, Global};
@@ -178,7 +178,7 @@ fn explore_of<'a>(found: &ArgMatches<'a>) -> ExploreRequest<'a> {
         program: word(found, "PROGRAM"),
         expected: text(found, "expect"),
         from: text(found, "from"),
-        most: count(found, "states", USUAL_WORLDS),
+        bounds: bounds_of(found),
         is_plain: found.get_flag("plain"),
         keep: text(found, "keep"),
         dot: text(found, "dot"),
@@ -198,12 +198,21 @@ fn grade_of<'a>(alloc: Global, found: &ArgMatches<'a>) -> Result<GradeRequest<'a
     })
 }
 
-/// Where all schedules are asked for, the most worlds that are looked for.
-fn explored_of(found: &ArgMatches) -> Option<usize> {
+/// Where all schedules are asked for, how far they are looked for.
+fn explored_of(found: &ArgMatches) -> Option<Bounds> {
     if found.get_flag("explore") {
-        Some(count(found, "states", USUAL_WORLDS))
+        Some(bounds_of(found))
     } else {
         None
+    }
+}
+
+/// How far a search among all schedules goes.
+fn bounds_of(found: &ArgMatches) -> Bounds {
+    Bounds {
+        worlds: count(found, "states", USUAL_WORLDS),
+        seconds: found.get_one::<u64>("seconds"),
+        megabytes: found.get_one::<usize>("memory"),
     }
 }
 

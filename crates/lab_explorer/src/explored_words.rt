@@ -2,6 +2,7 @@
 
 use crate::expectation_texts::push_expectation;
 use crate::exploring::Explored;
+use crate::watching::SearchBound;
 use crate::widths::digits_of;
 use command_parts::{Answer, push_object};
 use end_kinds::EndKind;
@@ -52,13 +53,22 @@ fn push_head(
         let complete = found.is_complete;
         let is_plain = found.is_of_all_worlds;
         let begin = found.begin;
+        let bound = bound_value(alloc, found.bound)?;
         let value = json!(in alloc; {
             "version": VERSION, "worlds": worlds, "steps": steps, "complete": complete, "plain": is_plain,
-            "begin": begin
+            "begin": begin, "bound": bound
         })?;
         return push_object(alloc, out, &value);
     }
     push_head_line(out, found)
+}
+
+/// What ended a search, as objects have it: null where nothing did.
+pub fn bound_value(alloc: Global, bound: Option<SearchBound>) -> Result<Value, AllocError> {
+    match bound {
+        Some(bound) => Ok(Value::String(String::from_str(alloc, bound.json_name())?)),
+        None => Ok(Value::Null),
+    }
 }
 
 /// Adds how much was found, in words.
@@ -66,11 +76,6 @@ pub(crate) fn push_head_line(out: &mut String, found: &Explored) -> Result<(), A
     let worlds = found.worlds;
     let steps = found.steps;
     let which = schedules_of(found);
-    let end = if found.is_complete {
-        "complete"
-    } else {
-        "not complete: nothing is said of the others"
-    };
     let some_worlds = plural(worlds);
     let some_steps = plural(steps);
     let looked_at = if found.is_of_all_worlds {
@@ -80,8 +85,18 @@ pub(crate) fn push_head_line(out: &mut String, found: &Explored) -> Result<(), A
     };
     write!(
         out,
-        "{which}: {worlds} world{some_worlds}{looked_at}, {steps} step{some_steps}, {end}\n"
-    )
+        "{which}: {worlds} world{some_worlds}{looked_at}, {steps} step{some_steps}, "
+    )?;
+    match found.bound {
+        Some(bound) => {
+            let words = bound.words();
+            write!(
+                out,
+                "not complete, {words}: nothing is said of the others\n"
+            )
+        }
+        None => out.push_str("complete\n"),
+    }
 }
 
 /// Of which schedules a search tells.

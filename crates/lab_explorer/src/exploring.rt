@@ -9,6 +9,7 @@ ghost use Rattle.schedule_verdicts.specs.RightSpaces.{EndsRight, IsRightOnEachWa
 use crate::explored_words::answer_of;
 use crate::graphs::{graph_asked, write_graph};
 use crate::spaces::space_of;
+use crate::watching::{Console, SearchBound, Watcher};
 use crate::wished::wishes_of;
 use command_parts::{
     Answer, Inputs, LabFault, Program, Status, read_program, read_steps, style_of,
@@ -22,8 +23,9 @@ use processor::Step;
 use schedule_space::Space;
 use schedule_verdicts::{are_kept_on_the_way, is_right};
 use std::alloc::{AllocError, Global};
-use std::io::Read;
+use std::io::{Read, Write};
 use std::rt::Files;
+use std::time::Clock;
 use trace_text::write_schedule;
 
 /// What is looked for among the schedules of a program.
@@ -69,6 +71,8 @@ pub struct Explored {
     pub steps: usize,
     /// Whether they are all, or all that the ends need.
     pub is_complete: bool,
+    /// What ended the search, where they are not.
+    pub bound: Option<SearchBound>,
     /// Whether all worlds were looked for.
     pub is_of_all_worlds: bool,
     /// How many steps were given that all schedules begin with.
@@ -97,17 +101,29 @@ impl Explored {
 }
 
 /// Shows every end that schedules of a program come to.
-pub fn show_every_end<F: Files, R: Read>(
+pub fn show_every_end<C: Clock, F: Files, R: Read, E: Write>(
     alloc: Global,
     inputs: &mut Inputs<'_, F, R>,
     request: &ExploreRequest,
+    console: &mut Console<'_, C, E>,
 ) -> Result<Answer, LabFault> {
     let program = read_program(alloc, inputs, request.program)?;
     let names = ProgramNames::of(alloc, &program.text)?;
     let wishes = wishes_asked(alloc, inputs, request, &program, &names)?;
     let begin = begin_asked(alloc, inputs, request, &program)?;
     let made = make_folder(alloc, inputs, request.keep);
-    let found = found_by(alloc, request, &program, &names, &wishes, &begin)?;
+    let mut watcher = Watcher::new(alloc, console, request.bounds)?;
+    let found = found_by(
+        alloc,
+        request,
+        &program,
+        &names,
+        &wishes,
+        &begin,
+        &mut watcher,
+    );
+    watcher.finish();
+    let found = found?;
     let mut answer = answer_of(alloc, request, &wishes.ends, &found)?;
     let kept = keep_schedules(alloc, inputs, request.keep, made, &found.ends);
     let drawn = write_graph(alloc, inputs, request.dot, &found);
@@ -156,23 +172,24 @@ fn wishes_asked<F: Files, R: Read>(
 }
 
 /// What the search that is asked for comes to.
-fn found_by(
+fn found_by<C: Clock, E: Write>(
     alloc: Global,
     request: &ExploreRequest,
     program: &Program,
     names: &ProgramNames<'_>,
     wishes: &Wishes,
     begin: &[Step],
+    watcher: &mut Watcher<'_, '_, C, E>,
 ) -> Result<Explored, AllocError> {
     let asked = Search {
         wishes,
         begin,
-        most: request.most,
+        most: request.bounds.worlds,
         is_plain: request.is_plain,
         is_drawn: request.dot.is_some(),
         style: style_of(request.shown),
     };
-    explore_program(alloc, program, names, &asked)
+    explore_program(alloc, program, names, &asked, watcher)
 }
 
 /// Writes the schedule to each end into the folder that was made, as `1.schedule` and so on.
@@ -197,30 +214,32 @@ fn keep_schedules<F: Files, R: Read>(
 }
 
 /// What a search among the schedules of a program comes to.
-pub fn explore_program(
+pub fn explore_program<C: Clock, E: Write>(
     alloc: Global,
     program: &Program,
     names: &ProgramNames<'_>,
     asked: &Search<'_>,
+    watcher: &mut Watcher<'_, '_, C, E>,
 ) -> Result<Explored, AllocError>
     ensures right { IfOk result (λ e. let wishes = asked.now.wishes.now in IsTrue e.is_right
         ↔ (IsTrue e.is_complete × (0 < length wishes.ends.items + length wishes.claims.items)
         × IsRightThroughout program.now.image asked.now.begin.now wishes.ends.items wishes.claims.items)) }
 {
     match program.image.slim() {
-        0 | 1 => explore_on::<1>(alloc, program, names, asked),
-        2..=4 => explore_on::<4>(alloc, program, names, asked),
-        5..=16 => explore_on::<16>(alloc, program, names, asked),
-        _ => explore_on::<128>(alloc, program, names, asked),
+        0 | 1 => explore_on::<1, C, E>(alloc, program, names, asked, watcher),
+        2..=4 => explore_on::<4, C, E>(alloc, program, names, asked, watcher),
+        5..=16 => explore_on::<16, C, E>(alloc, program, names, asked, watcher),
+        _ => explore_on::<128, C, E>(alloc, program, names, asked, watcher),
     }
 }
 
 /// The same on machines with room for `S` streams a processor.
-fn explore_on<const S: usize>(
+fn explore_on<const S: usize, C: Clock, E: Write>(
     alloc: Global,
     program: &Program,
     names: &ProgramNames<'_>,
     asked: &Search<'_>,
+    watcher: &mut Watcher<'_, '_, C, E>,
 ) -> Result<Explored, AllocError>
     ensures right { IfOk result (λ e. let wishes = asked.now.wishes.now in IsTrue e.is_right
         ↔ (IsTrue e.is_complete × (0 < length wishes.ends.items + length wishes.claims.items)
@@ -228,12 +247,13 @@ fn explore_on<const S: usize>(
 {
     let most = asked.most.max(1);
     let is_of_all_worlds = asked.is_of_all_worlds();
-    let (space, is_complete) = space_of::<S>(
+    let (space, is_complete) = space_of::<S, C, E>(
         alloc,
         &program.image,
         asked.begin,
         most,
         is_of_all_worlds,
+        watcher,
     )?;
     let ends = space_ends::<S>(alloc, names, asked.style, asked.wishes, &space, is_complete)?;
     let graph = graph_asked(alloc, asked.is_drawn, &space, &ends)?;
@@ -243,6 +263,7 @@ fn explore_on<const S: usize>(
         worlds: space.len(),
         steps: space.step_count(),
         is_complete,
+        bound: watcher.bound(),
         is_of_all_worlds,
         begin: asked.begin.len(),
         ends,

@@ -7,11 +7,14 @@ mod explored_words;
 mod exploring;
 mod graphs;
 mod spaces;
+mod watching;
 mod widths;
 mod wished;
 
 pub use claim_texts::claim_words;
 pub use expectation_texts::push_expectation;
+pub use explored_words::bound_value;
 pub use exploring::{Explored, Search, explore_program, show_every_end};
+pub use watching::{Console, SearchBound, Watcher};
 pub use widths::digits_of;
 pub use wished::{expectations_of, expected_of, wish_fault, wishes_of};

@@ -4,20 +4,24 @@ ghost use Rattle.std.specs.Prelude.{◌≡◌, ◌≤◌, ◌⊎◌, IsTrue, IfO
 ghost use Rattle.schedule_space.specs.Spaces.{IsComplete, HasAllEdges};
 ghost use Rattle.schedule_space.specs.Followed.{AllFollowed, HasAllEnds, TellsWhetherAllEnd};
 
+use crate::watching::Watcher;
 use image_file::Image;
 use machine::LoadFault;
 use processor::Step;
 use schedule_space::{Exploration, Space, explore, explore_ends};
 use std::alloc::{AllocError, Global};
+use std::io::Write;
+use std::time::Clock;
 
 /// The space of an image of so many worlds at most, of all worlds or of those that the ends need, and whether it has all
 /// ends that schedules with this beginning lead to.
-pub(crate) fn space_of<'i, const S: usize>(
+pub(crate) fn space_of<'i, const S: usize, C: Clock, E: Write>(
     alloc: Global,
     image: &'i Image,
     begin: &[Step],
     most: usize,
     is_of_all_worlds: bool,
+    watcher: &mut Watcher<'_, '_, C, E>,
 ) -> Result<(Space<'i>, bool), AllocError>
     requires { 1 ≤ most }
     ensures image { IfOk result (λ found. found.0.image ≡ image.entry.now) }
@@ -29,18 +33,19 @@ pub(crate) fn space_of<'i, const S: usize>(
         → (IsComplete found.0 × HasAllEdges found.0) ⊎ AllFollowed found.0) }
 {
     if is_of_all_worlds {
-        all_worlds::<S>(alloc, image, begin, most)
+        all_worlds::<S, C, E>(alloc, image, begin, most, watcher)
     } else {
-        all_ends::<S>(alloc, image, begin, most)
+        all_ends::<S, C, E>(alloc, image, begin, most, watcher)
     }
 }
 
 /// The same of all worlds.
-fn all_worlds<'i, const S: usize>(
+fn all_worlds<'i, const S: usize, C: Clock, E: Write>(
     alloc: Global,
     image: &'i Image,
     begin: &[Step],
     most: usize,
+    watcher: &mut Watcher<'_, '_, C, E>,
 ) -> Result<(Space<'i>, bool), AllocError>
     requires { 1 ≤ most }
     ensures image { IfOk result (λ found. found.0.image ≡ image.entry.now) }
@@ -51,19 +56,23 @@ fn all_worlds<'i, const S: usize>(
     ensures taken { IfOk result (λ found. IsTrue found.1
         → (IsComplete found.0 × HasAllEdges found.0) ⊎ AllFollowed found.0) }
 {
-    match explore::<S>(alloc, image, begin, most) {
+    match explore::<S, _>(alloc, image, begin, most, watcher) {
         Ok(Exploration::Complete(space)) => Ok((space, true)),
-        Ok(Exploration::Bounded(space)) => Ok((space, false)),
+        Ok(Exploration::Bounded(space, bound)) => {
+            watcher.end(bound);
+            Ok((space, false))
+        }
         Err(LoadFault::NoMemory | LoadFault::Streams) => Err(AllocError),
     }
 }
 
 /// The same of the worlds that the ends need.
-fn all_ends<'i, const S: usize>(
+fn all_ends<'i, const S: usize, C: Clock, E: Write>(
     alloc: Global,
     image: &'i Image,
     begin: &[Step],
     most: usize,
+    watcher: &mut Watcher<'_, '_, C, E>,
 ) -> Result<(Space<'i>, bool), AllocError>
     requires { 1 ≤ most }
     ensures image { IfOk result (λ found. found.0.image ≡ image.entry.now) }
@@ -73,9 +82,12 @@ fn all_ends<'i, const S: usize>(
     ensures taken { IfOk result (λ found. IsTrue found.1
         → (IsComplete found.0 × HasAllEdges found.0) ⊎ AllFollowed found.0) }
 {
-    match explore_ends::<S>(alloc, image, begin, most) {
+    match explore_ends::<S, _>(alloc, image, begin, most, watcher) {
         Ok(Exploration::Complete(space)) => Ok((space, true)),
-        Ok(Exploration::Bounded(space)) => Ok((space, false)),
+        Ok(Exploration::Bounded(space, bound)) => {
+            watcher.end(bound);
+            Ok((space, false))
+        }
         Err(LoadFault::NoMemory | LoadFault::Streams) => Err(AllocError),
     }
 }

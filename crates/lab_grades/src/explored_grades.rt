@@ -5,21 +5,26 @@ use command_parts::{LabFault, Program, style_of};
 use end_kinds::{EndKind, Status};
 use expectations::Expectation;
 use lab_ends::{ClaimFault, SpaceEnd, SpaceEndKind, WishFault, Wishes};
-use lab_explorer::{Explored, Search, claim_words, explore_program, wish_fault};
-use lab_requests::GradeRequest;
+use lab_explorer::{
+    Console, Explored, Search, SearchBound, Watcher, claim_words, explore_program, wish_fault,
+};
+use lab_requests::{Bounds, GradeRequest};
 use lab_texts::ProgramNames;
 use std::alloc::{AllocError, Global};
+use std::io::Write;
+use std::time::Clock;
 use trace_text::write_schedule;
 
 /// What is said of a submission: the first that holds of any of its ends of a trap, a deadlock, a wrong end, a broken
 /// claim, a set of worlds that spin; where it has none of them, whether the search had all of them. The status is the
 /// worst over all of them.
-pub(crate) fn explored_verdict(
+pub(crate) fn explored_verdict<C: Clock, E: Write>(
     alloc: Global,
     request: &GradeRequest,
     wishes: &[u8],
     program: &Program,
-    most: usize,
+    bounds: Bounds,
+    console: &mut Console<'_, C, E>,
 ) -> Result<Verdict, LabFault> {
     let names = ProgramNames::of(alloc, &program.text)?;
     let wishes = match wishes_for(alloc, request, wishes, program, &names)? {
@@ -30,12 +35,15 @@ pub(crate) fn explored_verdict(
     let asked = Search {
         wishes: &wishes,
         begin: &begin,
-        most,
+        most: bounds.worlds,
         is_plain: false,
         is_drawn: false,
         style: style_of(request.shown),
     };
-    let found = explore_program(alloc, program, &names, &asked)?;
+    let mut watcher = Watcher::new(alloc, console, bounds)?;
+    let found = explore_program(alloc, program, &names, &asked, &mut watcher);
+    watcher.finish();
+    let found = found?;
     Ok(verdict_of_ends(alloc, &wishes.ends, &found)?)
 }
 
@@ -97,9 +105,10 @@ fn verdict_of_ends(
     }
     let worlds = found.worlds;
     if !found.is_right {
+        let ended = words_of_bound(alloc, found.bound)?;
         return Ok(Verdict {
             word: "not decided",
-            why: format!(in alloc; "some schedules, {worlds} worlds")?,
+            why: format!(in alloc; "some schedules, {worlds} worlds{ended}")?,
             status: status.worse(Status::OutOfSteps),
         });
     }
@@ -108,6 +117,20 @@ fn verdict_of_ends(
         why: format!(in alloc; "every schedule, {worlds} worlds")?,
         status,
     })
+}
+
+/// What ended a search, as words that stand behind others; none where nothing did.
+pub(crate) fn words_of_bound(
+    alloc: Global,
+    bound: Option<SearchBound>,
+) -> Result<String, AllocError> {
+    match bound {
+        Some(bound) => {
+            let words = bound.words();
+            format!(in alloc; ", {words}")
+        }
+        None => Ok(String::new(alloc)),
+    }
 }
 
 /// What an end of a submission can show against it.

@@ -5,15 +5,16 @@ use crate::outcomes::{Outcome, Seeds, outcomes_of, worst_status};
 use command_parts::{Answer, Inputs, LabFault, Program, Status, program_of, push_object, style_of};
 use end_kinds::EndKind;
 use expectations::Expectation;
-use lab_explorer::{expectations_of, push_expectation};
+use lab_explorer::{Console, expectations_of, push_expectation};
 use lab_json::VERSION;
 use lab_requests::GradeRequest;
 use plain_text::{plain, push_plain};
 use serde_json::json;
 use std::alloc::{AllocError, Global};
-use std::io::Read;
+use std::io::{Read, Write};
 use std::rt::Files;
 use std::thread::Threads;
+use std::time::Clock;
 
 /// What is said of a submission.
 #[derive(Drop)]
@@ -27,11 +28,12 @@ pub(crate) struct Verdict {
 }
 
 /// Judges submissions, each by the same seeds or by every schedule.
-pub fn grade<X: Threads + Sync, F: Files, R: Read>(
+pub fn grade<X: Threads + Sync, C: Clock, F: Files, R: Read, E: Write>(
     rt: &X,
     alloc: Global,
     inputs: &mut Inputs<'_, F, R>,
     request: &GradeRequest,
+    console: &mut Console<'_, C, E>,
 ) -> Result<Answer, LabFault> {
     let wishes = inputs.read(alloc, request.expected)?;
     // with every schedule there are claims too, which are read by the names of each submission
@@ -43,7 +45,9 @@ pub fn grade<X: Threads + Sync, F: Files, R: Read>(
     let mut output = String::new(alloc);
     let mut status = Status::Done;
     for path in &request.submissions {
-        let verdict = verdict_on(rt, alloc, inputs, request, &wishes, &expected, path)?;
+        let verdict = verdict_on(
+            rt, alloc, inputs, request, &wishes, &expected, path, console,
+        )?;
         status = status.worse(verdict.status);
         push_verdict(alloc, &mut output, request.shown.json, path, &verdict)?;
     }
@@ -51,7 +55,7 @@ pub fn grade<X: Threads + Sync, F: Files, R: Read>(
 }
 
 /// What is said of the submission of a path: by every schedule, where that is asked for, or by seeds.
-fn verdict_on<X: Threads + Sync, F: Files, R: Read>(
+fn verdict_on<X: Threads + Sync, C: Clock, F: Files, R: Read, E: Write>(
     rt: &X,
     alloc: Global,
     inputs: &mut Inputs<'_, F, R>,
@@ -59,13 +63,14 @@ fn verdict_on<X: Threads + Sync, F: Files, R: Read>(
     wishes: &[u8],
     expected: &[Expectation],
     path: &str,
+    console: &mut Console<'_, C, E>,
 ) -> Result<Verdict, LabFault> {
     let program = match submission(alloc, inputs, path)? {
         Ok(program) => program,
         Err(verdict) => return Ok(verdict),
     };
     match request.explored {
-        Some(most) => explored_verdict(alloc, request, wishes, &program, most),
+        Some(bounds) => explored_verdict(alloc, request, wishes, &program, bounds, console),
         None => Ok(sampled_verdict(rt, alloc, request, expected, &program)?),
     }
 }

@@ -1,43 +1,50 @@
 //! The command `survey`.
 
+use crate::explored_grades::words_of_bound;
 use crate::outcomes::{Outcome, Seeds, outcomes_of, worst_status};
 use command_parts::{Answer, Inputs, LabFault, Program, push_object, read_program, style_of};
 use expectations::Expectation;
 use lab_ends::{SpaceEnd, SpaceEndKind, Wishes};
-use lab_explorer::{Explored, Search, digits_of, expected_of, explore_program, push_expectation};
+use lab_explorer::{
+    Console, Explored, Search, Watcher, bound_value, digits_of, expected_of, explore_program,
+    push_expectation,
+};
 use lab_json::{VERSION, digits};
-use lab_requests::SurveyRequest;
+use lab_requests::{Bounds, SurveyRequest};
 use lab_texts::{NumberStyle, ProgramNames};
 use plain_text::push_plain;
 use serde_json::{Value, json};
 use std::alloc::{AllocError, Global};
-use std::io::Read;
+use std::io::{Read, Write};
 use std::rt::Files;
 use std::thread::Threads;
+use std::time::Clock;
 
 /// Runs a program by many random schedules, and counts their ends.
-pub fn survey<X: Threads + Sync, F: Files, R: Read>(
+pub fn survey<X: Threads + Sync, C: Clock, F: Files, R: Read, E: Write>(
     rt: &X,
     alloc: Global,
     inputs: &mut Inputs<'_, F, R>,
     request: &SurveyRequest,
+    console: &mut Console<'_, C, E>,
 ) -> Result<Answer, LabFault> {
     let expected = match request.expected {
         Some(path) => expected_of(alloc, inputs, path)?,
         None => Vec::new(alloc),
     };
     let program = read_program(alloc, inputs, request.program)?;
-    Ok(survey_of(rt, alloc, request, &program, expected)?)
+    survey_of(rt, alloc, request, &program, expected, console)
 }
 
 /// The survey of a program, of whose ends this is expected.
-fn survey_of<X: Threads + Sync>(
+fn survey_of<X: Threads + Sync, C: Clock, E: Write>(
     rt: &X,
     alloc: Global,
     request: &SurveyRequest,
     program: &Program,
     expected: Vec<Expectation>,
-) -> Result<Answer, AllocError> {
+    console: &mut Console<'_, C, E>,
+) -> Result<Answer, LabFault> {
     let seeds = Seeds {
         first: request.first,
         count: request.seeds,
@@ -49,8 +56,8 @@ fn survey_of<X: Threads + Sync>(
     let mut output = String::new(alloc);
     push_outcomes(alloc, &mut output, request.shown.json, &expected, &outcomes)?;
     let mut status = worst_status(&outcomes);
-    if let Some(most) = request.explored {
-        let found = every_end(alloc, program, expected, seeds.style, most)?;
+    if let Some(bounds) = request.explored {
+        let found = every_end(alloc, program, expected, seeds.style, bounds, console)?;
         push_met(alloc, &mut output, request.shown.json, &found, &outcomes)?;
         status = status.worse(found.status());
     }
@@ -78,13 +85,14 @@ fn push_outcomes(
 }
 
 /// The ends of every schedule of a program.
-fn every_end(
+fn every_end<C: Clock, E: Write>(
     alloc: Global,
     program: &Program,
     expected: Vec<Expectation>,
     style: NumberStyle,
-    most: usize,
-) -> Result<Explored, AllocError> {
+    bounds: Bounds,
+    console: &mut Console<'_, C, E>,
+) -> Result<Explored, LabFault> {
     let names = ProgramNames::of(alloc, &program.text)?;
     let mut wishes = Wishes::none(alloc);
     wishes.ends = expected;
@@ -92,12 +100,15 @@ fn every_end(
     let asked = Search {
         wishes: &wishes,
         begin: &begin,
-        most,
+        most: bounds.worlds,
         is_plain: false,
         is_drawn: false,
         style,
     };
-    explore_program(alloc, program, &names, &asked)
+    let mut watcher = Watcher::new(alloc, console, bounds)?;
+    let found = explore_program(alloc, program, &names, &asked, &mut watcher);
+    watcher.finish();
+    Ok(found?)
 }
 
 /// Adds how many of the ends of every schedule were met.
@@ -117,8 +128,10 @@ fn push_met(
     let worlds = found.worlds;
     let complete = found.is_complete;
     if is_json {
+        let bound = bound_value(alloc, found.bound)?;
         let value = json!(in alloc; {
-            "version": VERSION, "ends": ends, "met": met, "worlds": worlds, "complete": complete
+            "version": VERSION, "ends": ends, "met": met, "worlds": worlds, "complete": complete,
+            "bound": bound
         })?;
         return push_object(alloc, out, &value);
     }
@@ -127,9 +140,10 @@ fn push_met(
     } else {
         "some schedules"
     };
+    let ended = words_of_bound(alloc, found.bound)?;
     write!(
         out,
-        "met {met} of the {ends} ends of {which} ({worlds} worlds)\n"
+        "met {met} of the {ends} ends of {which} ({worlds} worlds{ended})\n"
     )
 }
 

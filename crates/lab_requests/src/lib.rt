@@ -4,6 +4,6 @@
 mod requests;
 
 pub use requests::{
-    CheckRequest, ExploreRequest, FileKind, GradeRequest, LabCommand, Maker, PageRequest,
+    Bounds, CheckRequest, ExploreRequest, FileKind, GradeRequest, LabCommand, Maker, PageRequest,
     RunChoice, Shown, SurveyRequest, ViewRequest,
 };

@@ -89,6 +89,17 @@ pub struct PageRequest<'a> {
     pub out: &'a str,
 }
 
+/// How far a search among all schedules goes.
+#[derive(Clone, Copy, Debug)]
+pub struct Bounds {
+    /// The most worlds that are looked for, at least 1.
+    pub worlds: usize,
+    /// The most seconds that it takes.
+    pub seconds: Option<u64>,
+    /// The most megabytes, of 1,000,000 bytes, that what it holds takes.
+    pub megabytes: Option<usize>,
+}
+
 /// What `survey` is asked.
 #[derive(Clone, Copy, Debug)]
 pub struct SurveyRequest<'a> {
@@ -102,8 +113,8 @@ pub struct SurveyRequest<'a> {
     pub most: usize,
     /// The file of what each end has to be.
     pub expected: Option<&'a str>,
-    /// Beside it all schedules, to say how many of their ends were met: the most worlds that are looked for.
-    pub explored: Option<usize>,
+    /// Beside it all schedules, to say how many of their ends were met, and how far they are looked for.
+    pub explored: Option<Bounds>,
     /// How it is printed.
     pub shown: Shown,
 }
@@ -117,8 +128,8 @@ pub struct ExploreRequest<'a> {
     pub expected: Option<&'a str>,
     /// The file of the schedule that all schedules begin with.
     pub from: Option<&'a str>,
-    /// The most worlds that are looked for, at least 1.
-    pub most: usize,
+    /// How far the search goes.
+    pub bounds: Bounds,
     /// Whether all worlds are looked for, also where the ends need fewer.
     pub is_plain: bool,
     /// The folder for the shortest schedules.
@@ -138,8 +149,8 @@ pub struct GradeRequest<'a> {
     pub seeds: usize,
     /// The most steps of each schedule.
     pub most: usize,
-    /// All schedules in place of seeds: the most worlds that are looked for.
-    pub explored: Option<usize>,
+    /// All schedules in place of seeds, and how far they are looked for, of each submission.
+    pub explored: Option<Bounds>,
     /// The submissions, one at least: source texts or images.
     pub submissions: Vec<&'a str>,
     /// How it is printed.

@@ -5,7 +5,7 @@ use lab_adapter::adapt;
 use lab_checks::{assemble_file, check, make_schedule};
 use lab_command_line::read_lab_command;
 use lab_debugger::{Screen, debug};
-use lab_explorer::show_every_end;
+use lab_explorer::{Console, show_every_end};
 use lab_grades::{grade, survey};
 use lab_pages::{write_page, write_picture};
 use lab_requests::LabCommand;
@@ -18,12 +18,22 @@ use std::marker::Send;
 use std::rt::Files;
 use std::sync::Wait;
 use std::thread::Threads;
+use std::time::Clock;
+
+/// Which of the standard streams are terminals.
+#[derive(Clone, Copy)]
+pub(crate) struct Terminals {
+    /// Standard input: then `debug` prompts.
+    pub input: bool,
+    /// Standard error: then a search tells how far it is.
+    pub errors: bool,
+}
 
 /// Runs the command of a command line, whose first word is the program's name, on these files and standard streams,
-/// and gives the exit status ("Exit statuses", docs/LAB.md). All is composed before anything is written. `is_terminal`:
-/// standard input is one, so `debug` prompts.
+/// and gives the exit status ("Exit statuses", docs/LAB.md). All is composed before anything is written, but for the
+/// prompts of `debug` and the line of a search.
 pub(crate) fn run_lab<
-    X: Threads + Wait + Sync,
+    X: Threads + Wait + Sync + Clock,
     S: AsStr,
     F: Files,
     R: Read + Send,
@@ -37,20 +47,12 @@ pub(crate) fn run_lab<
     input: &mut R,
     output: &mut W,
     errors: &mut E,
-    is_terminal: bool,
+    terminals: Terminals,
 ) -> u8 {
     match read_lab_command(alloc, words) {
         Ok(command) => {
             let mut inputs = Inputs::new(alloc, files, input);
-            let ended = run_command(
-                rt,
-                alloc,
-                &command,
-                &mut inputs,
-                output,
-                errors,
-                is_terminal,
-            );
+            let ended = run_command(rt, alloc, &command, &mut inputs, output, errors, terminals);
             status_told(ended, errors)
         }
         Err(error) if error.use_stderr() => {
@@ -73,14 +75,14 @@ fn status_told<E: Write>(ended: Result<Status, LabFault>, errors: &mut E) -> u8 
 }
 
 /// Runs a command.
-fn run_command<X: Threads + Wait + Sync, F: Files, R: Read + Send, W: Write, E: Write>(
+fn run_command<X: Threads + Wait + Sync + Clock, F: Files, R: Read + Send, W: Write, E: Write>(
     rt: &X,
     alloc: Global,
     command: &LabCommand,
     inputs: &mut Inputs<'_, F, R>,
     output: &mut W,
     errors: &mut E,
-    is_terminal: bool,
+    terminals: Terminals,
 ) -> Result<Status, LabFault> {
     match command {
         LabCommand::Adapt => adapt(rt, alloc, inputs.files, inputs.input, output),
@@ -88,24 +90,31 @@ fn run_command<X: Threads + Wait + Sync, F: Files, R: Read + Send, W: Write, E: 
             let mut screen = Screen {
                 output,
                 errors,
-                is_prompted: is_terminal,
+                is_prompted: terminals.input,
             };
             debug(alloc, inputs, program, *run, &mut screen)
         }
         _ => {
-            let answer = answer_to(rt, alloc, command, inputs)?;
+            let answer = answer_to(rt, alloc, command, inputs, errors, terminals)?;
             tell(answer, output, errors)
         }
     }
 }
 
 /// What a command answers.
-fn answer_to<X: Threads + Sync, F: Files, R: Read>(
+fn answer_to<X: Threads + Sync + Clock, F: Files, R: Read, E: Write>(
     rt: &X,
     alloc: Global,
     command: &LabCommand,
     inputs: &mut Inputs<'_, F, R>,
+    errors: &mut E,
+    terminals: Terminals,
 ) -> Result<Answer, LabFault> {
+    let mut console = Console {
+        clock: rt,
+        errors,
+        is_terminal: terminals.errors,
+    };
     match command {
         LabCommand::Check(request) => check(alloc, inputs, request),
         LabCommand::Schedule {
@@ -122,9 +131,9 @@ fn answer_to<X: Threads + Sync, F: Files, R: Read>(
         } => compare(alloc, inputs, program, one, other, *shown),
         // (these have their own way of writing)
         LabCommand::Debug { .. } | LabCommand::Adapt => Err(LabFault::Closed),
-        LabCommand::Survey(request) => survey(rt, alloc, inputs, request),
-        LabCommand::Explore(request) => show_every_end(alloc, inputs, request),
-        LabCommand::Grade(request) => grade(rt, alloc, inputs, request),
+        LabCommand::Survey(request) => survey(rt, alloc, inputs, request, &mut console),
+        LabCommand::Explore(request) => show_every_end(alloc, inputs, request, &mut console),
+        LabCommand::Grade(request) => grade(rt, alloc, inputs, request, &mut console),
         LabCommand::Page(request) => write_page(alloc, inputs, request),
         LabCommand::Picture(request) => write_picture(alloc, inputs, request),
         LabCommand::Assemble { source, image } => assemble_file(alloc, inputs, source, *image),

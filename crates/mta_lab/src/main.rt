@@ -3,7 +3,7 @@
 
 mod lab;
 
-use lab::run_lab;
+use lab::{Terminals, run_lab};
 use std::env;
 use std::io::IsTerminal;
 use std::process::ExitCode;
@@ -11,6 +11,10 @@ use std::process::ExitCode;
 fn main(rt: HostRuntime) -> ExitCode {
     let alloc = rt.alloc();
     let arguments = env::args(&rt).and_then(|words| Ok(words.collect::<Vec<String>>(alloc)?));
+    let terminals = Terminals {
+        input: rt.stdin().is_terminal(),
+        errors: rt.stderr().is_terminal(),
+    };
     let status = match arguments {
         Ok(words) => run_lab(
             &rt,
@@ -20,7 +24,7 @@ fn main(rt: HostRuntime) -> ExitCode {
             &mut rt.stdin(),
             &mut rt.stdout(),
             &mut rt.stderr(),
-            rt.stdin().is_terminal(),
+            terminals,
         ),
         Err(error) => {
             let _ = eprintln!(rt; "mta_lab: {error}");

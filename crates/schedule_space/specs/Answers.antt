@@ -1,15 +1,21 @@
 -- What a search answers.
-use Rattle.std.specs.Prelude.{Bool, true, false}
+use Rattle.std.specs.Prelude.{Bool, true, false, Option, Some, None}
 use Rattle.schedule_space.specs.Spaces.{SpaceValue}
+use Rattle.schedule_space.specs.declared.watches.Bound.{Bound}
 use Rattle.schedule_space.specs.declared.explorations.Exploration.{Exploration}
 use Rattle.schedule_space.specs.declared.explorations.Exploration.TheVariants.{Complete, Bounded}
 
 -- the space that was found
 abbrev pub space_in : Exploration → SpaceValue
 space_in (Complete v) = v
-space_in (Bounded v) = v
+space_in (Bounded v b) = v
 
 -- whether it is said to be complete
 abbrev pub is_complete : Exploration → Bool
 is_complete (Complete v) = true
-is_complete (Bounded v) = false
+is_complete (Bounded v b) = false
+
+-- what ended the search before its end
+abbrev pub bound_in : Exploration → Option Bound
+bound_in (Complete v) = None
+bound_in (Bounded v b) = Some b

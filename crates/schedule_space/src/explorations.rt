@@ -1,44 +1,56 @@
 //! The search for all worlds of an image.
 
-ghost use Rattle.std.specs.Prelude.{◌≡◌, ◌<◌, ◌≤◌, ◌↔◌, ℕ, true, IsTrue, IfOk, Contains};
+ghost use Rattle.std.specs.Prelude.{◌≡◌, ◌<◌, ◌≤◌, ◌↔◌, ℕ, true, Some, IsTrue, IsFalse, IfOk, Contains};
 ghost use Rattle.schedule_space.specs.declared.links.Edge.{Edge};
 ghost use Rattle.dead_registers.specs.Clearing.{IsLive};
 ghost use Rattle.schedule_space.specs.Spaces.{count, IsComplete, IsDistinct, IsShortest, HasAllEdges};
 ghost use Rattle.schedule_space.specs.Spaces.{AreAllApart, StandAlone, IsEdgeToStandIn};
 ghost use Rattle.schedule_space.specs.Finding.{IsExpanded, NamesAll};
 ghost use Rattle.schedule_space.specs.Followed.{AllFollowed, HasAllEnds, HasShortestEnds, TellsWhetherAllEnd};
-ghost use Rattle.schedule_space.specs.Answers.{space_in, is_complete};
+ghost use Rattle.schedule_space.specs.Answers.{space_in, is_complete, bound_in};
 
 use crate::expanding::Wanted;
-use crate::finding::Found;
+use crate::finding::{Found, Stop};
 use crate::spaces::Space;
+use crate::watches::{Bound, Watch};
 use dead_registers::LiveRegisters;
 use image_file::Image;
 use machine::{LoadFault, Machine};
-use processor::Step;
+use processor::{Processor, Step};
 use program_flow::Row;
 use std::alloc::Global;
 use std::collections::VecDeque;
+use std::mem::size_of;
+
+/// How many worlds a search goes through from one question to who looks on to the next.
+const WORLDS_PER_LOOK: u32 = 16;
+
+/// How many bytes a word of a machine's memory takes with its tags, rounded up.
+const BYTES_OF_WORD: usize = 9;
+
+/// About how many bytes more a machine takes because its memory is in several blocks.
+const BYTES_OF_BLOCKS: usize = 512;
 
 /// What a search found.
 #[derive(Drop)]
 pub enum Exploration<'i> {
     /// All worlds that schedules with this beginning lead to, or all ends, as was asked for.
     Complete(Space<'i>),
-    /// Some of them: there are more worlds than were asked for, or memory was refused on the way.
-    Bounded(Space<'i>),
+    /// Some of them, and what ended the search.
+    Bounded(Space<'i>, Bound),
 }
 
 /// Looks for the worlds that schedules of an image lead to which begin with `begin`, those of fewer steps first, until
-/// there are no more or `most` are found. With no step in `begin` these are all schedules. `S` is for how many streams
-/// a processor the machines of the search have room.
+/// there are no more, `most` are found, or who looks on ends it. With no step in `begin` these are all schedules. `S` is
+/// for how many streams a processor the machines of the search have room.
 ///
 /// `Streams` exactly where the image's slim is above `S`; `NoMemory` where there was not even room for the first world.
-pub fn explore<'i, const S: usize>(
+pub fn explore<'i, const S: usize, W: Watch>(
     alloc: Global,
     image: &'i Image,
     begin: &[Step],
     most: usize,
+    watch: &mut W,
 ) -> Result<Exploration<'i>, LoadFault>
     requires { 1 ≤ most }
     ensures image { IfOk result (λ e. (space_in e).image ≡ image.entry.now) }
@@ -48,9 +60,18 @@ pub fn explore<'i, const S: usize>(
     ensures distinct { IfOk result (λ e. IsDistinct (space_in e)) }
     ensures shortest { IfOk result (λ e. IsShortest (space_in e)) }
     ensures within { IfOk result (λ e. count (space_in e) ≤ most) }
+    ensures watched { IfOk result (λ e. bound_in e ≡ Some Bound.Watch → W.HasEnded watch.new) }
     ensures streams { (result ≡ Err LoadFault.Streams) ↔ (S < image.entry.now.slim) }
 {
-    search::<S>(alloc, image, begin, &[true; 32], Wanted::Worlds, most)
+    search::<S, W>(
+        alloc,
+        image,
+        begin,
+        &[true; 32],
+        Wanted::Worlds,
+        most,
+        watch,
+    )
 }
 
 /// Looks for the ends of an image, worlds from which nothing goes on, that schedules lead to which begin with `begin`,
@@ -58,12 +79,13 @@ pub fn explore<'i, const S: usize>(
 /// processor that runs, and leads to a later place, only that one is taken, and one world stands for all that differ from
 /// it in registers alone that nobody reads again. Registers in `names` matter at each place, r0 to r31. Where the search is
 /// complete, some world stands for each end, by a schedule that is as short as any.
-pub fn explore_ends<'i, const S: usize>(
+pub fn explore_ends<'i, const S: usize, W: Watch>(
     alloc: Global,
     image: &'i Image,
     begin: &[Step],
     names: &Row,
     most: usize,
+    watch: &mut W,
 ) -> Result<Exploration<'i>, LoadFault>
     requires { 1 ≤ most }
     ensures image { IfOk result (λ e. (space_in e).image ≡ image.entry.now) }
@@ -76,19 +98,21 @@ pub fn explore_ends<'i, const S: usize>(
     ensures distinct { IfOk result (λ e. AreAllApart (space_in e)) }
     ensures shortest { IfOk result (λ e. is_complete e ≡ true → HasShortestEnds (space_in e)) }
     ensures within { IfOk result (λ e. count (space_in e) ≤ most) }
+    ensures watched { IfOk result (λ e. bound_in e ≡ Some Bound.Watch → W.HasEnded watch.new) }
     ensures streams { (result ≡ Err LoadFault.Streams) ↔ (S < image.entry.now.slim) }
 {
-    search::<S>(alloc, image, begin, names, Wanted::Ends, most)
+    search::<S, W>(alloc, image, begin, names, Wanted::Ends, most, watch)
 }
 
 /// Looks for what is wanted; one world stands for all that differ from it in registers alone that do not matter.
-fn search<'i, const S: usize>(
+fn search<'i, const S: usize, W: Watch>(
     alloc: Global,
     image: &'i Image,
     begin: &[Step],
     names: &Row,
     wanted: Wanted,
     most: usize,
+    watch: &mut W,
 ) -> Result<Exploration<'i>, LoadFault>
     requires { 1 ≤ most }
     ensures image { IfOk result (λ e. (space_in e).image ≡ image.entry.now) }
@@ -103,6 +127,7 @@ fn search<'i, const S: usize>(
     ensures alone { IfOk result (λ e. NamesAll (space_in e).live → StandAlone (space_in e)) }
     ensures shortest { IfOk result (λ e. wanted ≡ Wanted.Worlds → IsShortest (space_in e)) }
     ensures within { IfOk result (λ e. count (space_in e) ≤ most) }
+    ensures watched { IfOk result (λ e. bound_in e ≡ Some Bound.Watch → W.HasEnded watch.new) }
     ensures streams { (result ≡ Err LoadFault.Streams) ↔ (S < image.entry.now.slim) }
 {
     let mut first = Machine::<S>::load(alloc, image)?;
@@ -112,15 +137,16 @@ fn search<'i, const S: usize>(
     let mut frontier = VecDeque::new(alloc);
     frontier.push_back(first)?;
     let limit = world_limit(most);
+    let machine_size = bytes_of_machine::<S>(image);
     for from in 0..limit {
         let Some(machine) = frontier.pop_front() else {
             return Ok(Exploration::Complete(found.into_space()));
         };
-        if found
-            .expand(&mut frontier, &machine, from, wanted, limit)
-            .is_err()
-        {
-            return Ok(Exploration::Bounded(found.into_space()));
+        if !is_to_go_on(watch, from, &found, &frontier, machine_size) {
+            return Ok(Exploration::Bounded(found.into_space(), Bound::Watch));
+        }
+        if let Err(stop) = found.expand(&mut frontier, &machine, from, wanted, limit) {
+            return Ok(Exploration::Bounded(found.into_space(), bound_of(stop)));
         }
     }
     Ok(Exploration::Complete(found.into_space()))
@@ -133,4 +159,53 @@ fn world_limit(most: usize) -> u32
     ensures within { result ≤ most }
 {
     u32::try_from(most).unwrap_or(u32::MAX)
+}
+
+/// Whether who looks on lets a search go on that comes to the world at a place.
+fn is_to_go_on<const S: usize, W: Watch>(
+    watch: &mut W,
+    from: u32,
+    found: &Found<'_>,
+    frontier: &VecDeque<Machine<'_, S>>,
+    machine_size: usize,
+) -> bool
+    ensures { IsFalse result → W.HasEnded watch.new }
+{
+    if from % WORLDS_PER_LOOK != 0 {
+        return true;
+    }
+    let bytes = bytes_held(found, frontier, machine_size);
+    watch.goes_on(found.len(), frontier.len(), bytes)
+}
+
+/// What ended a search whose worlds could not all be expanded.
+fn bound_of(stop: Stop) -> Bound
+    ensures { ¬ (result ≡ Bound.Watch) }
+{
+    match stop {
+        Stop::Full => Bound::Worlds,
+        Stop::NoMemory => Bound::Memory,
+    }
+}
+
+/// About how many bytes a search holds, whose machines have so many each behind them.
+fn bytes_held<const S: usize>(
+    found: &Found<'_>,
+    frontier: &VecDeque<Machine<'_, S>>,
+    machine_size: usize,
+) -> usize {
+    let machines = frontier.len().saturating_mul(machine_size);
+    let room = frontier
+        .capacity()
+        .saturating_mul(size_of::<Machine<'_, S>>());
+    found.bytes().saturating_add(machines).saturating_add(room)
+}
+
+/// About how many bytes are behind a machine of an image: its processors, and its words with their tags.
+fn bytes_of_machine<const S: usize>(image: &Image) -> usize {
+    let processors = image.processors().saturating_mul(size_of::<Processor<S>>());
+    let words = image.cells().len().saturating_mul(BYTES_OF_WORD);
+    words
+        .saturating_add(processors)
+        .saturating_add(BYTES_OF_BLOCKS)
 }

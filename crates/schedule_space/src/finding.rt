@@ -25,6 +25,7 @@ use processor::Step;
 use std::alloc::{AllocError, AllocFailed, Global};
 use std::collections::VecDeque;
 use std::marker::Model;
+use std::mem::size_of;
 use world_keys::{Table, world_key};
 
 /// The worlds that were found so far, with their keys.
@@ -110,6 +111,24 @@ impl<'i> Found<'i> {
             keys,
             steps: StepsSeen::new(alloc),
         })
+    }
+
+    /// How many worlds were found.
+    pub(crate) fn len(&self) -> usize {
+        self.fates.len()
+    }
+
+    /// How many bytes it holds: the room of its lists and tables.
+    pub(crate) fn bytes(&self) -> usize {
+        let links = self.links.capacity().saturating_mul(size_of::<Link>());
+        let edges = self.edges.capacity().saturating_mul(size_of::<Edge>());
+        let fates = self.fates.capacity().saturating_mul(size_of::<Fate>());
+        let tables = self.contents.bytes().saturating_add(self.keys.bytes());
+        links
+            .saturating_add(edges)
+            .saturating_add(fates)
+            .saturating_add(tables)
+            .saturating_add(self.steps.bytes())
     }
 
     /// The space.

@@ -6,6 +6,7 @@ ghost use Rattle.schedule_space.specs.declared.known_steps.Places.{Places};
 
 use std::alloc::{AllocError, Global};
 use std::marker::Model;
+use std::mem::size_of;
 use world_keys::Table;
 
 /// How many steps are kept of a kind, in some 12 megabytes: a program whose processors have one stream each needs far
@@ -68,6 +69,12 @@ impl KnownSteps {
         self.left.push_reserved(left);
         Ok(())
     }
+
+    /// How many bytes they take.
+    fn bytes(&self) -> usize {
+        let left = self.left.capacity().saturating_mul(size_of::<Places>());
+        left.saturating_add(self.asked.bytes())
+    }
 }
 
 /// What steps left that a search has seen, in two tables.
@@ -89,5 +96,12 @@ impl StepsSeen {
             by_processor: KnownSteps::new(alloc),
             by_stream: KnownSteps::new(alloc),
         }
+    }
+
+    /// How many bytes they take.
+    pub(crate) fn bytes(&self) -> usize {
+        self.by_processor
+            .bytes()
+            .saturating_add(self.by_stream.bytes())
     }
 }

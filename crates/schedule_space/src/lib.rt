@@ -12,8 +12,10 @@ mod next_worlds;
 mod reaching;
 mod spaces;
 mod stepping;
+mod watches;
 
 pub use explorations::{Exploration, explore, explore_ends};
 pub use fates::Fate;
 pub use links::{Edge, Link};
 pub use spaces::Space;
+pub use watches::{Bound, Watch};

@@ -6,6 +6,7 @@ ghost use Rattle.world_keys.specs.RowLists.{lists_from, start_at, AreEndsFrom};
 
 use std::alloc::{AllocError, Global};
 use std::marker::Model;
+use std::mem::size_of;
 
 /// Lists of numbers of 32 bits, one behind another. Contracts see the list of them.
 #[derive(Drop)]
@@ -66,6 +67,13 @@ impl RowLists {
         self.numbers.extend_from_slice(list)?;
         self.ends.push_reserved(end as u32);
         Ok(())
+    }
+
+    /// How many bytes they hold: the room of the numbers and of their ends.
+    pub(crate) fn bytes(&self) -> usize {
+        let numbers = self.numbers.capacity().saturating_mul(size_of::<u32>());
+        let ends = self.ends.capacity().saturating_mul(size_of::<u32>());
+        numbers.saturating_add(ends)
     }
 }
 

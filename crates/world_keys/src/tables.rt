@@ -8,6 +8,7 @@ use crate::buckets::{bucket_of, find_linked, make_room};
 use crate::row_lists::RowLists;
 use std::alloc::{AllocError, Global};
 use std::marker::Model;
+use std::mem::size_of;
 
 /// Lists of numbers of 32 bits, in the order in which they were put in. Contracts see the list of them.
 #[derive(Drop)]
@@ -94,6 +95,15 @@ impl Table {
             return Err(AllocError);
         }
         Ok(place as u32)
+    }
+
+    /// How many bytes it holds: the room of its lists and of what finds them.
+    pub fn bytes(&self) -> usize {
+        let heads = self.heads.capacity().saturating_mul(size_of::<u32>());
+        let earlier = self.earlier.capacity().saturating_mul(size_of::<u32>());
+        heads
+            .saturating_add(earlier)
+            .saturating_add(self.lists.bytes())
     }
 
     fn place_or_put(&mut self, list: &[u32]) -> Result<usize, AllocError>

@@ -9,6 +9,7 @@ use Rattle.schedule_space.specs.Finding.{IsExpanded, IsExpanding}
 use Rattle.schedule_space.proofs.Parts.{frontier_front, frontier_empty}
 use Rattle.schedule_space.proofs.Breadth.{breadth_begun, breadth_next, shortest_all}
 use Rattle.schedule_space.specs.Followed.{IsFollowed}
+use Rattle.schedule_space.proofs.Growing.{grown_refl}
 use Rattle.schedule_space.proofs.Taking.{expanded_more}
 use Rattle.schedule_space.proofs.Alone.{followed_more, same_followed}
 use Rattle.schedule_space.proofs.Exploring.{loaded, begun_frontier, nothing_left, same_expanded, same_shortest, ended_well}
@@ -113,30 +114,55 @@ pub returns-in_default-clause-within : goal.returns-in_default-clause-within
 returns-in_default-clause-within g c =
     omega (arith, ap count c.into_space.ensures.is, c.loop-from.invariant.within, c.world_limit-limit.ensures.within)
 
-pub returns-then-is_err-clause-image : goal.returns-then-is_err-clause-image
-returns-then-is_err-clause-image g c =
-    ap (λ (x : SpaceValue). x.image) c.into_space-then-is_err.ensures.is ∙ c.expand.ensures.grown.image ∙ c.loop-from.invariant.image
+pub returns-then-not-is_to_go_on-clause-image : goal.returns-then-not-is_to_go_on-clause-image
+returns-then-not-is_to_go_on-clause-image g c =
+    ap (λ (x : SpaceValue). x.image) c.into_space-then-not-is_to_go_on.ensures.is ∙ c.loop-from.invariant.image
 
-pub returns-then-is_err-clause-begin : goal.returns-then-is_err-clause-begin
-returns-then-is_err-clause-begin g c =
-    ap (λ (x : SpaceValue). x.begin) c.into_space-then-is_err.ensures.is ∙ c.expand.ensures.grown.begin ∙ c.loop-from.invariant.begin
+pub returns-then-not-is_to_go_on-clause-begin : goal.returns-then-not-is_to_go_on-clause-begin
+returns-then-not-is_to_go_on-clause-begin g c =
+    ap (λ (x : SpaceValue). x.begin) c.into_space-then-not-is_to_go_on.ensures.is ∙ c.loop-from.invariant.begin
 
-pub returns-then-is_err-clause-names : goal.returns-then-is_err-clause-names
-returns-then-is_err-clause-names g c =
-    ap (λ (x : SpaceValue). x.live.names) c.into_space-then-is_err.ensures.is ∙ ap (λ (l : LiveValue). l.names) c.expand.ensures.grown.live ∙ c.loop-from.invariant.names
+pub returns-then-not-is_to_go_on-clause-names : goal.returns-then-not-is_to_go_on-clause-names
+returns-then-not-is_to_go_on-clause-names g c =
+    ap (λ (x : SpaceValue). x.live.names) c.into_space-then-not-is_to_go_on.ensures.is ∙ c.loop-from.invariant.names
 
-pub returns-then-is_err-clause-shortest : goal.returns-then-is_err-clause-shortest
-returns-then-is_err-clause-shortest g c = λ on.
+pub returns-then-not-is_to_go_on-clause-shortest : goal.returns-then-not-is_to_go_on-clause-shortest
+returns-then-not-is_to_go_on-clause-shortest g c = λ on.
     let front =
     frontier_front c.loop-from.found c.loop-from.frontier.items c.pop_front.new.self.items c.in-Some.machine
     c.loop-from.from c.loop-from.invariant.frontier c.in-Some.ensures.items in
-    same_shortest c.loop-from.found c.expand.new.self c.into_space-then-is_err.result c.loop-from.from c.into_space-then-is_err.ensures.is
-    c.expand.ensures.grown front.0 (c.loop-from.invariant.expanded on) c.expand.ensures.expanding.breadth c.into_space-then-is_err.ensures.live
-    c.into_space-then-is_err.ensures.apart
+    same_shortest c.loop-from.found c.loop-from.found c.into_space-then-not-is_to_go_on.result c.loop-from.from c.into_space-then-not-is_to_go_on.ensures.is
+    (grown_refl c.loop-from.found) front.0 (c.loop-from.invariant.expanded on) (c.loop-from.invariant.breadth front.0) c.into_space-then-not-is_to_go_on.ensures.live
+    c.into_space-then-not-is_to_go_on.ensures.apart
 
-pub returns-then-is_err-clause-within : goal.returns-then-is_err-clause-within
-returns-then-is_err-clause-within g c =
-    omega (arith, ap count c.into_space-then-is_err.ensures.is, c.expand.ensures.expanding.within, c.world_limit-limit.ensures.within)
+pub returns-then-not-is_to_go_on-clause-within : goal.returns-then-not-is_to_go_on-clause-within
+returns-then-not-is_to_go_on-clause-within g c =
+    omega (arith, ap count c.into_space-then-not-is_to_go_on.ensures.is, c.loop-from.invariant.within, c.world_limit-limit.ensures.within)
+
+pub returns-in-Err-clause-image : goal.returns-in-Err-clause-image
+returns-in-Err-clause-image g c =
+    ap (λ (x : SpaceValue). x.image) c.into_space-in-Err.ensures.is ∙ c.expand.ensures.grown.image ∙ c.loop-from.invariant.image
+
+pub returns-in-Err-clause-begin : goal.returns-in-Err-clause-begin
+returns-in-Err-clause-begin g c =
+    ap (λ (x : SpaceValue). x.begin) c.into_space-in-Err.ensures.is ∙ c.expand.ensures.grown.begin ∙ c.loop-from.invariant.begin
+
+pub returns-in-Err-clause-names : goal.returns-in-Err-clause-names
+returns-in-Err-clause-names g c =
+    ap (λ (x : SpaceValue). x.live.names) c.into_space-in-Err.ensures.is ∙ ap (λ (l : LiveValue). l.names) c.expand.ensures.grown.live ∙ c.loop-from.invariant.names
+
+pub returns-in-Err-clause-shortest : goal.returns-in-Err-clause-shortest
+returns-in-Err-clause-shortest g c = λ on.
+    let front =
+    frontier_front c.loop-from.found c.loop-from.frontier.items c.pop_front.new.self.items c.in-Some.machine
+    c.loop-from.from c.loop-from.invariant.frontier c.in-Some.ensures.items in
+    same_shortest c.loop-from.found c.expand.new.self c.into_space-in-Err.result c.loop-from.from c.into_space-in-Err.ensures.is
+    c.expand.ensures.grown front.0 (c.loop-from.invariant.expanded on) c.expand.ensures.expanding.breadth c.into_space-in-Err.ensures.live
+    c.into_space-in-Err.ensures.apart
+
+pub returns-in-Err-clause-within : goal.returns-in-Err-clause-within
+returns-in-Err-clause-within g c =
+    omega (arith, ap count c.into_space-in-Err.ensures.is, c.expand.ensures.expanding.within, c.world_limit-limit.ensures.within)
 
 pub loop-from-preserved : goal.loop-from-preserved
 loop-from-preserved g c =

@@ -1,0 +1,48 @@
+-- Worlds that were found by steps of which none that was taken alone can be seen by what is claimed, P. They are alike
+-- where R says so. With equality for R each stands for itself alone.
+use Rattle.std.specs.Prelude.{ℕ, ◌<◌, ◌≢◌, ◌⊎◌, ⊤, List, [], ◌∷◌}
+use Rattle.image_file.specs.ImageValue.{ImageValue}
+use Rattle.processor.specs.World.{World, after, steps}
+use Rattle.processor.specs.declared.steps.Step.{Step}
+use Rattle.local_steps.specs.FreeSteps.{IsFreeStep}
+use Rattle.agreeing_ends.specs.Followed.{FoundWorlds, IsTaken, IsExpanded, world_after}
+
+-- Worlds that are alike still are behind the same schedule, where one of them was found.
+pub record IsMoving (R : World → World → Type 0) (v : FoundWorlds) : Type 0 where
+  pub on : (k : ℕ) → k < v.count → (w : World) (ts : List Step) → R (v.world k) w
+      → R (steps v.image (v.world k) ts) (steps v.image w ts)
+
+-- each of these steps is another one
+abbrev pub AreOthers : Step → List Step → Type 0
+AreOthers t [] = ⊤
+AreOthers t (u ∷ us) = (u ≢ t) × AreOthers t us
+
+-- Where what is claimed holds behind the step it holds before it, in the world and wherever other steps lead from there.
+abbrev pub IsUnseen : (World → Type 0) → ImageValue → World → Step → Type 0
+IsUnseen P image w t =
+    (ts : List Step) → AreOthers t ts → P (after image (steps image w ts) t) → P (steps image w ts)
+
+-- One step is taken from the world at this place, which can be taken before all others, leads to a later place, and
+-- can't be seen.
+pub record IsTakenUnseen (R : World → World → Type 0) (P : World → Type 0) (v : FoundWorlds) (from : ℕ) : Type 0 where
+  pub step : Step
+  pub alone : IsFreeStep v.image (v.world from) step
+  pub taken : IsTaken R v from step
+  pub later : from < taken.to
+  pub unseen : IsUnseen P v.image (v.world from) step
+
+-- each step from each of them is taken, or one that can't be seen
+abbrev pub AllFollowedUnseen : (World → World → Type 0) → (World → Type 0) → FoundWorlds → Type 0
+AllFollowedUnseen R P v = (k : ℕ) → k < v.count → IsExpanded R v k ⊎ IsTakenUnseen R P v k
+
+-- what is claimed holds of worlds that are alike alike
+abbrev pub IsRespected : (World → World → Type 0) → (World → Type 0) → Type 0
+IsRespected R P = (a b : World) → R a b → P a → P b
+
+-- what is claimed holds of each of them
+abbrev pub HoldsOfFound : (World → Type 0) → FoundWorlds → Type 0
+HoldsOfFound P v = (k : ℕ) → k < v.count → P (v.world k)
+
+-- what is claimed holds of each world that a schedule leads to
+abbrev pub HoldsWherever : (World → Type 0) → FoundWorlds → Type 0
+HoldsWherever P v = (ts : List Step) → P (world_after v ts)

@@ -1,0 +1,185 @@
+//! Who looks on at a search: its bounds of time and memory, and the line that tells how far it is.
+
+ghost use Rattle.std.specs.Prelude.{◌≡◌, IsSome, IsFalse};
+
+use command_parts::LabFault;
+use lab_requests::Bounds;
+use schedule_space::{Bound, Watch};
+use std::alloc::Global;
+use std::io::Write;
+use std::time::{Clock, Duration, Instant};
+
+/// How many bytes a megabyte has.
+const MEGABYTE: usize = 1_000_000;
+
+/// The clock, and where a search tells how far it is.
+#[derive(Drop)]
+pub struct Console<'a, C, E> {
+    /// The clock.
+    pub clock: &'a C,
+    /// Standard error.
+    pub errors: &'a mut E,
+    /// Whether that is a terminal: elsewhere nothing is told.
+    pub is_terminal: bool,
+}
+
+/// What ended a search before its end.
+#[derive(Clone, Copy, Debug, PartialEq, Eq)]
+pub enum SearchBound {
+    /// As many worlds were found as were asked for.
+    States,
+    /// The seconds were over.
+    Seconds,
+    /// What it held took more than the megabytes that were asked for.
+    Memory,
+    /// Memory was refused.
+    Refused,
+}
+
+impl SearchBound {
+    /// It in words, behind what was not come to.
+    pub fn words(self) -> &'static str {
+        match self {
+            SearchBound::States => "ended by --states",
+            SearchBound::Seconds => "ended by --seconds",
+            SearchBound::Memory => "ended by --memory",
+            SearchBound::Refused => "memory was refused",
+        }
+    }
+
+    /// Its name in objects.
+    pub fn json_name(self) -> &'static str {
+        match self {
+            SearchBound::States => "states",
+            SearchBound::Seconds => "seconds",
+            SearchBound::Memory => "memory",
+            SearchBound::Refused => "refused",
+        }
+    }
+}
+
+/// What looks on at one search, ends it at its bounds, and tells each second how far it is.
+#[derive(Drop)]
+pub struct Watcher<'w, 'c, C, E> {
+    console: &'w mut Console<'c, C, E>,
+    start: Option<Instant>,
+    most_time: Option<Duration>,
+    most_bytes: usize,
+    told: Option<Told>,
+    ended: Option<SearchBound>,
+}
+
+/// What was told last.
+#[derive(Clone, Copy)]
+struct Told {
+    at: Duration,
+    found: usize,
+}
+
+impl<'w, 'c, C: Clock, E: Write> Watcher<'w, 'c, C, E> {
+    /// Who looks on at a search of these bounds that begins now. The clock is read only where there is a bound of time or
+    /// a terminal; a fault where the first asks for it, and it can't be read.
+    pub fn new(
+        alloc: Global,
+        console: &'w mut Console<'c, C, E>,
+        bounds: Bounds,
+    ) -> Result<Watcher<'w, 'c, C, E>, LabFault> {
+        let start = if bounds.seconds.is_some() || console.is_terminal {
+            Some(Instant::now(console.clock))
+        } else {
+            None
+        };
+        if let (Some(Err(error)), Some(_)) = (&start, bounds.seconds) {
+            return Err(LabFault::Words(format!(in alloc;
+                "--seconds: the clock cannot be read: {error}"
+            )?));
+        }
+        Ok(Watcher {
+            console,
+            start: start.and_then(|now| now.ok()),
+            most_time: bounds.seconds.map(|seconds| Duration::from_secs(seconds)),
+            most_bytes: match bounds.megabytes {
+                Some(megabytes) => megabytes.saturating_mul(MEGABYTE),
+                None => usize::MAX,
+            },
+            told: None,
+            ended: None,
+        })
+    }
+
+    /// Keeps what ended the search: that is known already where it is one of its own bounds.
+    pub(crate) fn end(&mut self, bound: Bound)
+        requires { bound ≡ Bound.Watch → IsSome self.old.ended }
+        ensures { IsSome self.new.ended }
+    {
+        match bound {
+            Bound::Worlds => self.ended = Some(SearchBound::States),
+            Bound::Memory => self.ended = Some(SearchBound::Refused),
+            Bound::Watch => {}
+        }
+    }
+
+    /// What ended the search before its end; None where nothing did.
+    pub(crate) fn bound(&self) -> Option<SearchBound>
+        ensures { result ≡ self.now.ended }
+    {
+        self.ended
+    }
+
+    /// Wipes what it has told.
+    pub fn finish(&mut self) {
+        if self.told.is_some() {
+            let _ = write!(self.console.errors, "\r\x1b[K");
+            let _ = self.console.errors.flush();
+        }
+    }
+
+    /// Whether the time is not over. Where it is not, tells each second how far the search is.
+    fn is_in_time(&mut self, found: usize, waiting: usize, bytes: usize) -> bool
+        ensures { IsFalse result → IsSome self.new.ended }
+    {
+        let Some(start) = self.start else {
+            return true;
+        };
+        // where the clock can't be read any more, the time may be over
+        let passed = start.elapsed(self.console.clock).unwrap_or(Duration::MAX);
+        if self.most_time.is_some_and(|most| passed >= most) {
+            self.ended = Some(SearchBound::Seconds);
+            return false;
+        }
+        self.tell(passed, found, waiting, bytes);
+        true
+    }
+
+    /// Tells how far the search is, where a second has passed since it last did.
+    fn tell(&mut self, passed: Duration, found: usize, waiting: usize, bytes: usize) {
+        let last = self.told.unwrap_or(Told {
+            at: Duration::ZERO,
+            found: 0,
+        });
+        let since = passed.saturating_sub(last.at);
+        if !self.console.is_terminal || since.as_secs() == 0 {
+            return;
+        }
+        self.told = Some(Told { at: passed, found });
+        let rate = found.saturating_sub(last.found) as u128 * 1000 / since.as_millis().max(1);
+        let megabytes = bytes / MEGABYTE;
+        let _ = write!(
+            self.console.errors,
+            "\r{found} worlds, {waiting} still to look at, {rate} a second, {megabytes} MB\x1b[K"
+        );
+        let _ = self.console.errors.flush();
+    }
+}
+
+impl<C: Clock, E: Write> Watch for Watcher<'_, '_, C, E> {
+    ghost HasEnded = { λ w. IsSome w.ended };
+
+    fn goes_on(&mut self, found: usize, waiting: usize, bytes: usize) -> bool {
+        if bytes > self.most_bytes {
+            self.ended = Some(SearchBound::Memory);
+            return false;
+        }
+        self.is_in_time(found, waiting, bytes)
+    }
+}
