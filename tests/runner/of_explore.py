@@ -157,7 +157,7 @@ def agrees(source, image):
 def by_fewer(source, searched, sets, plain, wanted):
     """Whether the search for ends alone finds those that the plain one finds: True, or in what they differ."""
     head, ends = told_of(source)
-    if not head["complete"] or head["worlds"] > plain["worlds"] or head["plain"] or ends_in(ends) != ends_in(wanted):
+    if not head["complete"] or head["worlds"] > plain["worlds"] or head["plain"] or not are_as_told(ends, wanted):
         return f"{head} {ends}, and not {plain} {wanted}"
     ended = [end for end in ends if end["end"] != "spinning"]
     claimed = [end for end in ends if end["end"] == "spinning" and end["schedule"] and end["shortest"] is not None]
@@ -167,11 +167,18 @@ def by_fewer(source, searched, sets, plain, wanted):
 
 
 def ends_in(ends):
-    """What both searches tell of ends: all but the schedules, from how many worlds they lead there, and the first
-    finding of a schedule; of those that spin whether there are any."""
-    told = {(end["end"], end["worlds"], end["words"], end["shortest"], end["expected"])
-            for end in ends if end["end"] != "spinning"}
+    """What both searches tell of ends: all but the schedules, how many worlds they are, from how many worlds they lead
+    there, and the first finding of a schedule; of those that spin whether there are any."""
+    told = {(end["end"], end["words"], end["shortest"], end["expected"]) for end in ends if end["end"] != "spinning"}
     return told, any(end["end"] == "spinning" for end in ends)
+
+
+def are_as_told(ends, wanted):
+    """Whether the ends are those that the plain search tells, each of no more worlds: of those that differ in registers
+    alone that nobody reads again one is told."""
+    most = {(end["end"], end["words"]): end["worlds"] for end in wanted}
+    return ends_in(ends) == ends_in(wanted) and all(
+        end["worlds"] <= most[end["end"], end["words"]] for end in ends if end["end"] != "spinning")
 
 
 def in_end(searched, sets, end):

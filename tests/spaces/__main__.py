@@ -1,8 +1,8 @@
 #!/usr/bin/env python3
 """Random programs, all of whose worlds are searched by a machine of the tests' own (machine.py), beside what mta_lab says:
 the kinds of ends, how many worlds each has, the steps of shortest schedules, what spins, whether each end is as expected,
-which claims are broken, the verdict of `grade --explore`, and each status. A difference is told with its seed and its
-program. Needs Python 3.
+which claims are broken, the verdict of `grade --explore`, each status, and how many worlds the search for ends alone looks
+at, that of the examples too. A difference is told with its seed and its program. Needs Python 3.
 
   spaces [--programs N] [--first SEED] [--program PATH]     500 programs from seed 0 on, by the program that is built here"""
 
@@ -17,6 +17,7 @@ import os
 import subprocess
 import tempfile
 
+import examples
 from cases import Case
 
 ROOT = os.path.dirname(os.path.dirname(os.path.dirname(os.path.abspath(__file__))))
@@ -54,16 +55,20 @@ def main():
     seeds = range(asked.first, asked.first + asked.programs)
     wrong, worlds, kinds = 0, 0, collections.Counter()
     with concurrent.futures.ProcessPoolExecutor(os.cpu_count()) as pool:
+        counted = pool.map(examples.differs, [asked.program] * len(examples.NAMES), examples.NAMES)
         for seed, found, text, ends, count in pool.map(tried, seeds, [asked.program] * len(seeds)):
             kinds.update(ends)
             worlds += count
             wrong += bool(found)
             if found and wrong <= SHOWN:
                 print(f"seed {seed}:\n{text}" + "".join(f"not so: {what}\n" for what in found), flush=True)
+        of_examples = list(filter(None, counted))
+    print("".join(f"not so: {what}\n" for what in of_examples), end="")
     told = ", ".join(f"{count} {kind}" for kind, count in sorted(kinds.items()))
     print(f"{len(seeds)} programs, {worlds} worlds; programs with an end of this kind: {told}")
-    print(f"{len(seeds) - wrong} passed, {wrong} failed")
-    sys.exit(1 if wrong else 0)
+    right = len(examples.NAMES) - len(of_examples)
+    print(f"{len(seeds) - wrong + right} passed, {wrong + len(of_examples)} failed, {len(examples.NAMES)} of them examples")
+    sys.exit(1 if wrong or of_examples else 0)
 
 
 main()

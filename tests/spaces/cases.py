@@ -8,6 +8,7 @@ import random
 import programs
 import search
 import wishes
+from ends_alone import EndsAlone
 
 # how many worlds a program that is searched has, and how many programs a seed tries to find one
 LEAST, MOST, TRIES = 8, 300, 200
@@ -30,6 +31,8 @@ class Case:
             raise ValueError(f"seed {seed}: no program of {LEAST} to {MOST} worlds")
         self.expected = wishes.expectations(chance, self.made, self.space)
         self.claims = wishes.claims(chance, self.made) if chance.random() < 0.7 else []
+        self.ends_alone = EndsAlone(self.made.program, (), (), MOST)
+        self.wished_alone = EndsAlone(self.made.program, (), wishes.named(self.expected), MOST)
         self.begin = begin_of(chance, self.space)
         self.begun = search.Space(self.made.program, self.begin, MOST)
         self.begun_claims = wishes.claims(chance, self.made)
@@ -90,16 +93,20 @@ class Case:
 
     def of_ends(self, status, head, *ends):
         """The ends alone."""
-        yield differs("complete", head["complete"], True)
+        yield from of_fewer(self.ends_alone, head, ends)
         yield differs("whether it spins", any(end["end"] == "spinning" for end in ends), bool(self.space.spinning()))
-        yield from of_each_end(self.space, [], ends)
+        yield from of_each_end(self.space, [], ends, self.ends_alone.told_as)
         yield differs("status", status, self.status([], []))
 
     def of_wished(self, status, head, *ends):
         """What is expected of ends, and claimed of worlds."""
         yield differs("complete", head["complete"], True)
         yield differs("whether all", head["plain"], bool(self.claims))
-        yield from of_each_end(self.space, self.expected, ends)
+        if self.claims:
+            yield from of_each_end(self.space, self.expected, ends)
+        else:
+            yield from of_fewer(self.wished_alone, head, ends)
+            yield from of_each_end(self.space, self.expected, ends, self.wished_alone.told_as)
         yield from of_claims(self.space, self.claims, ends)
         yield differs("status", status, self.status(self.expected, self.claims))
 
@@ -176,12 +183,27 @@ def statuses(space, expected, claims):
         yield search.UNEXPECTED
 
 
-def of_each_end(space, expected, ends):
-    """In what the ends differ: how many worlds each kind has, as expected or not, and each schedule."""
+def of_fewer(alone, head, ends):
+    """In what the search for ends alone differs: how many worlds it looks at, the steps between them, and from how many of
+    the worlds steps lead to an end that is one of them."""
+    yield differs("head", (head["complete"], head["worlds"], head["steps"]), (True, len(alone.worlds), len(alone.steps)))
+    for end in ends:
+        if end["end"] != "spinning" and end["worlds"] == 1:
+            world = search.world_after(alone.program, steps_of(end["schedule"]))
+            yield differs("sources", end["from"], alone.leading_to(world))
+
+
+def of_each_end(space, expected, ends, told_as=lambda world: world):
+    """In what the ends differ: how many worlds each kind has, as expected or not, and each schedule. Ends are one that are
+    told as one world."""
+    alike = {}
+    for world in space.ends():
+        key = told_as(world)
+        alike[key] = min(alike.get(key, world), world, key=space.distance.get)
     wanted, told = {}, {}
-    for world, kind in space.ends().items():
+    for world in alike.values():
         is_met = wishes.missed(expected, world) is None and not wishes.is_trapped(expected, world)
-        key = kind, is_met and kind != "deadlock"
+        key = space.kind(world), is_met and space.kind(world) != "deadlock"
         count, least = wanted.get(key, (0, space.distance[world]))
         wanted[key] = count + 1, min(least, space.distance[world])
     for end in ends:
@@ -190,10 +212,10 @@ def of_each_end(space, expected, ends):
         key = end["end"], end["expected"]
         count, least = told.get(key, (0, end["shortest"]))
         told[key] = count + end["worlds"], min(least, end["shortest"])
-        world = space.world_after(steps_of(end["schedule"]))
-        shortest = space.distance.get(world)
-        yield differs("a schedule", (space.kind(world) if shortest is not None else None, len(steps_of(end["schedule"])),
-                                     end["shortest"]), (end["end"], shortest, shortest))
+        world = search.world_after(space.program, steps_of(end["schedule"]))
+        first = alike.get(told_as(world))
+        yield differs("a schedule", (first and space.kind(world), len(steps_of(end["schedule"])), end["shortest"]),
+                      (end["end"], first and space.distance[first], first and space.distance[first]))
         missed = wishes.missed(expected, world)
         yield differs("what is missed", of_missed(end["missed"]), of_missed(missed and missed.text))
     yield differs("worlds and shortest of the ends", told, wanted)
@@ -224,14 +246,14 @@ def of_claims(space, claims, ends):
     yield differs("broken claims", told, wanted)
     for end in ends:
         if end["end"] == "broken":
-            world = space.world_after(steps_of(end["schedule"]))
+            world = search.world_after(space.program, steps_of(end["schedule"]))
             claim = next(claim for claim in claims if claim.text == end["words"])
             yield differs("a world that breaks it", wishes.holds(claim, world), False)
 
 
 def of_sources(space, sets, end):
     """In what the number of worlds differs from which a schedule leads to an end that is one world or one set."""
-    world = space.world_after(steps_of(end["schedule"]))
+    world = search.world_after(space.program, steps_of(end["schedule"]))
     if end["end"] == "spinning":
         wanted = [found for found in sets if world in found]
         if end["sets"] != 1 or not wanted:
@@ -243,12 +265,12 @@ def of_sources(space, sets, end):
 def of_spinning(space, sets, end):
     """In what a set of worlds that spins differs."""
     steps, way = steps_of(end["schedule"]), steps_of(end["round"])
-    world = space.world_after(steps)
+    world = search.world_after(space.program, steps)
     inside = [found for found in sets if world in found]
     if not inside:
         return f"its schedule leads to no set that spins: {end['schedule']!r}"
     least = min(space.distance[one] for found in inside for one in found)
-    round_ok = space.world_after((*steps, *way)) == world and len(way) == space.shortest_round(world)
+    round_ok = search.world_after(space.program, (*steps, *way)) == world and len(way) == space.shortest_round(world)
     return differs("a set that spins", (len(steps), end["shortest"], round_ok), (least, least, True))
 
 

@@ -96,13 +96,6 @@ class Space:
                     waiting.append(to)
         return frozenset(found)
 
-    def world_after(self, schedule):
-        """The world that a schedule leads to."""
-        world = machine.start(self.program)
-        for p, s in schedule:
-            world, _ = machine.step(self.program, world, p, s)
-        return world
-
     def shortest_round(self, world):
         """How many steps the shortest way from a world back to it has, or a step that stays there."""
         if not self.after[world]:
@@ -113,6 +106,14 @@ class Space:
             found |= reached
             count += 1
         return count
+
+
+def world_after(program, schedule):
+    """The world that a schedule of a program leads to."""
+    world = machine.start(program)
+    for p, s in schedule:
+        world, _ = machine.step(program, world, p, s)
+    return world
 
 
 def stopped(world):

@@ -73,6 +73,11 @@ def is_met(expectation, world):
     return search.stopped(world).get((p, s)) == trap
 
 
+def named(wished):
+    """The registers that some expectations name."""
+    return {expectation.operands[2] for expectation in wished if expectation.form == "register"}
+
+
 def missed(wished, world):
     """The first expectation that a world does not meet; None where it meets all."""
     return next((expectation for expectation in wished if not is_met(expectation, world)), None)

@@ -4,5 +4,6 @@ pub mod Values
 pub mod Lines
 pub mod Expectations
 pub mod Meeting
+pub mod NamedRegisters
 -- The aid: what the code holds of the words of a line.
 pub mod OperandsSeen

@@ -1,11 +1,12 @@
 //! Whether a machine is as expected.
 
-ghost use Rattle.std.specs.Prelude.{◌≡◌, not};
+ghost use Rattle.std.specs.Prelude.{◌≡◌, ◌<◌, not, IsTrue};
 ghost use Rattle.std.specs.List.{position};
 ghost use Rattle.std.specs.Option.{option_copied};
 ghost use Rattle.std.specs.Prelude.{slice_get};
 ghost use Rattle.expectations.specs.Meeting.{is_met, is_word, holds_in_register, is_finished, is_stopped_by};
 ghost use Rattle.expectations.specs.Meeting.{stream_in, is_in_state, all_idle_at};
+ghost use Rattle.expectations.specs.NamedRegisters.{IsOfRegisters};
 
 use crate::expectation::{Expectation, FullEmpty};
 use machine::Machine;
@@ -13,8 +14,11 @@ use stream_core::{Status, Stream};
 use tag_memory::Word;
 
 /// Whether a machine is as an expectation says. A word or a stream that the machine does not have is not as expected.
+///
+/// No stream has a register that is not one of 32.
 pub fn is_met<const S: usize>(machine: &Machine<'_, S>, expectation: &Expectation) -> bool
-    ensures { result ≡ is_met machine.now.world expectation.now }
+    ensures is { result ≡ is_met machine.now.world expectation.now }
+    ensures registers { IsTrue result → IsOfRegisters expectation.now }
 {
     match *expectation {
         Expectation::Word {
@@ -77,7 +81,8 @@ fn stream<'m, const S: usize>(machine: &'m Machine<'_, S>, p: u8, s: u8) -> Opti
 }
 
 fn holds_in_register(stream: Option<&Stream>, number: u8, value: u64) -> bool
-    ensures { result ≡ holds_in_register number value (option_copied stream.entry) }
+    ensures is { result ≡ holds_in_register number value (option_copied stream.entry) }
+    ensures below { IsTrue result → number < 32 }
 {
     match stream {
         Some(stream) => match stream.reg(number) {

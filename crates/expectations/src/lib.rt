@@ -6,10 +6,12 @@ mod expectation_fault;
 mod judging;
 mod line_words;
 mod lines;
+mod names;
 mod reading;
 mod values;
 
 pub use expectation::{Expectation, FullEmpty};
 pub use expectation_fault::{ExpectationFault, ExpectationFaultKind};
 pub use judging::{first_missed, is_met};
+pub use names::named_registers;
 pub use reading::read_expectations;

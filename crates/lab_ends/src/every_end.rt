@@ -57,7 +57,8 @@ pub struct SpaceEnd {
     pub missed: Option<usize>,
     /// Whether a trap that nobody expected stopped a stream.
     pub is_trapped: bool,
-    /// The places of the worlds, the first of which no schedule is shorter to.
+    /// The places of the worlds, the first of which no schedule is shorter to. In a search for ends each stands for all that
+    /// differ from it in registers alone that do not matter.
     pub places: Vec<usize>,
     /// How many worlds on the way through the steps that all schedules begin with break the claim; 0 of other ends.
     pub before: usize,
@@ -70,8 +71,8 @@ pub struct SpaceEnd {
     pub schedule: Vec<Step>,
     /// The first finding of that schedule's run, and how many more there are; empty where there is none.
     pub finding: String,
-    /// The steps of a way round from there, along the steps that were looked at a shortest one; empty where it does not
-    /// go round.
+    /// The steps of a way round from there to a world for which that one stands, along the steps that were looked at a
+    /// shortest one; empty where it does not go round.
     pub round: Vec<Step>,
     /// The same in words.
     pub round_words: String,

@@ -12,8 +12,8 @@ use waiting::{is_stuck, running_streams};
 /// The most steps that are told one by one.
 const MOST_TOLD: usize = 12;
 
-/// The steps of a shortest way round along the edges of a space from the world at a place, a machine's, back to it: where
-/// none leads back, a step that goes on and leaves the world as it is. Empty where there is neither.
+/// The steps of a shortest way round along the edges of a space from the world at a place, a machine's, back to it, or to
+/// one for which it stands: where none leads back, a step that goes on and leaves such a world. Empty where there is neither.
 pub(crate) fn round_of<const S: usize>(
     alloc: Global,
     space: &Space<'_>,

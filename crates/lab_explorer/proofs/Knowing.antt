@@ -1,10 +1,17 @@
 -- What is known of the space of a search that is complete.
-use Rattle.std.proofs.Common.{◌≡◌, true, ◌<◌, List, [], ◌∷◌, length, refl, ap, subst, arith}
+use Rattle.std.specs.Prelude.{IsTrue, slice_index_or}
+use Rattle.std.proofs.Common.{◌≡◌, ℕ, Bool, true, false, ◌∙◌, ◌<◌, List, [], ◌∷◌, length, refl, ap, subst, arith}
 use Rattle.image_file.specs.ImageValue.{ImageValue}
 use Rattle.processor.specs.declared.steps.Step.{Step}
 use Rattle.expectations.specs.declared.expectation.Expectation.{Expectation}
 use Rattle.claims.specs.declared.claim.Claim.{Claim}
-use Rattle.schedule_space.specs.Spaces.{SpaceValue, IsComplete}
+use Rattle.processor.specs.World.{World}
+use Rattle.program_flow.specs.Tables.{is_live_at, is_named_by}
+use Rattle.same_futures.proofs.Chains.{agree_itself}
+use Rattle.dead_registers.specs.Clearing.{LiveValue, AgreeBy}
+use Rattle.expectations.specs.NamedRegisters.{is_register_named}
+use Rattle.schedule_space.specs.Spaces.{SpaceValue, world_of, IsComplete}
+use Rattle.schedule_verdicts.specs.NamedRegisters.{AreNamed}
 use Rattle.schedule_space.specs.Reaching.{CanEnd}
 use Rattle.schedule_space.specs.Followed.{HasAllEnds, TellsWhetherAllEnd}
 use Rattle.schedule_verdicts.specs.RightSpaces.{EndsRight, IsRightOnEachWay}
@@ -19,7 +26,12 @@ of_complete P e v same known = subst P (ap space_in same) (known (ap is_complete
 
 -- a space that has all worlds has all ends
 pub ends_known : (v : SpaceValue) → IsComplete v → HasAllEnds v
-ends_known v all = λ ts end. all ts
+ends_known v all = λ ts end.
+    let has = all ts in
+    (has.0, has.1, subst (AgreeBy v.live (world_of v has.0)) has.2 (itself v.live (world_of v has.0)))
+  where
+    itself : (l : LiveValue) (w : World) → AgreeBy l w w
+    itself l w = agree_itself (λ r. IsTrue (is_named_by l.names r)) (λ k r. IsTrue (is_live_at l.table k r)) w
 
 -- and tells whether an end can always be reached
 pub tells_known : (v : SpaceValue) → IsComplete v → TellsWhetherAllEnd v
@@ -31,3 +43,9 @@ pub right_on_each_way : (image : ImageValue) (begin : List Step) (expected : Lis
     → IsRightOnEachWay image begin expected claims
 right_on_each_way image begin expected [] ends claimed = record { right = ends; claimed = λ ts. refl }
 right_on_each_way image begin expected (c ∷ cs) ends claimed = claimed (omega arith)
+
+-- names that tell each of the 32 registers at which expectations look
+pub names_known : (expected : List Expectation) (names found : List Bool) → found ≡ names
+    → ((r : ℕ) → r < 32 → slice_index_or names r false ≡ is_register_named expected r) → AreNamed expected found
+names_known expected names found same told = λ r below is.
+    ap (λ (bs : List Bool). is_named_by bs r) same ∙ told r below ∙ is

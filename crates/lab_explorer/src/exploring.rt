@@ -4,6 +4,7 @@ ghost use Rattle.std.specs.Prelude.{◌+◌, ◌<◌, ◌⊎◌, ◌↔◌, IsTr
 ghost use Rattle.schedule_space.specs.Spaces.{IsComplete, HasAllEdges};
 ghost use Rattle.schedule_space.specs.Followed.{AllFollowed, HasAllEnds, TellsWhetherAllEnd};
 ghost use Rattle.schedule_verdicts.specs.KeptClaims.{AreKeptOnTheWay};
+ghost use Rattle.schedule_verdicts.specs.NamedRegisters.{AreNamed};
 ghost use Rattle.schedule_verdicts.specs.RightSpaces.{EndsRight, IsRightOnEachWay, IsRightThroughout};
 
 use crate::explored_words::answer_of;
@@ -251,6 +252,7 @@ fn explore_on<const S: usize, C: Clock, E: Write>(
         alloc,
         &program.image,
         asked.begin,
+        &asked.wishes.ends,
         most,
         is_of_all_worlds,
         watcher,
@@ -285,7 +287,8 @@ fn are_all_right<const S: usize>(
     ensures asked { IfOk result (λ b. IsTrue b → IsTrue is_asked) }
     ensures before { IfOk result (λ b. IsTrue b
         → AreKeptOnTheWay space.now.image space.now.begin wishes.now.claims.items) }
-    ensures ends { IfOk result (λ b. IsTrue b → HasAllEnds space.now → TellsWhetherAllEnd space.now
+    ensures ends { IfOk result (λ b. IsTrue b → AreNamed wishes.now.ends.items space.now.live.names
+        → HasAllEnds space.now → TellsWhetherAllEnd space.now
         → EndsRight space.now.image space.now.begin wishes.now.ends.items) }
     ensures each_way { IfOk result (λ b. IsTrue b → IsComplete space.now
         → IsRightOnEachWay space.now.image space.now.begin wishes.now.ends.items wishes.now.claims.items) }

@@ -7,10 +7,9 @@ use Rattle.expectations.specs.declared.expectation.Expectation.{Expectation}
 use Rattle.claims.specs.declared.claim.Claim.{Claim}
 use Rattle.schedule_space.specs.Spaces.{SpaceValue, Has, IsComplete}
 use Rattle.schedule_space.specs.Reaching.{IsEnd, CanEnd}
-use Rattle.schedule_space.specs.Followed.{HasAllEnds, TellsWhetherAllEnd}
 use Rattle.schedule_verdicts.specs.RightEnds.{IsRightEnd}
 use Rattle.schedule_verdicts.specs.KeptClaims.{all_hold}
-use Rattle.schedule_verdicts.specs.RightSpaces.{IsRight, EndsRight, IsRightOnEachWay}
+use Rattle.schedule_verdicts.specs.RightSpaces.{IsRight, IsRightOnEachWay}
 
 -- what is so below a number and of it is so below the next
 pub below_more : (P : ℕ → Type 0) (n : ℕ) → ((k : ℕ) → k < n → P k) → P n → (k : ℕ) → k < n + 1 → P k
@@ -23,13 +22,6 @@ right_at : (v : SpaceValue) (expected : List Expectation) (claims : List Claim) 
     → IsRight v expected claims → Has v w → IsEnd v.image w → IsRightEnd expected w
 right_at v expected claims w right has end =
     subst (IsRightEnd expected) has.2 ((right.ends has.0 has.1).right (subst (IsEnd v.image) (sym has.2) end))
-
-pub right_by_ends : (v : SpaceValue) (expected : List Expectation) (claims : List Claim)
-    → IsRight v expected claims → HasAllEnds v → TellsWhetherAllEnd v → EndsRight v.image v.begin expected
-right_by_ends v expected claims right all tells = record {
-  ends = λ ts end. right_at v expected claims (run v.image (v.begin ++ ts)) right (all ts end) end;
-  reach = tells right.reach;
-}
 
 pub right_by_worlds : (v : SpaceValue) (expected : List Expectation) (claims : List Claim)
     → IsRight v expected claims → IsComplete v → IsRightOnEachWay v.image v.begin expected claims

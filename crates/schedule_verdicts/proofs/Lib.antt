@@ -1,3 +1,5 @@
+mod Alike
+mod StandIns
 mod Looking
 mod Every
 mod Each

@@ -1,3 +1,4 @@
 pub mod RightEnds
+pub mod NamedRegisters
 pub mod KeptClaims
 pub mod RightSpaces

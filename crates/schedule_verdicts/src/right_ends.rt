@@ -3,6 +3,7 @@
 ghost use Rattle.std.specs.Prelude.{◌≡◌, ◌↔◌, IsTrue};
 ghost use Rattle.std.specs.Option.{option_copied};
 ghost use Rattle.expectations.specs.Meeting.{stream_in};
+ghost use Rattle.schedule_verdicts.specs.NamedRegisters.{AreOfRegisters};
 ghost use Rattle.schedule_verdicts.specs.RightEnds.{IsRightEnd, AreTrapsExpected, are_met, is_trap_expected, is_stop_by, is_stop_expected};
 
 use expectations::{Expectation, is_met};
@@ -11,22 +12,26 @@ use stream_core::{Status, Stream, TrapKind};
 use waiting::some_run;
 
 /// Whether a run that ends at the world of a machine ends right: no stream runs, all that is expected is so, and each
-/// trap that stopped a stream is one that is expected of it.
+/// trap that stopped a stream is one that is expected of it. Then no register is expected to hold something that no stream
+/// has.
 pub fn is_right_end<const S: usize>(machine: &Machine<'_, S>, expected: &[Expectation]) -> bool
-    ensures { IsTrue result ↔ IsRightEnd expected.now machine.now.world }
+    ensures is { IsTrue result ↔ IsRightEnd expected.now machine.now.world }
+    ensures registers { IsTrue result → AreOfRegisters expected.now }
 {
     !some_run(machine) && are_met(machine, expected) && are_traps_expected(machine, expected)
 }
 
 /// Whether all that is expected is so.
 fn are_met<const S: usize>(machine: &Machine<'_, S>, expected: &[Expectation]) -> bool
-    ensures { result ≡ are_met machine.now.world expected.now }
+    ensures is { result ≡ are_met machine.now.world expected.now }
+    ensures registers { IsTrue result → AreOfRegisters expected.now }
 {
-    expected.iter().all(
-        |expectation: &Expectation| -> bool
-            ensures { result ≡ Rattle.expectations.specs.Meeting.is_met machine.entry.now.world expectation.now }
-        { is_met(machine, expectation) },
-    )
+    for expectation in expected {
+        if !is_met(machine, expectation) {
+            return false;
+        }
+    }
+    true
 }
 
 /// Whether each trap that stopped a stream is expected of it.

@@ -4,6 +4,7 @@ ghost use Rattle.std.specs.Prelude.{◌≡◌, ◌↔◌, ◌<◌, ◌⊎◌, Is
 ghost use Rattle.schedule_space.specs.Spaces.{count, world_of, IsComplete, HasAllEdges};
 ghost use Rattle.schedule_space.specs.Reaching.{CanEnd};
 ghost use Rattle.schedule_space.specs.Followed.{AllFollowed, HasAllEnds, TellsWhetherAllEnd};
+ghost use Rattle.schedule_verdicts.specs.NamedRegisters.{AreNamed, IsOfRegistersAt, EndOfRegisters};
 ghost use Rattle.schedule_verdicts.specs.RightSpaces.{IsRight, IsRightAt, EndRight, AllCanEnd, EndsRight, IsRightOnEachWay};
 
 use crate::kept_claims::are_kept;
@@ -15,9 +16,10 @@ use schedule_space::{Fate, Space};
 use std::alloc::{AllocError, Global};
 
 /// Whether each end in a space is right, an end can be reached from each of its worlds, and the claims hold of each. Of a
-/// space that has all ends this is so only where every schedule that ends ends right, and each can still come to an end
-/// wherever it is; of one that has all worlds, only where beside that the claims hold wherever a schedule leads. Where all
-/// that is so it is true, of a space of either kind.
+/// space that has all ends, and whose names are those of the registers that are expected to hold something, this is so only
+/// where every schedule that ends ends right, and each can still come to an end wherever it is; of one that has all worlds,
+/// only where beside that the claims hold wherever a schedule leads. Where all that is so it is true, of a space of either
+/// kind.
 ///
 /// `Streams` only where the image's slim is above `S`.
 pub fn is_right<const S: usize>(
@@ -30,15 +32,15 @@ pub fn is_right<const S: usize>(
     ensures plain { IfOk result (λ b. IsComplete space.now → HasAllEdges space.now
         → IsRight space.now expected.now claims.now → IsTrue b) }
     ensures followed { IfOk result (λ b. AllFollowed space.now → IsRight space.now expected.now claims.now → IsTrue b) }
-    ensures ends { IfOk result (λ b. IsTrue b → HasAllEnds space.now → TellsWhetherAllEnd space.now
-        → EndsRight space.now.image space.now.begin expected.now) }
+    ensures ends { IfOk result (λ b. IsTrue b → AreNamed expected.now space.now.live.names → HasAllEnds space.now
+        → TellsWhetherAllEnd space.now → EndsRight space.now.image space.now.begin expected.now) }
     ensures each_way { IfOk result (λ b. IsTrue b → IsComplete space.now
         → IsRightOnEachWay space.now.image space.now.begin expected.now claims.now) }
     ensures only { IfOk result (λ b. (IsComplete space.now × HasAllEdges space.now) ⊎ AllFollowed space.now
         → IsRightOnEachWay space.now.image space.now.begin expected.now claims.now → IsTrue b) }
 {
-    // It says that each place but the first was found from an earlier one.
-    let _worlds = space.len();
+    // They say that each place but the first was found from an earlier one, and that what is live is all that may be read.
+    let (_worlds, _live) = (space.len(), space.live());
     if !ends_are_right::<S>(alloc, space, expected)? {
         return Ok(false);
     }
@@ -54,7 +56,8 @@ fn ends_are_right<const S: usize>(
     space: &Space<'_>,
     expected: &[Expectation],
 ) -> Result<bool, LoadFault>
-    ensures { IfOk result (λ b. IsTrue b ↔ EndRight space.now expected.now) }
+    ensures are { IfOk result (λ b. IsTrue b ↔ EndRight space.now expected.now) }
+    ensures registers { IfOk result (λ b. IsTrue b → EndOfRegisters space.now expected.now) }
 {
     for place in 0..space.len() {
         if !is_right_at::<S>(alloc, space, place, expected)? {
@@ -72,7 +75,8 @@ fn is_right_at<const S: usize>(
     expected: &[Expectation],
 ) -> Result<bool, LoadFault>
     requires { place < count space.now }
-    ensures { IfOk result (λ b. IsTrue b ↔ IsRightAt space.now expected.now place) }
+    ensures is { IfOk result (λ b. IsTrue b ↔ IsRightAt space.now expected.now place) }
+    ensures registers { IfOk result (λ b. IsTrue b → IsOfRegistersAt space.now expected.now place) }
 {
     match space.fate(place) {
         Fate::GoesOn => Ok(true),

@@ -1,0 +1,94 @@
+"""The search for ends alone, by the rules of docs/LAB.md ("Every schedule"): of worlds that differ in registers alone that
+nobody reads again one is kept, and a step that concerns nobody else is taken alone where it leads to a later world."""
+
+import collections
+
+import machine
+from liveness import Liveness
+
+
+class EndsAlone:
+    """The worlds that the search looks at, and between which places steps lead; registers that are named are kept, and
+    `most` is how many worlds there may be."""
+
+    def __init__(self, program, begin, named, most):
+        self.program, self.named, self.most = program, frozenset(named), most
+        self.live = Liveness(program)
+        world = machine.start(program)
+        for p, s in begin:
+            world, _ = machine.step(program, world, p, s)
+        self.worlds, self.places, self.steps = [], {}, []
+        self.place(world)
+        self.is_whole = self.search()
+
+    def told_as(self, world):
+        """What is the same of all worlds of which one is kept."""
+        return self.live.cleared(world, self.named)
+
+    def place(self, world):
+        """The place of the one that is kept of such worlds; a new one comes behind the others."""
+        key = self.told_as(world)
+        if key not in self.places:
+            self.places[key] = len(self.worlds)
+            self.worlds.append(world)
+        return self.places[key]
+
+    def search(self):
+        """Goes through the worlds in the order in which they were found, and says whether these are all."""
+        at = 0
+        while at < len(self.worlds):
+            self.expand(at)
+            if len(self.worlds) > self.most:
+                return False
+            at += 1
+        return True
+
+    def expand(self, at):
+        """Takes the steps from the world at a place."""
+        world = self.worlds[at]
+        others = []
+        for p, s in machine.running(world):
+            if not is_free(self.program, world, p, s):
+                others.append((p, s))
+            elif self.take(at, p, s) > at:
+                return
+        for p, s in others:
+            self.take(at, p, s)
+
+    def take(self, at, p, s):
+        """Takes a step, and says to which place it leads."""
+        world, _ = machine.step(self.program, self.worlds[at], p, s)
+        to = self.place(world)
+        if to != at:
+            self.steps.append((at, to))
+        return to
+
+    def leading_to(self, world):
+        """From how many of the worlds steps lead to the one that is kept for a world."""
+        before = collections.defaultdict(list)
+        for at, to in self.steps:
+            before[to].append(at)
+        found = {self.places[self.told_as(world)]}
+        waiting = list(found)
+        while waiting:
+            for at in before[waiting.pop()]:
+                if at not in found:
+                    found.add(at)
+                    waiting.append(at)
+        return len(found)
+
+
+def is_free(program, world, p, s):
+    """Whether a step can be taken before all others: its word refers to no word of the memory, and it neither reserves nor
+    starts nor ends a stream, or ends the last stream of its processor that runs."""
+    streams = world.processors[p].streams
+    place = streams[s].ssw % 2**32
+    if place >= len(program.words):
+        return True
+    word = program.words[place]
+    if word.memory:
+        return False
+    name = word.control[0] if word.control else None
+    if name in ("QUIT", "QUITP"):
+        return sum(stream.status == "running" for stream in streams) == 1
+    return name not in ("RESERVE", "CREATE")
