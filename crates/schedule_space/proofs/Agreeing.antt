@@ -1,5 +1,5 @@
 -- Worlds of a space, and those that they stand for.
-use Rattle.std.proofs.Common.{◌≡◌, ℕ, ◌<◌, refl, sym, ap, ◌∙◌, subst, arith, List, [], ◌∷◌, ◌++◌}
+use Rattle.std.proofs.Common.{◌≡◌, ℕ, refl, sym, ap, ◌∙◌, subst, arith, List, [], ◌∷◌, ◌++◌}
 use Rattle.std.specs.Prelude.{IsTrue}
 use Rattle.processor.specs.World.{World, start, after, steps, run}
 use Rattle.processor.specs.declared.steps.Step.{Step}
@@ -11,7 +11,7 @@ use Rattle.same_futures.proofs.NoHandlers.{told_by}
 use Rattle.dead_registers.specs.Clearing.{LiveValue, IsLive, AgreeBy}
 use Rattle.agreeing_ends.specs.Followed.{IsGrounded}
 use Rattle.agreeing_ends.proofs.Grounded.{grounded}
-use Rattle.schedule_space.specs.Spaces.{SpaceValue, count, schedule_of, world_of, StandsFor}
+use Rattle.schedule_space.specs.Spaces.{SpaceValue, schedule_of, world_of, StandsFor}
 use Rattle.schedule_space.specs.Finding.{found_in}
 use Rattle.schedule_space.proofs.Schedules.{first-schedule, run-push}
 

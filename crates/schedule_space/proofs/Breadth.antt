@@ -3,7 +3,7 @@ use Rattle.std.proofs.Common.{◌≡◌, ℕ, ◌+◌, ◌<◌, ◌≤◌, sym, 
 use Rattle.std.proofs.Common.{◌⊎◌, inl, inr, length, get_or, length-append, append_assoc, append-nil}
 use Rattle.std.specs.List.{Contains}
 use Rattle.std.proofs.lemmas.Bool.{cases_lt}
-use Rattle.processor.specs.World.{World, after, run}
+use Rattle.processor.specs.World.{after, run}
 use Rattle.processor.specs.declared.steps.Step.{Step}
 use Rattle.std.specs.Prelude.{IsTrue}
 use Rattle.same_futures.specs.Handlers.{may_have_handlers}

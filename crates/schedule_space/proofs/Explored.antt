@@ -9,7 +9,7 @@ use Rattle.schedule_space.specs.declared.explorations.Exploration.{Exploration}
 use Rattle.schedule_space.specs.declared.expanding.Wanted.{Wanted}
 use Rattle.schedule_space.specs.declared.links.Edge.{Edge}
 use Rattle.schedule_space.specs.Answers.{space_in, is_complete}
-use Rattle.schedule_space.specs.Spaces.{SpaceValue, count, world_of, IsComplete, IsDistinct, HasAllEdges}
+use Rattle.schedule_space.specs.Spaces.{count, world_of, IsComplete, IsDistinct, HasAllEdges}
 use Rattle.schedule_space.specs.Spaces.{AreAllApart, StandAlone, IsEdgeToStandIn}
 use Rattle.schedule_space.specs.Finding.{IsExpanded, NamesAll}
 use Rattle.schedule_space.specs.Followed.{AllFollowed, HasAllEnds, HasShortestEnds, TellsWhetherAllEnd}

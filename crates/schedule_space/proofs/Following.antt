@@ -1,9 +1,9 @@
 -- Spaces in which a step that can be taken before all others may be taken alone have all ends.
 use Rattle.std.proofs.Common.{◌≡◌, ℕ, zero, suc, ◌+◌, ◌<◌, ◌≤◌, ◌⊎◌, inl, inr, refl, sym, ap, subst, arith}
-use Rattle.std.proofs.Common.{List, [], ◌∷◌, ◌++◌, length, Bool, length-append}
+use Rattle.std.proofs.Common.{List, [], ◌∷◌, length, Bool, length-append}
 use Rattle.std.specs.Prelude.{IsTrue}
 use Rattle.std.specs.List.{Contains}
-use Rattle.processor.specs.World.{run, steps}
+use Rattle.processor.specs.World.{steps}
 use Rattle.processor.specs.declared.steps.Step.{Step}
 use Rattle.same_futures.specs.Handlers.{may_have_handlers}
 use Rattle.dead_registers.specs.Clearing.{IsLive, AgreeBy}

@@ -18,7 +18,7 @@ use Rattle.schedule_space.specs.declared.links.Edge.{Edge}
 use Rattle.schedule_space.specs.declared.fates.Fate.{Fate}
 use Rattle.schedule_space.specs.Spaces.{schedules, SpaceValue, count, schedule_of, world_of, machine_after, StandsFor, IsEdgeToStandIn}
 use Rattle.schedule_space.specs.Fates.{IsFate}
-use Rattle.schedule_space.specs.Finding.{space_of, with_link, with_edge, IsKeyed, IsFound, cleared_after}
+use Rattle.schedule_space.specs.Finding.{space_of, with_link, with_edge, IsKeyed, IsFound}
 use Rattle.schedule_space.proofs.Schedules.{one_more, schedules-push, run-push, one_schedule}
 use Rattle.schedule_space.proofs.Growing.{world_grown, last_world, with_link_grown}
 use Rattle.schedule_space.proofs.Parts.{key_after, key_at, keys_many, below_next, begun, linked, edged, first_key, keyed_later, keyed_edge}

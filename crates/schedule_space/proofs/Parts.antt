@@ -7,7 +7,7 @@ use Rattle.std.proofs.lemmas.List.{map-append, get_or_append_left, get_or-map, l
 use Rattle.std.proofs.lemmas.List.Elements.{Contains-push_cases}
 use Rattle.std.proofs.Math.Seq.{get_or-append_seam}
 use Rattle.image_file.specs.ImageValue.{ImageValue}
-use Rattle.processor.specs.World.{World, after, run}
+use Rattle.processor.specs.World.{World, after}
 use Rattle.processor.specs.declared.steps.Step.{Step}
 use Rattle.machine.specs.MachineValue.{MachineValue}
 use Rattle.dead_registers.specs.Clearing.{LiveValue, IsLive}

@@ -1,17 +1,16 @@
 -- Where all registers are named, clearing changes nothing, and each world stands for itself alone.
-use Rattle.std.proofs.Common.{◌≡◌, ℕ, zero, suc, ◌+◌, ◌<◌, refl, sym, ap, ◌∙◌, subst, arith, inl, Bool, true, false}
+use Rattle.std.proofs.Common.{◌≡◌, ℕ, suc, ◌+◌, ◌<◌, refl, sym, ap, ◌∙◌, subst, arith, inl, Bool, true, false}
 use Rattle.std.proofs.Common.{List, [], ◌∷◌, length, map, get_or, if◌then◌else◌}
-use Rattle.std.specs.Prelude.{IsTrue}
 use Rattle.image_file.specs.ImageValue.{ImageValue}
 use Rattle.stream_core.specs.Streams.{StreamValue, idle}
 use Rattle.processor.specs.Processors.{ProcessorValue, is_idle}
 use Rattle.processor.specs.World.{World}
 use Rattle.program_flow.specs.Agreement.{with_registers}
-use Rattle.dead_registers.specs.Clearing.{LiveValue, matters, kept_from, cleared_stream, cleared_processor, cleared, AgreeBy}
+use Rattle.dead_registers.specs.Clearing.{LiveValue, matters, kept_from, cleared_stream, cleared_processor, cleared}
 use Rattle.dead_registers.proofs.Registers.{all_kept, idle_same, does_matter}
 use Rattle.dead_registers.proofs.Worlds.{agreeing_same}
 use Rattle.world_keys.specs.WorldKeys.{IsKnown, IsKnownStream, IsKnownIf, IsKnownProcessor, no_processor}
-use Rattle.schedule_space.specs.Spaces.{SpaceValue, count, schedule_of, world_of, StandAlone}
+use Rattle.schedule_space.specs.Spaces.{SpaceValue, world_of, StandAlone}
 use Rattle.schedule_space.specs.Finding.{NamesAll, IsKeyed}
 
 kept_all : (keeps : ℕ → Bool) (r : ℕ) (xs : List ℕ) → ((k : ℕ) → k < r + length xs → keeps k ≡ true)
