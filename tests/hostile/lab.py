@@ -155,11 +155,15 @@ def without_threads(tally, library, folder):
     asked = framed("initialize", "launch", "configurationDone", *["threads"] * 20, "disconnect")
     ended = lab(["dap"], asked, **refused)
     tally.check(f"dap without a thread: {ended}", (ended.status, ended.out, ended.err) == (1, b"", NO_THREAD))
+    # the first is to see whether there is one, and the second is to read
+    ended = lab(["dap"], asked, **refused_threads(library, folder, "2"))
+    tally.check(f"dap without its second thread: {ended}", (ended.status, ended.out, ended.err) == (1, b"", NO_THREAD))
     for words in commands(folder):
         ample, ended = lab(words), lab(words, **refused)
         tally.check(f"{words} without a thread: {ended}",
                     (ended.status, ended.out, ended.err) == (ample.status, ample.out, ample.err))
         tally.runs += 2
+    tally.runs += 1
 
 
 def small_stacks(tally, folder):

@@ -277,6 +277,9 @@ def control_bytes():
             yield (f"grade {words}", list(zip(WRITTEN_NAMES, ["right", "source fault", "right", "source fault"], [3] * 4)),
                    [(row[0], row[1], len(row)) for row in rows])
         for name in names:
+            # (it is the command line's own text)
+            ended = lab("explore", f"--{name}", folder=folder)
+            yield f"explore --{name}", (2, None), (ended.status, CONTROL.search(ended.out + ended.err))
             for words in (["check", name], ["check", "--as", "schedule", name], ["view", name], ["view", name, "--columns"],
                           ["view", name, "b\x07.schedule"], ["survey", name, "--seeds", "3"], ["explore", name],
                           ["explore", name, "--expect", "c.expect"], ["explore", name, "--expect", "b\x07.schedule"],

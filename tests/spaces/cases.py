@@ -202,7 +202,8 @@ def of_each_end(space, expected, ends, told_as=lambda world: world):
         alike[key] = min(alike.get(key, world), world, key=space.distance.get)
     wanted, told = {}, {}
     for world in alike.values():
-        key = space.kind(world), wishes.missed(expected, world) is None and not wishes.is_trapped(expected, world)
+        is_met = wishes.missed(expected, world) is None and not wishes.is_trapped(expected, world)
+        key = space.kind(world), is_met and space.kind(world) != "deadlock"
         count, least = wanted.get(key, (0, space.distance[world]))
         wanted[key] = count + 1, min(least, space.distance[world])
     for end in ends:

@@ -15,8 +15,10 @@ use std::io::{ErrorKind, Read, Write};
 use std::marker::Send;
 use std::rt::Files;
 use std::sync::Wait;
+use std::sync::atomic::{AtomicBool, Ordering};
 use std::thread;
 use std::thread::Threads;
+use std::time::{Clock, Duration};
 
 /// The bytes that one read asks for.
 const CHUNK: usize = 4_096;
@@ -24,11 +26,17 @@ const CHUNK: usize = 4_096;
 /// How many messages wait at most while another is answered.
 const WAITING: usize = 4;
 
+/// How often is looked whether the thread that reads has begun, with a rest between two looks: five seconds.
+const LOOKS: u32 = 5_000;
+
+/// The rest, in milliseconds.
+const REST: u64 = 1;
+
 /// Why nothing is answered where the system starts no thread.
 const NO_THREAD: &str = "dap takes a second thread, and the system starts none";
 
 /// Answers the requests on standard input. A thread reads them, so that one is seen while a search is under way.
-pub fn adapt<X: Threads + Wait + Sync, F: Files, R: Read + Send, W: Write>(
+pub fn adapt<X: Threads + Wait + Clock + Sync, F: Files, R: Read + Send, W: Write>(
     rt: &X,
     alloc: Global,
     files: &F,
@@ -36,15 +44,24 @@ pub fn adapt<X: Threads + Wait + Sync, F: Files, R: Read + Send, W: Write>(
     output: &mut W,
 ) -> Result<Status, LabFault> {
     if !has_second_thread(rt) {
-        return Err(LabFault::Words(String::from_str(alloc, NO_THREAD)?));
+        return Err(no_thread(alloc));
     }
     let (sender, receiver) = crossbeam_channel::bounded(alloc, WAITING)?;
+    let is_begun = AtomicBool::new(false);
     let (_, served) = thread::join(
         rt,
-        || read_frames(rt, alloc, input, sender),
-        || serve_all(rt, alloc, files, receiver, output),
+        || read_if_first(rt, alloc, &is_begun, input, sender),
+        || serve_if_begun(rt, alloc, &is_begun, files, receiver, output),
     );
     served
+}
+
+/// That the system starts no thread.
+fn no_thread(alloc: Global) -> LabFault {
+    match String::from_str(alloc, NO_THREAD) {
+        Ok(words) => LabFault::Words(words),
+        Err(_) => LabFault::NoMemory,
+    }
 }
 
 /// Whether the system starts a thread: without one, who reads would wait for who answers, and the other way round.
@@ -56,6 +73,45 @@ fn has_second_thread<X: Threads>(rt: &X) -> bool {
         }
         Err(_) => false,
     }
+}
+
+/// Reads messages, unless who answers has given up already: where the system has no thread for it, this comes last.
+fn read_if_first<X: Wait, R: Read>(
+    rt: &X,
+    alloc: Global,
+    is_begun: &AtomicBool,
+    input: &mut R,
+    sender: Sender<Frame, Global>,
+) {
+    if !is_begun.swap(true, Ordering::SeqCst) {
+        read_frames(rt, alloc, input, sender);
+    }
+}
+
+/// Answers messages, if the thread that reads them begins.
+fn serve_if_begun<X: Wait + Clock, F: Files, W: Write>(
+    rt: &X,
+    alloc: Global,
+    is_begun: &AtomicBool,
+    files: &F,
+    receiver: Receiver<Frame, Global>,
+    output: &mut W,
+) -> Result<Status, LabFault> {
+    if !has_begun(rt, is_begun) {
+        return Err(no_thread(alloc));
+    }
+    serve_all(rt, alloc, files, receiver, output)
+}
+
+/// Whether the thread that reads begins in time. If not, it never will.
+fn has_begun<X: Clock>(rt: &X, is_begun: &AtomicBool) -> bool {
+    for _ in 0..LOOKS {
+        if is_begun.load(Ordering::SeqCst) {
+            return true;
+        }
+        thread::sleep(rt, Duration::from_millis(REST));
+    }
+    is_begun.swap(true, Ordering::SeqCst)
 }
 
 /// Reads messages and passes them on, up to one that asks for the end, or to the end of the input.

@@ -210,8 +210,10 @@ fn push_end_object(
     let shortest = shortest_value(alloc, found, end)?;
     let schedule = write_schedule(alloc, &end.schedule)?;
     let schedule = schedule.as_str();
-    let is_broken = end.kind == SpaceEndKind::Broken;
-    let is_as_expected = end.missed.is_none() && !end.is_trapped && !is_broken;
+    // (nobody expects a deadlock, whatever else its words hold)
+    let is_bad = end.kind == SpaceEndKind::Broken
+        || end.kind == SpaceEndKind::End(EndKind::Deadlock);
+    let is_as_expected = end.missed.is_none() && !end.is_trapped && !is_bad;
     let missed = match missed_of(expected, end) {
         Some(expectation) => {
             let mut words = String::new(alloc);

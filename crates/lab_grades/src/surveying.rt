@@ -3,6 +3,7 @@
 use crate::explored_grades::words_of_bound;
 use crate::outcomes::{Outcome, Seeds, outcomes_of, worst_status};
 use command_parts::{Answer, Inputs, LabFault, Program, push_object, read_program, style_of};
+use end_kinds::EndKind;
 use expectations::Expectation;
 use lab_ends::{SpaceEnd, SpaceEndKind, Wishes};
 use lab_explorer::{
@@ -202,7 +203,8 @@ fn push_outcome_object(
     let seed = digits(alloc, outcome.seed)?;
     let steps = outcome.steps;
     let finding = outcome.finding.as_str();
-    let is_as_expected = outcome.is_as_expected();
+    // (nobody expects a deadlock)
+    let is_as_expected = outcome.is_as_expected() && outcome.kind != EndKind::Deadlock;
     let missed = match missed_of(expected, outcome) {
         Some(expectation) => {
             let mut words = String::new(alloc);

@@ -10,9 +10,10 @@ use lab_grades::{grade, survey};
 use lab_pages::{write_page, write_picture};
 use lab_requests::LabCommand;
 use lab_views::{compare, view};
-use plain_text::plain;
-use std::alloc::Global;
+use plain_text::{plain, push_plain};
+use std::alloc::{AllocError, Global};
 use std::convert::AsStr;
+use std::fmt::Display;
 use std::io::{Error, ErrorKind, Read, Write};
 use std::marker::Send;
 use std::rt::Files;
@@ -56,7 +57,7 @@ pub(crate) fn run_lab<
             status_told(ended, errors)
         }
         Err(error) if error.use_stderr() => {
-            let _ = write!(errors, "{error}");
+            tell_refused(alloc, &error, errors);
             Status::NoCommand.number()
         }
         Err(help) => {
@@ -64,6 +65,29 @@ pub(crate) fn run_lab<
             status_told(written(wrote).map(|()| Status::Done), errors)
         }
     }
+}
+
+/// Writes why a command line is refused.
+fn tell_refused<D: Display, E: Write>(alloc: Global, error: &D, errors: &mut E) {
+    match plain_lines(alloc, error) {
+        Ok(lines) => {
+            let _ = write_whole(errors, lines.as_bytes());
+        }
+        Err(_) => {
+            let _ = writeln!(errors, "mta_lab: no memory");
+        }
+    }
+}
+
+/// The lines of a message that repeats words of the command line, whose control bytes a terminal is not to get.
+fn plain_lines<D: Display>(alloc: Global, message: &D) -> Result<String, AllocError> {
+    let text = format!(in alloc; "{message}")?;
+    let mut out = String::new(alloc);
+    for line in text.lines() {
+        push_plain(&mut out, line)?;
+        out.push_str("\n")?;
+    }
+    Ok(out)
 }
 
 /// The number of a command's status; why it gave up, where it did, is written first.

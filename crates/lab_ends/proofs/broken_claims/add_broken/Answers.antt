@@ -1,4 +1,4 @@
-use Rattle.std.proofs.Common.{ℕ, ◌<◌, ◌≤◌, List, length, map, arith, rules}
+use Rattle.std.proofs.Common.{◌<◌, ◌≤◌, length, map, arith, rules}
 use Rattle.std.specs.Prelude.{min, string_bytes}
 use Rattle.std.proofs.lemmas.List.{length-map}
 use Rattle.lab_ends.specs.BrokenClaims.{value_of}

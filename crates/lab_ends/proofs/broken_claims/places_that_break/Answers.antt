@@ -1,4 +1,4 @@
-use Rattle.std.proofs.Common.{◌≡◌, ap, ◌∙◌, true, false, rules, arith}
+use Rattle.std.proofs.Common.{◌≡◌, ap, ◌∙◌, true, false, arith}
 use Rattle.std.specs.Prelude.{not}
 use Rattle.claims.specs.Holding.{holds}
 use Rattle.schedule_space.specs.Spaces.{world_of}
