@@ -79,12 +79,12 @@ class EndsAlone:
 
 
 def is_free(program, world, p, s):
-    """Whether a step can be taken before all others: its word refers to no word of the memory, and it neither reserves nor
-    starts nor ends a stream, or ends the last stream of its processor that runs."""
+    """Whether a step can be taken before all others: its instruction refers to no word of the memory, and neither reserves
+    nor starts nor ends a stream, or ends the last stream of its processor that runs. Past the program there is none."""
     streams = world.processors[p].streams
     place = streams[s].ssw % 2**32
     if place >= len(program.words):
-        return True
+        return False
     word = program.words[place]
     if word.memory:
         return False
