@@ -95,6 +95,31 @@ copies() {
   printf '%-58s %6d us, %d KB\n' "copy of $1, 2.2 MB" $(((many - one) / 100)) $((($(peak "$parts" bench copy "$1" 101) - $(peak "$parts" bench copy "$1" 1)) / 100))
 }
 
+# search PROGRAM [OPTION]: all ends of a program, or with --plain all its worlds
+search() {
+  local program=$1 head worlds steps
+  shift
+  # (a deadlock has a status of its own)
+  head=$("$lab" explore "$@" "$program" | head -n 1) || true
+  worlds=$(sed -E 's/.*: ([0-9]+) worlds.*/\1/' <<<"$head")
+  steps=$(sed -E 's/.*, ([0-9]+) steps.*/\1/' <<<"$head")
+  report "lab: explore${*:+ $*} $(basename "$program"), $worlds worlds" "$(best 3 "$lab" explore "$@" "$program" || true)" \
+    "$(instructions "$lab" explore "$@" "$program")" "$steps" step "$(peak "$lab" explore "$@" "$program" || true)"
+}
+
+# searches: the examples, and programs of a homework's size
+searches() {
+  local name
+  for name in lock fetch_add readers_writer barrier bounded_buffer philosophers; do
+    search "examples/$name.asm"
+  done
+  for name in philosophers lock adders; do
+    bench/search_programs.sh "$name" >"$work/longer_$name.asm"
+    search "$work/longer_$name.asm"
+  done
+  for name in lock fetch_add readers_writer; do search "examples/$name.asm" --plain; done
+}
+
 # round KIND WHICH: the microseconds of one round, by the difference of 11 rounds and 1
 round() {
   local one many
@@ -240,5 +265,6 @@ printf '%-58s %6d.%d ms, %d MB, at most 260 bytes an entry and 8 a step: %d MB\n
 printf ' .entry 0\n .entry 0\n .entry 0\n .entry 0\n LIT r1, 1\nmore: FADD.N r2, r0, 0 | ADD r3, r3, r1\n SKIP ALWAYS, 0, more\n .data 0\n' >"$work/four.asm"
 surveys
 views
+searches
 report "lab: check, 65536 lines" "$(best 3 "$lab" check "$work/source" || true)" \
   "$(instructions "$lab" check "$work/source")" 65536 line "$(peak "$lab" check "$work/source")"

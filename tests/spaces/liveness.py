@@ -70,10 +70,8 @@ class Liveness:
             self.rows = rows
 
     def row(self, place):
-        """The registers that are live at a place; past the program each word traps."""
-        if place < len(self.rows):
-            return self.rows[place]
-        return ALL if self.is_handled else frozenset()
+        """The registers that are live at a place: past the program, where each step traps, all are."""
+        return self.rows[place] if place < len(self.rows) else ALL
 
     def at(self, place, word):
         """The registers that are live at a word, by those that are at the others."""
