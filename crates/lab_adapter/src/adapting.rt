@@ -1,5 +1,6 @@
 //! The command `dap`: requests of an editor from standard input, answers on standard output.
 
+use crate::second_thread::{has_begun, has_second_thread, no_thread};
 use command_parts::{Inputs, LabFault, Program, Status, is_image, program_of, steps_of};
 use crossbeam_channel::{Receiver, Sender};
 use debug_adapter::{
@@ -18,22 +19,13 @@ use std::sync::Wait;
 use std::sync::atomic::{AtomicBool, Ordering};
 use std::thread;
 use std::thread::Threads;
-use std::time::{Clock, Duration};
+use std::time::Clock;
 
 /// The bytes that one read asks for.
 const CHUNK: usize = 4_096;
 
 /// How many messages wait at most while another is answered.
 const WAITING: usize = 4;
-
-/// How often is looked whether the thread that reads has begun, with a rest between two looks: five seconds.
-const LOOKS: u32 = 5_000;
-
-/// The rest, in milliseconds.
-const REST: u64 = 1;
-
-/// Why nothing is answered where the system starts no thread.
-const NO_THREAD: &str = "dap takes a second thread, and the system starts none";
 
 /// Answers the requests on standard input. A thread reads them, so that one is seen while a search is under way.
 pub fn adapt<X: Threads + Wait + Clock + Sync, F: Files, R: Read + Send, W: Write>(
@@ -54,25 +46,6 @@ pub fn adapt<X: Threads + Wait + Clock + Sync, F: Files, R: Read + Send, W: Writ
         || serve_if_begun(rt, alloc, &is_begun, files, receiver, output),
     );
     served
-}
-
-/// That the system starts no thread.
-fn no_thread(alloc: Global) -> LabFault {
-    match String::from_str(alloc, NO_THREAD) {
-        Ok(words) => LabFault::Words(words),
-        Err(_) => LabFault::NoMemory,
-    }
-}
-
-/// Whether the system starts a thread: without one, who reads would wait for who answers, and the other way round.
-fn has_second_thread<X: Threads>(rt: &X) -> bool {
-    match thread::spawn(rt, || ()) {
-        Ok(started) => {
-            started.join(rt);
-            true
-        }
-        Err(_) => false,
-    }
 }
 
 /// Reads messages, unless who answers has given up already: where the system has no thread for it, this comes last.
@@ -101,17 +74,6 @@ fn serve_if_begun<X: Wait + Clock, F: Files, W: Write>(
         return Err(no_thread(alloc));
     }
     serve_all(rt, alloc, files, receiver, output)
-}
-
-/// Whether the thread that reads begins in time. If not, it never will.
-fn has_begun<X: Clock>(rt: &X, is_begun: &AtomicBool) -> bool {
-    for _ in 0..LOOKS {
-        if is_begun.load(Ordering::SeqCst) {
-            return true;
-        }
-        thread::sleep(rt, Duration::from_millis(REST));
-    }
-    is_begun.swap(true, Ordering::SeqCst)
 }
 
 /// Reads messages and passes them on, up to one that asks for the end, or to the end of the input.

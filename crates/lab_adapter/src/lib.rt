@@ -2,5 +2,6 @@
 #![tactic(auto)]
 
 mod adapting;
+mod second_thread;
 
 pub use adapting::adapt;

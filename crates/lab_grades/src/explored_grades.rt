@@ -1,6 +1,12 @@
 //! What every schedule says of a submission.
 
-use crate::grading::{Verdict, push_why};
+ghost use Rattle.std.specs.Prelude.{◌≡◌, [], List, IsTrue, IfOk, IfErr};
+ghost use Rattle.expectations.specs.declared.expectation.Expectation.{Expectation};
+ghost use Rattle.claims.specs.declared.claim.Claim.{Claim};
+ghost use Rattle.schedule_verdicts.specs.RightSpaces.{IsRightThroughout};
+
+use crate::grading::push_why;
+use crate::verdicts::{Verdict, VerdictKind};
 use command_parts::{LabFault, Program, style_of};
 use end_kinds::{EndKind, Status};
 use expectations::Expectation;
@@ -25,7 +31,10 @@ pub(crate) fn explored_verdict<C: Clock, E: Write>(
     program: &Program,
     bounds: Bounds,
     console: &mut Console<'_, C, E>,
-) -> Result<Verdict, LabFault> {
+) -> Result<Verdict, LabFault>
+    ensures right { IfOk result (λ v. v.kind ≡ VerdictKind.Right → (ends : List Expectation) × (claims : List Claim)
+        × IsRightThroughout program.now.image [] ends claims) }
+{
     let names = ProgramNames::of(alloc, &program.text)?;
     let wishes = match wishes_for(alloc, request, wishes, program, &names)? {
         Ok(wishes) => wishes,
@@ -54,7 +63,9 @@ fn wishes_for(
     text: &[u8],
     program: &Program,
     names: &ProgramNames<'_>,
-) -> Result<Result<Wishes, Verdict>, LabFault> {
+) -> Result<Result<Wishes, Verdict>, LabFault>
+    ensures { IfOk result (λ r. IfErr r (λ v. v.kind ≡ VerdictKind.Wrong)) }
+{
     match Wishes::of(alloc, text, names, &program.image) {
         Ok(wishes) => Ok(Ok(wishes)),
         Err(WishFault::Claim { line, fault }) if fault.is_of_program() => Ok(Err(
@@ -71,11 +82,13 @@ fn verdict_without_parts(
     program: &Program,
     line: usize,
     fault: ClaimFault,
-) -> Result<Verdict, AllocError> {
+) -> Result<Verdict, AllocError>
+    ensures { IfOk result (λ v. v.kind ≡ VerdictKind.Wrong) }
+{
     let path = request.expected;
     let words = claim_words(alloc, fault, &program.image)?;
     Ok(Verdict {
-        word: "wrong",
+        kind: VerdictKind::Wrong,
         why: format!(in alloc; "{path}:{line}: {words}")?,
         status: Status::Unexpected,
     })
@@ -86,7 +99,9 @@ fn verdict_of_ends(
     alloc: Global,
     expected: &[Expectation],
     found: &Explored,
-) -> Result<Verdict, AllocError> {
+) -> Result<Verdict, AllocError>
+    ensures right { IfOk result (λ v. v.kind ≡ VerdictKind.Right → IsTrue found.now.is_right) }
+{
     let status = found.status();
     for flaw in [
         EndFlaw::Trap,
@@ -97,7 +112,7 @@ fn verdict_of_ends(
     ] {
         if let Some(end) = found.ends.iter().find(|end| flaw.is_of(end)) {
             return Ok(Verdict {
-                word: flaw.word(),
+                kind: flaw.kind(),
                 why: why_of_end(alloc, expected, end)?,
                 status,
             });
@@ -107,13 +122,13 @@ fn verdict_of_ends(
     if !found.is_right {
         let ended = words_of_bound(alloc, found.bound)?;
         return Ok(Verdict {
-            word: "not decided",
+            kind: VerdictKind::NotDecided,
             why: format!(in alloc; "some schedules, {worlds} worlds{ended}")?,
             status: status.worse(Status::OutOfSteps),
         });
     }
     Ok(Verdict {
-        word: "right",
+        kind: VerdictKind::Right,
         why: format!(in alloc; "every schedule, {worlds} worlds")?,
         status,
     })
@@ -149,13 +164,15 @@ enum EndFlaw {
 }
 
 impl EndFlaw {
-    /// The word of the table.
-    fn word(self) -> &'static str {
+    /// What a submission is that shows it.
+    fn kind(self) -> VerdictKind
+        ensures { ¬ (result ≡ VerdictKind.Right) }
+    {
         match self {
-            EndFlaw::Trap => "trap",
-            EndFlaw::Deadlock => "deadlock",
-            EndFlaw::Wrong | EndFlaw::Broken => "wrong",
-            EndFlaw::Spinning => "spins",
+            EndFlaw::Trap => VerdictKind::Trap,
+            EndFlaw::Deadlock => VerdictKind::Deadlock,
+            EndFlaw::Wrong | EndFlaw::Broken => VerdictKind::Wrong,
+            EndFlaw::Spinning => VerdictKind::Spins,
         }
     }
 

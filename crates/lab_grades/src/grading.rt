@@ -2,6 +2,7 @@
 
 use crate::explored_grades::explored_verdict;
 use crate::outcomes::{Outcome, Seeds, outcomes_of, worst_status};
+use crate::verdicts::{Verdict, VerdictKind};
 use command_parts::{Answer, Inputs, LabFault, Program, Status, program_of, push_object, style_of};
 use end_kinds::EndKind;
 use expectations::Expectation;
@@ -15,17 +16,6 @@ use std::io::{Read, Write};
 use std::rt::Files;
 use std::thread::Threads;
 use std::time::Clock;
-
-/// What is said of a submission.
-#[derive(Drop)]
-pub(crate) struct Verdict {
-    /// The word of the table.
-    pub word: &'static str,
-    /// Why, and by which seed or schedule.
-    pub why: String,
-    /// What it means for the exit status.
-    pub status: Status,
-}
 
 /// Judges submissions, each by the same seeds or by every schedule.
 pub fn grade<X: Threads + Sync, C: Clock, F: Files, R: Read, E: Write>(
@@ -87,7 +77,7 @@ fn submission<F: Files, R: Read>(
     {
         Ok(program) => Ok(Ok(program)),
         Err(LabFault::Words(why) | LabFault::Lines(why)) => Ok(Err(Verdict {
-            word: "source fault",
+            kind: VerdictKind::SourceFault,
             why: short_fault(alloc, path, &why)?,
             status: Status::Fault,
         })),
@@ -125,14 +115,14 @@ fn verdict_of_outcomes(
     for flaw in [Flaw::Trap, Flaw::Deadlock, Flaw::Wrong, Flaw::OutOfSteps] {
         if let Some(outcome) = outcomes.iter().find(|outcome| flaw.is_of(outcome)) {
             return Ok(Verdict {
-                word: flaw.word(),
+                kind: flaw.kind(),
                 why: why_of(alloc, expected, outcome)?,
                 status,
             });
         }
     }
     Ok(Verdict {
-        word: "right",
+        kind: VerdictKind::Right,
         why: format!(in alloc; "{seeds} seeds")?,
         status,
     })
@@ -152,13 +142,13 @@ enum Flaw {
 }
 
 impl Flaw {
-    /// The word of the table.
-    fn word(self) -> &'static str {
+    /// What a submission is that shows it.
+    fn kind(self) -> VerdictKind {
         match self {
-            Flaw::Trap => "trap",
-            Flaw::Deadlock => "deadlock",
-            Flaw::Wrong => "wrong",
-            Flaw::OutOfSteps => "ran out of steps",
+            Flaw::Trap => VerdictKind::Trap,
+            Flaw::Deadlock => VerdictKind::Deadlock,
+            Flaw::Wrong => VerdictKind::Wrong,
+            Flaw::OutOfSteps => VerdictKind::RanOutOfSteps,
         }
     }
 
@@ -236,7 +226,7 @@ fn push_verdict(
     path: &str,
     verdict: &Verdict,
 ) -> Result<(), AllocError> {
-    let word = verdict.word;
+    let word = verdict.kind.word();
     let why = verdict.why.as_str();
     if json {
         let value = json!(in alloc; {

@@ -5,6 +5,7 @@ mod explored_grades;
 mod grading;
 mod outcomes;
 mod surveying;
+mod verdicts;
 
 pub use grading::grade;
 pub use surveying::survey;
