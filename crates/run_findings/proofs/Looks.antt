@@ -1,5 +1,5 @@
 -- The reads of other words near a glimpse.
-use Rattle.std.proofs.Common.{◌≡◌, ◌≢◌, ℕ, ◌<◌, ◌==◌, Bool, true, false, not, cond, nat_lt, ◌&&◌, List, [], length}
+use Rattle.std.proofs.Common.{◌≡◌, ◌≢◌, ℕ, zero, ◌<◌, ◌≤◌, le-ltb, ◌==◌, Bool, true, false, not, cond, nat_lt, ◌&&◌, List, [], length}
 use Rattle.std.proofs.Common.{Option, Some, None, refl, sym, ap, ◌∙◌, ne_eqb, ltb-true, ⊎_elim, suc, ◌∷◌, ◌++◌, get_or, take}
 use Rattle.std.proofs.Common.{append-nil, append_assoc, length-append, subst, arith}
 use Rattle.std.specs.List.{slice_get}
@@ -12,7 +12,7 @@ use Rattle.run_findings.specs.Places.{passes}
 use Rattle.run_findings.specs.TornReads.{word_loaded, is_load_of, loaded_by, are_parted, is_torn_pair, torn_by_read}
 use Rattle.run_findings.specs.TornReads.{torn_by_word, torn_by_write, other_half, half_by, half_in, is_other_half, word_changed}
 use Rattle.run_findings.specs.Found.{list_of, found_to}
-use Rattle.run_findings.specs.Stale.{found_in, with_look, AreWithin, AreLooks}
+use Rattle.run_findings.specs.Stale.{found_in, with_look, AreWithin, HasEarliestFirst, AreLooks}
 use Rattle.run_findings.specs.Rounds.{is_other, is_look, is_stale_look}
 use Rattle.run_findings.specs.Links.{is_overwritten}
 use Rattle.run_findings.specs.declared.actions.Action.{Action}
@@ -138,6 +138,37 @@ within_more ds ks true n inside within j other below = ⊎_elim
     subst (λ m. m < length ds) (sym (get_or_push ks n other j last)) inside)
     (cases_lt j (length ks))
 
+-- the steps noted so far come before this one
+abbrev pub AreBelow : List ℕ → ℕ → Type 0
+AreBelow ks n = (j other : ℕ) → j < length ks → get_or ks j other < n
+
+pub below_more : (ks : List ℕ) (t : Bool) (n next : ℕ) → suc n ≡ next → AreBelow ks n → AreBelow (with_look t ks n) next
+below_more ks false n next is below j other h = let far = below j other h in omega (arith, far, is)
+below_more ks true n next is below j other h = ⊎_elim
+    (λ near.
+    let far = below j other near in
+    subst (λ m. m < next) (sym (get_or_append_left ks (n ∷ []) other j near)) (omega (arith, far, is)))
+    (λ far.
+    let longer = length-append ks (n ∷ []) in
+    let last : length ks ≡ j = omega (arith, h, longer) in
+    subst (λ m. m < next) (sym (get_or_push ks n other j last)) (omega (arith, is)))
+    (cases_lt j (length ks))
+
+pub first_more : (ks : List ℕ) (t : Bool) (n : ℕ) → AreBelow ks n → HasEarliestFirst ks
+    → HasEarliestFirst (with_look t ks n)
+first_more ks false n below first j other h = first j other h
+first_more [] true n below first zero other h = omega arith
+first_more [] true n below first (suc j) other h = absurd (omega (arith, h))
+first_more (k ∷ ks) true n below first j other h = ⊎_elim
+    (λ near.
+    subst (λ m. k ≤ m) (sym (get_or_append_left (k ∷ ks) (n ∷ []) other j near)) (first j other near))
+    (λ far.
+    let longer = length-append (k ∷ ks) (n ∷ []) in
+    let last : length (k ∷ ks) ≡ j = omega (arith, h, longer) in
+    let low = below 0 0 (omega arith) in
+    subst (λ m. k ≤ m) (sym (get_or_push (k ∷ ks) n other j last)) (omega (arith, low)))
+    (cases_lt j (length (k ∷ ks)))
+
 pub empty_from : (ks : List ℕ) → (length ks == 0) ≡ true → ks ≡ []
 empty_from [] none = refl
 empty_from (k ∷ ks) none = let count = eqb-true (length (k ∷ ks)) 0 none in absurd (omega (arith, count))
@@ -185,3 +216,25 @@ pub none_looked_at : (ds : List Action) (g : Glimpse) (looks : List ℕ) → Are
     → torn_by_write ds g k ≡ []
 unfolding torn_by_write
 none_looked_at ds g looks are none k = no_looks ds g looks k (other_half ds g k) are none refl
+
+-- A write before all of them.
+
+late_in : (ds : List Action) (g : Glimpse) (a k : ℕ) (looks : List ℕ)
+    → ((j other : ℕ) → j < length looks → k ≤ get_or looks j other) → found_in (torn_by_read ds g a k) looks ≡ []
+late_in ds g a k [] early = refl
+late_in ds g a k (i ∷ looks) early =
+    ap (λ o. list_of o ++ found_in (torn_by_read ds g a k) looks)
+    (late_none ds g a k i (le-ltb i k (early 0 0 (omega arith))))
+    ∙ late_in ds g a k looks (λ j other h. early (suc j) other (omega (arith, h)))
+
+early_half : (ds : List Action) (g : Glimpse) (looks : List ℕ) (k : ℕ) (o : Option ℕ) → AreLooks ds g looks
+    → k ≤ get_or looks 0 0 → other_half ds g k ≡ o → torn_by_word ds g k o ≡ []
+early_half ds g looks k None are early half = refl
+early_half ds g looks k (Some a) are early half =
+    sym (are.all a k half)
+    ∙ late_in ds g a k looks (λ j other h. let first = are.first j other h in omega (arith, early, first))
+
+pub none_before_looks : (ds : List Action) (g : Glimpse) (looks : List ℕ) → AreLooks ds g looks → (k : ℕ)
+    → k ≤ get_or looks 0 0 → torn_by_write ds g k ≡ []
+unfolding torn_by_write
+none_before_looks ds g looks are k early = early_half ds g looks k (other_half ds g k) are early refl

@@ -1,7 +1,7 @@
 -- Where nothing is marked, nothing will be.
-use Rattle.std.proofs.Common.{◌≡◌, ℕ, zero, suc, ◌==◌, Bool, true, false, not, cond, List, [], ◌∷◌, get_or, set, refl, sym, ap}
-use Rattle.std.proofs.Common.{◌&&◌, ◌||◌, ⊎_elim}
-use Rattle.std.proofs.lemmas.Bool.{and_left, and_right, and_cases, or_parts}
+use Rattle.std.proofs.Common.{◌≡◌, ℕ, zero, suc, ◌==◌, Bool, true, false, not, cond, List, [], ◌∷◌, get_or, set, refl}
+use Rattle.std.proofs.Common.{◌&&◌, ◌||◌}
+use Rattle.std.proofs.lemmas.Bool.{and_left, and_right, or_parts}
 use Rattle.processor.specs.declared.steps.Step.{Step}
 use Rattle.insn_word.specs.Words.{memory_destination, arithmetic_destination, control_destination}
 use Rattle.insn_word.specs.declared.operations.WideOp.{WideOp}

@@ -75,8 +75,10 @@ fn push_torn(
         stream: glimpse.writer,
         word: glimpse.fresh,
     };
-    let start = round.start(actions, past_writes, glimpse.fresh_write);
+    let first = round.start(actions, past_writes, glimpse.fresh_write);
     let end = round.end(actions, past_writes, glimpse.fresh_write);
+    // a write that tears a read comes after it
+    let start = first.max(looks[0] + 1).min(end);
     for write in start..end {
         push_torn_by_write(found, actions, past_writes, glimpse, looks, write)?;
     }
