@@ -146,7 +146,9 @@ install:
 	install -D -m 644 share/completions/mta_sim.bash $(SHARE)/bash-completion/completions/mta_sim
 	install -D -m 644 share/completions/mta_lab.bash $(SHARE)/bash-completion/completions/mta_lab
 	install -D -m 644 share/completions/_mta_sim $(SHARE)/zsh/site-functions/_mta_sim
+	install -D -m 644 share/completions/_mta_lab $(SHARE)/zsh/site-functions/_mta_lab
 	install -D -m 644 share/completions/mta_sim.fish $(SHARE)/fish/vendor_completions.d/mta_sim.fish
+	install -D -m 644 share/completions/mta_lab.fish $(SHARE)/fish/vendor_completions.d/mta_lab.fish
 	install -d $(SHARE)/doc/mta_sim/docs
 	cp -r examples editors $(SHARE)/doc/mta_sim
 	install -m 644 README.md CONTRIBUTING.md CHANGELOG.md $(SHARE)/doc/mta_sim
@@ -158,6 +160,7 @@ uninstall:
 	rm -f $(DESTDIR)$(PREFIX)/bin/mta_sim $(SHARE)/man/man1/mta_sim.1 $(SHARE)/bash-completion/completions/mta_sim
 	rm -f $(DESTDIR)$(PREFIX)/bin/mta_lab $(SHARE)/man/man1/mta_lab.1 $(SHARE)/bash-completion/completions/mta_lab
 	rm -f $(SHARE)/zsh/site-functions/_mta_sim $(SHARE)/fish/vendor_completions.d/mta_sim.fish
+	rm -f $(SHARE)/zsh/site-functions/_mta_lab $(SHARE)/fish/vendor_completions.d/mta_lab.fish
 	rm -rf $(SHARE)/doc/mta_sim
 
 clean:

@@ -94,10 +94,10 @@ lay_out_debian() {
   for name in $programs; do
     install -D -m 755 "$from/bin/$name" "$to/usr/bin/$name"
     install -D -m 644 "$from/share/completions/$name.bash" "$share/bash-completion/completions/$name"
+    install -D -m 644 "$from/share/completions/_$name" "$share/zsh/vendor-completions/_$name"
+    install -D -m 644 "$from/share/completions/$name.fish" "$share/fish/vendor_completions.d/$name.fish"
     gzip -9nc "$from/share/man/man1/$name.1" >"$share/man/man1/$name.1.gz"
   done
-  install -D -m 644 "$from/share/completions/_mta_sim" "$share/zsh/vendor-completions/_mta_sim"
-  install -D -m 644 "$from/share/completions/mta_sim.fish" "$share/fish/vendor_completions.d/mta_sim.fish"
   # Debian has the changes packed, under a name of its own
   sed 's/CHANGELOG\.md/changelog.gz/' "$from/README.md" >"$doc/README.md"
   cp -r "$from/CONTRIBUTING.md" "$from/docs" "$from/examples" "$from/pages" "$from/editors" "$from/BUILD" "$doc"
