@@ -9,7 +9,7 @@ use lab_requests::{Maker, RunChoice};
 use machine::{LoadFault, Machine};
 use plain_text::plain;
 use processor::Step;
-use schedule_makers::{MadeSchedule, fair, random, rounds};
+use schedule_makers::{MadeSchedule, fair, fair_length, rounds, seeded};
 use source_faults::push_message;
 use std::alloc::{AllocError, Global};
 use std::io::Read;
@@ -48,7 +48,10 @@ fn made_on<const S: usize>(
     match maker {
         Maker::Rounds => rounds(alloc, machine, most),
         Maker::Fair => fair(alloc, machine, most),
-        Maker::Random { seed } => random(alloc, machine, seed, most),
+        Maker::Random { seed } => {
+            let fair_steps = fair_length(alloc, machine)?;
+            seeded(alloc, machine, seed, fair_steps, most)
+        }
     }
 }
 

@@ -32,6 +32,10 @@ processor and stream, fair the processors in turn and within each its streams in
 one of the running streams at each step. It ends when no stream runs, when nobody can go on,
 or after --steps, and says which on standard error.
 
+How random takes them is said by the seed's number modulo 4: 0 any running stream at each step,
+1 turns of 8 steps on average, 2 turns of 32, 3 the running stream of the highest priority, where
+two streams fall behind on the way. In 1 to 3 no stream steps that is blocked, if another is not.
+
 Example:
   mta_lab schedule random lock.asm --seed 7 > found.schedule";
 
@@ -68,7 +72,7 @@ Example:
 
 pub(crate) const SURVEY: &str = "\
 Runs a program by many random schedules, over all cores, and counts the ends they come to, each
-with a seed that leads there.
+with a seed that leads there. How a schedule is made its seed says: mta_lab schedule --help.
 
 Example:
   mta_lab survey lock.asm --seeds 1000";
@@ -132,7 +136,7 @@ pub(crate) const SCHEDULE_FILE: &str =
 
 pub(crate) const STEPS: &str = "the most steps of a made schedule, 1 to 1000000 [10000]";
 
-pub(crate) const SEED: &str = "steps are random, by a generator with this seed";
+pub(crate) const SEED: &str = "steps are random, by the rule and the generator of this seed";
 
 pub(crate) const BEGIN: &str = "a schedule: only those that begin with it [none]";
 

@@ -1,4 +1,4 @@
-//! Ends of random schedules, and what they are counted by.
+//! Ends of the schedules of seeds, and what they are counted by.
 
 use command_parts::{Program, Status, loaded};
 use end_kinds::{EndKind, end_kind_of, status_of};
@@ -7,7 +7,7 @@ use lab_ends::{end_words_of, first_finding, is_expected_trap};
 use lab_texts::{NumberStyle, ProgramNames, push_value};
 use machine::LoadFault;
 use rayon::prelude::*;
-use schedule_makers::random;
+use schedule_makers::{fair_length, seeded};
 use schedule_survey::{SeedEnd, grouped, survey};
 use std::alloc::{AllocError, Global};
 use std::thread::Threads;
@@ -26,6 +26,17 @@ pub(crate) struct Seeds {
     pub most: usize,
     /// How the numbers of their ends are told.
     pub style: NumberStyle,
+}
+
+/// How the schedule of a seed is made of a program, and how its end is told.
+#[derive(Clone, Copy, Debug)]
+struct Making {
+    /// How many steps the program's fair run has.
+    fair_steps: usize,
+    /// The most steps of a schedule.
+    most: usize,
+    /// How the numbers of its end are told.
+    style: NumberStyle,
 }
 
 /// Ends that agree in their kind, in the words that changed, in who waits or was stopped, and in what is not as
@@ -71,7 +82,7 @@ pub(crate) fn worst_status(outcomes: &[Outcome]) -> Status {
     status
 }
 
-/// The outcomes of the random schedules of these seeds, in the order of their first seeds.
+/// The outcomes of the schedules of these seeds, in the order of their first seeds.
 pub(crate) fn outcomes_of<X: Threads + Sync>(
     rt: &X,
     alloc: Global,
@@ -95,6 +106,11 @@ fn outcomes_on<X: Threads + Sync, const S: usize>(
     seeds: Seeds,
 ) -> Result<Vec<Outcome>, AllocError> {
     let names = ProgramNames::of(alloc, &program.text)?;
+    let making = Making {
+        fair_steps: fair_length(alloc, &loaded::<S>(alloc, &program.image)?)?,
+        most: seeds.most,
+        style: seeds.style,
+    };
     let mut outcomes = Vec::new(alloc);
     for begin in (0..seeds.count).step_by(AT_ONCE) {
         let first = seeds.first.wrapping_add(begin as u64);
@@ -103,11 +119,11 @@ fn outcomes_on<X: Threads + Sync, const S: usize>(
             Ok(ends) => ends,
             Err(LoadFault::NoMemory | LoadFault::Streams) => return Err(AllocError),
         };
-        for outcome in told::<X, S>(rt, alloc, program, &names, expected, &ends, seeds)? {
+        for outcome in told::<X, S>(rt, alloc, program, &names, expected, &ends, making)? {
             add_outcome(&mut outcomes, outcome)?;
         }
     }
-    add_findings::<X, S>(rt, alloc, program, &names, &mut outcomes, seeds)?;
+    add_findings::<X, S>(rt, alloc, program, &names, &mut outcomes, making)?;
     Ok(outcomes)
 }
 
@@ -119,7 +135,7 @@ fn told<X: Threads + Sync, const S: usize>(
     names: &ProgramNames,
     expected: &[Expectation],
     ends: &[SeedEnd],
-    seeds: Seeds,
+    making: Making,
 ) -> Result<Vec<Outcome>, AllocError> {
     let groups = grouped(alloc, ends)?;
     let told = (0..groups.len())
@@ -127,7 +143,7 @@ fn told<X: Threads + Sync, const S: usize>(
         .map(|place: usize| -> Result<Outcome, AllocError> {
             let group = groups.get(place).ok_or(AllocError)?;
             let end = ends.get(group.first).ok_or(AllocError)?;
-            outcome_of::<S>(alloc, program, names, expected, end.seed, group.runs, seeds)
+            outcome_of::<S>(alloc, program, names, expected, end.seed, group.runs, making)
         })
         .with_min_len(1)
         .collect::<Result<Vec<Outcome>, AllocError>>(rt, alloc);
@@ -145,11 +161,11 @@ fn outcome_of<const S: usize>(
     expected: &[Expectation],
     seed: u64,
     runs: usize,
-    seeds: Seeds,
+    making: Making,
 ) -> Result<Outcome, AllocError> {
     let mut machine = loaded::<S>(alloc, &program.image)?;
-    let made = random(alloc, &mut machine, seed, seeds.most)?;
-    let words = end_words_of(alloc, &machine, names, seeds.style)?;
+    let made = seeded(alloc, &mut machine, seed, making.fair_steps, making.most)?;
+    let words = end_words_of(alloc, &machine, names, making.style)?;
     let is_trapped = words
         .stopped
         .iter()
@@ -173,7 +189,7 @@ fn add_findings<X: Threads + Sync, const S: usize>(
     program: &Program,
     names: &ProgramNames,
     outcomes: &mut [Outcome],
-    seeds: Seeds,
+    making: Making,
 ) -> Result<(), AllocError> {
     let known = &*outcomes;
     let found = (0..known.len())
@@ -181,8 +197,8 @@ fn add_findings<X: Threads + Sync, const S: usize>(
         .map(|place: usize| -> Result<String, AllocError> {
             let seed = known.get(place).ok_or(AllocError)?.seed;
             let mut machine = loaded::<S>(alloc, &program.image)?;
-            let made = random(alloc, &mut machine, seed, seeds.most)?;
-            first_finding::<S>(alloc, names, seeds.style, &program.image, &made.steps)
+            let made = seeded(alloc, &mut machine, seed, making.fair_steps, making.most)?;
+            first_finding::<S>(alloc, names, making.style, &program.image, &made.steps)
         })
         .with_min_len(1)
         .collect::<Result<Vec<String>, AllocError>>(rt, alloc);

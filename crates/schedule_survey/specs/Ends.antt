@@ -1,4 +1,4 @@
--- What the random schedule of a seed ends in.
+-- What the schedule of a seed ends in.
 use Rattle.std.specs.Prelude.{◌≡◌, ◌==◌, ◌&&◌, ℕ, ◌+◌, ◌*◌, ◌%◌, ◌^◌, Bool, List, [], ◌∷◌, ◌++◌, length, slice_get}
 use Rattle.std.specs.Prelude.{Option, Some, None, if◌then◌else◌}
 use Rattle.std.specs.Option.{option_to_list}
@@ -10,7 +10,8 @@ use Rattle.processor.specs.Processors.{ProcessorValue, is_idle}
 use Rattle.processor.specs.World.{World, start}
 use Rattle.processor.specs.declared.steps.Step.{Step}
 use Rattle.machine.specs.MachineValue.{MachineValue}
-use Rattle.schedule_makers.specs.Randomness.{next_at_random}
+use Rattle.schedule_makers.specs.Seeds.{rule_of_seed}
+use Rattle.schedule_makers.specs.FairLengths.{IsFairLength}
 use Rattle.schedule_makers.specs.Made.{IsMade}
 use Rattle.schedule_survey.specs.declared.ends.ChangedWord.{ChangedWord}
 use Rattle.schedule_survey.specs.declared.ends.CurrentStream.{CurrentStream}
@@ -67,11 +68,12 @@ current_streams w = current_of 0 w.processors
 abbrev pub loaded : ImageValue → MachineValue
 loaded image = record { image = image; world = start image }
 
--- The machine of an image comes to this by the schedule of at most so many steps that is made at random by a seed.
-pub record IsSeedEnd (image : ImageValue) (most seed : ℕ) (e : SeedEnd) : Type 0 where
+-- The machine of an image comes to this by the schedule of at most so many steps that is made by the rule of a seed,
+-- where the fair run has so many.
+pub record IsSeedEnd (image : ImageValue) (fair most seed : ℕ) (e : SeedEnd) : Type 0 where
   pub machine : MachineValue
   pub schedule : List Step
-  pub made : IsMade (next_at_random seed) (loaded image) machine most schedule e.end
+  pub made : IsMade (rule_of_seed seed fair) (loaded image) machine most schedule e.end
   pub seed_is : e.seed ≡ seed
   pub steps : e.steps ≡ length schedule
   pub words : e.words.items ≡ changed_words image machine.world.memory
@@ -79,5 +81,7 @@ pub record IsSeedEnd (image : ImageValue) (most seed : ℕ) (e : SeedEnd) : Type
 
 -- The ends of so many seeds, from the first one on; behind the greatest seed comes 0.
 pub record AreSeedEnds (image : ImageValue) (most first seeds : ℕ) (es : List SeedEnd) : Type 0 where
+  pub fair : ℕ
+  pub is_fair : IsFairLength (loaded image) fair
   pub count : length es ≡ seeds
-  pub each : (k : ℕ) (e : SeedEnd) → slice_get es k ≡ Some e → IsSeedEnd image most ((first + k) % 2 ^ 64) e
+  pub each : (k : ℕ) (e : SeedEnd) → slice_get es k ≡ Some e → IsSeedEnd image fair most ((first + k) % 2 ^ 64) e

@@ -15,5 +15,5 @@ pub record AreSame (one other : SeedEnd) : Type 0 where
 -- Of a seed all ends tell the same.
 abbrev pub SeedEndsAreOne : Type 0
 SeedEndsAreOne =
-    (image : ImageValue) (most seed : ℕ) (one other : SeedEnd) → IsSeedEnd image most seed one
-    → IsSeedEnd image most seed other → AreSame one other
+    (image : ImageValue) (fair most seed : ℕ) (one other : SeedEnd) → IsSeedEnd image fair most seed one
+    → IsSeedEnd image fair most seed other → AreSame one other
