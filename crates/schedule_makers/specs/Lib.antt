@@ -4,6 +4,8 @@ pub mod Randomness
 pub mod Made
 -- what holds of all that is made
 pub mod Laws
--- Cited by private contracts alone: what a step comes to, and what the fair rule keeps.
+-- Cited by private contracts alone: what a step comes to, and what choosers keep.
 pub mod Advancing
 pub mod Fair
+pub mod Words
+pub mod Choosers

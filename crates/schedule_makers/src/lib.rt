@@ -4,15 +4,17 @@
 
 mod advancing;
 mod chooser;
-mod fair_chooser;
+mod fair_choice;
 mod laws;
 mod looking;
 mod made;
 mod makers;
 mod making;
-mod random_chooser;
-mod rounds_chooser;
+mod random_choice;
+mod rounds_choice;
+mod seed_words;
 mod standstills;
+mod steps_at;
 
 pub use laws::made_schedules_are_one;
 pub use made::{MadeEnd, MadeSchedule};
