@@ -11,6 +11,7 @@ use Rattle.schedule_makers.specs.Choosers.{rule_of}
 use Rattle.schedule_makers.specs.declared.chooser.Chooser.{Chooser}
 use Rattle.schedule_makers.specs.declared.chooser.Chooser.TheVariants as chooser
 use Rattle.schedule_makers.proofs.Rules.{rounds-one, rounds-any, fair-one, fair-any}
+use Rattle.schedule_makers.proofs.TurnTaken.{turns-one, turns-any}
 use Rattle.schedule_makers.proofs.Randomness.{by-word-one, by-word-any, word-small}
 
 rule-one : (c : Chooser) (before : List Step) (image : ImageValue) (w : World) (t : Step)
@@ -19,6 +20,8 @@ rule-one chooser.Rounds before image w t e = rounds-one before (running_steps w)
 rule-one (chooser.Fair fair) before image w t e = fair-one before (running_steps w) t e
 rule-one (chooser.Random words) before image w t e =
     by-word-one (random_word words.seed (length before)) (running_steps w) t e
+rule-one (chooser.Turns average words) before image w t e =
+    turns-one average (random_word words.seed (length before)) before image w t e
 
 rule-any : (c : Chooser) (before : List Step) (image : ImageValue) (w : World) → rule_of c before image w ≡ None
     → running_steps w ≡ []
@@ -26,6 +29,8 @@ rule-any chooser.Rounds before image w e = rounds-any before (running_steps w) e
 rule-any (chooser.Fair fair) before image w e = fair-any before (running_steps w) e
 rule-any (chooser.Random words) before image w e =
     by-word-any (random_word words.seed (length before)) (running_steps w) (word-small words.seed (length before)) e
+rule-any (chooser.Turns average words) before image w e =
+    turns-any average (random_word words.seed (length before)) before image w e
 
 -- What a chooser has found among the streams that run.
 

@@ -40,7 +40,7 @@ kept_or : (x t : Step) (xs ys : List Step) (b : Bool) → (Contains ys t → Con
 kept_or x t xs ys true inner h = among x t xs ys inner h
 kept_or x t xs ys false inner h = contains-behind x t xs (inner h)
 
-contains-filter : (p : Step → Bool) (xs : List Step) (t : Step) → Contains (filter p xs) t → Contains xs t
+pub contains-filter : (p : Step → Bool) (xs : List Step) (t : Step) → Contains (filter p xs) t → Contains xs t
 contains-filter p [] t h = h
 contains-filter p (x ∷ xs) t h = kept_or x t xs (filter p xs) (p x) (contains-filter p xs t) h
 
@@ -61,12 +61,12 @@ none-filtered p (x ∷ xs) t passes (suc k, below, is) e =
 
 -- The next one behind the last.
 
-or_one : (t : Step) (xs : List Step) (o p : Option Step) → (o ≡ Some t → Contains xs t) → (p ≡ Some t → Contains xs t)
+pub or_one : (t : Step) (xs : List Step) (o p : Option Step) → (o ≡ Some t → Contains xs t) → (p ≡ Some t → Contains xs t)
     → option_or o p ≡ Some t → Contains xs t
 or_one t xs None p first second e = second e
 or_one t xs (Some u) p first second e = first e
 
-or_none : (o p : Option Step) → option_or o p ≡ None → p ≡ None
+pub or_none : (o p : Option Step) → option_or o p ≡ None → p ≡ None
 or_none None p e = e
 or_none (Some u) p e = absurd (let h : ⊥ = cc in h)
 

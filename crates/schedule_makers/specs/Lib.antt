@@ -1,6 +1,8 @@
 -- What public contracts promise: which running stream each rule takes, and what is made by a rule.
 pub mod Rules
 pub mod Randomness
+pub mod Free
+pub mod Turns
 pub mod Made
 -- what holds of all that is made
 pub mod Laws

@@ -8,6 +8,7 @@ use crate::fair_choice::Fair;
 use crate::random_choice::step_by_word;
 use crate::rounds_choice::next_in_rounds;
 use crate::seed_words::SeedWords;
+use crate::turns::turn_by_word;
 use machine::Machine;
 use processor::Step;
 
@@ -20,6 +21,8 @@ pub(crate) enum Chooser {
     Fair(Fair),
     /// At random, by these words.
     Random(SeedWords),
+    /// In turns of so many steps on average, by these words.
+    Turns(u64, SeedWords),
 }
 
 impl Chooser {
@@ -40,6 +43,13 @@ impl Chooser {
             Chooser::Rounds => next_in_rounds(made, running),
             Chooser::Fair(fair) => fair.choose(made, running),
             Chooser::Random(words) => step_by_word(words.word_after(made), running),
+            Chooser::Turns(average, words) => turn_by_word(
+                *average,
+                words.word_after(made),
+                machine,
+                made,
+                running,
+            ),
         }
     }
 }

@@ -5,6 +5,7 @@
 mod advancing;
 mod chooser;
 mod fair_choice;
+mod free_streams;
 mod laws;
 mod looking;
 mod made;
@@ -15,6 +16,7 @@ mod rounds_choice;
 mod seed_words;
 mod standstills;
 mod steps_at;
+mod turns;
 
 pub use laws::made_schedules_are_one;
 pub use made::{MadeEnd, MadeSchedule};
