@@ -1,23 +1,16 @@
 //! The running streams in rounds.
 
 ghost use Rattle.std.specs.Prelude.{◌≡◌, find};
-ghost use Rattle.schedule_makers.specs.Rules.{is_behind, is_behind_last, last_step, next_behind, next_in_rounds};
+ghost use Rattle.schedule_makers.specs.Rules.{is_behind, is_behind_last, next_behind, choice_in_rounds};
 
-use crate::chooser::{Chooser, step_at};
+use crate::steps_at::step_at;
 use processor::Step;
 
-/// Takes the next one behind the last step in the order of processor and stream, and from the first again.
-#[derive(Drop)]
-pub(crate) struct Rounds;
-
-impl Chooser for Rounds {
-    ghost rule = { λ _. next_in_rounds };
-
-    ghost follows = { λ _ _. Unit {0} };
-
-    fn choose(&mut self, made: &[Step], running: &[Step]) -> Option<Step> {
-        next_behind(made.last().copied(), running)
-    }
+/// The next one behind the last step in the order of processor and stream, and from the first again.
+pub(crate) fn next_in_rounds(made: &[Step], running: &[Step]) -> Option<Step>
+    ensures { result ≡ choice_in_rounds made.now running.now }
+{
+    next_behind(made.last().copied(), running)
 }
 
 /// The first of the running streams that stands behind the last step, else the first of them.

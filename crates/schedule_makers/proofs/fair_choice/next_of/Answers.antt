@@ -1,7 +1,5 @@
-use Rattle.std.proofs.Common.{ap, ◌∙◌}
-use Rattle.std.specs.Option.{option_or}
 use Rattle.schedule_makers.proofs.Rules.{first-own}
-use Rattle.schedule_makers.proofs.fair_chooser.next_of.Goals as goal
+use Rattle.schedule_makers.proofs.fair_choice.next_of.Goals as goal
 
 pub returns : goal.returns
 returns c =

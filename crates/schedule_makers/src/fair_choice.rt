@@ -1,11 +1,11 @@
 //! The running streams, a processor after the other.
 
-ghost use Rattle.std.specs.Prelude.{◌≡◌, ◌==◌, [], None, find, slice_index_or};
-ghost use Rattle.schedule_makers.specs.Rules.{is_behind, is_of_later, is_behind_last, next_behind, next_fair, of_processor};
+ghost use Rattle.std.specs.Prelude.{◌≡◌, ◌==◌, ◌∷◌, ◌++◌, [], None, IfSome, find, slice_index_or};
+ghost use Rattle.schedule_makers.specs.Rules.{is_behind, is_of_later, is_behind_last, next_behind, fair_choice, of_processor};
 ghost use Rattle.schedule_makers.specs.Fair.{AreLast};
 
-use crate::chooser::{Chooser, step_at};
-use crate::rounds_chooser::is_behind_last;
+use crate::rounds_choice::is_behind_last;
+use crate::steps_at::step_at;
 use processor::Step;
 
 /// Takes the processors in turn, and of each its streams in turn. It keeps the last step of each processor.
@@ -27,14 +27,13 @@ impl Fair {
     {
         self.lasts[usize::from(p)]
     }
-}
 
-impl Chooser for Fair {
-    ghost rule = { λ _. next_fair };
-
-    ghost follows = { λ c before. AreLast c.lasts before };
-
-    fn choose(&mut self, made: &[Step], running: &[Step]) -> Option<Step> {
+    /// The step that the rule takes of the running streams after the steps that were made.
+    pub(crate) fn choose(&mut self, made: &[Step], running: &[Step]) -> Option<Step>
+        requires { AreLast self.old.lasts made.now }
+        ensures is { result ≡ fair_choice made.now running.now }
+        ensures follows { IfSome result (λ t. AreLast self.new.lasts (made.now ++ t ∷ [])) }
+    {
         let first = next_of_later(made.last().copied(), running)?;
         let next = next_of(first.p, self.last_of(first.p), running)?;
         self.lasts[usize::from(next.p)] = Some(next);
