@@ -76,6 +76,12 @@ module _ {E : Type 0} where
   followed_if looked_at (Ok e) all = λ on. followed_all looked_at (space_in e) (all on)
   followed_if looked_at (Err f) all = all
 
+  pub alone_in : (names : List Bool) (r : Result Exploration E)
+      → ((n : ℕ) → n < 32 → IsTrue (is_named_by names n)) → IfOk r (λ e. (space_in e).live.names ≡ names)
+      → IfOk r StandAloneIn → IfOk r (λ e. StandAlone (space_in e))
+  alone_in names (Ok e) named is alone = alone_if names e named is alone
+  alone_in names (Err f) named is alone = alone
+
   pub ends_if : (r : Result Exploration E) → IfOk r IsLiveIn → IfOk r AreAllFollowed
       → IfOk r (λ e. is_complete e ≡ true → HasAllEnds (space_in e))
   ends_if (Ok e) live all = λ on. ends_all (space_in e) live (all on)

@@ -59,6 +59,7 @@ pub fn explore<'i, const S: usize, W: Watch>(
     ensures complete { IfOk result (λ e. is_complete e ≡ true → IsComplete (space_in e)) }
     ensures edges { IfOk result (λ e. is_complete e ≡ true → HasAllEdges (space_in e)) }
     ensures distinct { IfOk result (λ e. IsDistinct (space_in e)) }
+    ensures alone { IfOk result (λ e. StandAlone (space_in e)) }
     ensures shortest { IfOk result (λ e. IsShortest (space_in e)) }
     ensures within { IfOk result (λ e. count (space_in e) ≤ most) }
     ensures watched { IfOk result (λ e. bound_in e ≡ Some Bound.Watch → W.HasEnded watch.new) }
