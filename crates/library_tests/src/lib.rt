@@ -29,6 +29,8 @@ mod makers;
 #[cfg(test)]
 mod processors;
 #[cfg(test)]
+mod reached;
+#[cfg(test)]
 mod records;
 #[cfg(test)]
 mod refused;

@@ -2,7 +2,7 @@
 -- one.
 use Rattle.std.proofs.Common.{◌≡◌, ◌≢◌, ℕ, zero, suc, ◌<◌, ◌≤◌, ◌⊎◌, inl, inr, Bool, true, false, refl, sym, ap}
 use Rattle.std.proofs.Common.{◌∙◌, ◌++◌, subst, if◌then◌else◌, List, [], ◌∷◌, map, length, set, replicate, Option, Some, None, slice_get, unwrap_or}
-use Rattle.std.specs.Prelude.{⊤, IsTrue, All}
+use Rattle.std.specs.Prelude.{⊤, All}
 use Rattle.std.proofs.lemmas.List.Elements.{All-nil, All-cons, All-append}
 use Rattle.std.proofs.lemmas.Bool.{cases_lt, cases_eq}
 use Rattle.std.proofs.lemmas.List.{get_or-set_same, get_or-set_other, get_or_past, length-set}
@@ -38,8 +38,9 @@ use Rattle.processor.specs.declared.steps.Step.{Step}
 use Rattle.processor.proofs.Begun.{row_over_memory_begun}
 use Rattle.processor.proofs.World.{world_step-present}
 use Rattle.processor.proofs.Histories.{after-absent, get_set_other}
-use Rattle.reachable_places.specs.Successors.{unset_target, control_successors, successors_of, IsSuccessor}
-use Rattle.reachable_places.specs.Reached.{AllStandIn, is_reached, CoversRuns, IsNeverReached, LeadsWithin, IsClosedReach}
+use Rattle.reachable_places.specs.Successors.{unset_target, control_successors, successors_of, successors_at, IsSuccessor}
+use Rattle.reachable_places.specs.Ways.{IsBeginning, LeadsTo, IsReachable, is_reached, AreReachable}
+use Rattle.reachable_places.specs.Reached.{AllStandIn, CoversRuns, IsNeverReached}
 use Rattle.reachable_places.proofs.KeptStreams.{Ends, KeepsTo, started, trapped, held, asked}
 
 inside : {u v : ProcessorValue} → Some u ≡ Some v → u ≡ v
@@ -56,6 +57,18 @@ idle_streams : (n k : ℕ) → stream_at (replicate n idle) k ≡ idle
 idle_streams zero k = refl
 idle_streams (suc n) zero = refl
 idle_streams (suc n) (suc k) = idle_streams n k
+
+-- The program leads to reached places only, from where streams begin and from reached places.
+pub record IsClosedReach (image : ImageValue) (reached : ℕ → Type 0) : Type 0 where
+  pub begins : (k : ℕ) → IsBeginning image k → reached k
+  pub each : (k : ℕ) → reached k → (j : ℕ) → LeadsTo image k j → reached j
+
+reachable_closed : (image : ImageValue) → IsClosedReach image (IsReachable image)
+unfolding IsReachable
+reachable_closed image = record {
+  begins = λ k b. ([], b);
+  each = λ k way j to. (k ∷ way.0, (way.1, to));
+}
 
 module _ (reached : ℕ → Type 0) where
   -- Processors.
@@ -170,7 +183,7 @@ module _ (reached : ℕ → Type 0) where
   AllKeepTo w = (p : ℕ) (proc : ProcessorValue) → slice_get w.processors p ≡ Some proc → AreFine proc
 
   module _ (image : ImageValue) (closed : IsClosedReach image reached) where
-    fits_if : (s : StreamValue) (f : Fetch) → is_running s ≡ true → LeadsWithin reached s.ssw.pc f → Fits s f
+    fits_if : (s : StreamValue) (f : Fetch) → is_running s ≡ true → ((j : ℕ) → IsSuccessor (successors_at f s.ssw.pc) j → reached j) → Fits s f
     fits_if s fetch.Rest runs to = tt
     fits_if s (fetch.Trap k) runs to = runs
     fits_if s (fetch.Instruction i) runs to = (runs, to)
@@ -245,7 +258,7 @@ module _ (reached : ℕ → Type 0) where
     opening_fine entry at =
         placed (replicate image.slim idle) 0 (first_stream image entry)
         (λ k apart. subst IsFine (sym (idle_streams image.slim k)) rests_here)
-        (λ runs. started reached (record { pc = entry; value = 0; t0 = status_at image.trap_entry; mask = no_mask }) at closed.handler)
+        (λ runs. started reached (record { pc = entry; value = 0; t0 = status_at image.trap_entry; mask = no_mask }) at (closed.begins image.trap_entry (inr refl)))
 
     opened_fine : (es : List ℕ) → ((p e : ℕ) → slice_get es p ≡ Some e → reached e) → (p : ℕ) (proc : ProcessorValue)
         → slice_get (map (opening image) es) p ≡ Some proc → AreFine proc
@@ -255,7 +268,7 @@ module _ (reached : ℕ → Type 0) where
 
     start_kept : AllKeepTo (start image)
     unfolding start AllKeepTo
-    start_kept p proc got = opened_fine image.entries closed.entries p proc got
+    start_kept p proc got = opened_fine image.entries (λ q e there. closed.begins e (inl (q, there))) p proc got
 
     steps_kept : (ts : List Step) (w : World) → AllKeepTo w → AllKeepTo (steps image w ts)
     steps_kept [] w all = all
@@ -265,9 +278,11 @@ module _ (reached : ℕ → Type 0) where
     unfolding AllKeepTo
     run_stands ts p k proc there runs = (steps_kept ts (start image) start_kept p proc there k runs).pc
 
-pub closed_covers : (image : ImageValue) (places : List Bool) → IsClosedReach image (λ k. IsTrue (is_reached places k))
-    → CoversRuns image places
-closed_covers image places closed = run_stands (λ k. IsTrue (is_reached places k)) image closed
+-- a list that has all places to which ways lead covers all runs
+pub reachable_covers : (image : ImageValue) (places : List Bool) → AreReachable image places → CoversRuns image places
+reachable_covers image places are ts p k proc there runs =
+    are.all (stream_at proc.streams k).ssw.pc
+    (run_stands (IsReachable image) image (reachable_closed image) ts p k proc there runs)
 
 -- no stream comes to a place of which the list says so
 pub not_covered : (image : ImageValue) (places : List Bool) (k : ℕ) → CoversRuns image places → is_reached places k ≡ false

@@ -11,6 +11,8 @@ use Rattle.insn_word.specs.declared.insn.CPart.{CPart}
 use Rattle.insn_word.specs.declared.insn.Insn.{Insn}
 use Rattle.insn_word.specs.declared.insn.Insn.TheVariants.{Wide, Normal}
 use Rattle.stream_core.specs.Effects.{next_pc, skip_pc}
+use Rattle.stream_core.specs.declared.steps.Fetch.{Fetch}
+use Rattle.stream_core.specs.declared.steps.Fetch.TheVariants as fetch
 use Rattle.reachable_places.specs.declared.successors.Successors.{Successors}
 use Rattle.reachable_places.specs.declared.successors.Successors.TheVariants as to
 
@@ -51,6 +53,12 @@ control_successors c control.Mask k = to.One (next_pc k)
 abbrev pub successors_of : Insn → ℕ → Successors
 successors_of (Wide look op reg imm) k = wide_successors op imm k
 successors_of (Normal look m a c) k = control_successors c c.op k
+
+-- the successors of what stands at place k: none where that is no instruction
+abbrev pub successors_at : Fetch → ℕ → Successors
+successors_at fetch.Rest k = to.None
+successors_at (fetch.Trap t) k = to.None
+successors_at (fetch.Instruction i) k = successors_of i k
 
 -- place j is one of them
 abbrev pub IsSuccessor : Successors → ℕ → Type 0

@@ -1,8 +1,8 @@
 //! Which places of a program a stream can come to, by the image alone (docs/MACHINE.md, "One step").
 #![tactic(auto)]
 
-mod closed_places;
 mod places;
+mod search;
 mod successors;
 mod unreached_words;
 

@@ -1,10 +1,12 @@
 //! The successors of an instruction: the places to which it leads.
 
-ghost use Rattle.std.specs.Prelude.{◌≡◌};
+ghost use Rattle.std.specs.Prelude.{◌≡◌, slice_get};
+ghost use Rattle.stream_core.specs.StreamRow.{fetch_word};
 ghost use Rattle.stream_core.specs.Effects.{next_pc, skip_pc};
-ghost use Rattle.reachable_places.specs.Successors.{where_holding, wide_successors, control_successors, successors_of};
+ghost use Rattle.reachable_places.specs.Successors.{where_holding, wide_successors, control_successors};
+ghost use Rattle.reachable_places.specs.Successors.{successors_of, successors_at};
 
-use insn_word::{CPart, Condition, ControlOp, Insn, WideOp};
+use insn_word::{CPart, Condition, ControlOp, Insn, Profile, WideOp, decode_as};
 
 /// The places to which an instruction leads: where its stream goes on, and what it writes to target registers, where a
 /// stream may go on later.
@@ -23,8 +25,21 @@ pub(crate) enum Successors {
 /// The place to which a target register leads that nothing has set.
 const UNSET_TARGET: u32 = 0;
 
+/// The successors of what stands at a place of a program: none where that is no instruction.
+pub(crate) fn successors_at(profile: Profile, program: &[u64], place: u32) -> Successors
+    ensures { result ≡ successors_at (fetch_word profile (slice_get program.now place)) place }
+{
+    match program.get(place as usize) {
+        None => Successors::None,
+        Some(word) => match decode_as(profile, *word) {
+            None => Successors::None,
+            Some(insn) => successors_of(&insn, place),
+        },
+    }
+}
+
 /// The successors of an instruction at a place ("What each operation does", docs/MACHINE.md).
-pub(crate) fn successors_of(insn: &Insn, place: u32) -> Successors
+fn successors_of(insn: &Insn, place: u32) -> Successors
     ensures { result ≡ successors_of insn.now place }
 {
     match insn {
