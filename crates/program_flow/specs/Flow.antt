@@ -102,18 +102,7 @@ abbrev pub Matters : (ℕ → Type 0) → (ℕ → ℕ → Type 0) → StreamVal
 Matters named live s r = named r ⊎ ((s.status ≡ Running) × live s.ssw.pc r)
 
 -- Two streams are the same but for registers, and hold the same in these.
-pub record AgreeIn (L : ℕ → Type 0) (s t : StreamValue) : Type 0 where
+pub record AgreeInRegisters (L : ℕ → Type 0) (s t : StreamValue) : Type 0 where
   pub rest : t ≡ with_registers s t.registers
   pub sizes : length t.registers ≡ length s.registers
   pub each : (r : ℕ) → L r → register_at t.registers r ≡ register_at s.registers r
-
--- The steps of two streams come out the same, and leave streams that agree in what matters then, unless QUIT or QUITP is
--- done, which ends both.
-pub record KeepsAgreement (profile : Profile) (program : List ℕ) (handled : Type 0) (named : ℕ → Type 0)
-    (live : ℕ → ℕ → Type 0) (limit : ℕ) (s t : StreamValue) (grant : ℕ) (reply : Option Reply) : Type 0 where
-  pub comes_out : (stream_row profile program limit t grant reply).1 ≡ (stream_row profile program limit s grant reply).1
-  pub after : (((stream_row profile program limit s grant reply).1 ≡ outcome.Done)
-      × EndsStream (control_from s (fetch_of profile program s)))
-      ⊎ AgreeIn (Matters named live (stream_row profile program limit s grant reply).0)
-      (stream_row profile program limit s grant reply).0
-      (stream_row profile program limit t grant reply).0
