@@ -158,7 +158,12 @@ impl LiveRegisters {
 /// Which condition codes may be asked for from each word of an image's program on. Where all registers are named, all may
 /// be.
 #[tactic(auto, using(crate::proofs::Schedules::no_rows_tell))]
-fn codes_of(alloc: Global, image: &Image, handled: bool, names: &Row) -> Result<Vec<CodeRow>, AllocError>
+fn codes_of(
+    alloc: Global,
+    image: &Image,
+    handled: bool,
+    names: &Row,
+) -> Result<Vec<CodeRow>, AllocError>
     ensures has { IfOk result (λ table. HasCodesOf image.now.profile image.now.program handled table.items) }
     ensures all { IfOk result (λ table. ((r : ℕ) → r < 32 → IsTrue (is_named_by names.now r))
         → (k c : ℕ) → IsTrue (is_asked_at table.items k c)) }

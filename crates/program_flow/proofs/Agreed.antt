@@ -15,11 +15,11 @@ use Rattle.stream_core.specs.declared.steps.Fetch.{Fetch}
 use Rattle.stream_core.specs.declared.steps.Fetch.TheVariants as fetch
 use Rattle.program_flow.specs.Operands.{registers_read}
 use Rattle.program_flow.specs.Agreement.{with_registers, AgreeOn, reads_at}
-use Rattle.program_flow.specs.Flow.{EndsStream, IsClosedAt, Matters, AgreeInRegisters}
+use Rattle.program_flow.specs.Flow.{EndsStream, IsClosedAt, Matters}
 use Rattle.program_flow.specs.Codes.{with_codes, SameCodes, HasCodesAt}
 use Rattle.program_flow.specs.Agreeing.{AgreeIn, StreamsAgree, TellsFlow, KeepsAgreement}
 use Rattle.program_flow.proofs.EqualRows.{same_request, same_control}
-use Rattle.program_flow.proofs.Kept.{each_of, registers_kept}
+use Rattle.program_flow.proofs.Kept.{AgreeInRegisters, each_of, registers_kept}
 use Rattle.program_flow.proofs.Writes.{Same}
 use Rattle.program_flow.proofs.Asked.{same_itself, same_next, same_back, request_codes, control_codes, Left, codes_kept}
 

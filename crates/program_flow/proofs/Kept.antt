@@ -34,10 +34,16 @@ use Rattle.stream_core.specs.declared.steps.Outcome.{Outcome}
 use Rattle.stream_core.specs.declared.steps.Outcome.TheVariants as outcome
 use Rattle.stream_core.specs.declared.steps.Fetch.{Fetch}
 use Rattle.stream_core.specs.declared.steps.Fetch.TheVariants as fetch
-use Rattle.program_flow.specs.Agreement.{AgreeOn, writes, registers_over, registers_over_reply, registers_over_fetch, reads_at, put_registers}
-use Rattle.program_flow.specs.Flow.{SkipsTo, GoesBy, GoesTo, MayTrap, MayTrapWith, EndsStream, IsClosedAt, Matters, AgreeInRegisters}
+use Rattle.program_flow.specs.Agreement.{with_registers, AgreeOn, writes, registers_over, registers_over_reply, registers_over_fetch, reads_at, put_registers}
+use Rattle.program_flow.specs.Flow.{SkipsTo, GoesBy, GoesTo, MayTrap, MayTrapWith, EndsStream, IsClosedAt, Matters}
 use Rattle.program_flow.proofs.EqualRows.{same_from, row_sees_reads}
 use Rattle.program_flow.proofs.Writes.{Same, sizes_writes, kept_writes, made_written}
+
+-- Two streams are the same but for registers, and hold the same in these.
+pub record AgreeInRegisters (L : ℕ → Type 0) (s t : StreamValue) : Type 0 where
+  pub rest : t ≡ with_registers s t.registers
+  pub sizes : length t.registers ≡ length s.registers
+  pub each : (r : ℕ) → L r → register_at t.registers r ≡ register_at s.registers r
 
 -- Where a done instruction goes on.
 

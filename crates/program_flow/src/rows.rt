@@ -33,10 +33,10 @@ pub(crate) fn row_at(table: &[Row], place: u32) -> &[bool]
 pub(crate) fn codes_at(table: &[CodeRow], place: u32) -> &[bool]
     ensures { result.now ≡ slice_index_or table.now place [] }
 {
-    match table.get(place as usize) {
-        Some(row) => row,
-        None => &[],
+    if let Some(row) = table.get(place as usize) {
+        return row;
     }
+    &[]
 }
 
 /// Whether a register is among those that are named.
