@@ -9,6 +9,8 @@
 #[cfg(test)]
 mod clones;
 #[cfg(test)]
+mod codes;
+#[cfg(test)]
 mod commands;
 #[cfg(test)]
 mod debugging;

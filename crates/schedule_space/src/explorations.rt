@@ -80,9 +80,10 @@ pub fn explore<'i, const S: usize, W: Watch>(
 /// Looks for the ends of an image, worlds from which nothing goes on, that schedules lead to which begin with `begin`,
 /// in the same way, but of fewer worlds: where a step concerns its own stream alone, or ends the last stream of its
 /// processor that runs, and leads to a later place, only that one is taken, and one world stands for all that differ from
-/// it in registers alone that nobody reads again. Registers in `names` matter at each place, r0 to r31. A step is taken alone
-/// only where its stream stands at none of the places in `looked_at`, neither before it nor after it: so who looks at these
-/// alone misses nothing. Where the search is complete, some world stands for each end, by a schedule that is as short as any.
+/// it in registers alone that nobody reads again, and in condition codes that nobody asks for again. Registers in `names`
+/// matter at each place, r0 to r31. A step is taken alone only where its stream stands at none of the places in `looked_at`,
+/// neither before it nor after it: so who looks at these alone misses nothing. Where the search is complete, some world
+/// stands for each end, by a schedule that is as short as any.
 pub fn explore_ends<'i, const S: usize, W: Watch>(
     alloc: Global,
     image: &'i Image,
@@ -119,7 +120,7 @@ pub fn explore_ends<'i, const S: usize, W: Watch>(
     )
 }
 
-/// Looks for what is wanted; one world stands for all that differ from it in registers alone that do not matter.
+/// Looks for what is wanted; one world stands for all that differ from it in registers and codes alone that do not matter.
 fn search<'i, const S: usize, W: Watch>(
     alloc: Global,
     image: &'i Image,
