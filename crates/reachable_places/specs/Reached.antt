@@ -13,7 +13,8 @@ AllStandIn reached w =
     (p k : ℕ) (proc : ProcessorValue) → slice_get w.processors p ≡ Some proc
     → is_running (stream_at proc.streams k) ≡ true → reached (stream_at proc.streams k).ssw.pc
 
--- In each world that a schedule of the image leads to, each running stream stands at a place that is reached by the list.
+-- In each world that a schedule of the image leads to, each running stream stands at a place that is reachable by
+-- the list.
 abbrev pub CoversRuns : ImageValue → List Bool → Type 0
 CoversRuns image places = (ts : List Step) → AllStandIn (λ k. IsTrue (is_reached places k)) (run image ts)
 

@@ -21,11 +21,11 @@ IsWay image (k ∷ ks) j = IsWay image ks k × LeadsTo image k j
 unfoldable pub IsReachable : ImageValue → ℕ → Type 0
 IsReachable image j = (ks : List ℕ) × IsWay image ks j
 
--- whether a list says that place k is reached; a place that it does not have, past the program's end, is
+-- whether a list says that place k is reachable; a place that it does not have, past the program's end, is
 abbrev pub is_reached : List Bool → ℕ → Bool
 is_reached places k = slice_index_or places k true
 
--- The list has an entry for each word, and says just of those that they are reached to which a way leads.
+-- The list has an entry for each word, and says just of those that they are reachable to which a way leads.
 pub record AreReachable (image : ImageValue) (places : List Bool) : Type 0 where
   pub each : length places ≡ length image.program
   pub found : (k : ℕ) → k < length image.program → IsTrue (is_reached places k) → IsReachable image k

@@ -1,8 +1,6 @@
 //! The search for the places to which ways lead from where streams begin.
 
-ghost use Rattle.std.specs.Prelude.{◌≡◌, ℕ, length, IfOk, OnOk, slice_get};
-ghost use Rattle.stream_core.specs.StreamRow.{fetch_word};
-ghost use Rattle.reachable_places.specs.Successors.{successors_at};
+ghost use Rattle.std.specs.Prelude.{◌≡◌, IfOk, OnOk};
 ghost use Rattle.reachable_places.specs.Ways.{AreReachable};
 ghost use Rattle.reachable_places.specs.Searches.{with_place, left_with, with_successors, left_with_successors};
 ghost use Rattle.reachable_places.specs.Searches.{IsSearch, HasBeginnings};
@@ -11,7 +9,7 @@ use crate::successors::{Successors, successors_at};
 use image_file::Image;
 use std::alloc::{AllocError, Global};
 
-/// The places that are found to be reached so far, and those of them whose successors are still to be followed.
+/// The places to which ways are found to lead so far, and those of them whose successors are still to be found.
 #[derive(Drop)]
 struct Search {
     places: Vec<bool>,
@@ -19,7 +17,7 @@ struct Search {
 }
 
 impl Search {
-    /// Finds that a place is reached.
+    /// Finds that a way leads to a place.
     #[tactic(auto, using(crate::proofs::Searches::left_new, crate::proofs::Searches::left_same))]
     fn reach(&mut self, place: u32) -> Result<(), AllocError>
         ensures places { OnOk result (self.new.places.items ≡ with_place self.old.places.items place) }
@@ -34,7 +32,7 @@ impl Search {
         Ok(())
     }
 
-    /// Finds that these successors are reached.
+    /// Finds that ways lead to these successors.
     fn follow(&mut self, successors: Successors) -> Result<(), AllocError>
         ensures places { OnOk result (self.new.places.items ≡ with_successors self.old.places.items successors) }
         ensures left { OnOk result
@@ -74,7 +72,7 @@ fn begun(alloc: Global, image: &Image) -> Result<Search, AllocError>
     Ok(search)
 }
 
-/// The places to which ways lead: the successors of each word that is reached are followed, once for each word.
+/// The places to which ways lead: each is found once, and its successors then.
 pub(crate) fn found_places(alloc: Global, image: &Image) -> Result<Vec<bool>, AllocError>
     ensures { IfOk result (λ places. AreReachable image.now places.items) }
 {
