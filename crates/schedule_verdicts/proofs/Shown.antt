@@ -16,7 +16,7 @@ use Rattle.schedule_space.specs.Spaces.{SpaceValue, count}
 use Rattle.schedule_space.specs.Finding.{found_in}
 use Rattle.schedule_space.specs.Followed.{AllFollowed}
 use Rattle.schedule_space.specs.Quiet.{IsFollowedQuietly}
-use Rattle.schedule_space.proofs.Agreeing.{Named, Live, ground, from_begin}
+use Rattle.schedule_space.proofs.Agreeing.{Named, Live, Asked, ground, from_begin}
 use Rattle.schedule_space.proofs.Alone.{followed_all}
 use Rattle.schedule_space.proofs.Following.{ends_all, tells_all}
 use Rattle.schedule_space.proofs.QuietSteps.{quiet_behind}
@@ -34,7 +34,8 @@ module _ (v : SpaceValue) (claims : List Claim) (live : IsLive v.image v.live) (
   moving : IsMoving (AgreeBy v.live) (found_in v)
   moving = record {
     on = λ k below w ts alike.
-        schedules_agree v.image (IsTrue (may_have_handlers v.image)) (Named v.live) (Live v.live) (ground v live).closed ts
+        schedules_agree v.image (IsTrue (may_have_handlers v.image)) (Named v.live) (Live v.live) (Asked v.live)
+        (ground v live).closed ts
         ((found_in v).world k) w ((ground v live).told k below) alike;
   }
 
