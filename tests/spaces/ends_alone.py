@@ -1,10 +1,12 @@
 """The search for ends alone, by the rules of docs/LAB.md ("Every schedule"): of worlds that differ in registers alone that
-nobody reads again one is kept, and a step that concerns nobody else is taken alone where it leads to a later world."""
+nobody reads again, and in condition codes that nobody asks for again, one is kept, and a step that concerns nobody else is
+taken alone where it leads to a later world."""
 
 import collections
 
 import machine
-from liveness import Liveness
+from asking import Asking
+from liveness import ALL, Liveness
 
 
 class EndsAlone:
@@ -14,6 +16,7 @@ class EndsAlone:
     def __init__(self, program, begin, named, most):
         self.program, self.named, self.most = program, frozenset(named), most
         self.live = Liveness(program)
+        self.asking = Asking(program, self.live.is_handled)
         world = machine.start(program)
         for p, s in begin:
             world, _ = machine.step(program, world, p, s)
@@ -23,7 +26,16 @@ class EndsAlone:
 
     def told_as(self, world):
         """What is the same of all worlds of which one is kept."""
-        return self.live.cleared(world, self.named)
+        cleared = self.live.cleared(world, self.named)
+        if self.named >= ALL:
+            return cleared
+        return cleared._replace(processors=tuple(
+            processor._replace(streams=tuple(map(self.without_codes, processor.streams)))
+            for processor in cleared.processors))
+
+    def without_codes(self, stream):
+        """A stream, where it is not idle without the condition codes that nobody may ask for from its pc on."""
+        return stream if stream.status == "idle" else stream._replace(ssw=self.asking.kept(stream.ssw))
 
     def place(self, world):
         """The place of the one that is kept of such worlds; a new one comes behind the others."""

@@ -20,10 +20,10 @@ record IsReached (R : World → World → Type 0) (v : FoundWorlds) (k : ℕ) (t
   stands : R (v.world place) (steps v.image (v.world k) ts)
   short : v.depth place ≤ v.depth k + length ts
 
-module _ (handled : Type 0) (named : ℕ → Type 0) (live : ℕ → ℕ → Type 0) (v : FoundWorlds)
-    (ground : IsGrounded handled named live v) where
+module _ (handled : Type 0) (named : ℕ → Type 0) (live asked : ℕ → ℕ → Type 0) (v : FoundWorlds)
+    (ground : IsGrounded handled named live asked v) where
   abbrev Agree : World → World → Type 0
-  Agree = WorldsAgree named live
+  Agree = WorldsAgree named live asked
 
   -- wherever the world leads
   abbrev AllTold : World → Type 0
@@ -33,12 +33,12 @@ module _ (handled : Type 0) (named : ℕ → Type 0) (live : ℕ → ℕ → Typ
   told_on w ts told us = subst (TellsHandlers handled) (steps-append v.image w ts us) (told (ts ++ us))
 
   agree_on : (a b : World) (ts : List Step) → AllTold a → Agree a b → Agree (steps v.image a ts) (steps v.image b ts)
-  agree_on a b ts told g = schedules_agree v.image handled named live ground.closed ts a b told g
+  agree_on a b ts told g = schedules_agree v.image handled named live asked ground.closed ts a b told g
 
   -- Ends of worlds that agree.
 
   end_over : (a b : World) → TellsHandlers handled a → Agree a b → IsEnd v.image a → IsEnd v.image b
-  end_over a b told g end = by (agreeing_end_alike v.image handled named live ground.closed a b told g) end where
+  end_over a b told g end = by (agreeing_end_alike v.image handled named live asked ground.closed a b told g) end where
     by : EndAlike v.image a b → IsEnd v.image a → IsEnd v.image b
     by alike (inl finished) = inl (λ some. finished (some.0, sym (alike.run some.0) ∙ some.1))
     by alike (inr still) = inr ((alike.kinds kind.Deadlock).0 still)
@@ -61,7 +61,7 @@ module _ (handled : Type 0) (named : ℕ → Type 0) (live : ℕ → ℕ → Typ
     place = r.place;
     below = r.below;
     stands = subst (Agree (v.world r.place)) leads
-        (agree_next named live (v.world r.place) (steps v.image (v.world e.to) us)
+        (agree_next named live asked (v.world r.place) (steps v.image (v.world e.to) us)
         (steps v.image (after v.image (v.world k) t) us) r.stands (over k t us e));
     short = omega (arith, r.short, e.near, one_less);
   }
@@ -72,7 +72,7 @@ module _ (handled : Type 0) (named : ℕ → Type 0) (live : ℕ → ℕ → Typ
   end_on k t ts us e below leads end =
       end_over (steps v.image (after v.image (v.world k) t) us) (steps v.image (v.world e.to) us)
       (ground.told k below (t ∷ us))
-      (agree_back named live (steps v.image (v.world e.to) us) (steps v.image (after v.image (v.world k) t) us) (over k t us e))
+      (agree_back named live asked (steps v.image (v.world e.to) us) (steps v.image (after v.image (v.world k) t) us) (over k t us e))
       (subst (IsEnd v.image) (sym leads) end)
 
   can_on : (k : ℕ) (t : Step) (us : List Step) (e : IsTaken Agree v k t) → CanEnd v.image (steps v.image (v.world e.to) us)
@@ -83,7 +83,7 @@ module _ (handled : Type 0) (named : ℕ → Type 0) (live : ℕ → ℕ → Typ
 
   itself : (k : ℕ) → k < v.count → IsReached Agree v k []
   itself k below =
-      record { place = k; below = below; stands = agree_itself named live (v.world k); short = omega arith }
+      record { place = k; below = below; stands = agree_itself named live asked (v.world k); short = omega arith }
 
   -- Where all steps are taken.
 
@@ -129,7 +129,7 @@ module _ (handled : Type 0) (named : ℕ → Type 0) (live : ℕ → ℕ → Typ
         (end_over (v.world k) after_ts (ground.told k below []) g end) in
         let same : r.place ≡ k =
         distinct r.place k r.below below
-        (agree_next named live (v.world r.place) after_ts (v.world k) r.stands (agree_back named live (v.world k) after_ts g)) in
+        (agree_next named live asked (v.world r.place) after_ts (v.world k) r.stands (agree_back named live asked (v.world k) after_ts g)) in
         subst (λ (j : ℕ). v.depth j ≤ v.depth 0 + length ts) same r.short
 
     -- from a place, by a schedule: what is known of each shorter schedule, and of the same one from where an end is nearer

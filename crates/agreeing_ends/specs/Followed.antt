@@ -6,7 +6,7 @@ use Rattle.processor.specs.World.{World, after, steps}
 use Rattle.processor.specs.declared.steps.Step.{Step}
 use Rattle.waiting.specs.Stuck.{SomeRuns, IsStandstill}
 use Rattle.local_steps.specs.FreeSteps.{IsFreeStep}
-use Rattle.program_flow.specs.Flow.{IsClosed}
+use Rattle.program_flow.specs.Agreeing.{TellsFlow}
 use Rattle.same_futures.specs.Links.{TellsHandlers}
 
 -- a world at which a run ends: no stream runs, or it is a standstill
@@ -84,9 +84,10 @@ abbrev pub TellsWhetherAllEnd : FoundWorlds → Type 0
 TellsWhetherAllEnd v =
     ((k : ℕ) → k < v.count → CanEnd v.image (v.world k)) → (ts : List Step) → CanEnd v.image (world_after v ts)
 
--- There is a first one. What is live is all that may be read from each place of the image's program on; where a trap of a
--- running stream has a handler, in a world that one of them leads to, `handled` says so.
-pub record IsGrounded (handled : Type 0) (named : ℕ → Type 0) (live : ℕ → ℕ → Type 0) (v : FoundWorlds) : Type 0 where
+-- There is a first one. What is live is all that may be read from each place of the image's program on, and what is asked
+-- for each condition code that may be; where a trap of a running stream has a handler, in a world that one of them leads
+-- to, `handled` says so.
+pub record IsGrounded (handled : Type 0) (named : ℕ → Type 0) (live asked : ℕ → ℕ → Type 0) (v : FoundWorlds) : Type 0 where
   pub some : 0 < v.count
-  pub closed : IsClosed v.image.profile v.image.program handled named live
+  pub closed : TellsFlow v.image.profile v.image.program handled named live asked
   pub told : (k : ℕ) → k < v.count → (ts : List Step) → TellsHandlers handled (steps v.image (v.world k) ts)

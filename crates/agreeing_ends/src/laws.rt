@@ -3,7 +3,7 @@
 ghost use Rattle.std.specs.Prelude.{◌≡◌, ℕ, ◌<◌, Bool, IsTrue, List};
 ghost use Rattle.processor.specs.World.{run};
 ghost use Rattle.processor.specs.declared.steps.Step.{Step};
-ghost use Rattle.program_flow.specs.Tables.{is_live_at, is_named_by, IsClosedTable};
+ghost use Rattle.program_flow.specs.Tables.{is_live_at, is_named_by, is_asked_at, IsClosedTable, HasCodesOf};
 ghost use Rattle.same_futures.specs.Links.{WorldsAgree};
 ghost use Rattle.same_futures.specs.Handlers.{may_have_handlers};
 ghost use Rattle.agreeing_ends.specs.Followed.{FoundWorlds, IsGrounded, AllExpanded, AllFollowed, HasAllWorlds, HasAllEnds};
@@ -14,30 +14,31 @@ ghost use Rattle.agreeing_ends.specs.Followed.{IsDistinct, HasShortestEnds, Tell
 /// they stand for all ends, by schedules that are as short as any where no two of them agree, and tell whether an end can
 /// be reached from wherever a schedule leads.
 pub fn followed_worlds_have_all_ends()
-    ensures worlds { (handled : Bool) (named : ℕ → Bool) (live : ℕ → ℕ → Bool) (v : FoundWorlds)
-        → IsGrounded (IsTrue handled) (λ r. IsTrue (named r)) (λ k r. IsTrue (live k r)) v
-        → AllExpanded (WorldsAgree (λ r. IsTrue (named r)) (λ k r. IsTrue (live k r))) v
-        → HasAllWorlds (WorldsAgree (λ r. IsTrue (named r)) (λ k r. IsTrue (live k r))) v }
-    ensures ends { (handled : Bool) (named : ℕ → Bool) (live : ℕ → ℕ → Bool) (v : FoundWorlds)
-        → IsGrounded (IsTrue handled) (λ r. IsTrue (named r)) (λ k r. IsTrue (live k r)) v
-        → AllFollowed (WorldsAgree (λ r. IsTrue (named r)) (λ k r. IsTrue (live k r))) v
-        → HasAllEnds (WorldsAgree (λ r. IsTrue (named r)) (λ k r. IsTrue (live k r))) v }
-    ensures shortest { (handled : Bool) (named : ℕ → Bool) (live : ℕ → ℕ → Bool) (v : FoundWorlds)
-        → IsGrounded (IsTrue handled) (λ r. IsTrue (named r)) (λ k r. IsTrue (live k r)) v
-        → AllFollowed (WorldsAgree (λ r. IsTrue (named r)) (λ k r. IsTrue (live k r))) v
-        → IsDistinct (WorldsAgree (λ r. IsTrue (named r)) (λ k r. IsTrue (live k r))) v
-        → HasShortestEnds (WorldsAgree (λ r. IsTrue (named r)) (λ k r. IsTrue (live k r))) v }
-    ensures tells { (handled : Bool) (named : ℕ → Bool) (live : ℕ → ℕ → Bool) (v : FoundWorlds)
-        → IsGrounded (IsTrue handled) (λ r. IsTrue (named r)) (λ k r. IsTrue (live k r)) v
-        → AllFollowed (WorldsAgree (λ r. IsTrue (named r)) (λ k r. IsTrue (live k r))) v → TellsWhetherAllEnd v }
+    ensures worlds { (handled : Bool) (named : ℕ → Bool) (live asked : ℕ → ℕ → Bool) (v : FoundWorlds)
+        → IsGrounded (IsTrue handled) (λ r. IsTrue (named r)) (λ k r. IsTrue (live k r)) (λ k c. IsTrue (asked k c)) v
+        → AllExpanded (WorldsAgree (λ r. IsTrue (named r)) (λ k r. IsTrue (live k r)) (λ k c. IsTrue (asked k c))) v
+        → HasAllWorlds (WorldsAgree (λ r. IsTrue (named r)) (λ k r. IsTrue (live k r)) (λ k c. IsTrue (asked k c))) v }
+    ensures ends { (handled : Bool) (named : ℕ → Bool) (live asked : ℕ → ℕ → Bool) (v : FoundWorlds)
+        → IsGrounded (IsTrue handled) (λ r. IsTrue (named r)) (λ k r. IsTrue (live k r)) (λ k c. IsTrue (asked k c)) v
+        → AllFollowed (WorldsAgree (λ r. IsTrue (named r)) (λ k r. IsTrue (live k r)) (λ k c. IsTrue (asked k c))) v
+        → HasAllEnds (WorldsAgree (λ r. IsTrue (named r)) (λ k r. IsTrue (live k r)) (λ k c. IsTrue (asked k c))) v }
+    ensures shortest { (handled : Bool) (named : ℕ → Bool) (live asked : ℕ → ℕ → Bool) (v : FoundWorlds)
+        → IsGrounded (IsTrue handled) (λ r. IsTrue (named r)) (λ k r. IsTrue (live k r)) (λ k c. IsTrue (asked k c)) v
+        → AllFollowed (WorldsAgree (λ r. IsTrue (named r)) (λ k r. IsTrue (live k r)) (λ k c. IsTrue (asked k c))) v
+        → IsDistinct (WorldsAgree (λ r. IsTrue (named r)) (λ k r. IsTrue (live k r)) (λ k c. IsTrue (asked k c))) v
+        → HasShortestEnds (WorldsAgree (λ r. IsTrue (named r)) (λ k r. IsTrue (live k r)) (λ k c. IsTrue (asked k c))) v }
+    ensures tells { (handled : Bool) (named : ℕ → Bool) (live asked : ℕ → ℕ → Bool) (v : FoundWorlds)
+        → IsGrounded (IsTrue handled) (λ r. IsTrue (named r)) (λ k r. IsTrue (live k r)) (λ k c. IsTrue (asked k c)) v
+        → AllFollowed (WorldsAgree (λ r. IsTrue (named r)) (λ k r. IsTrue (live k r)) (λ k c. IsTrue (asked k c))) v → TellsWhetherAllEnd v }
 {}
 
-/// Worlds that schedules of an image lead to are grounded, by a table of what is live in its program that was made with
-/// what `may_have_handlers` says.
+/// Worlds that schedules of an image lead to are grounded, by tables of what is live in its program and of which condition
+/// codes may be asked for, that were made with what `may_have_handlers` says.
 pub fn worlds_of_schedules_are_grounded()
-    ensures { (names : List Bool) (table : List (List Bool)) (v : FoundWorlds) (schedules : ℕ → List Step)
-        → IsClosedTable v.image.profile v.image.program (may_have_handlers v.image) names table → 0 < v.count
+    ensures { (names : List Bool) (table codes : List (List Bool)) (v : FoundWorlds) (schedules : ℕ → List Step)
+        → IsClosedTable v.image.profile v.image.program (may_have_handlers v.image) names table
+        → HasCodesOf v.image.profile v.image.program (may_have_handlers v.image) codes → 0 < v.count
         → ((k : ℕ) → k < v.count → v.world k ≡ run v.image (schedules k))
         → IsGrounded (IsTrue (may_have_handlers v.image)) (λ r. IsTrue (is_named_by names r))
-        (λ k r. IsTrue (is_live_at table k r)) v }
+        (λ k r. IsTrue (is_live_at table k r)) (λ k c. IsTrue (is_asked_at codes k c)) v }
 {}

@@ -2,3 +2,4 @@
 pub mod Holding
 pub mod Missing
 pub mod Breaks
+pub mod Looking

@@ -4,7 +4,9 @@
 mod breaks;
 mod claim;
 mod judging;
+mod looking;
 mod missing;
 
 pub use claim::{Claim, ClaimForm, NumberOrder, Scope, WordTest};
+pub use looking::places_looked_at;
 pub use missing::Missing;

@@ -1,4 +1,4 @@
--- Registers of one stream with 0 in place of those that do not matter.
+-- Registers and condition codes of one stream with 0 in place of those that do not matter.
 use Rattle.std.proofs.Common.{◌≡◌, ℕ, zero, suc, ◌+◌, ◌<◌, ◌≤◌, ◌⊎◌, inl, inr, Bool, true, false, refl, sym, ap, ◌∙◌, arith, subst}
 use Rattle.std.proofs.Common.{if◌then◌else◌, ◌&&◌, List, [], ◌∷◌, length, set, length-set}
 use Rattle.std.specs.Prelude.{IsTrue, IsSome, Option, is_some, slice_get}
@@ -7,15 +7,21 @@ use Rattle.std.proofs.lemmas.List.{ext_get_or}
 use Rattle.std.proofs.lemmas.List.Edits.{fill_by_more}
 use Rattle.std.proofs.lemmas.Option.{slice_get-get_or, slice_get_past}
 use Rattle.stream_core.specs.Registers.{register_at}
+use Rattle.stream_core.specs.StatusWords.{no_code}
+use Rattle.stream_core.specs.declared.conditions.Code.{Code}
+use Rattle.stream_core.specs.declared.status_words.Codes.{Codes}
 use Rattle.stream_core.specs.Streams.{StreamValue}
 use Rattle.stream_core.specs.declared.steps.Status.TheVariants.{Running}
 use Rattle.processor.specs.Processors.{is_idle}
 use Rattle.processor.specs.Records.{is_running, is_running_status}
 use Rattle.program_flow.specs.Agreement.{with_registers}
 use Rattle.program_flow.specs.Flow.{Matters}
-use Rattle.program_flow.specs.Tables.{is_live_at, is_named_by}
+use Rattle.program_flow.specs.Codes.{with_codes, SameCodes}
+use Rattle.program_flow.specs.Agreeing.{StreamsAgree}
+use Rattle.program_flow.specs.Tables.{is_live_at, is_named_by, is_asked_at}
+use Rattle.program_flow.proofs.Asked.{same_itself}
 use Rattle.same_futures.proofs.Linked.{rests_status}
-use Rattle.dead_registers.specs.Clearing.{LiveValue, matters, kept_from, kept_registers, cleared_stream}
+use Rattle.dead_registers.specs.Clearing.{LiveValue, matters, kept_from, kept_registers, kept_by, kept_codes, cleared_stream}
 
 -- Lists.
 
@@ -63,6 +69,33 @@ kept_same keeps xs ys sizes each =
     by : (r : ℕ) (b : Bool) → keeps r ≡ b → (if b then register_at xs r else 0) ≡ (if b then register_at ys r else 0)
     by r true k = each r k
     by r false k = refl
+
+-- Codes.
+
+once_code : (b : Bool) (c : Code) → (if b then (if b then c else no_code) else no_code) ≡ (if b then c else no_code)
+once_code true c = refl
+once_code false c = refl
+
+codes_twice : (keeps : ℕ → Bool) (cs : Codes) → kept_by keeps (kept_by keeps cs) ≡ kept_by keeps cs
+codes_twice keeps cs = λ i. record {
+  newest = once_code (keeps 0) cs.newest i;
+  second = once_code (keeps 1) cs.second i;
+  third = once_code (keeps 2) cs.third i;
+  oldest = once_code (keeps 3) cs.oldest i;
+}
+
+code_same : (b : Bool) (c d : Code) → (b ≡ true → d ≡ c) → (if b then d else no_code) ≡ (if b then c else no_code)
+code_same true c d same = same refl
+code_same false c d same = refl
+
+codes_same : (keeps : ℕ → Bool) (cs ds : Codes) → SameCodes (λ c. IsTrue (keeps c)) cs ds
+    → kept_by keeps ds ≡ kept_by keeps cs
+codes_same keeps cs ds g = λ i. record {
+  newest = code_same (keeps 0) cs.newest ds.newest g.newest i;
+  second = code_same (keeps 1) cs.second ds.second g.second i;
+  third = code_same (keeps 2) cs.third ds.third g.third i;
+  oldest = code_same (keeps 3) cs.oldest ds.oldest g.oldest i;
+}
 
 module _ (l : LiveValue) (s : StreamValue) where
   abbrev Matter : ℕ → Type 0
@@ -113,8 +146,37 @@ module _ (l : LiveValue) (s : StreamValue) where
   pub idle_kept : is_idle s ≡ true → kept_registers l s ≡ s.registers
   idle_kept rests = ap (λ b. if b then s.registers else kept_from (matters l s) 0 s.registers) rests
 
+  abbrev keeps_code : ℕ → Bool
+  keeps_code = is_asked_at l.codes s.ssw.pc
+
+  -- a code that may be asked for is kept
+  pub codes_kept : SameCodes (λ c. IsTrue (is_asked_at l.codes s.ssw.pc c)) s.ssw.codes (kept_codes l s)
+  codes_kept = by (is_idle s) where
+    by : (b : Bool)
+        → SameCodes (λ c. IsTrue (keeps_code c)) s.ssw.codes (if b then s.ssw.codes else kept_by keeps_code s.ssw.codes)
+    by true = same_itself (λ c. IsTrue (keeps_code c)) s.ssw.codes
+    by false = record {
+      newest = λ h. ap (λ (q : Bool). if q then s.ssw.codes.newest else no_code) h;
+      second = λ h. ap (λ (q : Bool). if q then s.ssw.codes.second else no_code) h;
+      third = λ h. ap (λ (q : Bool). if q then s.ssw.codes.third else no_code) h;
+      oldest = λ h. ap (λ (q : Bool). if q then s.ssw.codes.oldest else no_code) h;
+    }
+
+  pub idle_codes : is_idle s ≡ true → kept_codes l s ≡ s.ssw.codes
+  idle_codes rests = ap (λ b. if b then s.ssw.codes else kept_by keeps_code s.ssw.codes) rests
+
   pub idle_same : is_idle s ≡ true → cleared_stream l s ≡ s
-  idle_same rests = ap (with_registers s) (idle_kept rests)
+  idle_same rests = λ i. with_codes (with_registers s (idle_kept rests i)) (idle_codes rests i)
+
+  -- the stream agrees with the cleared one
+  pub stream_agrees : StreamsAgree (λ r. IsTrue (is_named_by l.names r)) (λ k r. IsTrue (is_live_at l.table k r))
+      (λ k c. IsTrue (is_asked_at l.codes k c)) s (cleared_stream l s)
+  stream_agrees = record {
+    rest = refl;
+    sizes = all_kept;
+    each = λ r m. is_kept r (does_matter r m);
+    codes = codes_kept;
+  }
 
   pub idle_or_matters : (r : ℕ) → (is_idle s ≡ true) ⊎ (matters l s r ≡ true)
       → register_at (kept_registers l s) r ≡ register_at s.registers r
@@ -122,22 +184,34 @@ module _ (l : LiveValue) (s : StreamValue) where
   idle_or_matters r (inr m) = is_kept r m
 
   pub stream_twice : cleared_stream l (cleared_stream l s) ≡ cleared_stream l s
-  stream_twice = ap (with_registers s) (by (is_idle s)) where
+  stream_twice = by (is_idle s) where
     by : (b : Bool)
-        → (if b then (if b then s.registers else kept_from (matters l s) 0 s.registers)
-        else kept_from (matters l s) 0 (if b then s.registers else kept_from (matters l s) 0 s.registers))
-        ≡ (if b then s.registers else kept_from (matters l s) 0 s.registers)
+        → with_codes
+        (with_registers s (if b then (if b then s.registers else kept_from (matters l s) 0 s.registers)
+        else kept_from (matters l s) 0 (if b then s.registers else kept_from (matters l s) 0 s.registers)))
+        (if b then (if b then s.ssw.codes else kept_by keeps_code s.ssw.codes)
+        else kept_by keeps_code (if b then s.ssw.codes else kept_by keeps_code s.ssw.codes))
+        ≡ with_codes (with_registers s (if b then s.registers else kept_from (matters l s) 0 s.registers))
+        (if b then s.ssw.codes else kept_by keeps_code s.ssw.codes)
     by true = refl
-    by false = kept_twice (matters l s) 0 s.registers
+    by false =
+        λ i. with_codes (with_registers s (kept_twice (matters l s) 0 s.registers i))
+        (codes_twice keeps_code s.ssw.codes i)
 
-  -- with other registers that are the same where it matters
-  pub stream_same : (rs : List ℕ) → is_idle s ≡ false → length rs ≡ length s.registers
-      → ((r : ℕ) → Matter r → register_at rs r ≡ register_at s.registers r)
-      → cleared_stream l (with_registers s rs) ≡ cleared_stream l s
-  stream_same rs awake sizes each =
-      ap (λ b. with_registers s (if b then rs else kept_from (matters l s) 0 rs)) awake
-      ∙ ap (with_registers s) (kept_same (matters l s) rs s.registers sizes (λ r m. each r (if_matters r m)))
-      ∙ sym (ap (λ b. with_registers s (if b then s.registers else kept_from (matters l s) 0 s.registers)) awake)
+  -- a stream that agrees is the same when it is cleared
+  pub stream_same : (x : StreamValue) → is_idle s ≡ false
+      → StreamsAgree (λ r. IsTrue (is_named_by l.names r)) (λ k r. IsTrue (is_live_at l.table k r))
+      (λ k c. IsTrue (is_asked_at l.codes k c)) s x
+      → cleared_stream l x ≡ cleared_stream l s
+  stream_same x awake g =
+      ap (cleared_stream l) g.rest
+      ∙ ap (λ b. with_codes (with_registers s (if b then x.registers else kept_from (matters l s) 0 x.registers))
+      (if b then x.ssw.codes else kept_by keeps_code x.ssw.codes)) awake
+      ∙ (λ i. with_codes
+      (with_registers s (kept_same (matters l s) x.registers s.registers g.sizes (λ r m. g.each r (if_matters r m)) i))
+      (codes_same keeps_code s.ssw.codes x.ssw.codes g.codes i))
+      ∙ sym (ap (λ b. with_codes (with_registers s (if b then s.registers else kept_from (matters l s) 0 s.registers))
+      (if b then s.ssw.codes else kept_by keeps_code s.ssw.codes)) awake)
 
 -- A list with as many elements, each of them a register of the stream.
 pub filled : (rs : List ℕ) (l : LiveValue) (s : StreamValue) → length s.registers ≡ length rs

@@ -1,24 +1,22 @@
--- A world agrees with the one in which registers that do not matter hold 0: stream by stream, processor by processor.
+-- A world agrees with the one in which registers and condition codes that do not matter hold 0: stream by stream, processor by processor.
 use Rattle.std.proofs.Common.{◌≡◌, ℕ, zero, suc, Bool, true, false, refl, sym, ap, ◌∙◌, arith, subst, if◌then◌else◌, nat_lt}
 use Rattle.std.proofs.Common.{List, [], ◌∷◌, ◌++◌, length, map, set, Option, Some, None, slice_get, append_assoc, length-append}
 use Rattle.std.specs.Prelude.{IsTrue}
 use Rattle.std.proofs.lemmas.List.{get_or_at, set_at, map-set, set-get_or}
 use Rattle.std.proofs.lemmas.Option.{get_or_from_slice_get}
 use Rattle.tag_memory.specs.Storage.{TaggedMemory}
-use Rattle.stream_core.specs.Registers.{register_at}
 use Rattle.stream_core.specs.Streams.{StreamValue, idle}
 use Rattle.processor.specs.Processors.{ProcessorValue, is_idle, stream_at, stream_seen}
 use Rattle.processor.specs.Row.{with_stream}
 use Rattle.processor.specs.World.{World, stream_of, stream_seen_at}
 use Rattle.waiting.specs.Running.{streams_at}
-use Rattle.program_flow.specs.Agreement.{with_registers}
-use Rattle.program_flow.specs.Flow.{Matters}
-use Rattle.program_flow.specs.Tables.{is_live_at, is_named_by}
-use Rattle.same_futures.specs.Links.{HasOtherRegisters, IsLinked, AreLinked, WorldsAgree}
+use Rattle.program_flow.specs.Agreeing.{StreamsAgree}
+use Rattle.program_flow.specs.Tables.{is_live_at, is_named_by, is_asked_at}
+use Rattle.same_futures.specs.Links.{HasOtherStream, IsLinked, AreLinked, WorldsAgree}
 use Rattle.same_futures.specs.Agreeing.{stream_in}
 use Rattle.same_futures.proofs.Chains.{agree_itself, agree_next, agree_link, agree_back}
 use Rattle.dead_registers.specs.Clearing.{LiveValue, kept_registers, cleared_stream, cleared_processor, cleared, registers_seen, AgreeBy}
-use Rattle.dead_registers.proofs.Registers.{does_matter, all_kept, is_kept, idle_same, stream_twice, stream_same}
+use Rattle.dead_registers.proofs.Registers.{idle_same, stream_agrees as clearing_agrees, stream_twice, stream_same}
 
 -- Lists.
 
@@ -111,6 +109,9 @@ module _ (l : LiveValue) where
   abbrev Live : ℕ → ℕ → Type 0
   Live k r = IsTrue (is_live_at l.table k r)
 
+  abbrev Asked : ℕ → ℕ → Type 0
+  Asked k c = IsTrue (is_asked_at l.codes k c)
+
   -- one processor, between others
   module _ (before behind : List ProcessorValue) (scur sres : ℕ) (m : TaggedMemory) where
     abbrev made : List StreamValue → ProcessorValue
@@ -120,7 +121,7 @@ module _ (l : LiveValue) where
     world ss = record { processors = before ++ made ss ∷ behind; memory = m }
 
     stream_linked : (xs : List StreamValue) (s : StreamValue) (ys : List StreamValue) → is_idle s ≡ false
-        → IsLinked Named Live (world (xs ++ s ∷ ys)) (world (xs ++ cleared_stream l s ∷ ys))
+        → IsLinked Named Live Asked (world (xs ++ s ∷ ys)) (world (xs ++ cleared_stream l s ∷ ys))
     stream_linked xs s ys here = record {
       p = length before;
       k = length xs;
@@ -130,13 +131,10 @@ module _ (l : LiveValue) where
       moved = record {
         within = omega (arith, length-append xs (s ∷ ys));
         awake = ap is_idle held ∙ here;
-        registers = kept_registers l s;
-        sizes = all_kept l s ∙ ap (λ (x : StreamValue). length x.registers) (sym held);
-        each = subst (λ (x : StreamValue). (r : ℕ) → Matters Named Live x r
-            → register_at (kept_registers l s) r ≡ register_at x.registers r) (sym held) (λ r m. is_kept l s r (does_matter l s r m));
-        is =
-            sym (ap (λ (x : StreamValue). with_stream from (length xs) (with_registers x (kept_registers l s))) held
-            ∙ ap made (set_at xs s ys (cleared_stream l s) (length xs) refl));
+        stream = cleared_stream l s;
+        agrees = subst (λ (x : StreamValue). StreamsAgree Named Live Asked x (cleared_stream l s)) (sym held)
+            (clearing_agrees l s);
+        is = sym (ap made (set_at xs s ys (cleared_stream l s) (length xs) refl));
       };
       is =
           ap (λ ps. record { processors = ps; memory = m })
@@ -150,42 +148,42 @@ module _ (l : LiveValue) where
         held = get_or_at xs s ys idle (length xs) refl
 
     stream_agrees : (xs : List StreamValue) (s : StreamValue) (ys : List StreamValue)
-        → WorldsAgree Named Live (world (xs ++ s ∷ ys)) (world (xs ++ cleared_stream l s ∷ ys))
+        → WorldsAgree Named Live Asked (world (xs ++ s ∷ ys)) (world (xs ++ cleared_stream l s ∷ ys))
     stream_agrees xs s ys = by (is_idle s) refl where
       by : (b : Bool) → is_idle s ≡ b
-          → WorldsAgree Named Live (world (xs ++ s ∷ ys)) (world (xs ++ cleared_stream l s ∷ ys))
+          → WorldsAgree Named Live Asked (world (xs ++ s ∷ ys)) (world (xs ++ cleared_stream l s ∷ ys))
       by false here =
-          agree_link Named Live (world (xs ++ s ∷ ys)) (world (xs ++ cleared_stream l s ∷ ys)) (stream_linked xs s ys here)
+          agree_link Named Live Asked (world (xs ++ s ∷ ys)) (world (xs ++ cleared_stream l s ∷ ys)) (stream_linked xs s ys here)
       by true rests =
-          subst (λ x. WorldsAgree Named Live (world (xs ++ s ∷ ys)) (world (xs ++ x ∷ ys)))
-          (sym (idle_same l s rests)) (agree_itself Named Live (world (xs ++ s ∷ ys)))
+          subst (λ x. WorldsAgree Named Live Asked (world (xs ++ s ∷ ys)) (world (xs ++ x ∷ ys)))
+          (sym (idle_same l s rests)) (agree_itself Named Live Asked (world (xs ++ s ∷ ys)))
 
     streams_agree : (ys xs : List StreamValue)
-        → WorldsAgree Named Live (world (xs ++ ys)) (world (xs ++ map (cleared_stream l) ys))
-    streams_agree [] xs = agree_itself Named Live (world (xs ++ []))
+        → WorldsAgree Named Live Asked (world (xs ++ ys)) (world (xs ++ map (cleared_stream l) ys))
+    streams_agree [] xs = agree_itself Named Live Asked (world (xs ++ []))
     streams_agree (s ∷ ys) xs =
         let c = cleared_stream l s in
-        agree_next Named Live (world (xs ++ s ∷ ys)) (world (xs ++ c ∷ ys)) (world (xs ++ c ∷ map (cleared_stream l) ys))
+        agree_next Named Live Asked (world (xs ++ s ∷ ys)) (world (xs ++ c ∷ ys)) (world (xs ++ c ∷ map (cleared_stream l) ys))
         (stream_agrees xs s ys)
-        (subst (λ zs. WorldsAgree Named Live (world (xs ++ c ∷ ys)) (world zs))
+        (subst (λ zs. WorldsAgree Named Live Asked (world (xs ++ c ∷ ys)) (world zs))
         (append_assoc xs (c ∷ []) (map (cleared_stream l) ys))
-        (subst (λ zs. WorldsAgree Named Live (world zs) (world ((xs ++ c ∷ []) ++ map (cleared_stream l) ys)))
+        (subst (λ zs. WorldsAgree Named Live Asked (world zs) (world ((xs ++ c ∷ []) ++ map (cleared_stream l) ys)))
         (append_assoc xs (c ∷ []) ys) (streams_agree ys (xs ++ c ∷ []))))
 
   abbrev with_memory : TaggedMemory → List ProcessorValue → World
   with_memory m ps = record { processors = ps; memory = m }
 
   processors_agree : (m : TaggedMemory) (ps before : List ProcessorValue)
-      → WorldsAgree Named Live (with_memory m (before ++ ps)) (with_memory m (before ++ map (cleared_processor l) ps))
-  processors_agree m [] before = agree_itself Named Live (with_memory m (before ++ []))
+      → WorldsAgree Named Live Asked (with_memory m (before ++ ps)) (with_memory m (before ++ map (cleared_processor l) ps))
+  processors_agree m [] before = agree_itself Named Live Asked (with_memory m (before ++ []))
   processors_agree m (q ∷ ps) before =
       let c = cleared_processor l q in
-      agree_next Named Live (with_memory m (before ++ q ∷ ps)) (with_memory m (before ++ c ∷ ps))
+      agree_next Named Live Asked (with_memory m (before ++ q ∷ ps)) (with_memory m (before ++ c ∷ ps))
       (with_memory m (before ++ c ∷ map (cleared_processor l) ps))
       (streams_agree before ps q.scur q.sres m q.streams [])
-      (subst (λ zs. WorldsAgree Named Live (with_memory m (before ++ c ∷ ps)) (with_memory m zs))
+      (subst (λ zs. WorldsAgree Named Live Asked (with_memory m (before ++ c ∷ ps)) (with_memory m zs))
       (append_assoc before (c ∷ []) (map (cleared_processor l) ps))
-      (subst (λ zs. WorldsAgree Named Live (with_memory m zs)
+      (subst (λ zs. WorldsAgree Named Live Asked (with_memory m zs)
       (with_memory m ((before ++ c ∷ []) ++ map (cleared_processor l) ps)))
       (append_assoc before (c ∷ []) ps) (processors_agree m ps (before ++ c ∷ []))))
 
@@ -195,18 +193,16 @@ module _ (l : LiveValue) where
 
   -- Worlds that agree are one when they are cleared.
 
-  moved_same : (k : ℕ) (from to : ProcessorValue) → HasOtherRegisters Named Live k from to
+  moved_same : (k : ℕ) (from to : ProcessorValue) → HasOtherStream Named Live Asked k from to
       → cleared_processor l to ≡ cleared_processor l from
   moved_same k from to m =
       let s = stream_at from.streams k in
-      let x = with_registers s m.registers in
       let f = cleared_stream l in
       let made : List StreamValue → ProcessorValue = λ ss. record { streams = ss; scur = from.scur; sres = from.sres } in
       ap (cleared_processor l) m.is
       ∙ ap made
-      (map-set f from.streams k x
-      ∙ ap (set (map f from.streams) k)
-      (stream_same l s m.registers m.awake m.sizes m.each ∙ sym (stream_cleared l from.streams k))
+      (map-set f from.streams k m.stream
+      ∙ ap (set (map f from.streams) k) (stream_same l s m.stream m.awake m.agrees ∙ sym (stream_cleared l from.streams k))
       ∙ set-get_or (map f from.streams) k idle)
 
   processor_there : (ps : List ProcessorValue) (p : ℕ) (q : ProcessorValue) → slice_get ps p ≡ Some q
@@ -215,7 +211,7 @@ module _ (l : LiveValue) where
   processor_there (x ∷ ps) zero q got = let same : x ≡ q = cc in ap (λ y. Some (cleared_processor l y)) same
   processor_there (x ∷ ps) (suc p) q got = processor_there ps p q got
 
-  linked_same : (a b : World) → IsLinked Named Live a b → cleared l b ≡ cleared l a
+  linked_same : (a b : World) → IsLinked Named Live Asked a b → cleared l b ≡ cleared l a
   unfolding cleared
   linked_same a b k =
       let f = cleared_processor l in
@@ -225,7 +221,7 @@ module _ (l : LiveValue) where
       ∙ ap (set (map f a.processors) k.p) (moved_same k.k k.from k.to k.moved)
       ∙ set_itself (map f a.processors) k.p (f k.from) (processor_there a.processors k.p k.from k.there))
 
-  chain_same : (cs : List World) (a b : World) → AreLinked Named Live a cs b → cleared l b ≡ cleared l a
+  chain_same : (cs : List World) (a b : World) → AreLinked Named Live Asked a cs b → cleared l b ≡ cleared l a
   chain_same [] a b e = ap (cleared l) e
   chain_same (c ∷ cs) a b g = chain_same cs c b g.1 ∙ linked_same a c g.0
 
@@ -234,5 +230,5 @@ module _ (l : LiveValue) where
 
   pub same_agree : (a b : World) → cleared l a ≡ cleared l b → AgreeBy l a b
   same_agree a b same =
-      agree_next Named Live a (cleared l b) b (subst (AgreeBy l a) same (cleared_agrees a))
-      (agree_back Named Live b (cleared l b) (cleared_agrees b))
+      agree_next Named Live Asked a (cleared l b) b (subst (AgreeBy l a) same (cleared_agrees a))
+      (agree_back Named Live Asked b (cleared l b) (cleared_agrees b))

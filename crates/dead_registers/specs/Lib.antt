@@ -1,2 +1,2 @@
--- What public contracts promise: worlds in which registers that do not matter hold 0.
+-- What public contracts promise: worlds in which registers and condition codes that do not matter hold 0.
 pub mod Clearing

@@ -1,5 +1,5 @@
-//! Worlds in which streams hold 0 in each register that does not matter, since it is never read again: they agree with
-//! those of the machine, and end alike (docs/MACHINE.md, "One step").
+//! Worlds in which streams hold 0 in each register and each condition code that does not matter, since nobody looks at it
+//! any more: they agree with those of the machine, and end alike (docs/MACHINE.md, "One step").
 #![tactic(auto)]
 
 mod laws;

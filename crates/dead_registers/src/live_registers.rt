@@ -1,30 +1,34 @@
 //! What is live in the programs of images, and what streams hold there.
 
-ghost use Rattle.std.specs.Prelude.{◌≡◌, ◌++◌, List, IfOk};
+ghost use Rattle.std.specs.Prelude.{◌≡◌, ◌<◌, ◌++◌, ℕ, true, IsTrue, List, [], IfOk, slice_index_or, if◌then◌else◌};
 ghost use Rattle.stream_core.specs.Registers.{register_at};
+ghost use Rattle.stream_core.specs.StatusWords.{no_code};
 ghost use Rattle.processor.specs.Processors.{is_idle};
 ghost use Rattle.processor.specs.Records.{is_running};
 ghost use Rattle.processor.specs.World.{run, stream_of};
 ghost use Rattle.processor.specs.declared.steps.Step.{Step};
-ghost use Rattle.program_flow.specs.Tables.{is_live_by, is_live_at, is_named_by};
+ghost use Rattle.program_flow.specs.Tables.{is_live_by, is_live_at, is_named_by, is_asked_at, HasCodesOf};
 ghost use Rattle.same_futures.specs.Agreeing.{EndAlike};
-ghost use Rattle.dead_registers.specs.Clearing.{matters, kept_registers, cleared, cleared_steps, registers_seen};
+ghost use Rattle.dead_registers.specs.Clearing.{matters, kept_registers, kept_codes, cleared_stream};
+ghost use Rattle.dead_registers.specs.Clearing.{cleared, cleared_steps, registers_seen};
 ghost use Rattle.dead_registers.specs.Clearing.{IsLive, AgreeBy};
 
 use image_file::Image;
 use machine::Machine;
-use program_flow::{Row, live_table};
+use program_flow::{CodeRow, Row, code_table, live_table};
 use same_futures::may_have_handlers;
 use std::alloc::{AllocError, Global};
 use std::marker::Model;
-use stream_core::{Status, Stream};
+use stream_core::{Code, Codes, Status, StatusWord, Stream};
 
 /// Which registers are live at each word of an image's program: they may be read from there on, before they are written.
-/// Those that are named matter all the same, since somebody else looks at them.
+/// Those that are named matter all the same, since somebody else looks at them. And which condition codes may be asked for
+/// from each word on.
 #[derive(Drop)]
 pub struct LiveRegisters {
     names: Row,
     table: Vec<Row>,
+    codes: Vec<CodeRow>,
 }
 
 impl Model for LiveRegisters {
@@ -32,13 +36,14 @@ impl Model for LiveRegisters {
 
     ghost Value = { LiveValue };
 
-    ghost view = { λ l. record { names = l.names; table = l.table.items } };
+    ghost view = { λ l. record { names = l.names; table = l.table.items; codes = l.codes.items } };
 }
 
 impl LiveRegisters {
-    /// What is live in the program of an image, with the registers that `names` says.
+    /// What is live in the program of an image, with the registers that `names` says; where it says all, all condition
+    /// codes matter too.
     ///
-    /// Where each world is cleared, so that its streams hold 0 in all registers that do not matter, each schedule that
+    /// Where each world is cleared, so that its streams hold 0 in all registers and codes that do not matter, each schedule that
     /// begins with `begin` comes to a world that agrees with the one without that, and ends alike. An error where memory
     /// is refused.
     pub fn of(alloc: Global, image: &Image, names: &Row) -> Result<LiveRegisters, AllocError>
@@ -51,9 +56,11 @@ impl LiveRegisters {
     {
         let handled = may_have_handlers(image);
         let table = live_table(alloc, image.profile(), image.program(), handled, names)?;
+        let codes = codes_of(alloc, image, handled, names)?;
         Ok(LiveRegisters {
             names: *names,
             table,
+            codes,
         })
     }
 
@@ -101,6 +108,42 @@ impl LiveRegisters {
             || is_running(stream) && self.is_live(stream.ssw().pc, register)
     }
 
+    /// The status word of a stream, where it is not idle without the condition codes that do not matter.
+    pub fn status_word(&self, stream: &Stream) -> StatusWord
+        ensures { result ≡ (cleared_stream self.now stream.now).ssw }
+    {
+        let mut word = stream.ssw();
+        word.codes = self.codes(stream);
+        word
+    }
+
+    /// The condition codes of a stream, where it is not idle without those that do not matter.
+    fn codes(&self, stream: &Stream) -> Codes
+        ensures { result ≡ kept_codes self.now stream.now }
+    {
+        let word = stream.ssw();
+        if is_idle(stream) {
+            return word.codes;
+        }
+        let row = self.code_row(word.pc);
+        Codes {
+            newest: kept_code(row, 0, word.codes.newest),
+            second: kept_code(row, 1, word.codes.second),
+            third: kept_code(row, 2, word.codes.third),
+            oldest: kept_code(row, 3, word.codes.oldest),
+        }
+    }
+
+    /// The row of codes of a place; where the table has none an empty one, by which all may be asked for.
+    fn code_row(&self, place: u32) -> &[bool]
+        ensures { result.now ≡ slice_index_or self.now.codes place [] }
+    {
+        match self.codes.get(place as usize) {
+            Some(row) => row,
+            None => &[],
+        }
+    }
+
     /// Whether a register is live at a place of the program.
     fn is_live(&self, place: u32, register: u8) -> bool
         ensures { result ≡ is_live_at self.now.table place register }
@@ -110,6 +153,45 @@ impl LiveRegisters {
             None => true,
         }
     }
+}
+
+/// Which condition codes may be asked for from each word of an image's program on. Where all registers are named, all may
+/// be.
+#[tactic(auto, using(crate::proofs::Schedules::no_rows_tell))]
+fn codes_of(
+    alloc: Global,
+    image: &Image,
+    handled: bool,
+    names: &Row,
+) -> Result<Vec<CodeRow>, AllocError>
+    ensures has { IfOk result (λ table. HasCodesOf image.now.profile image.now.program handled table.items) }
+    ensures all { IfOk result (λ table. ((r : ℕ) → r < 32 → IsTrue (is_named_by names.now r))
+        → (k c : ℕ) → IsTrue (is_asked_at table.items k c)) }
+{
+    if are_all_named(names) {
+        return Ok(Vec::new(alloc));
+    }
+    code_table(alloc, image.profile(), image.program(), handled)
+}
+
+/// Whether all registers are named.
+fn are_all_named(names: &Row) -> bool
+    ensures { ((r : ℕ) → r < 32 → IsTrue (is_named_by names.now r)) → result ≡ true }
+{
+    for register in 0..32u8 {
+        if !is_named(names, register) {
+            return false;
+        }
+    }
+    true
+}
+
+/// A code, or none where it does not matter by a row.
+fn kept_code(row: &[bool], place: usize, code: Code) -> Code
+    ensures { result ≡ (if is_live_by row.now place then code else no_code) }
+{
+    let kept = row.get(place).copied().unwrap_or(true);
+    if kept { code } else { Code::NONE }
 }
 
 /// Whether a register is live by a row; one that the row does not have is.

@@ -58,7 +58,7 @@ pub struct SpaceEnd {
     /// Whether a trap that nobody expected stopped a stream.
     pub is_trapped: bool,
     /// The places of the worlds, the first of which no schedule is shorter to. In a search for ends each stands for all that
-    /// differ from it in registers alone that do not matter.
+    /// differ from it in registers and condition codes alone that do not matter.
     pub places: Vec<usize>,
     /// How many worlds on the way through the steps that all schedules begin with break the claim; 0 of other ends.
     pub before: usize,

@@ -6,7 +6,7 @@ use Rattle.processor.specs.declared.steps.Step.{Step}
 use Rattle.expectations.specs.declared.expectation.Expectation.{Expectation}
 use Rattle.claims.specs.declared.claim.Claim.{Claim}
 use Rattle.processor.specs.World.{World}
-use Rattle.program_flow.specs.Tables.{is_live_at, is_named_by}
+use Rattle.program_flow.specs.Tables.{is_live_at, is_named_by, is_asked_at}
 use Rattle.same_futures.proofs.Chains.{agree_itself}
 use Rattle.dead_registers.specs.Clearing.{LiveValue, AgreeBy}
 use Rattle.expectations.specs.NamedRegisters.{is_register_named}
@@ -31,7 +31,8 @@ ends_known v all = λ ts end.
     (has.0, has.1, subst (AgreeBy v.live (world_of v has.0)) has.2 (itself v.live (world_of v has.0)))
   where
     itself : (l : LiveValue) (w : World) → AgreeBy l w w
-    itself l w = agree_itself (λ r. IsTrue (is_named_by l.names r)) (λ k r. IsTrue (is_live_at l.table k r)) w
+    itself l w = agree_itself (λ r. IsTrue (is_named_by l.names r)) (λ k r. IsTrue (is_live_at l.table k r))
+        (λ k c. IsTrue (is_asked_at l.codes k c)) w
 
 -- and tells whether an end can always be reached
 pub tells_known : (v : SpaceValue) → IsComplete v → TellsWhetherAllEnd v

@@ -91,7 +91,7 @@ fn all_ends<'i, const S: usize, C: Clock, E: Write>(
         → (IsComplete found.0 × HasAllEdges found.0) ⊎ AllFollowed found.0) }
 {
     let names = named_registers(expected);
-    match explore_ends::<S, _>(alloc, image, begin, &names, most, watcher) {
+    match explore_ends::<S, _>(alloc, image, begin, &names, &[], most, watcher) {
         Ok(Exploration::Complete(space)) => Ok((space, true)),
         Ok(Exploration::Bounded(space, bound)) => {
             watcher.end(bound);

@@ -9,6 +9,8 @@
 #[cfg(test)]
 mod clones;
 #[cfg(test)]
+mod codes;
+#[cfg(test)]
 mod commands;
 #[cfg(test)]
 mod debugging;
@@ -28,6 +30,8 @@ mod links;
 mod makers;
 #[cfg(test)]
 mod processors;
+#[cfg(test)]
+mod reached;
 #[cfg(test)]
 mod records;
 #[cfg(test)]

@@ -1,4 +1,4 @@
--- Two streams that agree on what is live do the same, and agree on what is live then.
+-- Two streams that agree on registers that are live do the same, and agree on what is live then.
 use Rattle.std.proofs.Common.{◌≡◌, ℕ, ◌+◌, ◌*◌, ◌%◌, ◌^◌, ◌==◌, ◌⊎◌, inl, inr, Bool, true, false, refl, sym, ap, ◌∙◌, subst}
 use Rattle.std.proofs.Common.{if◌then◌else◌, nat_lt, List, [], ◌∷◌, length, Option, Some, None}
 use Rattle.std.specs.Prelude.{⊤}
@@ -34,10 +34,16 @@ use Rattle.stream_core.specs.declared.steps.Outcome.{Outcome}
 use Rattle.stream_core.specs.declared.steps.Outcome.TheVariants as outcome
 use Rattle.stream_core.specs.declared.steps.Fetch.{Fetch}
 use Rattle.stream_core.specs.declared.steps.Fetch.TheVariants as fetch
-use Rattle.program_flow.specs.Agreement.{AgreeOn, writes, registers_over, registers_over_reply, registers_over_fetch, reads_at, put_registers}
-use Rattle.program_flow.specs.Flow.{SkipsTo, GoesBy, GoesTo, MayTrap, MayTrapWith, EndsStream, IsClosedAt, IsClosed, Matters, AgreeIn, KeepsAgreement}
+use Rattle.program_flow.specs.Agreement.{with_registers, AgreeOn, writes, registers_over, registers_over_reply, registers_over_fetch, reads_at, put_registers}
+use Rattle.program_flow.specs.Flow.{SkipsTo, GoesBy, GoesTo, MayTrap, MayTrapWith, EndsStream, IsClosedAt, Matters}
 use Rattle.program_flow.proofs.EqualRows.{same_from, row_sees_reads}
 use Rattle.program_flow.proofs.Writes.{Same, sizes_writes, kept_writes, made_written}
+
+-- Two streams are the same but for registers, and hold the same in these.
+pub record AgreeInRegisters (L : ℕ → Type 0) (s t : StreamValue) : Type 0 where
+  pub rest : t ≡ with_registers s t.registers
+  pub sizes : length t.registers ≡ length s.registers
+  pub each : (r : ℕ) → L r → register_at t.registers r ≡ register_at s.registers r
 
 -- Where a done instruction goes on.
 
@@ -62,7 +68,7 @@ goes_by s a c control.Quit = inl tt
 goes_by s a c control.QuitKeep = inl tt
 goes_by s a c o = inr refl
 
-goes_on : (s : StreamValue) (i : Insn) (value grant : ℕ)
+pub goes_on : (s : StreamValue) (i : Insn) (value grant : ℕ)
     → EndsStream (control_of s i) ⊎ GoesTo i s.ssw.pc (after_instruction s i value grant).ssw.pc
 unfolding control_of after_instruction
 goes_on s (Wide look wide.Literal reg imm) value grant = inr refl
@@ -72,7 +78,7 @@ goes_on s (Normal look m a c) value grant = goes_by s a c c.op
 
 -- What asks may trap.
 
-Asks : Option Request → Type 0
+unfoldable pub Asks : Option Request → Type 0
 Asks None = ⊥
 Asks (Some q) = ⊤
 
@@ -81,7 +87,7 @@ unfolding Asks
 asks_by s m memory.Nop c none = absurd none
 asks_by s m o c h = tt
 
-asks_may_trap : (s : StreamValue) (i : Insn) → Asks (request_of s i) → MayTrap (fetch.Instruction i)
+pub asks_may_trap : (s : StreamValue) (i : Insn) → Asks (request_of s i) → MayTrap (fetch.Instruction i)
 unfolding request_of Asks
 asks_may_trap s (Wide look o reg imm) none = absurd none
 asks_may_trap s (Normal look m a c) h = asks_by s m m.op c.op h
@@ -190,23 +196,18 @@ left limit grant s r f =
     ap (λ (e : StreamValue × Outcome). e.0.registers)
     (same_from limit s s.registers grant r f (itself s.registers (reads_at f)))
 
-pub agreement_is_kept : (profile : Profile) (program : List ℕ) (handled : Type 0) (named : ℕ → Type 0)
-    (live : ℕ → ℕ → Type 0) → IsClosed profile program handled named live
-    → (limit : ℕ) (s t : StreamValue) (grant : ℕ) (r : Option Reply)
-    → s.status ≡ Running → (cannot_trap s ≡ false → handled) → AgreeIn (Matters named live s) s t
-    → KeepsAgreement profile program handled named live limit s t grant r
-unfolding stream_row fetch_of
-agreement_is_kept profile program handled named live closed limit s t grant r runs handler agree =
-    record { comes_out = ap (λ (e : StreamValue × Outcome). e.1) row; after = after }
+-- Two running streams that agree in registers come out the same, and agree then.
+pub registers_kept : (handled : Type 0) (named : ℕ → Type 0) (live : ℕ → ℕ → Type 0) (limit : ℕ) (s t : StreamValue)
+    (names : (r : ℕ) → named r → live s.ssw.pc r) (zero : live s.ssw.pc 0) (handler : cannot_trap s ≡ false → handled)
+    (grant : ℕ) (r : Option Reply) (f : Fetch) → IsClosedAt handled live s.ssw.pc f → s.status ≡ Running
+    → AgreeInRegisters (Matters named live s) s t
+    → ((row_from limit t grant r f).1 ≡ (row_from limit s grant r f).1)
+    × ((((row_from limit s grant r f).1 ≡ outcome.Done) × EndsStream (control_from s f))
+    ⊎ AgreeInRegisters (Matters named live (row_from limit s grant r f).0) (row_from limit s grant r f).0
+    (row_from limit t grant r f).0)
+registers_kept handled named live limit s t names zero handler grant r f here runs agree =
+    (ap (λ (e : StreamValue × Outcome). e.1) row, after)
   where
-    f : Fetch
-    f = fetch_of profile program s
-
-    here : IsClosedAt handled live s.ssw.pc f
-    here =
-        subst (IsClosedAt handled live s.ssw.pc)
-        (sym (ap (λ st. fetch_if profile st program s.ssw.pc) runs)) (closed.each s.ssw.pc)
-
     each : (r : ℕ) → live s.ssw.pc r → Same t.registers s.registers r
     each r l = agree.each r (inr (runs, l))
 
@@ -214,20 +215,19 @@ agreement_is_kept profile program handled named live closed limit s t grant r ru
     reads = each_of (live s.ssw.pc) (Same t.registers s.registers) each (reads_at f) here.reads
 
     e : StreamValue × Outcome
-    e = stream_row profile program limit s grant r
+    e = row_from limit s grant r f
 
-    row : stream_row profile program limit t grant r ≡ put_registers (registers_over_fetch s f grant r t.registers) e
+    row : row_from limit t grant r f ≡ put_registers (registers_over_fetch s f grant r t.registers) e
     row =
-        ap (λ x. stream_row profile program limit x grant r) agree.rest
-        ∙ row_sees_reads profile program limit s t.registers grant r reads
+        ap (λ x. row_from limit x grant r f) agree.rest
+        ∙ same_from limit s t.registers grant r f reads
 
     after : ((e.1 ≡ outcome.Done) × EndsStream (control_from s f))
-        ⊎ AgreeIn (Matters named live e.0) e.0 (stream_row profile program limit t grant r).0
+        ⊎ AgreeInRegisters (Matters named live e.0) e.0 (row_from limit t grant r f).0
     after = elim
-        (kept_at handled named live limit grant s (closed.names s.ssw.pc) (closed.zero s.ssw.pc) handler t.registers
-        agree.sizes each r f here) [
+        (kept_at handled named live limit grant s names zero handler t.registers agree.sizes each r f here) [
           | inl ends ↦ inl ends
-          | inr same ↦ inr (subst (λ (x : StreamValue × Outcome). AgreeIn (Matters named live e.0) e.0 x.0) (sym row)
+          | inr same ↦ inr (subst (λ (x : StreamValue × Outcome). AgreeInRegisters (Matters named live e.0) e.0 x.0) (sym row)
               (record {
                 rest = refl;
                 sizes = sizes_at s f grant r t.registers s.registers agree.sizes ∙ ap length (sym (left limit grant s r f));

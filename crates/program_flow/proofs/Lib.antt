@@ -1,4 +1,6 @@
 pub mod EqualRows
 pub mod Writes
 pub mod Kept
+pub mod Asked
+pub mod Agreed
 pub mod Live

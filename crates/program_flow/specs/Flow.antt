@@ -1,5 +1,5 @@
 -- Where a stream goes on, and which registers may be read from there.
-use Rattle.std.specs.Prelude.{◌≡◌, ℕ, ◌⊎◌, ⊤, List, [], ◌∷◌, Option, length, slice_get}
+use Rattle.std.specs.Prelude.{◌≡◌, ℕ, ◌⊎◌, ⊤, List, [], ◌∷◌, slice_get}
 use Rattle.std.specs.List.{AllByRecursion}
 use Rattle.insn_word.specs.declared.operations.MemoryOp.{MemoryOp}
 use Rattle.insn_word.specs.declared.operations.MemoryOp.TheVariants as memory
@@ -11,19 +11,16 @@ use Rattle.insn_word.specs.declared.insn.CPart.{CPart}
 use Rattle.insn_word.specs.declared.insn.Insn.{Insn}
 use Rattle.insn_word.specs.declared.insn.Insn.TheVariants.{Wide, Normal}
 use Rattle.insn_word.specs.declared.profiles.Profile.{Profile}
-use Rattle.tag_memory.specs.declared.requests.Reply.{Reply}
-use Rattle.stream_core.specs.Registers.{register_at}
 use Rattle.stream_core.specs.Streams.{StreamValue}
 use Rattle.stream_core.specs.Effects.{next_pc, skip_pc}
-use Rattle.stream_core.specs.StreamRow.{fetch_word, fetch_of, control_from, stream_row}
+use Rattle.stream_core.specs.StreamRow.{fetch_word}
 use Rattle.stream_core.specs.declared.steps.Status.TheVariants.{Running}
-use Rattle.stream_core.specs.declared.steps.Outcome.TheVariants as outcome
 use Rattle.stream_core.specs.declared.steps.Fetch.{Fetch}
 use Rattle.stream_core.specs.declared.steps.Fetch.TheVariants as fetch
 use Rattle.stream_core.specs.declared.steps.Control.{Control}
 use Rattle.stream_core.specs.declared.steps.Control.TheVariants as asks
 use Rattle.program_flow.specs.Operands.{registers_written}
-use Rattle.program_flow.specs.Agreement.{with_registers, reads_at}
+use Rattle.program_flow.specs.Agreement.{reads_at}
 
 -- r is one of these
 abbrev pub IsOneOf : List ℕ → ℕ → Type 0
@@ -100,20 +97,3 @@ pub record IsClosed (profile : Profile) (program : List ℕ) (handled : Type 0) 
 -- the registers of a stream that matter: the named ones, and where it runs those that are live at its pc
 abbrev pub Matters : (ℕ → Type 0) → (ℕ → ℕ → Type 0) → StreamValue → ℕ → Type 0
 Matters named live s r = named r ⊎ ((s.status ≡ Running) × live s.ssw.pc r)
-
--- Two streams are the same but for registers, and hold the same in these.
-pub record AgreeIn (L : ℕ → Type 0) (s t : StreamValue) : Type 0 where
-  pub rest : t ≡ with_registers s t.registers
-  pub sizes : length t.registers ≡ length s.registers
-  pub each : (r : ℕ) → L r → register_at t.registers r ≡ register_at s.registers r
-
--- The steps of two streams come out the same, and leave streams that agree in what matters then, unless QUIT or QUITP is
--- done, which ends both.
-pub record KeepsAgreement (profile : Profile) (program : List ℕ) (handled : Type 0) (named : ℕ → Type 0)
-    (live : ℕ → ℕ → Type 0) (limit : ℕ) (s t : StreamValue) (grant : ℕ) (reply : Option Reply) : Type 0 where
-  pub comes_out : (stream_row profile program limit t grant reply).1 ≡ (stream_row profile program limit s grant reply).1
-  pub after : (((stream_row profile program limit s grant reply).1 ≡ outcome.Done)
-      × EndsStream (control_from s (fetch_of profile program s)))
-      ⊎ AgreeIn (Matters named live (stream_row profile program limit s grant reply).0)
-      (stream_row profile program limit s grant reply).0
-      (stream_row profile program limit t grant reply).0

@@ -28,8 +28,8 @@ fn has_reads(row: &[bool], insn: &Insn) -> bool
     }
 }
 
-/// Whether a row has all registers.
-fn has_all(row: &[bool]) -> bool
+/// Whether a row has all registers, or all codes.
+pub(crate) fn has_all(row: &[bool]) -> bool
     ensures { IsTrue result → (r : ℕ) → IsTrue (is_live_by row.now r) }
 {
     for live in row {

@@ -1,4 +1,4 @@
-//! What holds of the registers that instructions read and write.
+//! What holds of the registers that instructions read and write, and of the condition codes that they ask for.
 
 ghost use Rattle.std.specs.Prelude.{◌≡◌, ℕ, Bool, false, IsTrue, List, Option, length};
 ghost use Rattle.insn_word.specs.declared.profiles.Profile.{Profile};
@@ -9,7 +9,8 @@ ghost use Rattle.stream_core.specs.Registers.{register_at};
 ghost use Rattle.stream_core.specs.Streams.{StreamValue, cannot_trap};
 ghost use Rattle.program_flow.specs.Agreement.{RowSeesReads, registers_over};
 ghost use Rattle.program_flow.specs.Operands.{registers_written};
-ghost use Rattle.program_flow.specs.Flow.{IsOneOf, IsClosed, Matters, AgreeIn, KeepsAgreement};
+ghost use Rattle.program_flow.specs.Flow.{IsOneOf};
+ghost use Rattle.program_flow.specs.Agreeing.{StreamsAgree, TellsFlow, KeepsAgreement};
 
 /// A step of a stream sees no register that its instruction does not read: with other values there it does the same, and
 /// what it writes lands on these.
@@ -25,13 +26,14 @@ pub fn writes_agree()
 {}
 
 /// Two running streams that agree in what matters do the same in a step, and agree in what matters then. What is live has
-/// to be all that may be read from each place on; where a trap of the stream has a handler, `handled` has to say so.
+/// to be all that may be read from each place on, and what is asked for each condition code that may be asked for; where a
+/// trap of the stream has a handler, `handled` has to say so.
 pub fn agreement_is_kept()
-    ensures { (profile : Profile) (program : List ℕ) (handled : Bool) (named : ℕ → Bool) (live : ℕ → ℕ → Bool)
-        → IsClosed profile program (IsTrue handled) (λ r. IsTrue (named r)) (λ k r. IsTrue (live k r))
+    ensures { (profile : Profile) (program : List ℕ) (handled : Bool) (named : ℕ → Bool) (live asked : ℕ → ℕ → Bool)
+        → TellsFlow profile program (IsTrue handled) (λ r. IsTrue (named r)) (λ k r. IsTrue (live k r)) (λ k c. IsTrue (asked k c))
         → (limit : ℕ) (s t : StreamValue) (grant : ℕ) (reply : Option Reply)
         → s.status ≡ Running → (cannot_trap s ≡ false → IsTrue handled)
-        → AgreeIn (Matters (λ r. IsTrue (named r)) (λ k r. IsTrue (live k r)) s) s t
+        → StreamsAgree (λ r. IsTrue (named r)) (λ k r. IsTrue (live k r)) (λ k c. IsTrue (asked k c)) s t
         → KeepsAgreement profile program (IsTrue handled) (λ r. IsTrue (named r)) (λ k r. IsTrue (live k r))
-        limit s t grant reply }
+        (λ k c. IsTrue (asked k c)) limit s t grant reply }
 {}

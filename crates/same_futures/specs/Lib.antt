@@ -1,5 +1,5 @@
--- What public contracts promise: worlds that differ in registers alone that do not matter, what is the same in them, and
--- whether a trap of a running stream may have a handler.
+-- What public contracts promise: worlds that differ in registers and condition codes alone that do not matter, what is the
+-- same in them, and whether a trap of a running stream may have a handler.
 pub mod Links
 pub mod Agreeing
 pub mod Handlers

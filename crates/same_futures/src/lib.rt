@@ -1,5 +1,5 @@
-//! Worlds that differ in registers alone that are never read again have the same futures but for these (docs/MACHINE.md,
-//! "One step").
+//! Worlds that differ alone in registers that are never read again, and in condition codes that nobody asks for again, have
+//! the same futures but for these (docs/MACHINE.md, "One step").
 #![tactic(auto)]
 
 mod handlers;

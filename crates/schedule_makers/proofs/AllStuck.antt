@@ -1,5 +1,5 @@
 -- A standstill by the list of the streams that run.
-use Rattle.std.proofs.Common.{◌≡◌, ℕ, ◌<◌, Bool, true, false, refl, sym, ap, ◌∙◌, subst, get_or, List, length}
+use Rattle.std.proofs.Common.{◌≡◌, Bool, true, false, refl, sym, subst, get_or, List}
 use Rattle.std.specs.Prelude.{IsTrue, Contains, All, not, ◌↔◌}
 use Rattle.std.proofs.lemmas.List.Elements.{All-contains, Contains-get_or}
 use Rattle.image_file.specs.ImageValue.{ImageValue}

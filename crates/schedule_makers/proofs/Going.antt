@@ -1,7 +1,6 @@
 -- What a step comes to.
-use Rattle.std.proofs.Common.{◌≡◌, ℕ, List, Bool, true, false, refl, sym, ap, ◌∙◌, subst, ◌==◌, ◌&&◌}
+use Rattle.std.proofs.Common.{◌≡◌, ℕ, List, Bool, true, false, sym, ap, ◌∙◌, subst}
 use Rattle.std.specs.Prelude.{IsTrue}
-use Rattle.image_file.specs.ImageValue.{ImageValue}
 use Rattle.stream_core.specs.declared.steps.Outcome.{Outcome}
 use Rattle.processor.specs.World.{World, world_step}
 use Rattle.processor.specs.declared.steps.Step.{Step}
@@ -9,7 +8,6 @@ use Rattle.machine.specs.MachineValue.{MachineValue, IsMachine}
 use Rattle.waiting.specs.Running.{runs_in, running_steps}
 use Rattle.waiting.specs.Stuck.{SomeRuns, IsStandstill}
 use Rattle.schedule_makers.specs.Advancing.{HasGone, seen_of, is_in_vain, is_same_run}
-use Rattle.schedule_makers.specs.declared.advancing.Went.{Went}
 use Rattle.schedule_makers.specs.declared.looking.Seen.{Seen}
 use Rattle.schedule_makers.proofs.Vain.{vain_same, not_still}
 use Rattle.schedule_makers.proofs.SameRun.{same_run}

@@ -2,6 +2,8 @@ pub mod Lists
 pub mod Rules
 pub mod LastSteps
 pub mod Randomness
+pub mod TurnTaken
+pub mod Choosers
 pub mod AllStuck
 pub mod Seen
 pub mod Vain

@@ -1,14 +1,11 @@
 -- What a rule makes of a machine is one schedule.
-use Rattle.std.proofs.Common.{◌≡◌, ℕ, zero, suc, ◌+◌, ◌-◌, ◌≤◌, refl, sym, ap, ◌∙◌, subst, arith}
-use Rattle.std.proofs.Common.{List, [], ◌∷◌, length, take, Option, Some}
-use Rattle.std.specs.Prelude.{slice_get}
+use Rattle.std.proofs.Common.{◌≡◌, ℕ, suc, ◌-◌, ◌≤◌, refl, sym, ap, ◌∙◌, subst, arith}
+use Rattle.std.proofs.Common.{List, [], ◌∷◌, length}
 use Rattle.std.proofs.lemmas.Option.{same_Some}
 use Rattle.image_file.specs.ImageValue.{ImageValue}
 use Rattle.processor.specs.World.{World, after, steps}
 use Rattle.processor.specs.declared.steps.Step.{Step}
 use Rattle.machine.specs.MachineValue.{MachineValue}
-use Rattle.waiting.specs.Running.{running_steps}
-use Rattle.waiting.specs.Stuck.{SomeRuns, IsStandstill}
 use Rattle.schedule_makers.specs.Rules.{Rule}
 use Rattle.schedule_makers.specs.Made.{IsTaken, AreTaken, IsEnd, IsMade}
 use Rattle.schedule_makers.specs.declared.made.MadeEnd.{MadeEnd}
@@ -37,7 +34,7 @@ no_end rule image w before t reason.OutOfSteps taken ends = refl
 -- The steps behind the first.
 
 behind : Rule → Step → Rule
-behind rule t before runs = rule (t ∷ before) runs
+behind rule t before image w = rule (t ∷ before) image w
 
 taken_behind : (rule : Rule) (image : ImageValue) (w : World) (t : Step) (ts : List Step)
     → AreTaken rule image w (t ∷ ts) → AreTaken (behind rule t) image (after image w t) ts

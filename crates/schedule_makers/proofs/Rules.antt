@@ -1,12 +1,12 @@
 -- Rules take one of the running streams, and one wherever there is one.
-use Rattle.std.proofs.Common.{◌≡◌, ℕ, zero, suc, ◌<◌, ◌-◌, ◌==◌, Bool, true, false, refl, sym, ap, ◌∙◌, subst, arith, cond}
-use Rattle.std.proofs.Common.{List, [], ◌∷◌, length, Option, Some, None, eq-eqb}
+use Rattle.std.proofs.Common.{◌≡◌, ℕ, zero, suc, ◌==◌, Bool, true, false, refl, sym, ap, ◌∙◌, subst, arith, cond}
+use Rattle.std.proofs.Common.{List, [], ◌∷◌, Option, Some, None, eq-eqb}
 use Rattle.std.specs.Prelude.{find, filter, Contains, slice_get, option_and_then, IfSome, IfNone}
 use Rattle.std.specs.Option.{option_or}
 use Rattle.std.proofs.lemmas.Option.{same_Some, option_and_then_some, slice_get_within, get_or_from_slice_get}
 use Rattle.processor.specs.declared.steps.Step.{Step}
 use Rattle.schedule_makers.specs.Rules.{last_step, is_behind, is_of_later, is_behind_last, next_behind}
-use Rattle.schedule_makers.specs.Rules.{next_in_rounds, of_processor, next_fair}
+use Rattle.schedule_makers.specs.Rules.{choice_in_rounds, of_processor, fair_choice}
 
 -- Of lists.
 
@@ -40,7 +40,7 @@ kept_or : (x t : Step) (xs ys : List Step) (b : Bool) → (Contains ys t → Con
 kept_or x t xs ys true inner h = among x t xs ys inner h
 kept_or x t xs ys false inner h = contains-behind x t xs (inner h)
 
-contains-filter : (p : Step → Bool) (xs : List Step) (t : Step) → Contains (filter p xs) t → Contains xs t
+pub contains-filter : (p : Step → Bool) (xs : List Step) (t : Step) → Contains (filter p xs) t → Contains xs t
 contains-filter p [] t h = h
 contains-filter p (x ∷ xs) t h = kept_or x t xs (filter p xs) (p x) (contains-filter p xs t) h
 
@@ -61,12 +61,12 @@ none-filtered p (x ∷ xs) t passes (suc k, below, is) e =
 
 -- The next one behind the last.
 
-or_one : (t : Step) (xs : List Step) (o p : Option Step) → (o ≡ Some t → Contains xs t) → (p ≡ Some t → Contains xs t)
+pub or_one : (t : Step) (xs : List Step) (o p : Option Step) → (o ≡ Some t → Contains xs t) → (p ≡ Some t → Contains xs t)
     → option_or o p ≡ Some t → Contains xs t
 or_one t xs None p first second e = second e
 or_one t xs (Some u) p first second e = first e
 
-or_none : (o p : Option Step) → option_or o p ≡ None → p ≡ None
+pub or_none : (o p : Option Step) → option_or o p ≡ None → p ≡ None
 or_none None p e = e
 or_none (Some u) p e = absurd (let h : ⊥ = cc in h)
 
@@ -86,19 +86,19 @@ behind-any by last runs e = no_first runs (or_none (find (is_behind_last by last
 
 -- In rounds.
 
-pub rounds-one : (before runs : List Step) (t : Step) → next_in_rounds before runs ≡ Some t → Contains runs t
+pub rounds-one : (before runs : List Step) (t : Step) → choice_in_rounds before runs ≡ Some t → Contains runs t
 rounds-one before runs t e = behind-one is_behind (last_step before) runs t e
 
-pub rounds-any : (before runs : List Step) → next_in_rounds before runs ≡ None → runs ≡ []
+pub rounds-any : (before runs : List Step) → choice_in_rounds before runs ≡ None → runs ≡ []
 rounds-any before runs e = behind-any is_behind (last_step before) runs e
 
 -- Fair.
 
 -- one of a processor's own streams
 abbrev own : List Step → List Step → Step → Option Step
-own before runs u = next_in_rounds (of_processor u.p before) (of_processor u.p runs)
+own before runs u = choice_in_rounds (of_processor u.p before) (of_processor u.p runs)
 
-pub fair-one : (before runs : List Step) (t : Step) → next_fair before runs ≡ Some t → Contains runs t
+pub fair-one : (before runs : List Step) (t : Step) → fair_choice before runs ≡ Some t → Contains runs t
 fair-one before runs t e =
     option_and_then_some (own before runs) (next_behind is_of_later (last_step before) runs) t e
     (λ u is inner. contains-filter (λ s. s.p == u.p) runs t
@@ -109,7 +109,7 @@ some_or_none : (o : Option Step) (f : Step → Option Step) → option_and_then 
 some_or_none None f e contra = refl
 some_or_none (Some u) f e contra = absurd (contra u refl e)
 
-pub fair-any : (before runs : List Step) → next_fair before runs ≡ None → runs ≡ []
+pub fair-any : (before runs : List Step) → fair_choice before runs ≡ None → runs ≡ []
 fair-any before runs e =
     let next = next_behind is_of_later (last_step before) runs in
     behind-any is_of_later (last_step before) runs
@@ -132,12 +132,12 @@ none-taken (Some t) o runs is any = tt
 -- The fair rule by its parts.
 
 pub fair-none : (before runs : List Step) → next_behind is_of_later (last_step before) runs ≡ None
-    → None ≡ next_fair before runs
+    → None ≡ fair_choice before runs
 fair-none before runs e = sym (ap (option_and_then (own before runs)) e)
 
 pub fair-is : (before runs : List Step) (u : Step) (last r : Option Step)
     → next_behind is_of_later (last_step before) runs ≡ Some u → last ≡ last_step (of_processor u.p before)
-    → r ≡ next_behind is_behind last (of_processor u.p runs) → r ≡ next_fair before runs
+    → r ≡ next_behind is_behind last (of_processor u.p runs) → r ≡ fair_choice before runs
 fair-is before runs u last r first was is =
     is ∙ ap (λ o. next_behind is_behind o (of_processor u.p runs)) was
     ∙ sym (ap (option_and_then (own before runs)) first)

@@ -1,10 +1,9 @@
 -- Where a stream still runs after its step and as many are current, the same streams run.
-use Rattle.std.proofs.Common.{◌≡◌, ℕ, zero, suc, ◌+◌, ◌<◌, ◌==◌, ◌&&◌, Bool, true, false, refl, sym, ap, ◌∙◌, subst, arith, set, get_or}
-use Rattle.std.proofs.Common.{slice_get, List, [], ◌∷◌, ◌++◌, length, Option, Some, None, if◌then◌else◌, inl, inr}
+use Rattle.std.proofs.Common.{◌≡◌, ℕ, zero, suc, ◌+◌, ◌&&◌, Bool, true, false, refl, sym, ap, ◌∙◌, arith, set}
+use Rattle.std.proofs.Common.{slice_get, List, [], ◌∷◌, ◌++◌, length, Some, if◌then◌else◌, inl, inr}
 use Rattle.std.specs.Prelude.{IsTrue, ◌⊎◌}
 use Rattle.std.proofs.lemmas.Bool.{cases_eq, eqb-true}
 use Rattle.std.proofs.lemmas.Option.{same_Some}
-use Rattle.image_file.specs.ImageValue.{ImageValue}
 use Rattle.stream_core.specs.Streams.{StreamValue}
 use Rattle.stream_core.specs.declared.steps.Outcome.{Outcome}
 use Rattle.processor.specs.Processors.{ProcessorValue, stream_at}
@@ -17,7 +16,7 @@ use Rattle.processor.proofs.OtherStreams.{kept_row_over_memory}
 use Rattle.machine.specs.MachineValue.{MachineValue, IsMachine}
 use Rattle.waiting.specs.Running.{runs_at, runs_in, running_from, running_of, running_steps}
 use Rattle.schedule_makers.specs.Advancing.{seen_of, is_same_run}
-use Rattle.schedule_makers.proofs.Seen.{RunsThere, runs_there, stepped, next_there, seen_there, current_there, room_there}
+use Rattle.schedule_makers.proofs.Seen.{runs_there, stepped, next_there, seen_there, current_there, room_there}
 
 -- Lists in which the same streams run.
 

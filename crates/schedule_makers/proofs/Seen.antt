@@ -1,21 +1,21 @@
 -- A stream that runs, and the world after its step.
-use Rattle.std.proofs.Common.{◌≡◌, ℕ, zero, suc, ◌<◌, ◌≤◌, Bool, true, false, refl, sym, ap, ◌∙◌, arith, set, get_or, slice_get}
+use Rattle.std.proofs.Common.{◌≡◌, ℕ, zero, suc, ◌<◌, true, refl, ap, ◌∙◌, arith, set, slice_get}
 use Rattle.std.proofs.Common.{List, [], ◌∷◌, length, Option, Some, None, if◌then◌else◌, nat_lt}
 use Rattle.std.specs.Prelude.{IsTrue}
 use Rattle.std.proofs.lemmas.Bool.Decides.{nat_tests}
-use Rattle.std.proofs.lemmas.Option.{slice_get_within, get_or_from_slice_get}
+use Rattle.std.proofs.lemmas.Option.{slice_get_within}
 use Rattle.image_file.specs.ImageValue.{ImageValue}
 use Rattle.stream_core.specs.Streams.{StreamValue}
 use Rattle.stream_core.specs.declared.steps.Outcome.{Outcome}
 use Rattle.processor.specs.Processors.{ProcessorValue, stream_at}
 use Rattle.processor.specs.Records.{is_running}
 use Rattle.processor.specs.Row.{row_over_memory}
-use Rattle.processor.specs.World.{World, world_step, world_step_at, world_with, stream_of, stream_seen_at, counts_of, counts_at}
+use Rattle.processor.specs.World.{World, world_step, world_step_at, world_with, stream_of, stream_seen_at, counts_at}
 use Rattle.processor.specs.declared.steps.Step.{Step}
 use Rattle.machine.specs.MachineValue.{MachineValue, IsMachine}
 use Rattle.waiting.specs.Running.{streams_at, runs_at, runs_in}
-use Rattle.waiting.proofs.StuckSteps.{runs_nowhere, there_below}
-use Rattle.schedule_makers.specs.Advancing.{seen_of, retries_at, current_at}
+use Rattle.waiting.proofs.StuckSteps.{there_below}
+use Rattle.schedule_makers.specs.Advancing.{seen_of, current_at}
 
 -- the processor of a stream that runs
 pub record RunsThere (w : World) (t : Step) : Type 0 where

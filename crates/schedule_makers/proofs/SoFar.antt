@@ -1,9 +1,9 @@
 -- A schedule in the making.
-use Rattle.std.proofs.Common.{◌≡◌, ℕ, zero, suc, ◌+◌, ◌<◌, ◌≤◌, Bool, true, false, refl, sym, ap, ◌∙◌, subst, arith}
-use Rattle.std.proofs.Common.{List, [], ◌∷◌, ◌++◌, length, take, Option, Some, None, inl, inr}
+use Rattle.std.proofs.Common.{◌≡◌, ℕ, ◌<◌, ◌≤◌, Bool, true, false, refl, sym, ap, ◌∙◌, subst, arith}
+use Rattle.std.proofs.Common.{List, [], ◌∷◌, ◌++◌, length, take, Option, Some, inl, inr}
 use Rattle.std.specs.Prelude.{IsTrue, Contains, slice_get, ◌⊎◌, Result, Ok, Err, OnErr}
 use Rattle.std.proofs.lemmas.Bool.{cases_lt}
-use Rattle.std.proofs.lemmas.List.{length_push, take_all, take-append-le, append-nil}
+use Rattle.std.proofs.lemmas.List.{length_push, take_all, take-append-le}
 use Rattle.std.proofs.lemmas.Option.{same_Some, slice_get_within}
 use Rattle.image_file.specs.ImageValue.{ImageValue}
 use Rattle.processor.specs.World.{World, after, steps}
@@ -77,13 +77,13 @@ begun rule old running is = record {
 
 -- the step that the rule takes
 taken_now : (rule : Rule) (old now : MachineValue) (ts running : List Step) (able : Bool) (t : Step)
-    → IsMaking rule old now ts running able → rule ts running ≡ Some t → Contains running t
+    → IsMaking rule old now ts running able → rule ts now.image now.world ≡ Some t → Contains running t
     → (¬ IsStandstill now.image now.world) → IsTaken rule old.image (steps old.image old.world ts) ts t
 taken_now rule old now ts running able t making ruled has going =
     let world = steps old.image old.world ts in
     let still : ¬ IsStandstill now.image world = subst (λ w. ¬ IsStandstill now.image w) making.world going in
     record {
-      ruled = ap (λ rs. rule ts rs) (sym (ap running_steps making.world) ∙ sym making.running_is) ∙ ruled;
+      ruled = (λ i. rule ts (sym making.image i) (sym making.world i)) ∙ ruled;
       runs = subst (λ w. IsTrue (runs_in w t)) making.world (listed_runs now.world running t making.running_is has);
       going = subst (λ i. ¬ IsStandstill i world) making.image still;
     }
@@ -97,7 +97,7 @@ world_on rule old now new ts running able t went making gone =
 
 -- one more step
 pub made_more : (rule : Rule) (old now new : MachineValue) (ts running more : List Step) (able : Bool) (t : Step)
-    (went : Went) → IsMaking rule old now ts running able → rule ts running ≡ Some t → Contains running t
+    (went : Went) → IsMaking rule old now ts running able → rule ts now.image now.world ≡ Some t → Contains running t
     → HasGone now new t went → more ≡ running_steps new.world
     → IsMaking rule old new (ts ++ t ∷ []) more went.is_able
 made_more rule old now new ts running more able t went making ruled has gone is = record {
@@ -157,10 +157,9 @@ ended rule old now most ts running able end making within is all = record {
 
 -- What the code has found.
 
-pub ruled_now : (rule begun : Rule) (made ts list running : List Step) (r : Option Step) → rule ≡ begun → made ≡ ts
-    → list ≡ running → r ≡ rule made list → begun ts running ≡ r
-ruled_now rule begun made ts list running r same made_is list_is is =
-    sym (is ∙ (λ i. (same i) (made_is i) (list_is i)))
+pub ruled_now : (rule begun : Rule) (m : MachineValue) (made ts : List Step) (r : Option Step) → rule ≡ begun
+    → made ≡ ts → r ≡ rule made m.image m.world → begun ts m.image m.world ≡ r
+ruled_now rule begun m made ts r same made_is is = sym (is ∙ (λ i. (same i) (made_is i) m.image m.world))
 
 pub on_err : {T E P : Type 0} (r : Result T E) → P → OnErr r P
 on_err (Ok x) p = tt

@@ -1,12 +1,10 @@
 -- A step that is blocked and counts no retry leaves the world as it is.
-use Rattle.std.proofs.Common.{◌≡◌, ℕ, ◌+◌, ◌<◌, ◌%◌, ◌*◌, ◌^◌, ◌==◌, Bool, true, false, refl, sym, ap, ◌∙◌, arith, set, get_or}
-use Rattle.std.proofs.Common.{slice_get, List, length, Option, Some, None, if◌then◌else◌, nat_lt}
+use Rattle.std.proofs.Common.{◌≡◌, ℕ, ◌+◌, ◌<◌, ◌%◌, ◌*◌, ◌^◌, ◌==◌, Bool, true, false, refl, sym, ap, ◌∙◌, arith, set}
+use Rattle.std.proofs.Common.{slice_get, List, length, Some, if◌then◌else◌, nat_lt}
 use Rattle.std.specs.Prelude.{IsTrue}
 use Rattle.std.proofs.lemmas.List.{set-get_or, get_or-set_same}
 use Rattle.std.proofs.lemmas.Option.{get_or_from_slice_get}
 use Rattle.std.proofs.lemmas.Bool.{eqb-true, eq-eqb}
-use Rattle.tag_memory.specs.Storage.{TaggedMemory}
-use Rattle.image_file.specs.ImageValue.{ImageValue}
 use Rattle.stream_core.specs.Traps.{trap_number}
 use Rattle.stream_core.specs.Streams.{StreamValue, idle, cannot_trap, after_trap_if, after_trap}
 use Rattle.stream_core.specs.StreamRow.{after_blocked_reply}
@@ -23,7 +21,7 @@ use Rattle.waiting.specs.Running.{runs_in}
 use Rattle.waiting.specs.Stuck.{IsStandstill}
 use Rattle.waiting.proofs.Blocked.{is_blocked, refused_over, blocked_over}
 use Rattle.schedule_makers.specs.Advancing.{is_in_vain, retries_at, seen_of}
-use Rattle.schedule_makers.proofs.Seen.{RunsThere, runs_there, stepped, next_there, seen_there, room_there}
+use Rattle.schedule_makers.proofs.Seen.{runs_there, stepped, next_there, seen_there, room_there}
 
 -- The stream.
 

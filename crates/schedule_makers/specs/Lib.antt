@@ -1,9 +1,13 @@
 -- What public contracts promise: which running stream each rule takes, and what is made by a rule.
 pub mod Rules
 pub mod Randomness
+pub mod Free
+pub mod Turns
 pub mod Made
 -- what holds of all that is made
 pub mod Laws
--- Cited by private contracts alone: what a step comes to, and what the fair rule keeps.
+-- Cited by private contracts alone: what a step comes to, and what choosers keep.
 pub mod Advancing
 pub mod Fair
+pub mod Words
+pub mod Choosers

@@ -4,7 +4,7 @@ use Rattle.image_file.specs.ImageValue.{ImageValue}
 use Rattle.processor.specs.World.{World, steps}
 use Rattle.processor.specs.declared.steps.Step.{Step}
 use Rattle.machine.specs.MachineValue.{MachineValue}
-use Rattle.waiting.specs.Running.{runs_in, running_steps}
+use Rattle.waiting.specs.Running.{runs_in}
 use Rattle.waiting.specs.Stuck.{SomeRuns, IsStandstill}
 use Rattle.schedule_makers.specs.Rules.{Rule}
 use Rattle.schedule_makers.specs.declared.made.MadeEnd.{MadeEnd}
@@ -12,7 +12,7 @@ use Rattle.schedule_makers.specs.declared.made.MadeEnd.TheVariants as reason
 
 -- A step that the rule takes in a world, after these steps: it is of a stream that runs there, and somebody can go on.
 pub record IsTaken (rule : Rule) (image : ImageValue) (w : World) (before : List Step) (t : Step) : Type 0 where
-  pub ruled : rule before (running_steps w) ≡ Some t
+  pub ruled : rule before image w ≡ Some t
   pub runs : IsTrue (runs_in w t)
   pub going : ¬ IsStandstill image w
 

@@ -1,5 +1,7 @@
 -- A running stream by a generator's word.
-use Rattle.std.specs.Prelude.{ℕ, zero, suc, ◌*◌, ◌/◌, ◌^◌, List, length, slice_get}
+use Rattle.std.specs.Prelude.{ℕ, zero, suc, ◌*◌, ◌/◌, ◌^◌, List, Option, length, slice_get}
+use Rattle.processor.specs.declared.steps.Step.{Step}
+use Rattle.waiting.specs.Running.{running_steps}
 use Rattle.rand_xoshiro.specs.SplitMix64.{splitmix_seed}
 use Rattle.rand_xoshiro.specs.Xoshiro256.{of_seed, plus_plus}
 use Rattle.schedule_makers.specs.Rules.{Rule}
@@ -14,6 +16,10 @@ generator_after seed (suc k) = (plus_plus (generator_after seed k)).1
 unfoldable pub random_word : ℕ → ℕ → ℕ
 random_word seed k = (plus_plus (generator_after seed k)).0
 
--- At random: of n running streams the one at place word * n / 2^64 of their order, by one word of the generator a step.
+-- of n steps the one at place word * n / 2^64
+abbrev pub step_by_word : ℕ → List Step → Option Step
+step_by_word word ts = slice_get ts (word * length ts / 2 ^ 64)
+
+-- At random: one of the running streams, by one word of the generator a step.
 abbrev pub next_at_random : ℕ → Rule
-next_at_random seed before runs = slice_get runs (random_word seed (length before) * length runs / 2 ^ 64)
+next_at_random seed before image w = step_by_word (random_word seed (length before)) (running_steps w)

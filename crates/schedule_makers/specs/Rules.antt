@@ -1,13 +1,23 @@
--- Which running stream steps next.
+-- Which running stream steps next (docs/MACHINE.md, "Schedules").
 use Rattle.std.specs.Prelude.{◌==◌, ◌&&◌, ◌||◌, ◌-◌, nat_lt, ℕ, Bool, true, List, Option, Some, None, find, filter, length}
 use Rattle.std.specs.Prelude.{slice_get, option_and_then}
 use Rattle.std.specs.Option.{option_or}
+use Rattle.image_file.specs.ImageValue.{ImageValue}
+use Rattle.processor.specs.World.{World}
 use Rattle.processor.specs.declared.steps.Step.{Step}
+use Rattle.waiting.specs.Running.{running_steps}
 
--- A rule takes a step by the steps before it and by the steps of all streams that run, in the order of processor and
--- stream.
+-- A rule takes a step by the steps before it and by the machine as it stands: an image and a world.
 abbrev pub Rule : Type 0
-Rule = List Step → List Step → Option Step
+Rule = List Step → ImageValue → World → Option Step
+
+-- A choice takes one of some steps, which are in the order of processor and stream, by the steps before it.
+abbrev pub Choice : Type 0
+Choice = List Step → List Step → Option Step
+
+-- the rule that makes a choice among the steps of all streams that run
+abbrev pub among_running : Choice → Rule
+among_running choice before image w = choice before (running_steps w)
 
 -- the last of these steps
 abbrev pub last_step : List Step → Option Step
@@ -31,8 +41,11 @@ abbrev pub next_behind : (Step → Step → Bool) → Option Step → List Step 
 next_behind behind last runs = option_or (find (is_behind_last behind last) runs) (slice_get runs 0)
 
 -- In rounds: the next one behind the last step in the order of processor and stream, and from the first again.
+abbrev pub choice_in_rounds : Choice
+choice_in_rounds before runs = next_behind is_behind (last_step before) runs
+
 abbrev pub next_in_rounds : Rule
-next_in_rounds before runs = next_behind is_behind (last_step before) runs
+next_in_rounds = among_running choice_in_rounds
 
 -- those of a processor
 abbrev pub of_processor : ℕ → List Step → List Step
@@ -40,7 +53,10 @@ of_processor p ts = filter (λ t. t.p == p) ts
 
 -- Fair: the processors in turn, and of each its streams in turn. The next processor with a running stream behind that of
 -- the last step, and from the first again; of it the next one in rounds, as if it were alone.
-abbrev pub next_fair : Rule
-next_fair before runs =
-    option_and_then (λ u. next_in_rounds (of_processor u.p before) (of_processor u.p runs))
+abbrev pub fair_choice : Choice
+fair_choice before runs =
+    option_and_then (λ u. choice_in_rounds (of_processor u.p before) (of_processor u.p runs))
     (next_behind is_of_later (last_step before) runs)
+
+abbrev pub next_fair : Rule
+next_fair = among_running fair_choice

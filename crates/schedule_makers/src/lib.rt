@@ -4,15 +4,19 @@
 
 mod advancing;
 mod chooser;
-mod fair_chooser;
+mod fair_choice;
+mod free_streams;
 mod laws;
 mod looking;
 mod made;
 mod makers;
 mod making;
-mod random_chooser;
-mod rounds_chooser;
+mod random_choice;
+mod rounds_choice;
+mod seed_words;
 mod standstills;
+mod steps_at;
+mod turns;
 
 pub use laws::made_schedules_are_one;
 pub use made::{MadeEnd, MadeSchedule};

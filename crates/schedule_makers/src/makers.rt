@@ -5,11 +5,11 @@ ghost use Rattle.schedule_makers.specs.Rules.{next_in_rounds, next_fair};
 ghost use Rattle.schedule_makers.specs.Randomness.{next_at_random};
 ghost use Rattle.schedule_makers.specs.Made.{IsMade, HasStepped};
 
-use crate::fair_chooser::Fair;
+use crate::chooser::Chooser;
+use crate::fair_choice::Fair;
 use crate::made::MadeSchedule;
 use crate::making::make;
-use crate::random_chooser::Random;
-use crate::rounds_chooser::Rounds;
+use crate::seed_words::SeedWords;
 use machine::Machine;
 use std::alloc::{AllocError, Global};
 
@@ -26,7 +26,7 @@ pub fn rounds<const S: usize>(
     ensures made { IfOk result (λ m. IsMade next_in_rounds machine.old machine.new most m.steps.items m.end) }
     ensures err { OnErr result (HasStepped machine.old machine.new) }
 {
-    make(alloc, machine, &mut Rounds, most)
+    make(alloc, machine, &mut Chooser::Rounds, most)
 }
 
 /// The same fairly: the processors in turn, and of each its streams in turn. At each step the next processor that has a
@@ -40,7 +40,7 @@ pub fn fair<const S: usize>(
     ensures made { IfOk result (λ m. IsMade next_fair machine.old machine.new most m.steps.items m.end) }
     ensures err { OnErr result (HasStepped machine.old machine.new) }
 {
-    make(alloc, machine, &mut Fair::new(), most)
+    make(alloc, machine, &mut Chooser::Fair(Fair::new()), most)
 }
 
 /// The same at random: of n running streams, in the order of processor and stream, the one at `word * n / 2^64`, by one
@@ -55,5 +55,10 @@ pub fn random<const S: usize>(
         (λ m. IsMade (next_at_random seed) machine.old machine.new most m.steps.items m.end) }
     ensures err { OnErr result (HasStepped machine.old machine.new) }
 {
-    make(alloc, machine, &mut Random::new(seed), most)
+    make(
+        alloc,
+        machine,
+        &mut Chooser::Random(SeedWords::new(seed)),
+        most,
+    )
 }

@@ -4,6 +4,7 @@ ghost use Rattle.std.specs.Prelude.{◌≡◌, [], IsTrue, IfOk, OnErr};
 ghost use Rattle.waiting.specs.Running.{running_steps};
 ghost use Rattle.waiting.specs.Stuck.{IsStandstill};
 ghost use Rattle.schedule_makers.specs.Made.{IsEnd, IsMade, HasStepped};
+ghost use Rattle.schedule_makers.specs.Choosers.{rule_of, Follows};
 
 use crate::advancing::advance;
 use crate::chooser::Chooser;
@@ -15,21 +16,21 @@ use std::alloc::{AllocError, Global};
 use waiting::running_streams;
 
 /// Takes steps of the streams that the chooser takes, until no stream runs, nobody can go on or so many were taken.
-pub(crate) fn make<C: Chooser, const S: usize>(
+pub(crate) fn make<const S: usize>(
     alloc: Global,
     machine: &mut Machine<'_, S>,
-    chooser: &mut C,
+    chooser: &mut Chooser,
     most: usize,
 ) -> Result<MadeSchedule, AllocError>
-    requires { C.follows chooser.old [] }
-    ensures made { IfOk result (λ m. IsMade (C.rule chooser.old) machine.old machine.new most m.steps.items m.end) }
+    requires { Follows chooser.old [] }
+    ensures made { IfOk result (λ m. IsMade (rule_of chooser.old) machine.old machine.new most m.steps.items m.end) }
     ensures err { OnErr result (HasStepped machine.old machine.new) }
 {
     let mut steps = Vec::new(alloc);
     let mut running = running_streams(alloc, machine)?;
     let mut is_able = false;
     for _ in 0..most {
-        let Some(step) = chooser.choose(&steps, &running) else {
+        let Some(step) = chooser.choose(machine, &steps, &running) else {
             let end = MadeEnd::NobodyRuns;
             return Ok(MadeSchedule { steps, end });
         };

@@ -19,7 +19,7 @@ use Rattle.processor.specs.Processors.{ProcessorValue, stream_at}
 use Rattle.processor.specs.Row.{row_over_memory}
 use Rattle.processor.specs.World.{World, world_step, after}
 use Rattle.processor.specs.declared.steps.Step.{Step}
-use Rattle.program_flow.specs.Tables.{is_live_at, is_named_by}
+use Rattle.program_flow.specs.Tables.{is_live_at, is_named_by, is_asked_at}
 use Rattle.same_futures.specs.Links.{TellsHandlers}
 use Rattle.same_futures.specs.Handlers.{may_have_handlers}
 use Rattle.same_futures.proofs.Chains.{agreement_kept}
@@ -69,9 +69,9 @@ module _ (image : ImageValue) (l : LiveValue) where
   plain_alike a b same plain =
       let f : Fetch = fetch_of image.profile image.program a in
       let status : a.status ≡ b.status = ap (λ (x : StreamValue). x.status) same in
-      let ssw : a.ssw ≡ b.ssw = ap (λ (x : StreamValue). x.ssw) same in
+      let pc : a.ssw.pc ≡ b.ssw.pc = ap (λ (x : StreamValue). x.ssw.pc) same in
       let fetched : f ≡ fetch_of image.profile image.program b =
-      λ i. fetch_of image.profile image.program (record a { status = status i; ssw = ssw i }) in
+      λ i. fetch_of image.profile image.program (record a { status = status i; ssw = record a.ssw { pc = pc i } }) in
       subst (λ (g : Fetch). control_from b g ≡ asks.Plain) fetched (plain_from a b f plain)
 
   module _ (live : IsLive image l) where
@@ -80,6 +80,9 @@ module _ (image : ImageValue) (l : LiveValue) where
 
     abbrev Live : ℕ → ℕ → Type 0
     Live k r = IsTrue (is_live_at l.table k r)
+
+    abbrev Asked : ℕ → ℕ → Type 0
+    Asked k c = IsTrue (is_asked_at l.codes k c)
 
     -- a world of one processor
     abbrev alone : ProcessorValue → TaggedMemory → World
@@ -113,7 +116,8 @@ module _ (image : ImageValue) (l : LiveValue) where
         same_agree l (alone a m) (alone b m)
         (cleared_alone a m ∙ ap (λ (x : ProcessorValue). alone x m) same ∙ sym (cleared_alone b m)) in
         let kept =
-        (agreement_kept image (IsTrue (may_have_handlers image)) Named Live live (alone a m) (alone b m) t
+        (agreement_kept image (IsTrue (may_have_handlers image)) Named Live Asked
+        (record { registers = live.registers; codes = live.codes }) (alone a m) (alone b m) t
         (told_alone a m told) agree).1 in
         let behind : alone (cleared_processor l e.0.0) e.1 ≡ alone (cleared_processor l f.0.0) f.1 =
         sym (cleared_alone e.0.0 e.1)

@@ -15,7 +15,7 @@ use Rattle.schedule_space.specs.Spaces.{schedules, SpaceValue, count, schedule_o
 use Rattle.schedule_space.specs.Spaces.{StandsFor, AreAllApart, StandAlone, IsShortest, IsEdge, IsEdgeToStandIn, HasAllEdges}
 use Rattle.schedule_space.specs.Finding.{with_link, found_in, IsTaken, IsExpanded, IsBreadthFirst}
 use Rattle.schedule_space.proofs.Schedules.{first-schedule}
-use Rattle.schedule_space.proofs.Agreeing.{Named, Live, agree_same, agree_both, ground, next_stands, from_begin}
+use Rattle.schedule_space.proofs.Agreeing.{Named, Live, Asked, agree_same, agree_both, ground, next_stands, from_begin}
 use Rattle.schedule_space.proofs.Growing.{last_schedule, other_schedule}
 use Rattle.schedule_space.proofs.Parts.{below_next}
 
@@ -98,7 +98,7 @@ near_all : (v : SpaceValue) → IsLive v.image v.live → ((k : ℕ) → k < cou
     → IsNear v (v.begin ++ ts)
 near_all v live all ts =
     let r =
-    has_all_worlds (IsTrue (may_have_handlers v.image)) (Named v.live) (Live v.live) (found_in v) (ground v live)
+    has_all_worlds (IsTrue (may_have_handlers v.image)) (Named v.live) (Live v.live) (Asked v.live) (found_in v) (ground v live)
     (λ k below t. (all k below t).step) ts in
     let short : depth v r.place ≤ depth v 0 + length ts = r.short in
     record {

@@ -13,7 +13,9 @@ use Rattle.schedule_space.specs.Spaces.{count, world_of, IsComplete, IsDistinct,
 use Rattle.schedule_space.specs.Spaces.{AreAllApart, StandAlone, IsEdgeToStandIn}
 use Rattle.schedule_space.specs.Finding.{IsExpanded, NamesAll}
 use Rattle.schedule_space.specs.Followed.{AllFollowed, HasAllEnds, HasShortestEnds, TellsWhetherAllEnd}
+use Rattle.schedule_space.specs.Quiet.{AllFollowedQuietly}
 use Rattle.schedule_space.proofs.Agreeing.{agree_same}
+use Rattle.schedule_space.proofs.Alone.{followed_all}
 use Rattle.schedule_space.proofs.Breadth.{complete_from, all_edges}
 use Rattle.schedule_space.proofs.Following.{ends_all, ends_shortest, tells_all}
 
@@ -24,6 +26,10 @@ AreAllExpanded e = is_complete e ≡ true → (k : ℕ) → k < count (space_in 
 -- where the search is complete, all worlds are followed
 abbrev pub AreAllFollowed : Exploration → Type 0
 AreAllFollowed e = is_complete e ≡ true → AllFollowed (space_in e)
+
+-- by steps that are quiet, where others are left out
+abbrev pub AreAllQuiet : List Bool → Exploration → Type 0
+AreAllQuiet looked_at e = is_complete e ≡ true → AllFollowedQuietly looked_at (space_in e)
 
 abbrev IsLiveIn : Exploration → Type 0
 IsLiveIn e = IsLive (space_in e).image (space_in e).live
@@ -64,6 +70,17 @@ module _ {E : Type 0} where
   distinct_if (Ok e) apart = λ k j kb jb same.
       apart k j kb jb (agree_same (space_in e).live (world_of (space_in e) k) (world_of (space_in e) j) same)
   distinct_if (Err f) apart = apart
+
+  pub followed_if : (looked_at : List Bool) (r : Result Exploration E) → IfOk r (AreAllQuiet looked_at)
+      → IfOk r AreAllFollowed
+  followed_if looked_at (Ok e) all = λ on. followed_all looked_at (space_in e) (all on)
+  followed_if looked_at (Err f) all = all
+
+  pub alone_in : (names : List Bool) (r : Result Exploration E)
+      → ((n : ℕ) → n < 32 → IsTrue (is_named_by names n)) → IfOk r (λ e. (space_in e).live.names ≡ names)
+      → IfOk r StandAloneIn → IfOk r (λ e. StandAlone (space_in e))
+  alone_in names (Ok e) named is alone = alone_if names e named is alone
+  alone_in names (Err f) named is alone = alone
 
   pub ends_if : (r : Result Exploration E) → IfOk r IsLiveIn → IfOk r AreAllFollowed
       → IfOk r (λ e. is_complete e ≡ true → HasAllEnds (space_in e))

@@ -15,7 +15,7 @@ use Rattle.schedule_space.specs.Reaching.{IsEnd, CanEnd, IsMarked, HasEndsMarked
 use Rattle.schedule_space.specs.Finding.{found_in, IsTaken}
 use Rattle.schedule_space.specs.Followed.{AllFollowed, IsFollowed, HasAllEnds, HasShortestEnds, TellsWhetherAllEnd}
 use Rattle.schedule_space.proofs.Schedules.{first-schedule}
-use Rattle.schedule_space.proofs.Agreeing.{Named, Live, ground, from_begin}
+use Rattle.schedule_space.proofs.Agreeing.{Named, Live, Asked, ground, from_begin}
 use Rattle.schedule_space.proofs.Breadth.{depth}
 
 module _ (v : SpaceValue) (live : IsLive v.image v.live) (all : AllFollowed v) where
@@ -33,14 +33,14 @@ module _ (v : SpaceValue) (live : IsLive v.image v.live) (all : AllFollowed v) w
   pub ends_all : HasAllEnds v
   ends_all ts end =
       let r =
-      has_all_ends Handled (Named v.live) (Live v.live) (found_in v) (ground v live) followed ts
+      has_all_ends Handled (Named v.live) (Live v.live) (Asked v.live) (found_in v) (ground v live) followed ts
       (subst (IsEnd v.image) (sym (from_begin v ts)) end) in
       (r.place, r.below, subst (AgreeBy v.live (world_of v r.place)) (from_begin v ts) r.stands)
 
   pub ends_shortest : AreAllApart v → HasShortestEnds v
   ends_shortest apart k below end ts stands =
       let near : depth v k ≤ depth v 0 + length ts =
-      has_shortest_ends Handled (Named v.live) (Live v.live) (found_in v) (ground v live) followed
+      has_shortest_ends Handled (Named v.live) (Live v.live) (Asked v.live) (found_in v) (ground v live) followed
       (λ j i jb ib. apart j i jb ib) k below end ts
       (subst (AgreeBy v.live (world_of v k)) (sym (from_begin v ts)) stands) in
       omega (arith, near, ap length (first-schedule v.begin v.links), length-append v.begin ts)
@@ -48,7 +48,7 @@ module _ (v : SpaceValue) (live : IsLive v.image v.live) (all : AllFollowed v) w
   pub tells_all : TellsWhetherAllEnd v
   tells_all can ts =
       subst (CanEnd v.image) (from_begin v ts)
-      (tells_whether_all_end Handled (Named v.live) (Live v.live) (found_in v) (ground v live) followed can ts)
+      (tells_whether_all_end Handled (Named v.live) (Live v.live) (Asked v.live) (found_in v) (ground v live) followed can ts)
 
   -- Where nothing is left to mark, each world that can end is marked.
 
@@ -63,7 +63,7 @@ module _ (v : SpaceValue) (live : IsLive v.image v.live) (all : AllFollowed v) w
     same_end : (k : ℕ) (t : Step) (ts us : List Step) (e : IsTaken v k t) → k < count v
         → steps v.image (world_of v k) (t ∷ us) ≡ steps v.image (world_of v k) ts
         → IsEnd v.image (steps v.image (world_of v k) ts) → IsEnd v.image (steps v.image (world_of v e.step.to) us)
-    same_end k t ts us e = end_on Handled (Named v.live) (Live v.live) (found_in v) (ground v live) k t ts us e.step
+    same_end k t ts us e = end_on Handled (Named v.live) (Live v.live) (Asked v.live) (found_in v) (ground v live) k t ts us e.step
 
     pub marked_from : (n k : ℕ) (ts : List Step) → length ts ≤ n → k < count v
         → IsEnd v.image (steps v.image (world_of v k) ts) → IsMarked marks k

@@ -10,7 +10,7 @@ use Rattle.dead_registers.specs.Clearing.{LiveValue, AgreeBy}
 use Rattle.schedule_space.specs.declared.links.Link.{Link}
 use Rattle.schedule_space.specs.declared.links.Edge.{Edge}
 use Rattle.schedule_space.specs.Spaces.{schedules, SpaceValue, count, schedule_of, world_of, StandsFor, IsEdgeToStandIn}
-use Rattle.schedule_space.specs.Finding.{with_link, with_edge, IsGrown, IsTaken, IsExpanded}
+use Rattle.schedule_space.specs.Finding.{with_link, with_edge, IsGrown, IsTaken, IsTakenTo, IsExpanded}
 use Rattle.schedule_space.proofs.Schedules.{one_more, schedules-push, length-schedules, run-push}
 
 pub grown_refl : (v : SpaceValue) → IsGrown v v
@@ -104,26 +104,33 @@ edge_grown v w e g is = record {
   leads = stands_grown v w e.to e.from e.step g is.to is.from is.leads;
 }
 
-pub taken_grown : (v w : SpaceValue) (k : ℕ) (t : Step) → IsGrown v w → k < count v → IsTaken v k t → IsTaken w k t
-taken_grown v w k t g below is =
+-- a step that is taken leads to the same place
+pub taken_still : (v w : SpaceValue) (k : ℕ) (t : Step) → IsGrown v w → k < count v → (is : IsTaken v k t)
+    → IsTakenTo w k t is.step.to
+taken_still v w k t g below is =
     let to = is.step.to in
     let within : to < count v = is.step.within in
-    let near : length (schedule_of v to) ≤ length (schedule_of v k) + 1 = is.step.near in
-    record {
-      step = record {
-        to = to;
-        within = omega (arith, g.more, within);
-        leads = stands_grown v w to k t g within below is.step.leads;
-        near =
-            subst (λ (n : ℕ). n ≤ length (schedule_of w k) + 1) (sym (ap length (g.same to within)))
-            (subst (λ (n : ℕ). length (schedule_of v to) ≤ n + 1) (sym (ap length (g.same k below))) near);
-      };
-      edge =
-          elim is.edge [
-            | inl same ↦ inl same
-            | inr has ↦ inr (g.edges (record { from = k; step = t; to = to }) has)
-          ];
-    }
+    let near : length (schedule_of v to) ≤ length (schedule_of v k) + 1 = is.step.near in (
+      record {
+        step = record {
+          to = to;
+          within = omega (arith, g.more, within);
+          leads = stands_grown v w to k t g within below is.step.leads;
+          near =
+              subst (λ (n : ℕ). n ≤ length (schedule_of w k) + 1) (sym (ap length (g.same to within)))
+              (subst (λ (n : ℕ). length (schedule_of v to) ≤ n + 1) (sym (ap length (g.same k below))) near);
+        };
+        edge =
+            elim is.edge [
+              | inl same ↦ inl same
+              | inr has ↦ inr (g.edges (record { from = k; step = t; to = to }) has)
+            ];
+      },
+      refl,
+    )
+
+pub taken_grown : (v w : SpaceValue) (k : ℕ) (t : Step) → IsGrown v w → k < count v → IsTaken v k t → IsTaken w k t
+taken_grown v w k t g below is = (taken_still v w k t g below is).0
 
 pub expanded_grown : (v w : SpaceValue) (k : ℕ) → IsGrown v w → k < count v → IsExpanded v k → IsExpanded w k
 expanded_grown v w k g below all t = taken_grown v w k t g below (all t)

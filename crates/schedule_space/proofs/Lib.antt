@@ -21,3 +21,5 @@ pub mod Marking
 pub mod Alone
 pub mod Following
 pub mod Explored
+pub mod FreeSteps
+pub mod QuietSteps

@@ -24,7 +24,7 @@ use Rattle.schedule_space.specs.Reaching.{IsEnd, CanEnd, IsMarked, AreEnds, CanA
 use Rattle.schedule_space.specs.Reaching.{HasEndsMarked, marked}
 use Rattle.schedule_space.specs.Finding.{found_in}
 use Rattle.schedule_space.proofs.Schedules.{goes_on, run-push}
-use Rattle.schedule_space.proofs.Agreeing.{Named, Live, ground}
+use Rattle.schedule_space.proofs.Agreeing.{Named, Live, Asked, ground}
 
 -- from where an edge leads to a world that can end
 pub can_end_before : (v : SpaceValue) (e : Edge) → IsLive v.image v.live → IsEdgeToStandIn v e
@@ -32,7 +32,7 @@ pub can_end_before : (v : SpaceValue) (e : Edge) → IsLive v.image v.live → I
 can_end_before v e live is can =
     let g = ground v live in
     let next =
-    can_over (IsTrue (may_have_handlers v.image)) (Named v.live) (Live v.live) (found_in v) g (world_of v e.to)
+    can_over (IsTrue (may_have_handlers v.image)) (Named v.live) (Live v.live) (Asked v.live) (found_in v) g (world_of v e.to)
     (after v.image (world_of v e.from) e.step) (g.told e.to is.to) is.leads can in
     (e.step ∷ next.0, next.1)
 

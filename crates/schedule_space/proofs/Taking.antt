@@ -12,7 +12,7 @@ use Rattle.waiting.specs.Running.{runs_in, AreRunning}
 use Rattle.dead_registers.specs.Clearing.{AgreeBy}
 use Rattle.schedule_space.specs.declared.links.Edge.{Edge}
 use Rattle.schedule_space.specs.Spaces.{SpaceValue, count, schedule_of, world_of, machine_after, StandsFor, IsEdgeToStandIn}
-use Rattle.schedule_space.specs.Finding.{with_edge, IsGrown, IsTaken, IsExpanded, IsBreadthFirst}
+use Rattle.schedule_space.specs.Finding.{with_edge, IsGrown, IsTaken, IsTakenTo, IsExpanded, IsBreadthFirst}
 use Rattle.schedule_space.proofs.Agreeing.{agree_same}
 use Rattle.schedule_space.proofs.Growing.{world_grown, taken_grown, expanded_grown, grown_trans, with_edge_grown}
 use Rattle.schedule_space.proofs.Breadth.{breadth_stays}
@@ -40,18 +40,21 @@ stands_for old new from to t w g below is leads =
     (leads ∙ (λ i. after (sym g.image i) (sym (world_grown old new from g below) i) t)) is
 
 -- a step that leads to a place of the space, with an edge unless it is the same place
-pub taken_to : (old new : SpaceValue) (from to : ℕ) (t : Step) (w : World) → IsGrown old new → from < count old
+pub taken_there : (old new : SpaceValue) (from to : ℕ) (t : Step) (w : World) → IsGrown old new → from < count old
     → to < count new → StandsFor new to w → w ≡ after old.image (world_of old from) t → IsBreadthFirst new from
-    → (to ≡ from) ⊎ Contains new.edges (record { from = from; step = t; to = to }) → IsTaken new from t
-taken_to old new from to t w g below there is leads breadth edge = record {
-  step = record {
-    to = to;
-    within = there;
-    leads = stands_for old new from to t w g below is leads;
-    near = breadth.near to there;
-  };
-  edge = edge;
-}
+    → (to ≡ from) ⊎ Contains new.edges (record { from = from; step = t; to = to }) → IsTakenTo new from t to
+taken_there old new from to t w g below there is leads breadth edge = (
+  record {
+    step = record {
+      to = to;
+      within = there;
+      leads = stands_for old new from to t w g below is leads;
+      near = breadth.near to there;
+    };
+    edge = edge;
+  },
+  refl,
+)
 
 pub edge_to : (old new : SpaceValue) (from to : ℕ) (t : Step) (w : World) → IsGrown old new → from < count old
     → to < count new → StandsFor new to w → w ≡ after old.image (world_of old from) t → (to ≢ from)
@@ -151,9 +154,9 @@ stepped v from m c n o t is same world image =
 -- the space with the edge of a step
 pub taken_edge : (old new : SpaceValue) (from to : ℕ) (t : Step) (w : World) (e : Edge) → IsGrown old new
     → from < count old → to < count new → StandsFor new to w → w ≡ after old.image (world_of old from) t
-    → IsBreadthFirst new from → e ≡ record { from = from; step = t; to = to } → IsTaken (with_edge new e) from t
+    → IsBreadthFirst new from → e ≡ record { from = from; step = t; to = to } → IsTakenTo (with_edge new e) from t to
 taken_edge old new from to t w e g below there is leads breadth edge =
-    taken_to old (with_edge new e) from to t w (grown_trans old new (with_edge new e) g (with_edge_grown new e)) below
+    taken_there old (with_edge new e) from to t w (grown_trans old new (with_edge new e) g (with_edge_grown new e)) below
     there is leads (breadth_stays new (with_edge new e) from refl refl breadth)
     (inr (subst (Contains (new.edges ++ e ∷ [])) edge (Contains-push new.edges e)))
 

@@ -91,6 +91,10 @@ pub record IsTaken (v : SpaceValue) (from : ℕ) (t : Step) : Type 0 where
   pub step : found.IsTaken (AgreeBy v.live) (found_in v) from t
   pub edge : (step.to ≡ from) ⊎ Contains v.edges (record { from = from; step = t; to = step.to })
 
+-- the step is taken, and leads to that place
+abbrev pub IsTakenTo : SpaceValue → ℕ → Step → ℕ → Type 0
+IsTakenTo v from t to = (taken : IsTaken v from t) × (taken.step.to ≡ to)
+
 -- each step from the world at this place is taken
 abbrev pub IsExpanded : SpaceValue → ℕ → Type 0
 IsExpanded v k = (t : Step) → IsTaken v k t

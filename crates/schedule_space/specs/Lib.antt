@@ -8,3 +8,4 @@ pub mod KnownSteps
 pub mod StreamSteps
 pub mod Finding
 pub mod Followed
+pub mod Quiet

@@ -63,8 +63,8 @@ IsComplete v = (ts : List Step) → Has v (run v.image (v.begin ++ ts))
 abbrev pub IsDistinct : SpaceValue → Type 0
 IsDistinct v = (k j : ℕ) → k < count v → j < count v → world_of v k ≡ world_of v j → k ≡ j
 
--- A world stands for each one that is the same but for registers that do not matter: nobody reads them again, and they are
--- not named.
+-- A world stands for each one that is the same but for registers that do not matter, which nobody reads again and which are
+-- not named, and condition codes that nobody asks for again.
 
 -- the world at a place stands for this one
 abbrev pub StandsFor : SpaceValue → ℕ → World → Type 0

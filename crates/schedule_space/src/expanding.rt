@@ -4,11 +4,12 @@ ghost use Rattle.std.specs.Prelude.{◌≡◌, ◌⊎◌, true, false, Contains,
 ghost use Rattle.processor.specs.declared.steps.Step.{Step};
 ghost use Rattle.waiting.specs.Running.{AreRunning};
 ghost use Rattle.schedule_space.specs.Spaces.{schedule_of, machine_after};
-ghost use Rattle.schedule_space.specs.Finding.{IsGrown, IsTaken, IsExpanded, IsExpanding};
-ghost use Rattle.schedule_space.specs.Followed.{IsTakenAlone, IsFollowed};
+ghost use Rattle.schedule_space.specs.Finding.{IsGrown, IsTaken, IsTakenTo, IsExpanded, IsExpanding};
+ghost use Rattle.schedule_space.specs.Quiet.{IsTakenQuietly, IsFollowedQuietly};
 
 use crate::finding::{Found, Stop};
 use crate::links::{Edge, Link};
+use crate::quiet::is_quiet_step;
 use local_steps::is_free_step;
 use machine::Machine;
 use processor::Step;
@@ -26,39 +27,42 @@ pub(crate) enum Wanted {
 
 impl<'i> Found<'i> {
     /// Takes steps of the world at a place, from its machine, unless there would be more than `most` worlds: each one,
-    /// or where ends are wanted and a step that can be taken before all others (`is_free_step`) leads to a later place,
-    /// that one. New worlds are put behind the frontier.
+    /// or where ends are wanted and a step that can be taken before all others (`is_free_step`), and that nobody sees who
+    /// looks at the places in `looked_at` alone (`is_quiet_step`), leads to a later place, that one. New worlds are put
+    /// behind the frontier.
     pub(crate) fn expand<const S: usize>(
         &mut self,
         frontier: &mut VecDeque<Machine<'i, S>>,
         machine: &Machine<'i, S>,
         from: u32,
         wanted: Wanted,
+        looked_at: &[bool],
         most: u32,
     ) -> Result<(), Stop>
         requires expanding { IsExpanding self.old frontier.old.items from most }
         requires machine { machine.now ≡ machine_after self.old.image (schedule_of self.old from) }
         ensures grown { IsGrown self.old self.new }
         ensures expanding { IsExpanding self.new frontier.new.items from most }
-        ensures followed { OnOk result (IsFollowed self.new from) }
+        ensures quiet { OnOk result (IsFollowedQuietly looked_at.now self.new from) }
         ensures expanded { wanted ≡ Wanted.Worlds → OnOk result (IsExpanded self.new from) }
     {
         let running = running_streams(self.alloc, machine)?;
         match wanted {
             Wanted::Worlds => self.take_all(frontier, machine, from, &running, most),
-            Wanted::Ends => self.take_enough(frontier, machine, from, &running, most),
+            Wanted::Ends => { self.take_enough(frontier, machine, from, &running, looked_at, most) }
         }
     }
 
-    /// Takes steps of the streams that run, first those that can be taken before all others: where one of these leads
-    /// to a later place the others wait. What goes round by such steps has one that leads back, so nobody waits for
-    /// ever.
+    /// Takes steps of the streams that run, first the quiet ones that can be taken before all others: where one of these
+    /// leads to a later place the others wait. What goes round by such steps has one that leads back, so nobody waits
+    /// for ever.
     fn take_enough<const S: usize>(
         &mut self,
         frontier: &mut VecDeque<Machine<'i, S>>,
         machine: &Machine<'i, S>,
         from: u32,
         running: &[Step],
+        looked_at: &[bool],
         most: u32,
     ) -> Result<(), Stop>
         requires expanding { IsExpanding self.old frontier.old.items from most }
@@ -66,11 +70,12 @@ impl<'i> Found<'i> {
         requires running { AreRunning machine.now.world running.now }
         ensures grown { IsGrown self.old self.new }
         ensures expanding { IsExpanding self.new frontier.new.items from most }
-        ensures followed { OnOk result (IsFollowed self.new from) }
+        ensures quiet { OnOk result (IsFollowedQuietly looked_at.now self.new from) }
     {
         let mut others = Vec::new(self.alloc);
         for step in running {
-            let is_later = self.take_free(frontier, machine, from, *step, &mut others, most)?;
+            let link = Link { from, step: *step };
+            let is_later = self.take_free(frontier, machine, link, &mut others, looked_at, most)?;
             if is_later {
                 return Ok(());
             }
@@ -78,31 +83,33 @@ impl<'i> Found<'i> {
         self.take_all(frontier, machine, from, &others, most)
     }
 
-    /// Takes one step if it can be taken before all others, and says whether it can and leads to a later place; else
-    /// puts it behind the others.
+    /// Takes one step if it is quiet and can be taken before all others, and says whether it is so and leads to a later
+    /// place; else puts it behind the others.
     fn take_free<const S: usize>(
         &mut self,
         frontier: &mut VecDeque<Machine<'i, S>>,
         machine: &Machine<'i, S>,
-        from: u32,
-        step: Step,
+        link: Link,
         others: &mut Vec<Step>,
+        looked_at: &[bool],
         most: u32,
     ) -> Result<bool, Stop>
-        requires expanding { IsExpanding self.old frontier.old.items from most }
-        requires machine { machine.now ≡ machine_after self.old.image (schedule_of self.old from) }
+        requires expanding { IsExpanding self.old frontier.old.items link.from most }
+        requires machine { machine.now ≡ machine_after self.old.image (schedule_of self.old link.from) }
         ensures grown { IsGrown self.old self.new }
-        ensures expanding { IsExpanding self.new frontier.new.items from most }
-        ensures alone { IfOk result (λ b. b ≡ true → IsTakenAlone self.new from) }
-        ensures left { IfOk result (λ b. b ≡ false → IsTaken self.new from step ⊎ Contains others.new.items step) }
+        ensures expanding { IsExpanding self.new frontier.new.items link.from most }
+        ensures alone { IfOk result (λ b. b ≡ true → IsTakenQuietly looked_at.now self.new link.from) }
+        ensures left { IfOk result (λ b. b ≡ false
+            → IsTaken self.new link.from link.step ⊎ Contains others.new.items link.step) }
         ensures others { (t : Step) → Contains others.old.items t → Contains others.new.items t }
     {
-        if !is_free_step(machine, step) {
+        let step = link.step;
+        if !is_free_step(machine, step) || !is_quiet_step(machine, step, looked_at) {
             others.push(step)?;
             return Ok(false);
         }
-        let to = self.take(frontier, machine, from, step, most)?;
-        Ok(to > from)
+        let to = self.take(frontier, machine, link.from, step, most)?;
+        Ok(to > link.from)
     }
 
     /// Takes each of these steps.
@@ -140,6 +147,7 @@ impl<'i> Found<'i> {
         ensures grown { IsGrown self.old self.new }
         ensures expanding { IsExpanding self.new frontier.new.items from most }
         ensures taken { OnOk result (IsTaken self.new from step) }
+        ensures to { IfOk result (λ to. IsTakenTo self.new from step to) }
     {
         let to = self.place(frontier, machine, Link { from, step }, most)?;
         if to == from {

@@ -7,6 +7,7 @@ ghost use Rattle.schedule_space.specs.Spaces.{count, IsComplete, IsDistinct, IsS
 ghost use Rattle.schedule_space.specs.Spaces.{AreAllApart, StandAlone, IsEdgeToStandIn};
 ghost use Rattle.schedule_space.specs.Finding.{IsExpanded, NamesAll};
 ghost use Rattle.schedule_space.specs.Followed.{AllFollowed, HasAllEnds, HasShortestEnds, TellsWhetherAllEnd};
+ghost use Rattle.schedule_space.specs.Quiet.{AllFollowedQuietly};
 ghost use Rattle.schedule_space.specs.Answers.{space_in, is_complete, bound_in};
 
 use crate::expanding::Wanted;
@@ -58,6 +59,7 @@ pub fn explore<'i, const S: usize, W: Watch>(
     ensures complete { IfOk result (λ e. is_complete e ≡ true → IsComplete (space_in e)) }
     ensures edges { IfOk result (λ e. is_complete e ≡ true → HasAllEdges (space_in e)) }
     ensures distinct { IfOk result (λ e. IsDistinct (space_in e)) }
+    ensures alone { IfOk result (λ e. StandAlone (space_in e)) }
     ensures shortest { IfOk result (λ e. IsShortest (space_in e)) }
     ensures within { IfOk result (λ e. count (space_in e) ≤ most) }
     ensures watched { IfOk result (λ e. bound_in e ≡ Some Bound.Watch → W.HasEnded watch.new) }
@@ -69,6 +71,7 @@ pub fn explore<'i, const S: usize, W: Watch>(
         begin,
         &[true; 32],
         Wanted::Worlds,
+        &[],
         most,
         watch,
     )
@@ -77,13 +80,16 @@ pub fn explore<'i, const S: usize, W: Watch>(
 /// Looks for the ends of an image, worlds from which nothing goes on, that schedules lead to which begin with `begin`,
 /// in the same way, but of fewer worlds: where a step concerns its own stream alone, or ends the last stream of its
 /// processor that runs, and leads to a later place, only that one is taken, and one world stands for all that differ from
-/// it in registers alone that nobody reads again. Registers in `names` matter at each place, r0 to r31. Where the search is
-/// complete, some world stands for each end, by a schedule that is as short as any.
+/// it in registers alone that nobody reads again, and in condition codes that nobody asks for again. Registers in `names`
+/// matter at each place, r0 to r31. A step is taken alone only where its stream stands at none of the places in `looked_at`,
+/// neither before it nor after it: so who looks at these alone misses nothing. Where the search is complete, some world
+/// stands for each end, by a schedule that is as short as any.
 pub fn explore_ends<'i, const S: usize, W: Watch>(
     alloc: Global,
     image: &'i Image,
     begin: &[Step],
     names: &Row,
+    looked_at: &[bool],
     most: usize,
     watch: &mut W,
 ) -> Result<Exploration<'i>, LoadFault>
@@ -92,6 +98,7 @@ pub fn explore_ends<'i, const S: usize, W: Watch>(
     ensures begin { IfOk result (λ e. (space_in e).begin ≡ begin.now) }
     ensures names { IfOk result (λ e. (space_in e).live.names ≡ names.now) }
     ensures live { IfOk result (λ e. IsLive (space_in e).image (space_in e).live) }
+    ensures quiet { IfOk result (λ e. is_complete e ≡ true → AllFollowedQuietly looked_at.now (space_in e)) }
     ensures ends { IfOk result (λ e. is_complete e ≡ true → HasAllEnds (space_in e)) }
     ensures followed { IfOk result (λ e. is_complete e ≡ true → AllFollowed (space_in e)) }
     ensures tells { IfOk result (λ e. is_complete e ≡ true → TellsWhetherAllEnd (space_in e)) }
@@ -101,16 +108,26 @@ pub fn explore_ends<'i, const S: usize, W: Watch>(
     ensures watched { IfOk result (λ e. bound_in e ≡ Some Bound.Watch → W.HasEnded watch.new) }
     ensures streams { (result ≡ Err LoadFault.Streams) ↔ (S < image.entry.now.slim) }
 {
-    search::<S, W>(alloc, image, begin, names, Wanted::Ends, most, watch)
+    search::<S, W>(
+        alloc,
+        image,
+        begin,
+        names,
+        Wanted::Ends,
+        looked_at,
+        most,
+        watch,
+    )
 }
 
-/// Looks for what is wanted; one world stands for all that differ from it in registers alone that do not matter.
+/// Looks for what is wanted; one world stands for all that differ from it in registers and codes alone that do not matter.
 fn search<'i, const S: usize, W: Watch>(
     alloc: Global,
     image: &'i Image,
     begin: &[Step],
     names: &Row,
     wanted: Wanted,
+    looked_at: &[bool],
     most: usize,
     watch: &mut W,
 ) -> Result<Exploration<'i>, LoadFault>
@@ -119,7 +136,7 @@ fn search<'i, const S: usize, W: Watch>(
     ensures begin { IfOk result (λ e. (space_in e).begin ≡ begin.now) }
     ensures expanded { IfOk result (λ e. wanted ≡ Wanted.Worlds → is_complete e ≡ true
         → (k : ℕ) → k < count (space_in e) → IsExpanded (space_in e) k) }
-    ensures followed { IfOk result (λ e. is_complete e ≡ true → AllFollowed (space_in e)) }
+    ensures quiet { IfOk result (λ e. is_complete e ≡ true → AllFollowedQuietly looked_at.now (space_in e)) }
     ensures names { IfOk result (λ e. (space_in e).live.names ≡ names.now) }
     ensures live { IfOk result (λ e. IsLive (space_in e).image (space_in e).live) }
     ensures edges { IfOk result (λ e. (d : Edge) → Contains (space_in e).edges d → IsEdgeToStandIn (space_in e) d) }
@@ -145,7 +162,7 @@ fn search<'i, const S: usize, W: Watch>(
         if !is_to_go_on(watch, from, &found, &frontier, machine_size) {
             return Ok(Exploration::Bounded(found.into_space(), Bound::Watch));
         }
-        if let Err(stop) = found.expand(&mut frontier, &machine, from, wanted, limit) {
+        if let Err(stop) = found.expand(&mut frontier, &machine, from, wanted, looked_at, limit) {
             return Ok(Exploration::Bounded(found.into_space(), bound_of(stop)));
         }
     }

@@ -9,6 +9,7 @@ mod known_steps;
 mod links;
 mod marks;
 mod next_worlds;
+mod quiet;
 mod reaching;
 mod spaces;
 mod stepping;

@@ -18,8 +18,8 @@ use std::marker::Model;
 
 /// Worlds of an image, each once, that schedules lead to: the first is that of the schedule with which all begin, and
 /// each other one has a link, which says by which step from which earlier world it was found. Each stands for all that
-/// differ from it in registers alone that do not matter. Contracts see the image, which registers matter, the beginning,
-/// the links and the edges; the worlds are those that the schedules of the links lead to.
+/// differ from it in registers and condition codes alone that do not matter. Contracts see the image, which of these
+/// matter, the beginning, the links and the edges; the worlds are those that the schedules of the links lead to.
 #[derive(Drop)]
 pub struct Space<'i> {
     image: &'i Image,

@@ -4,3 +4,5 @@ mod Looking
 mod Every
 mod Each
 mod OnTheWay
+mod Unseen
+mod Shown

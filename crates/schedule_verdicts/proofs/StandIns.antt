@@ -5,7 +5,7 @@ use Rattle.std.proofs.lemmas.Bool.{or_cases}
 use Rattle.image_file.specs.ImageValue.{ImageValue}
 use Rattle.processor.specs.World.{World, run}
 use Rattle.processor.specs.declared.steps.Step.{Step}
-use Rattle.program_flow.specs.Tables.{is_live_at, is_named_by}
+use Rattle.program_flow.specs.Tables.{is_live_at, is_named_by, is_asked_at}
 use Rattle.same_futures.specs.Agreeing.{EndAlike}
 use Rattle.same_futures.specs.Handlers.{may_have_handlers}
 use Rattle.same_futures.specs.Links.{TellsHandlers}
@@ -56,6 +56,9 @@ NamedBy l r = IsTrue (is_named_by l.names r)
 abbrev LiveBy : LiveValue → ℕ → ℕ → Type 0
 LiveBy l k r = IsTrue (is_live_at l.table k r)
 
+abbrev AskedBy : LiveValue → ℕ → ℕ → Type 0
+AskedBy l k c = IsTrue (is_asked_at l.codes k c)
+
 end_on : (image : ImageValue) (l : LiveValue) (live : IsLive image l) (ts : List Step) (w : World)
     → AgreeBy l w (run image ts) → IsEnd image (run image ts) → IsEnd image w
 end_on image l live ts w g end = by end where
@@ -64,8 +67,9 @@ end_on image l live ts w g end = by end where
 
   alike : EndAlike image (run image ts) w
   alike =
-      agreeing_end_alike image (IsTrue (may_have_handlers image)) (NamedBy l) (LiveBy l) live (run image ts) w told
-      (agree_back (NamedBy l) (LiveBy l) w (run image ts) g)
+      agreeing_end_alike image (IsTrue (may_have_handlers image)) (NamedBy l) (LiveBy l) (AskedBy l)
+      (record { registers = live.registers; codes = live.codes }) (run image ts) w told
+      (agree_back (NamedBy l) (LiveBy l) (AskedBy l) w (run image ts) g)
 
   by : IsEnd image (run image ts) → IsEnd image w
   by (inl none) = inl (λ some. none (some.0, sym (alike.run some.0) ∙ some.1))

@@ -1,12 +1,14 @@
 -- Whether every schedule is right.
-use Rattle.std.specs.Prelude.{ℕ, ◌<◌, ◌++◌, List, IsTrue}
+use Rattle.std.specs.Prelude.{ℕ, ◌<◌, ◌++◌, Bool, false, List, IsTrue, slice_index_or}
 use Rattle.image_file.specs.ImageValue.{ImageValue}
 use Rattle.processor.specs.World.{run}
 use Rattle.processor.specs.declared.steps.Step.{Step}
 use Rattle.expectations.specs.declared.expectation.Expectation.{Expectation}
+use Rattle.claims.specs.Looking.{is_looked_at}
 use Rattle.claims.specs.declared.claim.Claim.{Claim}
 use Rattle.schedule_space.specs.Spaces.{SpaceValue, count, world_of}
 use Rattle.schedule_space.specs.Reaching.{IsEnd, CanEnd}
+use Rattle.schedule_space.specs.Quiet.{AllFollowedQuietly}
 use Rattle.schedule_verdicts.specs.RightEnds.{IsRightEnd}
 use Rattle.schedule_verdicts.specs.KeptClaims.{all_hold, AreKept, AreKeptOnTheWay}
 
@@ -29,6 +31,13 @@ pub record IsRightThroughout (image : ImageValue) (begin : List Step) (expected 
   pub before : AreKeptOnTheWay image begin claims
 
 -- Of a space.
+
+-- Its worlds show whether claims hold: each step from them is taken, or one that can be taken before all others, and that
+-- nobody sees who looks at the places at which the claims look.
+pub record IsFollowedForClaims (v : SpaceValue) (claims : List Claim) : Type 0 where
+  pub looked_at : List Bool
+  pub covers : (place : ℕ) → IsTrue (is_looked_at claims place) → IsTrue (slice_index_or looked_at place false)
+  pub quiet : AllFollowedQuietly looked_at v
 
 -- the world at this place is a right end, if it is an end
 pub record IsRightAt (v : SpaceValue) (expected : List Expectation) (k : ℕ) : Type 0 where

@@ -6,6 +6,7 @@ ghost use Rattle.schedule_space.specs.Reaching.{CanEnd};
 ghost use Rattle.schedule_space.specs.Followed.{AllFollowed, HasAllEnds, TellsWhetherAllEnd};
 ghost use Rattle.schedule_verdicts.specs.NamedRegisters.{AreNamed, IsOfRegistersAt, EndOfRegisters};
 ghost use Rattle.schedule_verdicts.specs.RightSpaces.{IsRight, IsRightAt, EndRight, AllCanEnd, EndsRight, IsRightOnEachWay};
+ghost use Rattle.schedule_verdicts.specs.RightSpaces.{IsFollowedForClaims};
 
 use crate::kept_claims::are_kept;
 use crate::right_ends::is_right_end;
@@ -18,8 +19,8 @@ use std::alloc::{AllocError, Global};
 /// Whether each end in a space is right, an end can be reached from each of its worlds, and the claims hold of each. Of a
 /// space that has all ends, and whose names are those of the registers that are expected to hold something, this is so only
 /// where every schedule that ends ends right, and each can still come to an end wherever it is; of one that has all worlds,
-/// only where beside that the claims hold wherever a schedule leads. Where all that is so it is true, of a space of either
-/// kind.
+/// or that leaves out just steps at which the claims do not look, only where beside that the claims hold wherever a schedule
+/// leads. Where all that is so it is true, of a space of either kind.
 ///
 /// `Streams` only where the image's slim is above `S`.
 pub fn is_right<const S: usize>(
@@ -35,6 +36,9 @@ pub fn is_right<const S: usize>(
     ensures ends { IfOk result (λ b. IsTrue b → AreNamed expected.now space.now.live.names → HasAllEnds space.now
         → TellsWhetherAllEnd space.now → EndsRight space.now.image space.now.begin expected.now) }
     ensures each_way { IfOk result (λ b. IsTrue b → IsComplete space.now
+        → IsRightOnEachWay space.now.image space.now.begin expected.now claims.now) }
+    ensures shown { IfOk result (λ b. IsTrue b → AreNamed expected.now space.now.live.names
+        → IsFollowedForClaims space.now claims.now
         → IsRightOnEachWay space.now.image space.now.begin expected.now claims.now) }
     ensures only { IfOk result (λ b. (IsComplete space.now × HasAllEdges space.now) ⊎ AllFollowed space.now
         → IsRightOnEachWay space.now.image space.now.begin expected.now claims.now → IsTrue b) }

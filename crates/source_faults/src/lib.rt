@@ -15,7 +15,6 @@ mod operand_notes;
 mod operand_words;
 mod operations;
 mod phrases;
-mod reach;
 mod reader;
 mod schedule_notes;
 mod schedules;
@@ -25,6 +24,7 @@ mod straight_line;
 mod streams;
 mod text_notes;
 mod token;
+mod unreached;
 mod warnings;
 mod word_notes;
 

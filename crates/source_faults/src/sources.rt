@@ -1,7 +1,7 @@
 //! Source texts.
 
-ghost use Rattle.std.specs.Prelude.{◌≡◌, ◌<◌, ◌||◌, is_err, is_some, vec_len, IfOk, OnOk};
-ghost use Rattle.asm_text.specs.Sources.{meaning_of};
+ghost use Rattle.std.specs.Prelude.{◌≡◌, ◌<◌, ◌||◌, is_err, vec_len, IfOk, OnOk};
+ghost use Rattle.asm_text.specs.Sources.{meaning_of, Means};
 ghost use Rattle.source_faults.specs.Messages.{has_error};
 
 use crate::label_notes::note_label;
@@ -14,6 +14,7 @@ use crate::text_notes::{Totals, last_line, note_foreign};
 use crate::warnings::warnings_of;
 use asm_line::Fault;
 use asm_text::{AsmFault, assemble};
+use image_file::Image;
 use std::alloc::{AllocError, Global};
 
 /// Where the kinds of faults are explained.
@@ -26,27 +27,28 @@ pub fn check_source(alloc: Global, text: &[u8]) -> Result<Vec<Message>, AllocErr
     ensures { IfOk result (λ messages. has_error messages.items ≡ is_err (meaning_of text.now)) }
 {
     let source = Source::of(alloc, text)?;
-    let refusal = refusal_of(alloc, text)?;
+    let meaning = image_of(alloc, text)?;
     let mut messages = Vec::new(alloc);
-    tell_faults(alloc, &source, text, refusal, &mut messages)?;
-    let warnings = warnings_of(alloc, &source, text, refusal.is_none())?;
+    tell_faults(alloc, &source, text, &meaning, &mut messages)?;
+    let warnings = warnings_of(alloc, &source, text, meaning.as_ref().ok())?;
     warnings.tell(Severity::Warning, &mut messages)?;
     in_order(messages)
 }
 
-/// Why a text means no image; None where it means one.
-fn refusal_of(alloc: Global, text: &[u8]) -> Result<Option<AsmFault>, AllocError>
-    ensures { IfOk result (λ refusal. is_some refusal ≡ is_err (meaning_of text.now)) }
+/// The image that a text means; else why it means none.
+fn image_of(alloc: Global, text: &[u8]) -> Result<Result<Image, AsmFault>, AllocError>
+    ensures refused { IfOk result (λ meaning. is_err meaning ≡ is_err (meaning_of text.now)) }
+    ensures means { IfOk result (λ meaning. IfOk meaning (Means text.now)) }
 {
     match assemble(alloc, text) {
-        Ok(_) => Ok(None),
+        Ok(image) => Ok(Ok(image)),
         Err(
             AsmFault {
                 kind: Fault::NoMemory,
                 ..
             },
         ) => Err(AllocError),
-        Err(fault) => Ok(Some(fault)),
+        Err(fault) => Ok(Err(fault)),
     }
 }
 
@@ -55,15 +57,15 @@ fn tell_faults<'t>(
     alloc: Global,
     source: &Source<'t>,
     text: &'t [u8],
-    refusal: Option<AsmFault>,
+    meaning: &Result<Image, AsmFault>,
     messages: &mut Vec<Message>,
 ) -> Result<(), AllocError>
-    ensures { OnOk result (has_error messages.new.items ≡ (has_error messages.old.items || is_some refusal)) }
+    ensures { OnOk result (has_error messages.new.items ≡ (has_error messages.old.items || is_err meaning.now)) }
 {
-    let Some(fault) = refusal else {
+    let Err(fault) = meaning else {
         return Ok(());
     };
-    let faults = faults_of(alloc, source, text, fault)?;
+    let faults = faults_of(alloc, source, text, *fault)?;
     faults.tell(Severity::Error, messages)
 }
 

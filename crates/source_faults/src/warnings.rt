@@ -2,38 +2,40 @@
 
 use crate::data_lines::DataLines;
 use crate::lines::Lines;
+use crate::message::Spot;
 use crate::notes::Notes;
 use crate::phrases::shown;
-use crate::reach::{Program, note_unreached};
 use crate::reader::{Reader, Source};
 use crate::straight_line::StraightLine;
 use crate::token::Token;
+use crate::unreached::note_unreached;
 use asm_line::Item;
+use image_file::Image;
 use insn_word::{Condition, ControlOp, Insn, decode_as};
 use std::alloc::{AllocError, Global};
 
-/// What stands on the lines without a fault and is likely not meant; and where the text has no fault, the words that no
-/// way reaches.
+/// What stands on the lines without a fault and is likely not meant; and where the text means an image, the words of its
+/// program that no way reaches.
 pub(crate) fn warnings_of<'t>(
     alloc: Global,
     source: &Source<'t>,
     text: &'t [u8],
-    has_no_fault: bool,
+    image: Option<&Image>,
 ) -> Result<Notes, AllocError> {
     let data_lines = DataLines::of(alloc, source, text)?;
     let mut notes = Notes::new(alloc);
-    let mut program = Program::new(alloc);
-    note_lines(&mut notes, &mut program, source, &data_lines, text)?;
-    if has_no_fault {
-        note_unreached(&mut notes, &program)?;
+    let mut spots = Vec::new(alloc);
+    note_lines(&mut notes, &mut spots, source, &data_lines, text)?;
+    if let Some(image) = image {
+        note_unreached(&mut notes, image, &spots)?;
     }
     Ok(notes)
 }
 
-/// Warns of what stands on the lines without a fault, and adds it to a program.
+/// Warns of what stands on the lines without a fault, and adds the spots of the program's words.
 fn note_lines<'t>(
     notes: &mut Notes,
-    program: &mut Program,
+    spots: &mut Vec<Spot>,
     source: &Source<'t>,
     data_lines: &DataLines,
     text: &'t [u8],
@@ -42,17 +44,17 @@ fn note_lines<'t>(
     for line in Lines::filled(text) {
         let reader = Reader::at(source, line);
         match reader.own_item() {
-            Ok(item) => note_item(notes, program, &mut straight, &reader, data_lines, item)?,
+            Ok(item) => note_item(notes, spots, &mut straight, &reader, data_lines, item)?,
             Err(_) => straight = StraightLine::NEW,
         }
     }
     Ok(())
 }
 
-/// Warns of what a line adds, and adds it to a program.
+/// Warns of what a line adds, and adds the spot of a program word.
 fn note_item<'t>(
     notes: &mut Notes,
-    program: &mut Program,
+    spots: &mut Vec<Spot>,
     straight: &mut StraightLine<'t>,
     reader: &Reader<'_, 't>,
     data_lines: &DataLines,
@@ -62,17 +64,20 @@ fn note_item<'t>(
         Item::Instruction(insn) => Some(insn),
         Item::Word(word) => decode_as(reader.profile(), word),
         Item::Cells { .. } => return note_data_label(notes, reader, data_lines),
-        Item::Entry(entry) => return program.begin_at(entry),
-        Item::Trap(entry) => return program.begin_at(entry),
-        Item::Nothing | Item::Profile(_) | Item::Slim(_) | Item::Chain(_) | Item::Retry(_) => {
-            return Ok(());
-        }
+        Item::Nothing
+        | Item::Entry(_)
+        | Item::Trap(_)
+        | Item::Profile(_)
+        | Item::Slim(_)
+        | Item::Chain(_)
+        | Item::Retry(_) => return Ok(()),
     };
     if let Item::Instruction(insn) = item {
         note_code(notes, reader, insn)?;
     }
     straight.take(notes, reader, data_lines, insn)?;
-    program.add(insn, reader.spot(reader.line().statement()))
+    spots.push(reader.spot(reader.line().statement()))?;
+    Ok(())
 }
 
 /// Warns of a label on a line of data.

@@ -1,4 +1,4 @@
-//! The key of a machine's world, as it is cleared of registers that do not matter.
+//! The key of a machine's world, as it is cleared of registers and condition codes that do not matter.
 
 ghost use Rattle.std.specs.Prelude.{◌≡◌, ◌<◌, ◌++◌, true, length, IfOk, OnOk};
 ghost use Rattle.stream_core.specs.Streams.{idle};
@@ -16,8 +16,8 @@ use machine::Machine;
 use std::alloc::{AllocError, Global};
 use stream_core::{Status, Stream};
 
-/// The key of a machine's world with 0 in each register that does not matter: the place of what its memory holds, and
-/// that of what each processor holds, in a table to which is added what it does not have. What is in the table stays
+/// The key of a machine's world with 0 in each register and each condition code that does not matter: the place of what its
+/// memory holds, and that of what each processor holds, in a table to which is added what it does not have. What is in the table stays
 /// where it is, also where memory is refused.
 ///
 /// Worlds of one image have the same key, by one table or one that was extended since, exactly where they are the same

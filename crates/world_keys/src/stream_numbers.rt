@@ -1,4 +1,4 @@
-//! What a stream holds where it is cleared of registers that do not matter, as numbers.
+//! What a stream holds where it is cleared of registers and condition codes that do not matter, as numbers.
 
 ghost use Rattle.std.specs.Prelude.{◌≡◌, ◌<◌, ◌++◌, length, map, IfOk, OnOk};
 ghost use Rattle.stream_core.specs.StatusWords.{status_number};
@@ -25,7 +25,7 @@ pub(crate) fn stream_numbers(
     let mut numbers = Vec::with_capacity(alloc, STREAM_NUMBERS)?;
     push_registers(&mut numbers, live, stream)?;
     push_targets(&mut numbers, stream)?;
-    push_halves(&mut numbers, status_bits(stream.ssw()))?;
+    push_halves(&mut numbers, status_bits(live.status_word(stream)))?;
     push_halves(&mut numbers, stream.xr())?;
     push_halves(&mut numbers, u64::from(stream.retries()))?;
     push_halves(&mut numbers, status_code(stream.status()))?;

@@ -1,4 +1,4 @@
-use Rattle.std.proofs.Common.{◌≡◌, true, false, sym, ◌∙◌, lit<, rules}
+use Rattle.std.proofs.Common.{sym, ◌∙◌, lit<, rules}
 use Rattle.schedule_makers.proofs.AllStuck.{listed_runs}
 use Rattle.schedule_makers.proofs.Going.{IsSeenStep, gone_vain, gone_on, told_vain, told_same, able_after, none_went}
 use Rattle.schedule_makers.proofs.Going.{listed_after, some_after}

@@ -1,9 +1,11 @@
-use Rattle.std.proofs.Common.{◌≡◌, ◌≤◌, ◌+◌, ◌++◌, ◌∷◌, [], length, true, Some, sym, ap, ◌∙◌, subst, arith, lit<, rules}
-use Rattle.std.specs.Prelude.{Contains, List}
+use Rattle.std.proofs.Common.{◌≡◌, ◌+◌, ◌++◌, ◌∷◌, [], length, Some, sym, ap, ◌∙◌, subst, arith, lit<, rules}
+use Rattle.std.specs.Prelude.{List}
 use Rattle.std.proofs.lemmas.List.{length_push}
 use Rattle.processor.specs.declared.steps.Step.{Step}
 use Rattle.waiting.specs.Running.{running_steps}
 use Rattle.schedule_makers.specs.declared.made.MadeEnd.TheVariants.{NobodyRuns}
+use Rattle.schedule_makers.specs.Choosers.{rule_of, Follows}
+use Rattle.schedule_makers.proofs.Choosers.{some-listed, none-listed}
 use Rattle.schedule_makers.proofs.SoFar.{IsMaking, made_more, same_listed, ruled_now, on_err}
 use Rattle.schedule_makers.proofs.SoFar.{stepped_once_more, none_run, ended}
 use Rattle.schedule_makers.proofs.making.make.Goals as goal
@@ -11,12 +13,15 @@ use Rattle.schedule_makers.proofs.making.make.Goals.{then-not-went+in_ok-running
 
 pub returns-in_default-clause-made : goal.returns-in_default-clause-made
 returns-in_default-clause-made g c =
-    let rule = g.C.Chooser.rule c.args.chooser.now in
+    let rule = rule_of c.args.chooser.now in
     let old = c.args.machine.now in
     let ts = c.loop.steps.items in
     let running = c.loop.running.items in
     let making = c.loop.invariant.making in
-    let empty = ap (λ (l : List Step). length l) (sym c.deref-in-loop.ensures.value ∙ c.in_default.ensures.none) in
+    let list = c.deref-in-loop.ensures.value ∙ making.running_is in
+    let none = none-listed c.loop.chooser c.deref.result.now c.loop.machine c.deref-in-loop.result.now list
+    c.in_default.ensures.is in
+    let empty = ap (λ (l : List Step). length l) (sym c.deref-in-loop.ensures.value ∙ none) in
     ended rule old c.loop.machine c.args.most ts running c.loop.is_able NobodyRuns making
     (omega (arith, c.loop.invariant.count, c.loop.auto.counter-end))
     (none_run c.loop.machine.world running making.running_is empty)
@@ -24,19 +29,20 @@ returns-in_default-clause-made g c =
 
 pub advance-requires : goal.advance-requires
 advance-requires g c =
-    let rule = g.C.Chooser.rule c.args.chooser.now in
+    let rule = rule_of c.args.chooser.now in
     let old = c.args.machine.now in
     let ts = c.loop.steps.items in
     let running = c.loop.running.items in
     let making = c.loop.invariant.making in
     let t = c.in-Some.step in
-    let same = c.deref-in-loop.ensures.value ∙ sym c.deref-in-loop-2.ensures.value in
-    let has = subst (λ (l : List Step). Contains l t) same c.in-Some.ensures.some in
-    (lit< tt, (c.deref-in-loop-2.ensures.value ∙ making.running_is, (has, making.known)))
+    let list = c.deref-in-loop-2.ensures.value ∙ making.running_is in
+    let has = some-listed c.loop.chooser c.deref.result.now c.loop.machine c.deref-in-loop-2.result.now t list
+    c.in-Some.ensures.is in
+    (lit< tt, (list, (has, making.known)))
 
 pub returns-in_err-push-clause-err : goal.returns-in_err-push-clause-err
 returns-in_err-push-clause-err g c =
-    let rule = g.C.Chooser.rule c.args.chooser.now in
+    let rule = rule_of c.args.chooser.now in
     let old = c.args.machine.now in
     let ts = c.loop.steps.items in
     let running = c.loop.running.items in
@@ -47,7 +53,7 @@ returns-in_err-push-clause-err g c =
 
 pub returns-in_err-running-2-clause-err : goal.returns-in_err-running-2-clause-err
 returns-in_err-running-2-clause-err g c =
-    let rule = g.C.Chooser.rule c.args.chooser.now in
+    let rule = rule_of c.args.chooser.now in
     let old = c.args.machine.now in
     let ts = c.loop.steps.items in
     let running = c.loop.running.items in
@@ -58,7 +64,7 @@ returns-in_err-running-2-clause-err g c =
 
 pub loop-preserved : goal.loop-preserved
 loop-preserved g c =
-    let rule = g.C.Chooser.rule c.args.chooser.now in
+    let rule = rule_of c.args.chooser.now in
     let old = c.args.machine.now in
     let ts = c.loop.steps.items in
     let running = c.loop.running.items in
@@ -68,10 +74,11 @@ loop-preserved g c =
     let gone = c.in-Some-advance.ensures.some in
     let new = c.advance.new.machine in
     let pushed : c.push.new.self.items ≡ ts ++ t ∷ [] = c.in_ok-push.ensures.items in
-    let has = subst (λ (l : List Step). Contains l t) c.deref-in-loop.ensures.value c.in-Some.ensures.some in
-    let ruled : rule ts running ≡ Some t =
-    ruled_now (g.C.Chooser.rule c.loop.chooser) rule c.deref.result.now ts c.deref-in-loop.result.now running (Some t)
-    c.loop.invariant.rule c.deref.ensures.value c.deref-in-loop.ensures.value c.in-Some.ensures.is in
+    let has = some-listed c.loop.chooser c.deref.result.now c.loop.machine running t making.running_is
+    c.in-Some.ensures.is in
+    let ruled : rule ts c.loop.machine.image c.loop.machine.world ≡ Some t =
+    ruled_now (rule_of c.loop.chooser) rule c.loop.machine c.deref.result.now ts (Some t) c.loop.invariant.rule
+    c.deref.ensures.value c.in-Some.ensures.is in
     let listed : c.if-not-went.running.items ≡ running_steps new.world =
     elim c.if-not-went.branch [
       | then-not-went+in_ok-running-2 w ↦ cc (w.running-is, w.in_ok-running-2.ensures.is)
@@ -82,12 +89,12 @@ loop-preserved g c =
     ] in
     let more = made_more rule old c.loop.machine new ts running c.if-not-went.running.items c.loop.is_able t went making
     ruled has gone listed in
-    let known = subst (λ (l : List Step). g.C.Chooser.follows c.choose.new.self (l ++ t ∷ [])) c.deref.ensures.value
+    let known = subst (λ (l : List Step). Follows c.choose.new.self (l ++ t ∷ [])) c.deref.ensures.value
     c.in-Some.ensures.follows in
     record {
       making = subst (λ (l : List Step). IsMaking rule old new l c.if-not-went.running.items went.is_able) (sym pushed)
           more;
       rule = c.in-Some.ensures.rule ∙ c.loop.invariant.rule;
-      follows = subst (λ (l : List Step). g.C.Chooser.follows c.choose.new.self l) (sym pushed) known;
+      follows = subst (λ (l : List Step). Follows c.choose.new.self l) (sym pushed) known;
       count = ap (λ (l : List Step). length l) pushed ∙ length_push ts t ∙ ap (λ n. n + 1) c.loop.invariant.count;
     }

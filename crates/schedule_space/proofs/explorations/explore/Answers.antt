@@ -1,6 +1,6 @@
 use Rattle.std.proofs.Common.{true, replicate}
 use Rattle.schedule_space.specs.declared.expanding.Wanted.TheVariants as wanted
-use Rattle.schedule_space.proofs.Explored.{all_named, complete_if, edges_if, distinct_if}
+use Rattle.schedule_space.proofs.Explored.{all_named, complete_if, edges_if, distinct_if, alone_in}
 use Rattle.schedule_space.proofs.explorations.explore.Goals as goal
 
 pub returns-clause-complete : goal.returns-clause-complete
@@ -15,3 +15,7 @@ returns-clause-edges g c =
 
 pub returns-clause-distinct : goal.returns-clause-distinct
 returns-clause-distinct g c = distinct_if c.search.result c.search.ensures.distinct
+
+pub returns-clause-alone : goal.returns-clause-alone
+returns-clause-alone g c =
+    alone_in (replicate 32 true) c.search.result all_named c.search.ensures.names c.search.ensures.alone

@@ -8,7 +8,7 @@ use Rattle.schedule_space.specs.Spaces.{SpaceValue, count, schedule_of, machine_
 use Rattle.schedule_space.specs.Finding.{IsExpanded, IsExpanding}
 use Rattle.schedule_space.proofs.Parts.{frontier_front, frontier_empty}
 use Rattle.schedule_space.proofs.Breadth.{breadth_begun, breadth_next, shortest_all}
-use Rattle.schedule_space.specs.Followed.{IsFollowed}
+use Rattle.schedule_space.specs.Quiet.{IsFollowedQuietly}
 use Rattle.schedule_space.proofs.Growing.{grown_refl}
 use Rattle.schedule_space.proofs.Taking.{expanded_more}
 use Rattle.schedule_space.proofs.Alone.{followed_more, same_followed}
@@ -38,7 +38,7 @@ loop-from-init g c =
       begin = ap (λ (x : SpaceValue). x.begin) is;
       names = ap (λ (x : SpaceValue). x.live.names) is ∙ c.in_ok-live.ensures.names;
       expanded = λ _ k below. absurd (omega arith);
-      followed = λ k below. absurd (omega arith);
+      quiet = λ k below. absurd (omega arith);
       inside = omega arith;
       within = omega (arith, ap count is, c.world_limit-limit.ensures.some);
       frontier =
@@ -87,10 +87,10 @@ returns-in_default-clause-expanded g c = λ on _.
           c.in_default.ensures.rest),
     )))
 
-pub returns-in_default-clause-followed : goal.returns-in_default-clause-followed
-returns-in_default-clause-followed g c = λ _.
-    same_followed c.loop-from.found c.into_space.result c.into_space.ensures.is
-    (λ k less. c.loop-from.invariant.followed k (omega (
+pub returns-in_default-clause-quiet : goal.returns-in_default-clause-quiet
+returns-in_default-clause-quiet g c = λ _.
+    same_followed c.args.looked_at.now c.loop-from.found c.into_space.result c.into_space.ensures.is
+    (λ k less. c.loop-from.invariant.quiet k (omega (
       arith,
       less,
       frontier_empty c.loop-from.found c.loop-from.frontier.items c.loop-from.from
@@ -173,7 +173,7 @@ loop-from-preserved g c =
     let new = c.expand.new.self in
     let n = c.loop-from.from in
     let well : is_err c.expand.result ≡ false = search rules in
-    let followed = ended_well c.expand.result (IsFollowed new n) well c.expand.ensures.followed in
+    let quiet = ended_well c.expand.result (IsFollowedQuietly c.args.looked_at.now new n) well c.expand.ensures.quiet in
     record {
       image = c.expand.ensures.grown.image ∙ c.loop-from.invariant.image;
       begin = c.expand.ensures.grown.begin ∙ c.loop-from.invariant.begin;
@@ -181,7 +181,8 @@ loop-from-preserved g c =
       expanded = λ on.
           expanded_more old new n c.expand.ensures.grown front.0 (c.loop-from.invariant.expanded on)
           (ended_well c.expand.result (IsExpanded new n) well (c.expand.ensures.expanded on));
-      followed = followed_more old new n c.expand.ensures.grown front.0 c.loop-from.invariant.followed followed;
+      quiet =
+          followed_more c.args.looked_at.now old new n c.expand.ensures.grown front.0 c.loop-from.invariant.quiet quiet;
       inside = omega (arith, front.0, c.expand.ensures.grown.more);
       within = c.expand.ensures.expanding.within;
       frontier = c.expand.ensures.expanding.frontier;
@@ -205,10 +206,10 @@ returns-clause-expanded g c = λ on _.
     same_expanded c.loop-from.found c.into_space-2.result c.into_space-2.ensures.is
     (λ k less. c.loop-from.invariant.expanded on k (omega (arith, less, c.loop-from.invariant.within, c.loop-from-test.false)))
 
-pub returns-clause-followed : goal.returns-clause-followed
-returns-clause-followed g c = λ _.
-    same_followed c.loop-from.found c.into_space-2.result c.into_space-2.ensures.is
-    (λ k less. c.loop-from.invariant.followed k (omega (arith, less, c.loop-from.invariant.within, c.loop-from-test.false)))
+pub returns-clause-quiet : goal.returns-clause-quiet
+returns-clause-quiet g c = λ _.
+    same_followed c.args.looked_at.now c.loop-from.found c.into_space-2.result c.into_space-2.ensures.is
+    (λ k less. c.loop-from.invariant.quiet k (omega (arith, less, c.loop-from.invariant.within, c.loop-from-test.false)))
 
 pub returns-clause-shortest : goal.returns-clause-shortest
 returns-clause-shortest g c = λ on.

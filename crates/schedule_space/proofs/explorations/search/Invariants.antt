@@ -2,7 +2,7 @@
 use Rattle.std.proofs.Common.{◌≡◌, ℕ, ◌≤◌, ◌<◌}
 use Rattle.schedule_space.specs.Spaces.{count}
 use Rattle.schedule_space.specs.Finding.{IsExpanded, IsFrontier, IsBreadthFirst}
-use Rattle.schedule_space.specs.Followed.{IsFollowed}
+use Rattle.schedule_space.specs.Quiet.{IsFollowedQuietly}
 use Rattle.schedule_space.specs.declared.expanding.Wanted.TheVariants as Wanted
 use Rattle.schedule_space.proofs.explorations.search.Given as goal
 
@@ -12,7 +12,7 @@ invariant-loop-from g l = record {
   begin : l.found.begin ≡ l.begin;
   names : l.found.live.names ≡ l.names;
   expanded : l.wanted ≡ Wanted.Worlds → (k : ℕ) → k < l.from → IsExpanded l.found k;
-  followed : (k : ℕ) → k < l.from → IsFollowed l.found k;
+  quiet : (k : ℕ) → k < l.from → IsFollowedQuietly l.looked_at l.found k;
   inside : l.from ≤ count l.found;
   within : count l.found ≤ l.limit;
   frontier : IsFrontier l.found l.frontier.items l.from;

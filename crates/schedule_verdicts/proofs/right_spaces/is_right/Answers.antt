@@ -4,10 +4,11 @@ use Rattle.schedule_space.specs.Spaces.{IsComplete, HasAllEdges}
 use Rattle.schedule_space.specs.Followed.{AllFollowed, HasAllEnds, TellsWhetherAllEnd}
 use Rattle.schedule_verdicts.specs.KeptClaims.{AreKept}
 use Rattle.schedule_verdicts.specs.NamedRegisters.{AreNamed}
-use Rattle.schedule_verdicts.specs.RightSpaces.{EndsRight, IsRightOnEachWay}
+use Rattle.schedule_verdicts.specs.RightSpaces.{EndsRight, IsRightOnEachWay, IsFollowedForClaims}
 use Rattle.schedule_verdicts.proofs.Every.{right_by_worlds}
 use Rattle.schedule_verdicts.proofs.StandIns.{right_by_ends}
 use Rattle.schedule_verdicts.proofs.Each.{right_of_space}
+use Rattle.schedule_verdicts.proofs.Shown.{right_by_quiet}
 use Rattle.schedule_verdicts.proofs.right_spaces.is_right.Goals as goal
 
 pub returns-clause-ends : goal.returns-clause-ends
@@ -34,6 +35,20 @@ returns-clause-each_way g c =
     (λ b told yes.
     right_by_worlds v c.args.expected.now c.args.claims.now
     (record { ends = ends; reach = reach; kept = told.0 yes }))
+    c.are_kept.ensures
+
+pub returns-clause-shown : goal.returns-clause-shown
+returns-clause-shown g c =
+    let v = c.args.space.now in
+    let ends = c.in_ok-ends_are_right.ensures.are.0 (search rules) in
+    let reach = c.in_ok-all_can_end.ensures.sound (search rules) in
+    IfOk-weaker c.are_kept.result (λ b. IsTrue b ↔ AreKept v c.args.claims.now)
+    (λ b. IsTrue b → AreNamed c.args.expected.now v.live.names → IsFollowedForClaims v c.args.claims.now
+    → IsRightOnEachWay v.image v.begin c.args.expected.now c.args.claims.now)
+    (λ b told yes.
+    right_by_quiet v c.args.expected.now c.args.claims.now
+    (record { ends = ends; reach = reach; kept = told.0 yes }) (c.in_ok-ends_are_right.ensures.registers (search rules))
+    c.live-live.ensures.live)
     c.are_kept.ensures
 
 pub returns-then-not-branch-clause-only : goal.returns-then-not-branch-clause-only

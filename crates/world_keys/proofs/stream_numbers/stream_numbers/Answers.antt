@@ -13,7 +13,7 @@ returns-clause-is c =
     c.in_ok-push_registers.ensures.is c.in_ok-push_targets.ensures.is
     (c.in_ok-push_halves.ensures
     ∙ ap (λ n. c.push_targets.new.numbers.items ++ halves n)
-    (c.status_bits.ensures.is ∙ ap status_number c.ssw.ensures))
+    (c.status_bits.ensures.is ∙ ap status_number c.status_word.ensures))
     (c.in_ok-push_halves-2.ensures ∙ ap (λ n. c.push_halves.new.numbers.items ++ halves n) c.xr.ensures)
     (c.in_ok-push_halves-3.ensures
     ∙ ap (λ n. c.push_halves-2.new.numbers.items ++ halves n) (c.from.ensures ∙ c.retries.ensures))

@@ -3,10 +3,10 @@ use Rattle.machine.specs.MachineValue.{MachineValue}
 use Rattle.processor.specs.World.{after}
 use Rattle.schedule_space.specs.declared.links.Edge.{Edge}
 use Rattle.schedule_space.specs.Spaces.{SpaceValue}
-use Rattle.schedule_space.specs.Finding.{IsGrown, IsTaken}
+use Rattle.schedule_space.specs.Finding.{IsGrown, IsTakenTo}
 use Rattle.schedule_space.proofs.Growing.{grown_trans, with_edge_grown}
 use Rattle.schedule_space.proofs.Placing.{edge_expanding, stays_expanding}
-use Rattle.schedule_space.proofs.Taking.{taken_to, taken_edge, edge_to}
+use Rattle.schedule_space.proofs.Taking.{taken_there, taken_edge, edge_to}
 use Rattle.schedule_space.proofs.finding.Found.take.Goals as goal
 
 pub add_edge-requires : goal.add_edge-requires
@@ -19,14 +19,16 @@ add_edge-requires g c =
 pub returns-then-to-from : goal.returns-then-to-from
 returns-then-to-from g c =
     let m = c.args.machine.now in
+    let there : IsTakenTo c.place.new.self c.args.from c.args.step c.in_ok-to.to =
+    taken_there c.args.self.now c.place.new.self c.args.from c.in_ok-to.to c.args.step
+    (after m.image m.world c.args.step) c.place.ensures.grown c.requires.expanding.there c.in_ok-to.ensures.there
+    c.in_ok-to.ensures.stands (ap (λ (x : MachineValue). after x.image x.world c.args.step) c.requires.machine)
+    c.place.ensures.expanding.breadth (inl (search rules)) in
     record {
       grown = c.place.ensures.grown;
       expanding = c.place.ensures.expanding;
-      taken =
-          taken_to c.args.self.now c.place.new.self c.args.from c.in_ok-to.to c.args.step
-          (after m.image m.world c.args.step) c.place.ensures.grown c.requires.expanding.there c.in_ok-to.ensures.there
-          c.in_ok-to.ensures.stands (ap (λ (x : MachineValue). after x.image x.world c.args.step) c.requires.machine)
-          c.place.ensures.expanding.breadth (inl (search rules));
+      taken = there.0;
+      to = there;
     }
 
 pub returns-in_err-add_edge-clause-grown : goal.returns-in_err-add_edge-clause-grown
@@ -47,16 +49,18 @@ returns g c =
     let new = c.add_edge.new.self in
     let e : Edge = record { from = c.args.from; step = c.args.step; to = c.in_ok-to.to } in
     let is = c.in_ok-add_edge.ensures.added in
+    let there : IsTakenTo new c.args.from c.args.step c.in_ok-to.to =
+    subst (λ (x : SpaceValue). IsTakenTo x c.args.from c.args.step c.in_ok-to.to) (sym is)
+    (taken_edge v here c.args.from c.in_ok-to.to c.args.step (after m.image m.world c.args.step) e
+    c.place.ensures.grown c.requires.expanding.there c.in_ok-to.ensures.there c.in_ok-to.ensures.stands
+    (ap (λ (x : MachineValue). after x.image x.world c.args.step) c.requires.machine)
+    c.place.ensures.expanding.breadth refl) in
     record {
       grown =
           grown_trans v here new c.place.ensures.grown
           (subst (λ (x : SpaceValue). IsGrown here x) (sym is) (with_edge_grown here e));
       expanding =
           edge_expanding here new e c.place.new.frontier.items c.args.from c.args.most is c.place.ensures.expanding;
-      taken =
-          subst (λ (x : SpaceValue). IsTaken x c.args.from c.args.step) (sym is)
-          (taken_edge v here c.args.from c.in_ok-to.to c.args.step (after m.image m.world c.args.step) e
-          c.place.ensures.grown c.requires.expanding.there c.in_ok-to.ensures.there c.in_ok-to.ensures.stands
-          (ap (λ (x : MachineValue). after x.image x.world c.args.step) c.requires.machine)
-          c.place.ensures.expanding.breadth refl);
+      taken = there.0;
+      to = there;
     }

@@ -44,7 +44,7 @@ returns-then-is_later g c = record {
       grown_trans c.args.self.now c.loop-step.self c.take_free.new.self c.loop-step.invariant.grown
       c.take_free.ensures.grown;
   expanding = c.take_free.ensures.expanding;
-  followed = inr (c.in_ok-is_later.ensures.alone c.if-is_later.true);
+  quiet = inr (c.in_ok-is_later.ensures.alone c.if-is_later.true);
 }
 
 pub loop-step-preserved : goal.loop-step-preserved
@@ -70,8 +70,8 @@ returns g c = record {
   grown =
       grown_trans c.args.self.now c.loop-step.self c.take_all.new.self c.loop-step.invariant.grown c.take_all.ensures.grown;
   expanding = c.take_all.ensures.expanding;
-  followed =
-      followed_if c.take_all.result c.take_all.new.self c.args.from
+  quiet =
+      followed_if c.take_all.result c.args.looked_at.now c.take_all.new.self c.args.from
       (expanded_if c.take_all.result c.args.self.now c.take_all.new.self c.args.from c.args.machine.now c.args.running.now
       (grown_trans c.args.self.now c.loop-step.self c.take_all.new.self c.loop-step.invariant.grown c.take_all.ensures.grown)
       c.requires.expanding.there c.requires.machine c.requires.running

@@ -1,0 +1,63 @@
+//! At which places of a program claims look.
+
+ghost use Rattle.std.specs.Prelude.{◌≡◌, ◌≤◌, ℕ, false, slice_index_or, IfOk};
+ghost use Rattle.claims.specs.Looking.{form_looks_at, is_looked_at};
+
+use crate::claim::{Claim, ClaimForm};
+use std::alloc::{AllocError, Global};
+
+/// At which places of a program some claims look: true at each place that the range of one of them has. Past the end of
+/// the list they look at none, and where they speak of words alone it is empty.
+pub fn places_looked_at(alloc: Global, claims: &[Claim]) -> Result<Vec<bool>, AllocError>
+    ensures { IfOk result (λ v. (k : ℕ) → slice_index_or v.items k false ≡ is_looked_at claims.now k) }
+{
+    let end = end_of_ranges(claims);
+    let mut places = Vec::new(alloc);
+    for place in 0..end {
+        places.push(is_looked_at(claims, place))?;
+    }
+    Ok(places)
+}
+
+/// A place from which on no range of some claims has any.
+fn end_of_ranges(claims: &[Claim]) -> usize
+    ensures { (k : ℕ) → result ≤ k → is_looked_at claims.now k ≡ false }
+{
+    let mut end = 0;
+    for claim in claims {
+        end = end_of_range(&claim.form).max(end);
+    }
+    end
+}
+
+/// The same of the range of one.
+fn end_of_range(form: &ClaimForm) -> usize
+    ensures { (k : ℕ) → result ≤ k → form_looks_at k form.now ≡ false }
+{
+    match form {
+        ClaimForm::Word { .. } => 0,
+        ClaimForm::AtMost { last, .. } => *last as usize + 1,
+    }
+}
+
+/// Whether one of some claims looks at a place.
+fn is_looked_at(claims: &[Claim], place: usize) -> bool
+    ensures { result ≡ is_looked_at claims.now place }
+{
+    claims.iter().any(
+        |claim: &Claim| -> bool
+            ensures { result ≡ form_looks_at place claim.now.form }
+        { form_looks_at(&claim.form, place) },
+    )
+}
+
+/// Whether the range of a form of claim has a place.
+fn form_looks_at(form: &ClaimForm, place: usize) -> bool
+    ensures { result ≡ form_looks_at place form.now }
+{
+    match form {
+        ClaimForm::Word { .. } => false,
+        ClaimForm::AtMost { first, last, .. } => *first as usize <= place
+            && place <= *last as usize,
+    }
+}

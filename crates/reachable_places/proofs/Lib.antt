@@ -1,0 +1,3 @@
+pub mod KeptStreams
+pub mod KeptWorlds
+pub mod Searches

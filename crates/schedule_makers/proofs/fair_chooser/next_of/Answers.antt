@@ -1,9 +1,0 @@
-use Rattle.std.proofs.Common.{ap, ◌∙◌}
-use Rattle.std.specs.Option.{option_or}
-use Rattle.schedule_makers.proofs.Rules.{first-own}
-use Rattle.schedule_makers.proofs.fair_chooser.next_of.Goals as goal
-
-pub returns : goal.returns
-returns c =
-    let first = first-own c.args.p c.args.running.now in
-    cc (c.or.ensures, c.next_own.ensures, c.first_own.ensures)

@@ -1,6 +1,0 @@
-use Rattle.std.proofs.Common.{◌∙◌}
-use Rattle.schedule_makers.proofs.Randomness.{first-state}
-use Rattle.schedule_makers.proofs.random_chooser.Random.new.Goals as goal
-
-pub returns-clause-begins : goal.returns-clause-begins
-returns-clause-begins c = c.seed_from_u64.ensures ∙ first-state c.args.seed

@@ -1,0 +1,37 @@
+//! The running streams in rounds.
+
+ghost use Rattle.std.specs.Prelude.{◌≡◌, find};
+ghost use Rattle.schedule_makers.specs.Rules.{is_behind, is_behind_last, next_behind, choice_in_rounds};
+
+use crate::steps_at::step_at;
+use processor::Step;
+
+/// The next one behind the last step in the order of processor and stream, and from the first again.
+pub(crate) fn next_in_rounds(made: &[Step], running: &[Step]) -> Option<Step>
+    ensures { result ≡ choice_in_rounds made.now running.now }
+{
+    next_behind(made.last().copied(), running)
+}
+
+/// The first of the running streams that stands behind the last step, else the first of them.
+fn next_behind(last: Option<Step>, running: &[Step]) -> Option<Step>
+    ensures { result ≡ next_behind is_behind last running.now }
+{
+    first_behind(last, running).or(step_at(running, 0))
+}
+
+fn first_behind(last: Option<Step>, running: &[Step]) -> Option<Step>
+    ensures { result ≡ find (is_behind_last is_behind last) running.now }
+{
+    running.iter().copied().find(|u| is_behind_last(last, *u))
+}
+
+/// Whether a step stands behind the last one in the order of processor and stream.
+pub(crate) fn is_behind_last(last: Option<Step>, step: Step) -> bool
+    ensures { result ≡ is_behind_last is_behind last step }
+{
+    match last {
+        None => true,
+        Some(last) => last.p < step.p || (last.p == step.p && last.s < step.s),
+    }
+}

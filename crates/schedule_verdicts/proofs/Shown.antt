@@ -1,0 +1,75 @@
+-- What is claimed holds wherever a schedule leads, where it holds of each world of a space that leaves out just steps at
+-- which the claims do not look.
+use Rattle.std.proofs.Common.{◌≡◌, ℕ, ◌<◌, ◌⊎◌, inl, inr, sym, ◌∙◌, ◌++◌, subst, arith, List, Bool}
+use Rattle.std.specs.Prelude.{IsTrue}
+use Rattle.processor.specs.World.{World, run, steps}
+use Rattle.processor.specs.declared.steps.Step.{Step}
+use Rattle.same_futures.specs.Handlers.{may_have_handlers}
+use Rattle.same_futures.proofs.Chains.{schedules_agree}
+use Rattle.dead_registers.specs.Clearing.{IsLive, AgreeBy}
+use Rattle.agreeing_ends.specs.Followed as found
+use Rattle.agreeing_ends.specs.Unseen.{IsMoving, IsRespected, IsTakenUnseen, AllFollowedUnseen}
+use Rattle.agreeing_ends.proofs.Keeping.{holds_wherever}
+use Rattle.expectations.specs.declared.expectation.Expectation.{Expectation}
+use Rattle.claims.specs.declared.claim.Claim.{Claim}
+use Rattle.schedule_space.specs.Spaces.{SpaceValue, count}
+use Rattle.schedule_space.specs.Finding.{found_in}
+use Rattle.schedule_space.specs.Followed.{AllFollowed}
+use Rattle.schedule_space.specs.Quiet.{IsFollowedQuietly}
+use Rattle.schedule_space.proofs.Agreeing.{Named, Live, Asked, ground, from_begin}
+use Rattle.schedule_space.proofs.Alone.{followed_all}
+use Rattle.schedule_space.proofs.Following.{ends_all, tells_all}
+use Rattle.schedule_space.proofs.QuietSteps.{quiet_behind}
+use Rattle.schedule_verdicts.specs.KeptClaims.{all_hold, AreKept}
+use Rattle.schedule_verdicts.specs.NamedRegisters.{AreNamed, EndOfRegisters}
+use Rattle.schedule_verdicts.specs.RightSpaces.{IsRight, IsRightOnEachWay, IsFollowedForClaims}
+use Rattle.schedule_verdicts.proofs.Alike.{agreeing_claims}
+use Rattle.schedule_verdicts.proofs.StandIns.{right_by_ends}
+use Rattle.schedule_verdicts.proofs.Unseen.{same_claims}
+
+module _ (v : SpaceValue) (claims : List Claim) (live : IsLive v.image v.live) (shown : IsFollowedForClaims v claims) where
+  abbrev Holds : World → Type 0
+  Holds w = IsTrue (all_hold claims w)
+
+  moving : IsMoving (AgreeBy v.live) (found_in v)
+  moving = record {
+    on = λ k below w ts alike.
+        schedules_agree v.image (IsTrue (may_have_handlers v.image)) (Named v.live) (Live v.live) (Asked v.live)
+        (ground v live).closed ts
+        ((found_in v).world k) w ((ground v live).told k below) alike;
+  }
+
+  respects : IsRespected (AgreeBy v.live) Holds
+  respects a b alike holds = sym (agreeing_claims v.live a b alike claims) ∙ holds
+
+  unseen_at : (k : ℕ) → IsFollowedQuietly shown.looked_at v k
+      → found.IsExpanded (AgreeBy v.live) (found_in v) k ⊎ IsTakenUnseen (AgreeBy v.live) Holds (found_in v) k
+  unseen_at k (inl each) = inl (λ t. (each t).step)
+  unseen_at k (inr one) = inr (record {
+    step = one.step;
+    alone = one.alone;
+    taken = one.taken.step;
+    later = one.later;
+    unseen = λ us others holds.
+        let there =
+        quiet_behind shown.looked_at v.image ((found_in v).world k) one.step us one.alone one.quiet others in
+        sym (same_claims shown.looked_at v.image (steps v.image ((found_in v).world k) us) one.step there claims shown.covers)
+        ∙ holds;
+  })
+
+  pub claims_hold : AreKept v claims → (ts : List Step) → Holds (run v.image (v.begin ++ ts))
+  claims_hold kept ts =
+      subst Holds (from_begin v ts)
+      (holds_wherever (AgreeBy v.live) Holds (found_in v) moving respects (λ k below. unseen_at k (shown.quiet k below)) kept
+      (ground v live).some ts)
+
+pub right_by_quiet : (v : SpaceValue) (expected : List Expectation) (claims : List Claim) → IsRight v expected claims
+    → EndOfRegisters v expected → IsLive v.image v.live → AreNamed expected v.live.names → IsFollowedForClaims v claims
+    → IsRightOnEachWay v.image v.begin expected claims
+right_by_quiet v expected claims right of live named shown =
+    let all : AllFollowed v = followed_all shown.looked_at v shown.quiet in
+    record {
+      right =
+          right_by_ends v expected claims right of live named (ends_all v live all) (tells_all v live all);
+      claimed = claims_hold v claims live shown right.kept;
+    }
