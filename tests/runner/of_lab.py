@@ -8,15 +8,17 @@ import re
 import tempfile
 
 import checks
-import generator
 import lab_worlds
+import seed_rules
 import table
 import tool
 from table import unescaped
 
 EXAMPLES = os.path.join(table.ROOT, "examples")
 CASES = os.path.join(table.CASES, "lab")
-SEEDS = (1, 2, 3)
+SEEDS = range(8)
+# the most steps of the schedules that are compared with a second maker's
+MOST = 400
 # the names of the object of an end
 END = "able circle fresh kind quit stopped version waiting"
 # programs whose races a survey has to find within 200 seeds, and what it is to look at where they don't show in words
@@ -77,46 +79,40 @@ def view_as_traced(source, schedule):
 @checks.others("lab/schedules")
 def schedules():
     """Made schedules take the streams that their rules say."""
-    for name in ("lock", "fetch_add", "philosophers"):
+    for name in ("lock", "fetch_add", "philosophers", "barrier"):
         for rule in ("rounds", "fair"):
-            yield f"{rule} {name}", lambda rule=rule, name=name: (True, follows(rule, name, ()))
+            yield f"{rule} {name}", lambda rule=rule, name=name: (True, follows(rule, name))
         for seed in SEEDS:
-            words = ("--seed", str(seed))
-            yield f"random {name} {seed}", lambda name=name, words=words: (True, follows("random", name, words))
+            yield f"random {name} {seed}", lambda name=name, seed=seed: by_seed(name, seed)
 
 
-def follows(rule, name, words):
+def by_seed(name, seed):
+    """The schedule of a seed, by the second maker, and as it is made: its steps and why it ends."""
+    source = os.path.join(EXAMPLES, name + ".asm")
+    steps, end = seed_rules.schedule_of_seed(tool.read(source).decode(), seed, MOST)
+    made = lab("schedule", "random", source, "--steps", str(MOST), "--seed", str(seed))
+    told = made.err.decode().partition(": ")[2].rstrip("\n")
+    return (seed_rules.written(steps), end), (made.out.decode(), told)
+
+
+def follows(rule, name):
     """Whether a made schedule takes the streams that the rule says, as long as the rule says."""
     source = os.path.join(EXAMPLES, name + ".asm")
-    made = lab("schedule", rule, source, "--steps", "400", *words)
+    made = lab("schedule", rule, source, "--steps", str(MOST))
     with tempfile.NamedTemporaryFile(suffix=".schedule") as file:
         file.write(made.out)
         file.flush()
         run = lab_worlds.Run(lab("view", source, file.name, "--json").out)
-    words = generator.words_of(int(words[1]) if words else 0)
     steps = [(step["p"], step["s"]) for step in run.steps]
     for number, (places, step) in enumerate(zip(run.worlds(), steps)):
         ready = lab_worlds.running(places)
-        wanted = chosen(rule, steps[:number], ready, words)
+        wanted = (seed_rules.in_rounds if rule == "rounds" else seed_rules.fairly)(steps[:number], ready)
         if step != wanted:
             return f"step {number + 1} is of {step}, and not of {wanted}"
     end = {"finished": b"nobody runs", "stopped": b"nobody runs", "deadlock": b"deadlock", "steps": b"ran out of steps"}
     if end[run.end["kind"]] not in made.err:
         return f"it ends in {run.end['kind']}, and is told to end so: {made.err!r}"
-    return run.end["kind"] != "steps" or len(steps) == 400
-
-
-def chosen(rule, steps, ready, words):
-    """The stream whose turn it is."""
-    if rule == "random":
-        return ready[next(words) * len(ready) >> 64]
-    if rule == "rounds":
-        return next((stream for stream in ready if steps and stream > steps[-1]), ready[0])
-    processors = sorted({p for p, _ in ready})
-    turn = next((p for p in processors if steps and p > steps[-1][0]), processors[0])
-    last = next((s for p, s in reversed(steps) if p == turn), -1)
-    own = [s for p, s in ready if p == turn]
-    return turn, next((s for s in own if s > last), own[0])
+    return run.end["kind"] != "steps" or len(steps) == MOST
 
 
 @checks.others("lab/right_halves")

@@ -94,7 +94,7 @@ class Rule:
 def own_number(seed, stream):
     """The number of a stream by which it is above others as long as it does not fall."""
     p, s = stream
-    return next(generator.words_of((seed + (256 * p + s + 1 << 32)) % 2**64))
+    return next(generator.seeding_words(seed + (256 * p + s + 1 << 40)))
 
 
 def is_standstill(program, world):
