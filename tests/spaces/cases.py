@@ -32,10 +32,12 @@ class Case:
         self.expected = wishes.expectations(chance, self.made, self.space)
         self.claims = wishes.claims(chance, self.made) if chance.random() < 0.7 else []
         self.ends_alone = EndsAlone(self.made.program, (), (), MOST)
-        self.wished_alone = EndsAlone(self.made.program, (), wishes.named(self.expected), MOST)
+        self.wished_alone = EndsAlone(self.made.program, (), wishes.named(self.expected), MOST,
+                                      wishes.looked_at(self.claims))
         self.begin = begin_of(chance, self.space)
         self.begun = search.Space(self.made.program, self.begin, MOST)
         self.begun_claims = wishes.claims(chance, self.made)
+        self.begun_alone = EndsAlone(self.made.program, self.begin, (), MOST, wishes.looked_at(self.begun_claims))
         self.paths = {name: os.path.join(folder, f"{seed}.{name}") for name in ("asm", "expect", "claims", "schedule")}
         self.write()
 
@@ -58,15 +60,18 @@ class Case:
             "plain": ["explore", "--json", "--plain", at["asm"]],
             "ends": ["explore", "--json", at["asm"]],
             "wished": ["explore", "--json", at["asm"], "--expect", at["expect"]],
+            "wished plainly": ["explore", "--json", "--plain", at["asm"], "--expect", at["expect"]],
             "graded": ["grade", "--explore", "--json", "--expect", at["expect"], at["asm"]],
             "begun": ["explore", "--json", at["asm"], "--from", at["schedule"], "--expect", at["claims"]],
+            "begun plainly": ["explore", "--json", "--plain", at["asm"], "--from", at["schedule"], "--expect", at["claims"]],
         }
 
     def differences(self, answers):
         """In what answers differ from the search: a status and what was printed, by the names of the calls."""
         found = []
         for name, differ in (("plain", self.of_plain), ("ends", self.of_ends), ("wished", self.of_wished),
-                             ("graded", self.of_graded), ("begun", self.of_begun)):
+                             ("wished plainly", self.of_wished_plainly), ("graded", self.of_graded),
+                             ("begun", self.of_begun), ("begun plainly", self.of_begun_plainly)):
             status, printed = answers[name]
             try:
                 objects = [json.loads(line) for line in printed.splitlines()]
@@ -100,14 +105,17 @@ class Case:
 
     def of_wished(self, status, head, *ends):
         """What is expected of ends, and claimed of worlds."""
-        yield differs("complete", head["complete"], True)
-        yield differs("whether all", head["plain"], bool(self.claims))
-        if self.claims:
-            yield from of_each_end(self.space, self.expected, ends)
-        else:
-            yield from of_fewer(self.wished_alone, head, ends)
-            yield from of_each_end(self.space, self.expected, ends, self.wished_alone.told_as)
-        yield from of_claims(self.space, self.claims, ends)
+        alone = self.wished_alone
+        yield from of_fewer(alone, head, ends)
+        yield from of_each_end(self.space, self.expected, ends, alone.told_as)
+        yield from of_claims(self.space, self.claims, ends, of_alone(alone, self.space.before))
+        yield differs("status", status, self.status(self.expected, self.claims))
+
+    def of_wished_plainly(self, status, head, *ends):
+        """The same of all worlds."""
+        yield differs("head", (head["complete"], head["plain"], head["worlds"]), (True, True, len(self.space.distance)))
+        yield from of_each_end(self.space, self.expected, ends)
+        yield from of_claims(self.space, self.claims, ends, of_all(self.space))
         yield differs("status", status, self.status(self.expected, self.claims))
 
     def of_graded(self, status, graded):
@@ -119,12 +127,24 @@ class Case:
         """The schedules that begin so."""
         if not self.begun.is_whole:
             return
+        alone = self.begun_alone
+        yield from of_fewer(alone, head, ends)
+        yield from self.of_beginning(status, head, ends, alone.told_as, of_alone(alone, self.begun.before))
+
+    def of_begun_plainly(self, status, head, *ends):
+        """The same of all worlds."""
         space = self.begun
-        yield differs("head", (head["complete"], head["worlds"], head["begin"]), (True, len(space.distance), len(self.begin)))
-        yield from of_each_end(space, [], ends)
-        yield from of_claims(space, self.begun_claims, ends)
-        kinds = statuses(space, [], self.begun_claims)
-        yield differs("status", status, search.worst(kinds))
+        if not space.is_whole:
+            return
+        yield differs("head", (head["complete"], head["worlds"]), (True, len(space.distance)))
+        yield from self.of_beginning(status, head, ends, lambda world: world, of_all(space))
+
+    def of_beginning(self, status, head, ends, told_as, breaking):
+        """What is told of the schedules that begin so, whichever worlds are looked at."""
+        yield differs("steps of the beginning", head["begin"], len(self.begin))
+        yield from of_each_end(self.begun, [], ends, told_as)
+        yield from of_claims(self.begun, self.begun_claims, ends, breaking)
+        yield differs("status", status, search.worst(statuses(self.begun, [], self.begun_claims)))
 
     # What the search says.
 
@@ -188,7 +208,7 @@ def of_fewer(alone, head, ends):
     the worlds steps lead to an end that is one of them."""
     yield differs("head", (head["complete"], head["worlds"], head["steps"]), (True, len(alone.worlds), len(alone.steps)))
     for end in ends:
-        if end["end"] != "spinning" and end["worlds"] == 1:
+        if end["end"] not in ("spinning", "broken") and end["worlds"] == 1:
             world = search.world_after(alone.program, steps_of(end["schedule"]))
             yield differs("sources", end["from"], alone.leading_to(world))
 
@@ -234,14 +254,28 @@ def number(word):
         return word
 
 
-def of_claims(space, claims, ends):
-    """In what the claims that are broken differ."""
-    wanted = []
-    for claim in claims:
+def of_all(space):
+    """Of all worlds, how many break a claim, and the steps of a shortest schedule to one."""
+    def breaking(claim):
         before = [at for at, world in enumerate(space.before) if not wishes.holds(claim, world)]
-        breaking = [space.distance[world] for world in space.distance if not wishes.holds(claim, world)]
-        if before or breaking:
-            wanted.append((claim.text, len(before) + len(breaking), min(before + breaking)))
+        found = [space.distance[world] for world in space.distance if not wishes.holds(claim, world)]
+        return len(before) + len(found), min(before + found, default=None)
+    return breaking
+
+
+def of_alone(alone, before):
+    """The same of the worlds that the search for ends alone looks at, behind those on the way through a beginning. That a
+    schedule is a shortest one is said where it goes no further than the beginning."""
+    def breaking(claim):
+        broken_at = [at for at, world in enumerate([*before, *alone.worlds]) if not wishes.holds(claim, world)]
+        first = min(broken_at, default=None)
+        return len(broken_at), first if broken_at and first <= len(before) else None
+    return breaking
+
+
+def of_claims(space, claims, ends, breaking):
+    """In what the claims that are broken differ: those that some world breaks are told, with what `breaking` says."""
+    wanted = [(claim.text, *breaking(claim)) for claim in broken(space, claims)]
     told = [(end["words"], end["worlds"], end["shortest"]) for end in ends if end["end"] == "broken"]
     yield differs("broken claims", told, wanted)
     for end in ends:

@@ -1,6 +1,6 @@
 """The search for ends alone, by the rules of docs/LAB.md ("Every schedule"): of worlds that differ in registers alone that
-nobody reads again, and in condition codes that nobody asks for again, one is kept, and a step that concerns nobody else is
-taken alone where it leads to a later world."""
+nobody reads again, and in condition codes that nobody asks for again, one is kept, and a step that concerns nobody else, and
+at which no claim looks, is taken alone where it leads to a later world."""
 
 import collections
 
@@ -10,11 +10,11 @@ from liveness import ALL, Liveness
 
 
 class EndsAlone:
-    """The worlds that the search looks at, and between which places steps lead; registers that are named are kept, and
-    `most` is how many worlds there may be."""
+    """The worlds that the search looks at, and between which places steps lead; registers that are named are kept, claims
+    look at the places in `looked_at`, and `most` is how many worlds there may be."""
 
-    def __init__(self, program, begin, named, most):
-        self.program, self.named, self.most = program, frozenset(named), most
+    def __init__(self, program, begin, named, most, looked_at=()):
+        self.program, self.named, self.most, self.looked_at = program, frozenset(named), most, frozenset(looked_at)
         self.live = Liveness(program)
         self.asking = Asking(program, self.live.is_handled)
         world = machine.start(program)
@@ -60,7 +60,7 @@ class EndsAlone:
         world = self.worlds[at]
         others = []
         for p, s in machine.running(world):
-            if not is_free(self.program, world, p, s):
+            if not is_free(self.program, world, p, s) or self.is_seen(world, p, s):
                 others.append((p, s))
             elif self.take(at, p, s) > at:
                 return
@@ -74,6 +74,12 @@ class EndsAlone:
         if to != at:
             self.steps.append((at, to))
         return to
+
+    def is_seen(self, world, p, s):
+        """Whether the stream of a step runs at a place that is looked at, before the step or after it."""
+        after, _ = machine.step(self.program, world, p, s)
+        streams = [at.processors[p].streams[s] for at in (world, after)]
+        return any(stream.status == "running" and stream.ssw % 2**32 in self.looked_at for stream in streams)
 
     def leading_to(self, world):
         """From how many of the worlds steps lead to the one that is kept for a world."""

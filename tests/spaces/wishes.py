@@ -127,6 +127,12 @@ def at_most(chance, made):
     return Claim(text, scope == "always", "at", (most, tuple(chosen), first, last))
 
 
+def looked_at(claimed):
+    """The places of the program at which some claims look."""
+    ranges = [claim.operands[2:] for claim in claimed if claim.form == "at"]
+    return {place for first, last in ranges for place in range(first, last + 1)}
+
+
 def holds(claim, world):
     """Whether a claim holds of a world."""
     return of_form(claim, world) == claim.is_always

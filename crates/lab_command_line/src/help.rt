@@ -82,8 +82,9 @@ Shows the ends that schedules of a program lead to: how many worlds, the steps o
 them, a shortest one unless it says otherwise, who waits or was stopped, and the words that changed.
 Where it says complete, no schedule of any length comes to another end. Where a step concerns its
 own stream alone, or ends the last stream of its processor that runs, and leads to a world whose
-own steps are still to be looked at, the others wait: so fewer worlds are looked at. With --plain,
-and where --expect claims something of all worlds, all are.
+own steps are still to be looked at, the others wait: so fewer worlds are looked at. Where --expect
+claims something of streams at places, steps from these places and to them are no such steps. With
+--plain all worlds are looked at.
 
 Beside lines about ends the file of --expect may have claims: always or never, and behind it
 word ADDRESS is|above|below VALUE, word ADDRESS full|empty, or at most N of P.S .. in FIRST..LAST.

@@ -46,7 +46,7 @@ impl SpaceEndKind {
 }
 
 /// Ends that agree in their kind, in who waits, was stopped or goes on for ever, in the words that changed, and in what
-/// is not as expected; or all worlds that break a claim.
+/// is not as expected; or the worlds of the space that break a claim.
 #[derive(Drop)]
 pub struct SpaceEnd {
     /// The kind.

@@ -1,20 +1,16 @@
 -- What is known of the space of a search that is complete.
-use Rattle.std.specs.Prelude.{IsTrue, slice_index_or}
-use Rattle.std.proofs.Common.{◌≡◌, ℕ, Bool, true, false, ◌∙◌, ◌<◌, List, [], ◌∷◌, length, refl, ap, subst, arith}
-use Rattle.image_file.specs.ImageValue.{ImageValue}
-use Rattle.processor.specs.declared.steps.Step.{Step}
+use Rattle.std.specs.Prelude.{IsTrue, slice_index_or, Result, Ok, Err, IfOk}
+use Rattle.std.proofs.Common.{◌≡◌, ℕ, ◌⊎◌, inr, Bool, true, false, ◌∙◌, ◌<◌, List, ap, subst}
 use Rattle.expectations.specs.declared.expectation.Expectation.{Expectation}
+use Rattle.claims.specs.Looking.{is_looked_at}
 use Rattle.claims.specs.declared.claim.Claim.{Claim}
-use Rattle.processor.specs.World.{World}
-use Rattle.program_flow.specs.Tables.{is_live_at, is_named_by, is_asked_at}
-use Rattle.same_futures.proofs.Chains.{agree_itself}
-use Rattle.dead_registers.specs.Clearing.{LiveValue, AgreeBy}
+use Rattle.program_flow.specs.Tables.{is_named_by}
 use Rattle.expectations.specs.NamedRegisters.{is_register_named}
-use Rattle.schedule_space.specs.Spaces.{SpaceValue, world_of, IsComplete}
+use Rattle.schedule_space.specs.Spaces.{SpaceValue, IsComplete, HasAllEdges}
+use Rattle.schedule_space.specs.Followed.{AllFollowed}
+use Rattle.schedule_space.specs.Quiet.{AllFollowedQuietly}
 use Rattle.schedule_verdicts.specs.NamedRegisters.{AreNamed}
-use Rattle.schedule_space.specs.Reaching.{CanEnd}
-use Rattle.schedule_space.specs.Followed.{HasAllEnds, TellsWhetherAllEnd}
-use Rattle.schedule_verdicts.specs.RightSpaces.{EndsRight, IsRightOnEachWay}
+use Rattle.schedule_verdicts.specs.RightSpaces.{IsFollowedForClaims}
 use Rattle.schedule_space.specs.Answers.{space_in, is_complete}
 use Rattle.schedule_space.specs.declared.explorations.Exploration.{Exploration}
 use Rattle.schedule_space.specs.declared.explorations.Exploration.TheVariants.{Complete}
@@ -24,29 +20,42 @@ pub of_complete : (P : SpaceValue → Type 0) (e : Exploration) (v : SpaceValue)
     → (is_complete e ≡ true → P (space_in e)) → P v
 of_complete P e v same known = subst P (ap space_in same) (known (ap is_complete same))
 
--- a space that has all worlds has all ends
-pub ends_known : (v : SpaceValue) → IsComplete v → HasAllEnds v
-ends_known v all = λ ts end.
-    let has = all ts in
-    (has.0, has.1, subst (AgreeBy v.live (world_of v has.0)) has.2 (itself v.live (world_of v has.0)))
-  where
-    itself : (l : LiveValue) (w : World) → AgreeBy l w w
-    itself l w = agree_itself (λ r. IsTrue (is_named_by l.names r)) (λ k r. IsTrue (is_live_at l.table k r))
-        (λ k c. IsTrue (is_asked_at l.codes k c)) w
-
--- and tells whether an end can always be reached
-pub tells_known : (v : SpaceValue) → IsComplete v → TellsWhetherAllEnd v
-tells_known v all = λ can ts. subst (CanEnd v.image) (all ts).2 (can (all ts).0 (all ts).1)
-
--- where nothing is claimed it is right on each way where the ends are
-pub right_on_each_way : (image : ImageValue) (begin : List Step) (expected : List Expectation) (claims : List Claim)
-    → EndsRight image begin expected → (0 < length claims → IsRightOnEachWay image begin expected claims)
-    → IsRightOnEachWay image begin expected claims
-right_on_each_way image begin expected [] ends claimed = record { right = ends; claimed = λ ts. refl }
-right_on_each_way image begin expected (c ∷ cs) ends claimed = claimed (omega arith)
+-- places that are told are covered
+pub shown_by : (v : SpaceValue) (claims : List Claim) (places looked_at : List Bool) → looked_at ≡ places
+    → ((k : ℕ) → slice_index_or places k false ≡ is_looked_at claims k) → AllFollowedQuietly looked_at v
+    → IsFollowedForClaims v claims
+shown_by v claims places looked_at same told quiet = record {
+  looked_at = looked_at;
+  covers = λ k is. ap (λ (bs : List Bool). slice_index_or bs k false) same ∙ told k ∙ is;
+  quiet = quiet;
+}
 
 -- names that tell each of the 32 registers at which expectations look
 pub names_known : (expected : List Expectation) (names found : List Bool) → found ≡ names
     → ((r : ℕ) → r < 32 → slice_index_or names r false ≡ is_register_named expected r) → AreNamed expected found
 names_known expected names found same told = λ r below is.
     ap (λ (bs : List Bool). is_named_by bs r) same ∙ told r below ∙ is
+
+-- What is known of the answer of a search for ends, by what it was asked for.
+
+-- where it is complete, the space has all worlds, or is followed for the claims and has the registers named
+abbrev pub IsAnswerKnown : List Expectation → List Claim → SpaceValue × Bool → Type 0
+IsAnswerKnown expected claims found =
+    IsTrue found.1
+    → IsComplete found.0 ⊎ (AreNamed expected found.0.live.names × IsFollowedForClaims found.0 claims)
+
+module _ {E : Type 0} where
+  pub known_if : (r : Result (SpaceValue × Bool) E) (asked expected : List Expectation) (told claims : List Claim)
+      → asked ≡ expected → told ≡ claims → IfOk r (λ found. AreNamed asked found.0.live.names)
+      → IfOk r (λ found. IsTrue found.1 → IsFollowedForClaims found.0 told) → IfOk r (IsAnswerKnown expected claims)
+  known_if (Ok found) asked expected told claims names places named shown = λ on.
+      inr (
+        subst (λ (es : List Expectation). AreNamed es found.0.live.names) names named,
+        subst (IsFollowedForClaims found.0) places (shown on),
+      )
+  known_if (Err f) asked expected told claims names places named shown = named
+
+  pub taken_if : (r : Result (SpaceValue × Bool) E) → IfOk r (λ found. IsTrue found.1 → AllFollowed found.0)
+      → IfOk r (λ found. IsTrue found.1 → (IsComplete found.0 × HasAllEdges found.0) ⊎ AllFollowed found.0)
+  taken_if (Ok found) all = λ on. inr (all on)
+  taken_if (Err f) all = all

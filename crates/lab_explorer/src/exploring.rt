@@ -2,10 +2,10 @@
 
 ghost use Rattle.std.specs.Prelude.{◌+◌, ◌<◌, ◌⊎◌, ◌↔◌, IsTrue, IfOk, length};
 ghost use Rattle.schedule_space.specs.Spaces.{IsComplete, HasAllEdges};
-ghost use Rattle.schedule_space.specs.Followed.{AllFollowed, HasAllEnds, TellsWhetherAllEnd};
+ghost use Rattle.schedule_space.specs.Followed.{AllFollowed};
 ghost use Rattle.schedule_verdicts.specs.KeptClaims.{AreKeptOnTheWay};
 ghost use Rattle.schedule_verdicts.specs.NamedRegisters.{AreNamed};
-ghost use Rattle.schedule_verdicts.specs.RightSpaces.{EndsRight, IsRightOnEachWay, IsRightThroughout};
+ghost use Rattle.schedule_verdicts.specs.RightSpaces.{IsFollowedForClaims, IsRightOnEachWay, IsRightThroughout};
 
 use crate::explored_words::answer_of;
 use crate::graphs::{graph_asked, write_graph};
@@ -38,7 +38,7 @@ pub struct Search<'a> {
     pub begin: &'a [Step],
     /// The most worlds, at least 1.
     pub most: usize,
-    /// Whether all worlds are looked for, also where the ends need fewer.
+    /// Whether all worlds are looked for, also where the ends and the claims need fewer.
     pub is_plain: bool,
     /// Whether the graph of the worlds is drawn.
     pub is_drawn: bool,
@@ -47,13 +47,6 @@ pub struct Search<'a> {
 }
 
 impl Search<'_> {
-    /// Whether all worlds are looked for: where it is asked for, and where something is claimed of them.
-    fn is_of_all_worlds(&self) -> bool
-        ensures { 0 < length self.now.wishes.now.claims.items → IsTrue result }
-    {
-        self.is_plain || !self.wishes.claims.is_empty()
-    }
-
     /// Whether something is wished of the program.
     fn is_judged(&self) -> bool
         ensures { IsTrue result
@@ -70,7 +63,7 @@ pub struct Explored {
     pub worlds: usize,
     /// How many steps lead from one of them to another.
     pub steps: usize,
-    /// Whether they are all, or all that the ends need.
+    /// Whether they are all, or all that the ends and the claims need.
     pub is_complete: bool,
     /// What ended the search, where they are not.
     pub bound: Option<SearchBound>,
@@ -88,11 +81,16 @@ pub struct Explored {
 }
 
 impl Explored {
-    /// Whether it is known that no schedule to an end is shorter than its own. The search for ends alone leaves out
-    /// worlds, so it says so of what does not spin, and only where it has all ends.
+    /// Whether it is known that no schedule to an end is shorter than its own. The search that is not of all worlds leaves
+    /// out worlds on the way: it says so of ends, where it has all, and of a claim that is broken on the way through the
+    /// steps that all schedules begin with; neither of what spins nor of other broken claims.
     pub(crate) fn is_shortest(&self, end: &SpaceEnd) -> bool {
-        let is_of_end = self.is_complete && end.kind != SpaceEndKind::End(EndKind::Spinning);
-        self.is_of_all_worlds || is_of_end || end.schedule.is_empty()
+        let is_known = match end.kind {
+            SpaceEndKind::End(EndKind::Spinning) => false,
+            SpaceEndKind::End(_) => self.is_complete,
+            SpaceEndKind::Broken => end.schedule.len() <= self.begin,
+        };
+        self.is_of_all_worlds || is_known || end.schedule.is_empty()
     }
 
     /// The exit status: the worst over all ends and broken claims, and over the bound, where the search came to it.
@@ -246,17 +244,7 @@ fn explore_on<const S: usize, C: Clock, E: Write>(
         ↔ (IsTrue e.is_complete × (0 < length wishes.ends.items + length wishes.claims.items)
         × IsRightThroughout program.now.image asked.now.begin.now wishes.ends.items wishes.claims.items)) }
 {
-    let most = asked.most.max(1);
-    let is_of_all_worlds = asked.is_of_all_worlds();
-    let (space, is_complete) = space_of::<S, C, E>(
-        alloc,
-        &program.image,
-        asked.begin,
-        &asked.wishes.ends,
-        most,
-        is_of_all_worlds,
-        watcher,
-    )?;
+    let (space, is_complete) = space_of::<S, C, E>(alloc, &program.image, asked, watcher)?;
     let ends = space_ends::<S>(alloc, names, asked.style, asked.wishes, &space, is_complete)?;
     let graph = graph_asked(alloc, asked.is_drawn, &space, &ends)?;
     let is_asked = asked.is_judged();
@@ -266,7 +254,7 @@ fn explore_on<const S: usize, C: Clock, E: Write>(
         steps: space.step_count(),
         is_complete,
         bound: watcher.bound(),
-        is_of_all_worlds,
+        is_of_all_worlds: asked.is_plain,
         begin: asked.begin.len(),
         ends,
         graph,
@@ -287,9 +275,9 @@ fn are_all_right<const S: usize>(
     ensures asked { IfOk result (λ b. IsTrue b → IsTrue is_asked) }
     ensures before { IfOk result (λ b. IsTrue b
         → AreKeptOnTheWay space.now.image space.now.begin wishes.now.claims.items) }
-    ensures ends { IfOk result (λ b. IsTrue b → AreNamed wishes.now.ends.items space.now.live.names
-        → HasAllEnds space.now → TellsWhetherAllEnd space.now
-        → EndsRight space.now.image space.now.begin wishes.now.ends.items) }
+    ensures shown { IfOk result (λ b. IsTrue b → AreNamed wishes.now.ends.items space.now.live.names
+        → IsFollowedForClaims space.now wishes.now.claims.items
+        → IsRightOnEachWay space.now.image space.now.begin wishes.now.ends.items wishes.now.claims.items) }
     ensures each_way { IfOk result (λ b. IsTrue b → IsComplete space.now
         → IsRightOnEachWay space.now.image space.now.begin wishes.now.ends.items wishes.now.claims.items) }
     ensures only { IfOk result (λ b. IsTrue is_complete → IsTrue is_asked

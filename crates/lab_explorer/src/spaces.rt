@@ -2,10 +2,13 @@
 
 ghost use Rattle.std.specs.Prelude.{◌≡◌, ◌≤◌, ◌⊎◌, IsTrue, IfOk};
 ghost use Rattle.schedule_space.specs.Spaces.{IsComplete, HasAllEdges};
-ghost use Rattle.schedule_space.specs.Followed.{AllFollowed, HasAllEnds, TellsWhetherAllEnd};
+ghost use Rattle.schedule_space.specs.Followed.{AllFollowed};
 ghost use Rattle.schedule_verdicts.specs.NamedRegisters.{AreNamed};
+ghost use Rattle.schedule_verdicts.specs.RightSpaces.{IsFollowedForClaims};
 
+use crate::exploring::Search;
 use crate::watching::Watcher;
+use claims::{Claim, places_looked_at};
 use expectations::{Expectation, named_registers};
 use image_file::Image;
 use machine::LoadFault;
@@ -15,34 +18,38 @@ use std::alloc::{AllocError, Global};
 use std::io::Write;
 use std::time::Clock;
 
-/// The space of an image of so many worlds at most, of all worlds or of those that the ends need, and whether it has all
-/// ends that schedules with this beginning lead to. Of worlds that the ends need one stands for all that differ in registers
-/// alone that nobody reads again, and at which no expectation looks.
+/// The space of an image of as many worlds at most as are asked for, of all worlds or of those that the ends and the claims
+/// need, and whether it has all ends that schedules with the beginning lead to. Of worlds that these need one stands for all
+/// that differ in registers alone that nobody reads again, and at which no expectation looks; and where it is complete,
+/// steps from them are left out only where others are taken first at which no claim looks.
 pub(crate) fn space_of<'i, const S: usize, C: Clock, E: Write>(
     alloc: Global,
     image: &'i Image,
-    begin: &[Step],
-    expected: &[Expectation],
-    most: usize,
-    is_of_all_worlds: bool,
+    asked: &Search<'_>,
     watcher: &mut Watcher<'_, '_, C, E>,
 ) -> Result<(Space<'i>, bool), AllocError>
-    requires { 1 ≤ most }
     ensures image { IfOk result (λ found. found.0.image ≡ image.entry.now) }
-    ensures begin { IfOk result (λ found. found.0.begin ≡ begin.now) }
-    ensures ends { IfOk result (λ found. IsTrue found.1 → HasAllEnds found.0) }
-    ensures tells { IfOk result (λ found. IsTrue found.1 → TellsWhetherAllEnd found.0) }
-    ensures named { IfOk result (λ found. IsTrue found.1
-        → IsComplete found.0 ⊎ AreNamed expected.now found.0.live.names) }
-    ensures worlds { IfOk result (λ found. IsTrue is_of_all_worlds → IsTrue found.1 → IsComplete found.0) }
+    ensures begin { IfOk result (λ found. found.0.begin ≡ asked.now.begin.now) }
+    ensures known { IfOk result (λ found. let wishes = asked.now.wishes.now in IsTrue found.1
+        → IsComplete found.0 ⊎ (AreNamed wishes.ends.items found.0.live.names
+        × IsFollowedForClaims found.0 wishes.claims.items)) }
     ensures taken { IfOk result (λ found. IsTrue found.1
         → (IsComplete found.0 × HasAllEdges found.0) ⊎ AllFollowed found.0) }
 {
-    if is_of_all_worlds {
-        all_worlds::<S, C, E>(alloc, image, begin, most, watcher)
-    } else {
-        all_ends::<S, C, E>(alloc, image, begin, expected, most, watcher)
+    let most = asked.most.max(1);
+    if asked.is_plain {
+        return all_worlds::<S, C, E>(alloc, image, asked.begin, most, watcher);
     }
+    let wishes = asked.wishes;
+    all_ends::<S, C, E>(
+        alloc,
+        image,
+        asked.begin,
+        &wishes.ends,
+        &wishes.claims,
+        most,
+        watcher,
+    )
 }
 
 /// The same of all worlds.
@@ -56,8 +63,6 @@ fn all_worlds<'i, const S: usize, C: Clock, E: Write>(
     requires { 1 ≤ most }
     ensures image { IfOk result (λ found. found.0.image ≡ image.entry.now) }
     ensures begin { IfOk result (λ found. found.0.begin ≡ begin.now) }
-    ensures ends { IfOk result (λ found. IsTrue found.1 → HasAllEnds found.0) }
-    ensures tells { IfOk result (λ found. IsTrue found.1 → TellsWhetherAllEnd found.0) }
     ensures worlds { IfOk result (λ found. IsTrue found.1 → IsComplete found.0) }
     ensures taken { IfOk result (λ found. IsTrue found.1
         → (IsComplete found.0 × HasAllEdges found.0) ⊎ AllFollowed found.0) }
@@ -72,26 +77,26 @@ fn all_worlds<'i, const S: usize, C: Clock, E: Write>(
     }
 }
 
-/// The same of the worlds that the ends need.
+/// The same of the worlds that the ends and the claims need.
 fn all_ends<'i, const S: usize, C: Clock, E: Write>(
     alloc: Global,
     image: &'i Image,
     begin: &[Step],
     expected: &[Expectation],
+    claims: &[Claim],
     most: usize,
     watcher: &mut Watcher<'_, '_, C, E>,
 ) -> Result<(Space<'i>, bool), AllocError>
     requires { 1 ≤ most }
     ensures image { IfOk result (λ found. found.0.image ≡ image.entry.now) }
     ensures begin { IfOk result (λ found. found.0.begin ≡ begin.now) }
-    ensures ends { IfOk result (λ found. IsTrue found.1 → HasAllEnds found.0) }
     ensures named { IfOk result (λ found. AreNamed expected.now found.0.live.names) }
-    ensures tells { IfOk result (λ found. IsTrue found.1 → TellsWhetherAllEnd found.0) }
-    ensures taken { IfOk result (λ found. IsTrue found.1
-        → (IsComplete found.0 × HasAllEdges found.0) ⊎ AllFollowed found.0) }
+    ensures shown { IfOk result (λ found. IsTrue found.1 → IsFollowedForClaims found.0 claims.now) }
+    ensures taken { IfOk result (λ found. IsTrue found.1 → AllFollowed found.0) }
 {
     let names = named_registers(expected);
-    match explore_ends::<S, _>(alloc, image, begin, &names, &[], most, watcher) {
+    let places = places_looked_at(alloc, claims)?;
+    match explore_ends::<S, _>(alloc, image, begin, &names, &places, most, watcher) {
         Ok(Exploration::Complete(space)) => Ok((space, true)),
         Ok(Exploration::Bounded(space, bound)) => {
             watcher.end(bound);

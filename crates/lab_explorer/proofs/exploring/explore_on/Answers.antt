@@ -1,7 +1,5 @@
 use Rattle.std.proofs.Common.{sym, subst, inl, inr}
-use Rattle.schedule_verdicts.specs.NamedRegisters.{AreNamed}
 use Rattle.schedule_verdicts.specs.RightSpaces.{IsRightOnEachWay, IsRightThroughout}
-use Rattle.lab_explorer.proofs.Knowing.{right_on_each_way}
 use Rattle.lab_explorer.proofs.exploring.explore_on.Goals as goal
 
 pub returns : goal.returns
@@ -16,11 +14,9 @@ returns g c = record {
         λ yes.
             let complete = found.complete yes in
             let right : IsRightOnEachWay v.image v.begin expected claims =
-            elim (c.in_ok-space.ensures.named complete) [
+            elim (c.in_ok-space.ensures.known complete) [
               | inl all ↦ found.each_way yes all
-              | inr named ↦ right_on_each_way v.image v.begin expected claims
-                  (found.ends yes (subst (λ es. AreNamed es v.live.names) c.deref.ensures.value named) (c.in_ok-space.ensures.ends complete) (c.in_ok-space.ensures.tells complete))
-                  (λ some. found.each_way yes (c.in_ok-space.ensures.worlds (c.is_of_all_worlds-is_of_all_worlds.ensures some) complete))
+              | inr shown ↦ found.shown yes shown.0 shown.1
             ] in
             let here : IsRightThroughout v.image v.begin expected claims =
             record { right = right; before = found.before yes } in (

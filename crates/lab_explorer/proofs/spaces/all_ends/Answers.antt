@@ -1,29 +1,25 @@
-use Rattle.std.proofs.Common.{inr, subst, ap}
+use Rattle.std.proofs.Common.{subst, ap}
 use Rattle.schedule_space.specs.Spaces.{SpaceValue}
 use Rattle.schedule_space.specs.Answers.{space_in}
-use Rattle.schedule_space.specs.Followed.{AllFollowed, HasAllEnds, TellsWhetherAllEnd}
+use Rattle.schedule_space.specs.Followed.{AllFollowed}
+use Rattle.schedule_space.specs.Quiet.{AllFollowedQuietly}
 use Rattle.schedule_verdicts.specs.NamedRegisters.{AreNamed}
-use Rattle.lab_explorer.proofs.Knowing.{of_complete, names_known}
+use Rattle.lab_explorer.proofs.Knowing.{of_complete, shown_by, names_known}
 use Rattle.lab_explorer.proofs.spaces.all_ends.Goals as goal
 
-pub returns-in-Ok-Complete-clause-ends : goal.returns-in-Ok-Complete-clause-ends
-returns-in-Ok-Complete-clause-ends g c =
+pub returns-in-Ok-Complete-clause-shown : goal.returns-in-Ok-Complete-clause-shown
+returns-in-Ok-Complete-clause-shown g c =
     λ yes.
-    of_complete HasAllEnds c.in-Ok-Complete.field-0 c.in-Ok-Complete.space c.in-Ok-Complete.field-0-is
-    c.in-Ok-Complete.ensures.ends
-
-pub returns-in-Ok-Complete-clause-tells : goal.returns-in-Ok-Complete-clause-tells
-returns-in-Ok-Complete-clause-tells g c =
-    λ yes.
-    of_complete TellsWhetherAllEnd c.in-Ok-Complete.field-0 c.in-Ok-Complete.space c.in-Ok-Complete.field-0-is
-    c.in-Ok-Complete.ensures.tells
+    shown_by c.in-Ok-Complete.space c.args.claims.now c.in_ok-places.places.items c.deref.result.now c.deref.ensures.value
+    c.in_ok-places.ensures
+    (of_complete (AllFollowedQuietly c.deref.result.now) c.in-Ok-Complete.field-0 c.in-Ok-Complete.space c.in-Ok-Complete.field-0-is
+    c.in-Ok-Complete.ensures.quiet)
 
 pub returns-in-Ok-Complete-clause-taken : goal.returns-in-Ok-Complete-clause-taken
 returns-in-Ok-Complete-clause-taken g c =
     λ yes.
-    inr
-    (of_complete AllFollowed c.in-Ok-Complete.field-0 c.in-Ok-Complete.space c.in-Ok-Complete.field-0-is
-    c.in-Ok-Complete.ensures.followed)
+    of_complete AllFollowed c.in-Ok-Complete.field-0 c.in-Ok-Complete.space c.in-Ok-Complete.field-0-is
+    c.in-Ok-Complete.ensures.followed
 
 pub returns-in-Ok-Complete-clause-named : goal.returns-in-Ok-Complete-clause-named
 returns-in-Ok-Complete-clause-named g c =
