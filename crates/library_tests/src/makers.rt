@@ -1,8 +1,8 @@
 //! Schedules that are made: their steps, and why they end. The choices of `random` are worked out by an implementation of
-//! splitmix64 and xoshiro256++ in another language.
+//! splitmix64 and xoshiro256++ in another language, those of `seeded` by tests/runner/seed_rules.py.
 use crate::sources::image_of;
 use machine::Machine;
-use schedule_makers::{MadeEnd, MadeSchedule, fair, random, rounds};
+use schedule_makers::{MadeEnd, MadeSchedule, fair, fair_length, random, rounds, seeded};
 use std::alloc::Global;
 
 /// The program of examples/lock.asm.
@@ -29,9 +29,11 @@ enum Rule {
     Rounds,
     Fair,
     Random(u64),
+    /// The rule that this seed's number says.
+    OfSeed(u64),
 }
 
-use Rule::{Fair, Random, Rounds};
+use Rule::{Fair, OfSeed, Random, Rounds};
 
 fn made(alloc: Global, source: &str, rule: Rule, most: usize) -> Option<MadeSchedule> {
     let image = image_of(alloc, source)?;
@@ -40,6 +42,10 @@ fn made(alloc: Global, source: &str, rule: Rule, most: usize) -> Option<MadeSche
         Rounds => rounds(alloc, &mut machine, most).ok(),
         Fair => fair(alloc, &mut machine, most).ok(),
         Random(seed) => random(alloc, &mut machine, seed, most).ok(),
+        OfSeed(seed) => {
+            let fair_steps = fair_length(alloc, &machine).ok()?;
+            seeded(alloc, &mut machine, seed, fair_steps, most).ok()
+        }
     }
 }
 
@@ -103,6 +109,36 @@ fn the_lock_ends_where_nobody_runs(rt: HostRuntime) {
         (Random(3), of_seed_3.as_slice()),
     ] {
         assert!(rt; makes_of_one(rt.alloc(), LOCK, rule, 100, processors, MadeEnd::NobodyRuns));
+    }
+}
+
+#[test]
+fn the_seed_says_the_rule(rt: HostRuntime) {
+    let in_turns_of_8 = [
+        3, 3, 0, 0, 0, 0, 0, 0, 1, 1, 1, 1, 1, 1, 2, 2, 2, 2, 3, 3,
+    ];
+    let in_turns_of_32 = [
+        3, 3, 3, 3, 1, 1, 1, 1, 1, 1, 2, 2, 2, 2, 0, 0, 0, 0, 0, 0,
+    ];
+    let by_priorities = [
+        0, 0, 3, 3, 3, 2, 2, 2, 2, 0, 0, 0, 1, 1, 1, 1, 1, 1, 0, 3,
+    ];
+    for (seed, processors) in [
+        (1, in_turns_of_8.as_slice()),
+        (2, in_turns_of_32.as_slice()),
+        (7, by_priorities.as_slice()),
+    ] {
+        assert!(rt;
+            makes_of_one(
+                rt.alloc(),
+                LOCK,
+                OfSeed(seed),
+                100,
+                processors,
+                MadeEnd::NobodyRuns
+            ),
+            "{seed}"
+        );
     }
 }
 

@@ -6,6 +6,7 @@ pub mod Turns
 pub mod Priorities
 pub mod Seeds
 pub mod Made
+pub mod FairLengths
 -- what holds of all that is made
 pub mod Laws
 -- Cited by private contracts alone: what a step comes to, and what choosers keep.
