@@ -143,7 +143,9 @@ fn told<X: Threads + Sync, const S: usize>(
         .map(|place: usize| -> Result<Outcome, AllocError> {
             let group = groups.get(place).ok_or(AllocError)?;
             let end = ends.get(group.first).ok_or(AllocError)?;
-            outcome_of::<S>(alloc, program, names, expected, end.seed, group.runs, making)
+            outcome_of::<S>(
+                alloc, program, names, expected, end.seed, group.runs, making,
+            )
         })
         .with_min_len(1)
         .collect::<Result<Vec<Outcome>, AllocError>>(rt, alloc);

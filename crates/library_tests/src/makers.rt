@@ -114,15 +114,9 @@ fn the_lock_ends_where_nobody_runs(rt: HostRuntime) {
 
 #[test]
 fn the_seed_says_the_rule(rt: HostRuntime) {
-    let in_turns_of_8 = [
-        3, 3, 0, 0, 0, 0, 0, 0, 1, 1, 1, 1, 1, 1, 2, 2, 2, 2, 3, 3,
-    ];
-    let in_turns_of_32 = [
-        3, 3, 3, 3, 1, 1, 1, 1, 1, 1, 2, 2, 2, 2, 0, 0, 0, 0, 0, 0,
-    ];
-    let by_priorities = [
-        0, 0, 3, 3, 3, 2, 2, 2, 2, 0, 0, 0, 1, 1, 1, 1, 1, 1, 0, 3,
-    ];
+    let in_turns_of_8 = [3, 3, 0, 0, 0, 0, 0, 0, 1, 1, 1, 1, 1, 1, 2, 2, 2, 2, 3, 3];
+    let in_turns_of_32 = [3, 3, 3, 3, 1, 1, 1, 1, 1, 1, 2, 2, 2, 2, 0, 0, 0, 0, 0, 0];
+    let by_priorities = [0, 0, 3, 3, 3, 2, 2, 2, 2, 0, 0, 0, 1, 1, 1, 1, 1, 1, 0, 3];
     for (seed, processors) in [
         (1, in_turns_of_8.as_slice()),
         (2, in_turns_of_32.as_slice()),
