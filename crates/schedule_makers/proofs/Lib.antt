@@ -3,6 +3,9 @@ pub mod Rules
 pub mod LastSteps
 pub mod Randomness
 pub mod TurnTaken
+pub mod HighestFree
+pub mod ChangePoints
+pub mod FreeTaken
 pub mod Choosers
 pub mod AllStuck
 pub mod Seen

@@ -10,10 +10,10 @@ use Rattle.schedule_makers.specs.Rules.{choice_in_rounds, of_processor, fair_cho
 
 -- Of lists.
 
-contains-first : (x : Step) (xs : List Step) → Contains (x ∷ xs) x
+pub contains-first : (x : Step) (xs : List Step) → Contains (x ∷ xs) x
 contains-first x xs = (zero, omega arith, refl)
 
-contains-behind : (x t : Step) (xs : List Step) → Contains xs t → Contains (x ∷ xs) t
+pub contains-behind : (x t : Step) (xs : List Step) → Contains xs t → Contains (x ∷ xs) t
 contains-behind x t xs h = (suc h.0, omega (arith, h.1), h.2)
 
 pub contains-get : (xs : List Step) (k : ℕ) (t : Step) → slice_get xs k ≡ Some t → Contains xs t
@@ -49,7 +49,7 @@ empty_or : (x : Step) (ys : List Step) (b : Bool) → cond b (x ∷ ys) ys ≡ [
 empty_or x ys true e = absurd (let h : ⊥ = cc in h)
 empty_or x ys false e = (refl, e)
 
-none-filtered : (p : Step → Bool) (xs : List Step) (t : Step) → p t ≡ true → Contains xs t → filter p xs ≡ [] → ⊥
+pub none-filtered : (p : Step → Bool) (xs : List Step) (t : Step) → p t ≡ true → Contains xs t → filter p xs ≡ [] → ⊥
 none-filtered p [] t passes h e = omega (arith, h.1)
 none-filtered p (x ∷ xs) t passes (zero, below, is) e =
     let here = empty_or x (filter p xs) (p x) e in

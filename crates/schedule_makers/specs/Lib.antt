@@ -3,6 +3,8 @@ pub mod Rules
 pub mod Randomness
 pub mod Free
 pub mod Turns
+pub mod Priorities
+pub mod Seeds
 pub mod Made
 -- what holds of all that is made
 pub mod Laws
@@ -10,4 +12,5 @@ pub mod Laws
 pub mod Advancing
 pub mod Fair
 pub mod Words
+pub mod Changes
 pub mod Choosers

@@ -1,8 +1,9 @@
-//! Schedules by the three rules.
+//! Schedules by each of the rules.
 
 ghost use Rattle.std.specs.Prelude.{IfOk, OnErr};
 ghost use Rattle.schedule_makers.specs.Rules.{next_in_rounds, next_fair};
 ghost use Rattle.schedule_makers.specs.Randomness.{next_at_random};
+ghost use Rattle.schedule_makers.specs.Seeds.{rule_of_seed};
 ghost use Rattle.schedule_makers.specs.Made.{IsMade, HasStepped};
 
 use crate::chooser::Chooser;
@@ -10,6 +11,7 @@ use crate::fair_choice::Fair;
 use crate::made::MadeSchedule;
 use crate::making::make;
 use crate::seed_words::SeedWords;
+use crate::seeds::chooser_of_seed;
 use machine::Machine;
 use std::alloc::{AllocError, Global};
 
@@ -61,4 +63,23 @@ pub fn random<const S: usize>(
         &mut Chooser::Random(SeedWords::new(seed)),
         most,
     )
+}
+
+/// The same by the rule that the seed's number says, so that rare bugs are found by some of many seeds. `seed % 4` is 0:
+/// as `random`. 1 or 2: in turns of 8 or of 32 steps on average, among the streams that are not blocked. 3: the stream
+/// that is not blocked and has the highest priority; each has one at random, and at two of the steps the one that takes
+/// it falls below all others. `fair_steps` is how many steps the fair schedule of the same machine has. The same seed
+/// and number of fair steps give the same schedule everywhere.
+pub fn seeded<const S: usize>(
+    alloc: Global,
+    machine: &mut Machine<'_, S>,
+    seed: u64,
+    fair_steps: usize,
+    most: usize,
+) -> Result<MadeSchedule, AllocError>
+    ensures made { IfOk result
+        (λ m. IsMade (rule_of_seed seed fair_steps) machine.old machine.new most m.steps.items m.end) }
+    ensures err { OnErr result (HasStepped machine.old machine.new) }
+{
+    make(alloc, machine, &mut chooser_of_seed(seed, fair_steps), most)
 }
