@@ -1,8 +1,7 @@
 -- The free stream of the highest priority.
-use Rattle.std.proofs.Common.{◌≡◌, ℕ, ◌+◌, ◌<◌, ◌≤◌, ◌&&◌, nat_lt, Bool, true, false, refl, sym, ap, ◌∙◌, subst, arith, cond}
+use Rattle.std.proofs.Common.{◌≡◌, ℕ, ◌+◌, ◌<◌, ◌&&◌, nat_lt, Bool, true, false, refl, sym, ap, ◌∙◌, subst, cond}
 use Rattle.std.proofs.Common.{List, [], ◌∷◌, length, Option, Some, None, if◌then◌else◌, inl, inr, drop, get_or}
 use Rattle.std.specs.Prelude.{Contains, filter, ◌⊎◌}
-use Rattle.std.specs.Option.{option_or}
 use Rattle.std.proofs.lemmas.List.{drop_more}
 use Rattle.std.proofs.lemmas.Option.{same_Some}
 use Rattle.image_file.specs.ImageValue.{ImageValue}
@@ -43,12 +42,14 @@ highest-more rank free best t rest =
 
 -- the same at a place of a list
 pub highest-at : (rank : Step → ℕ) (free : Step → Bool) (best more all : Option Step) (steps : List Step) (k : ℕ)
-    (d : Step) → k < length steps → highest_from rank best (filter free (drop k steps)) ≡ all
-    → more ≡ better rank free best (get_or steps k d) → highest_from rank more (filter free (drop (k + 1) steps)) ≡ all
-highest-at rank free best more all steps k d below is found =
+    (t : Step) → k < length steps → highest_from rank best (filter free (drop k steps)) ≡ all
+    → more ≡ better rank free best t → t ≡ get_or steps k t
+    → highest_from rank more (filter free (drop (k + 1) steps)) ≡ all
+highest-at rank free best more all steps k t below is found here =
     ap (λ b. highest_from rank b (filter free (drop (k + 1) steps))) found
-    ∙ sym (highest-more rank free best (get_or steps k d) (drop (k + 1) steps))
-    ∙ sym (ap (λ l. highest_from rank best (filter free l)) (drop_more steps k d below))
+    ∙ sym (highest-more rank free best t (drop (k + 1) steps))
+    ∙ ap (λ x. highest_from rank best (filter free (x ∷ drop (k + 1) steps))) here
+    ∙ sym (ap (λ l. highest_from rank best (filter free l)) (drop_more steps k t below))
     ∙ is
 
 -- what is compared with the best so far

@@ -1,5 +1,5 @@
 -- Which streams are free: they run, and the memory would not block their next step (docs/MACHINE.md, "Schedules").
-use Rattle.std.specs.Prelude.{◌&&◌, Bool, true, false, not, ℕ, List, filter}
+use Rattle.std.specs.Prelude.{◌&&◌, Bool, true, false, not, List, filter}
 use Rattle.tag_memory.specs.Answer.{answer}
 use Rattle.tag_memory.specs.declared.requests.Reply.{Reply}
 use Rattle.tag_memory.specs.declared.requests.Reply.TheVariants as reply

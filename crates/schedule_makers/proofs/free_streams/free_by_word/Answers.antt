@@ -1,4 +1,3 @@
-use Rattle.std.proofs.Common.{◌≡◌, rules, ap, ◌∙◌, sym}
 use Rattle.std.proofs.lemmas.List.Sums.{length-filter}
 use Rattle.schedule_makers.specs.Free.{is_free}
 use Rattle.schedule_makers.proofs.free_streams.free_by_word.Goals as goal

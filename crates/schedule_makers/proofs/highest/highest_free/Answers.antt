@@ -1,4 +1,4 @@
-use Rattle.std.proofs.Common.{◌<◌, filter, get_or, length, rules, nat_lt}
+use Rattle.std.proofs.Common.{◌<◌, filter, length, rules, arith}
 use Rattle.schedule_makers.specs.Free.{is_free}
 use Rattle.schedule_makers.specs.Priorities.{highest}
 use Rattle.schedule_makers.specs.Changes.{rank_of, step_of}
@@ -13,6 +13,6 @@ loop-step-preserved g c =
     record {
       left = highest-at rank free (step_of c.loop-step.best) (step_of c.better-best.result)
           (highest rank (filter free c.args.steps.now)) c.args.steps.now c.loop-step.step-index _
-          below c.loop-step.invariant.left c.better-best.ensures.is;
+          below c.loop-step.invariant.left c.better-best.ensures.is (first_of (search rules, grind arith));
       known = c.better-best.ensures.ranked;
     }
