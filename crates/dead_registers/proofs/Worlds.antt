@@ -7,7 +7,6 @@ use Rattle.std.proofs.lemmas.Option.{get_or_from_slice_get}
 use Rattle.tag_memory.specs.Storage.{TaggedMemory}
 use Rattle.stream_core.specs.Streams.{StreamValue, idle}
 use Rattle.processor.specs.Processors.{ProcessorValue, is_idle, stream_at, stream_seen}
-use Rattle.processor.specs.Row.{with_stream}
 use Rattle.processor.specs.World.{World, stream_of, stream_seen_at}
 use Rattle.waiting.specs.Running.{streams_at}
 use Rattle.program_flow.specs.Agreeing.{StreamsAgree}

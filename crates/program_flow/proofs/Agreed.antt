@@ -3,21 +3,18 @@ use Rattle.std.proofs.Common.{◌≡◌, ℕ, ◌⊎◌, inl, inr, false, refl, 
 use Rattle.insn_word.specs.declared.insn.Insn.{Insn}
 use Rattle.insn_word.specs.declared.profiles.Profile.{Profile}
 use Rattle.tag_memory.specs.declared.requests.Reply.{Reply}
-use Rattle.stream_core.specs.Registers.{register_at}
 use Rattle.stream_core.specs.Streams.{StreamValue, cannot_trap}
 use Rattle.stream_core.specs.Effects.{request_of}
 use Rattle.stream_core.specs.StreamRow.{fetch_if, fetch_of, control_of, control_from, row_from, stream_row}
-use Rattle.stream_core.specs.declared.status_words.Codes.{Codes}
 use Rattle.stream_core.specs.declared.steps.Status.TheVariants.{Running}
 use Rattle.stream_core.specs.declared.steps.Outcome.{Outcome}
 use Rattle.stream_core.specs.declared.steps.Outcome.TheVariants as outcome
 use Rattle.stream_core.specs.declared.steps.Fetch.{Fetch}
 use Rattle.stream_core.specs.declared.steps.Fetch.TheVariants as fetch
-use Rattle.program_flow.specs.Operands.{registers_read}
 use Rattle.program_flow.specs.Agreement.{with_registers, AgreeOn, reads_at}
 use Rattle.program_flow.specs.Flow.{EndsStream, IsClosedAt, Matters}
 use Rattle.program_flow.specs.Codes.{with_codes, SameCodes, HasCodesAt}
-use Rattle.program_flow.specs.Agreeing.{AgreeIn, StreamsAgree, TellsFlow, KeepsAgreement}
+use Rattle.program_flow.specs.Agreeing.{StreamsAgree, TellsFlow, KeepsAgreement}
 use Rattle.program_flow.proofs.EqualRows.{same_request, same_control}
 use Rattle.program_flow.proofs.Kept.{AgreeInRegisters, each_of, registers_kept}
 use Rattle.program_flow.proofs.Writes.{Same}

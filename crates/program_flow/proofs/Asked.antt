@@ -1,6 +1,6 @@
 -- A step of a stream sees no condition code that its instruction does not ask for.
-use Rattle.std.proofs.Common.{◌≡◌, ℕ, suc, ◌+◌, ◌-◌, ◌*◌, ◌%◌, ◌^◌, ◌<◌, ◌==◌, ◌⊎◌, inl, inr, Bool, true, false, refl, sym, ap, ◌∙◌, subst, arith}
-use Rattle.std.proofs.Common.{if◌then◌else◌, nat_lt, List, Option, Some, None}
+use Rattle.std.proofs.Common.{◌≡◌, ℕ, suc, ◌+◌, ◌*◌, ◌%◌, ◌^◌, ◌<◌, ◌==◌, ◌⊎◌, inl, inr, Bool, true, false, refl, sym, ap, ◌∙◌, subst, arith}
+use Rattle.std.proofs.Common.{if◌then◌else◌, nat_lt, Option, Some, None}
 use Rattle.std.specs.List.{AllByRecursion}
 use Rattle.insn_word.specs.declared.operations.WideOp.TheVariants as wide
 use Rattle.insn_word.specs.declared.operations.MemoryOp.{MemoryOp}
@@ -37,8 +37,8 @@ use Rattle.stream_core.specs.declared.steps.Outcome.TheVariants as outcome
 use Rattle.stream_core.specs.declared.steps.Control.{Control}
 use Rattle.stream_core.specs.declared.steps.Fetch.{Fetch}
 use Rattle.stream_core.specs.declared.steps.Fetch.TheVariants as fetch
-use Rattle.program_flow.specs.Flow.{GoesTo, MayTrap, EndsStream}
-use Rattle.program_flow.specs.Codes.{with_codes, SameCodes, code_named, codes_if, codes_by, codes_asked, codes_at, makes_code, CameFrom, HasCodesAt}
+use Rattle.program_flow.specs.Flow.{MayTrap, EndsStream}
+use Rattle.program_flow.specs.Codes.{with_codes, SameCodes, code_named, codes_if, codes_by, codes_asked, makes_code, CameFrom, HasCodesAt}
 use Rattle.program_flow.proofs.Kept.{goes_on, Asks, asks_may_trap}
 
 -- Codes.

@@ -17,7 +17,6 @@ use Rattle.insn_word.specs.declared.insn.APart.{APart}
 use Rattle.insn_word.specs.declared.insn.CPart.{CPart}
 use Rattle.insn_word.specs.declared.insn.Insn.{Insn}
 use Rattle.insn_word.specs.declared.insn.Insn.TheVariants.{Wide, Normal}
-use Rattle.insn_word.specs.declared.profiles.Profile.{Profile}
 use Rattle.tag_memory.specs.declared.requests.Request.{Request}
 use Rattle.tag_memory.specs.declared.requests.Reply.{Reply}
 use Rattle.tag_memory.specs.declared.requests.Reply.TheVariants as reply
@@ -25,7 +24,7 @@ use Rattle.stream_core.specs.Registers.{register_at}
 use Rattle.stream_core.specs.Traps.{memory_trap, trap_number}
 use Rattle.stream_core.specs.Streams.{StreamValue, cannot_trap, after_trap, after_trap_if}
 use Rattle.stream_core.specs.Effects.{request_by, request_of, next_pc, skip_pc, ssw_before_control, code_at, control_ssw, after_instruction}
-use Rattle.stream_core.specs.StreamRow.{fetch_if, fetch_of, control_by, control_of, control_from, after_blocked_reply, row_asking, row_from, stream_row}
+use Rattle.stream_core.specs.StreamRow.{control_by, control_of, control_from, after_blocked_reply, row_asking, row_from}
 use Rattle.stream_core.specs.declared.status_words.StatusWord.{StatusWord}
 use Rattle.stream_core.specs.declared.traps.TrapKind.{TrapKind}
 use Rattle.stream_core.specs.declared.traps.TrapKind.TheVariants as kind
@@ -36,7 +35,7 @@ use Rattle.stream_core.specs.declared.steps.Fetch.{Fetch}
 use Rattle.stream_core.specs.declared.steps.Fetch.TheVariants as fetch
 use Rattle.program_flow.specs.Agreement.{with_registers, AgreeOn, writes, registers_over, registers_over_reply, registers_over_fetch, reads_at, put_registers}
 use Rattle.program_flow.specs.Flow.{SkipsTo, GoesBy, GoesTo, MayTrap, MayTrapWith, EndsStream, IsClosedAt, Matters}
-use Rattle.program_flow.proofs.EqualRows.{same_from, row_sees_reads}
+use Rattle.program_flow.proofs.EqualRows.{same_from}
 use Rattle.program_flow.proofs.Writes.{Same, sizes_writes, kept_writes, made_written}
 
 -- Two streams are the same but for registers, and hold the same in these.

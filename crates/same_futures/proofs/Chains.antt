@@ -1,5 +1,5 @@
 -- Chains of links: both ways, one after the other, and under each schedule.
-use Rattle.std.proofs.Common.{◌≡◌, ◌≢◌, ℕ, ◌⊎◌, inl, inr, true, false, refl, sym, ap, ◌∙◌, arith, subst, List, [], ◌∷◌, length, set, Some, slice_get}
+use Rattle.std.proofs.Common.{◌≡◌, ◌≢◌, ℕ, ◌⊎◌, inl, inr, true, false, refl, sym, ap, ◌∙◌, arith, subst, List, [], ◌∷◌, set, Some, slice_get}
 use Rattle.std.proofs.lemmas.List.{length-set, get_or-set_same, get_or-set_other, set-set, set-get_or}
 use Rattle.image_file.specs.ImageValue.{ImageValue}
 use Rattle.stream_core.specs.Streams.{StreamValue, idle, cannot_trap}

@@ -1,6 +1,6 @@
 -- The same step of two worlds that are linked.
 use Rattle.std.proofs.Common.{◌≡◌, ◌≢◌, ℕ, ◌<◌, ◌≤◌, ◌⊎◌, inl, inr, false, refl, sym, ap, ◌∙◌, arith, subst}
-use Rattle.std.proofs.Common.{List, length, set, Option, Some, None, slice_get}
+use Rattle.std.proofs.Common.{length, set, Option, Some, None, slice_get}
 use Rattle.std.proofs.lemmas.Bool.{cases_lt}
 use Rattle.std.proofs.lemmas.List.{length-set, set_comm, set-set, get_or-set_same}
 use Rattle.std.proofs.lemmas.Option.{slice_get-get_or, slice_get_past}

@@ -1,6 +1,6 @@
 -- Quiet steps that can be taken before all others: which they are, and that they stay quiet behind other steps.
 use Rattle.std.proofs.Common.{◌≡◌, ◌≢◌, ℕ, ◌⊎◌, inl, inr, Bool, true, false, ◌&&◌, refl, sym, ap, ◌∙◌, subst}
-use Rattle.std.proofs.Common.{List, [], ◌∷◌, length, arith, Option, Some, None, slice_get}
+use Rattle.std.proofs.Common.{List, [], ◌∷◌, length, arith, Some, None, slice_get}
 use Rattle.insn_word.specs.declared.insn.Insn.{Insn}
 use Rattle.image_file.specs.ImageValue.{ImageValue}
 use Rattle.stream_core.specs.Streams.{StreamValue}

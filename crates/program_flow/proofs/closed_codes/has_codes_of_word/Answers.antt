@@ -1,4 +1,4 @@
-use Rattle.std.proofs.Common.{ℕ, ap, sym, ◌∙◌, subst, IsTrue}
+use Rattle.std.proofs.Common.{ap, sym, ◌∙◌, subst, IsTrue}
 use Rattle.stream_core.specs.StreamRow.{fetch_instruction}
 use Rattle.program_flow.specs.Codes.{HasCodesAt}
 use Rattle.program_flow.specs.Tables.{is_asked_at}
