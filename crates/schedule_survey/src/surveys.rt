@@ -35,7 +35,7 @@ pub fn survey<R: Threads + Sync, const S: usize>(
         .into_par_iter()
         .map(
             |place: usize| -> Result<SeedEnd, LoadFault>
-                ensures { IfOk result (λ e. IsSeedEnd image.entry.now fair.entry most ((first + place) % 2 ^ 64) e) }
+                ensures { IfOk result (λ e. IsSeedEnd image.entry.now fair most ((first + place) % 2 ^ 64) e) }
             { seed_end::<S>(alloc, image, first.wrapping_add(place as u64), fair, most) },
         )
         .with_min_len(1)

@@ -14,6 +14,6 @@ returns-in-Ok-Ok-clause-ends g c =
     let whole : c.args.seeds - 0 ≡ c.args.seeds = omega arith in
     let places = chain.1 ∙ (λ i. nat_range (range.0 i) (range.1 i)) ∙ ap (range_with_len 0) whole in
     let told = all_answered
-    (λ (i : ℕ) (e : SeedEnd). IsSeedEnd c.args.image.now c.fair_length_of-fair.result c.args.most ((c.args.first + i) % 2 ^ 64) e)
+    (λ (i : ℕ) (e : SeedEnd). IsSeedEnd c.args.image.now c.in_ok-fair.fair c.args.most ((c.args.first + i) % 2 ^ 64) e)
     c.args.seeds chain.0 h.0 h.2.0 c.in-Ok-Ok.ends.items chain.2 places h.2.1 h.2.2 in
-    record { fair = _; is_fair = c.fair_length_of-fair.ensures.is; count = told.1; each = told.0 }
+    record { fair = _; is_fair = c.in_ok-fair.ensures.is; count = told.1; each = told.0 }
