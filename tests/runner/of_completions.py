@@ -17,7 +17,9 @@ def read(name):
 
 
 def commands_of_help():
-    return re.findall(r"(?m)^  ([a-z]+)  +\S", lab("--help").out.decode().partition("Commands:")[2].partition("\n\n")[0])
+    """The commands, but for `help`, which says what `--help` does."""
+    listed = lab("--help").out.decode().partition("Commands:")[2].partition("\n\n")[0]
+    return [command for command in re.findall(r"(?m)^  ([a-z]+)  +\S", listed) if command != "help"]
 
 
 def options_of_help(command):
