@@ -1,0 +1,24 @@
+; The third asks for ever whether three numbers are there.
+        .slim 1
+        .entry first
+        .entry second
+        .entry take
+        .data 0, 0              ; word 0: the mailbox, empty
+        .data 0                 ; word 1: the sum
+        .data 3                 ; word 2: the first number
+        .data 4                 ; word 3: the second number
+        .fill 2, 0, 1           ; words 4 and 5: mine
+
+first:  LOAD.N r1, r0, 2
+        SKIP ALWAYS, 0, hand
+second: LOAD.N r1, r0, 3
+hand:   FADD.N r1, r0, 4        ; word 4: the sum so far
+        LIT r1, 1
+        FADD.N r1, r0, 5        ; word 5: how many have added to it
+        QUIT
+take:   LOAD.N r1, r0, 5
+        SUB.T r0, r1, 3
+        SKIP NE, 0, take
+        LOAD.N r1, r0, 4
+        STORE.N r1, r0, 1
+        QUIT
