@@ -1,9 +1,11 @@
 #!/usr/bin/env bash
-#SBATCH --job-name=mta_sim
+#SBATCH --job-name=mta_lab
 #SBATCH --cpus-per-task=1
-#SBATCH --mem=200M
+#SBATCH --mem=1G
 #SBATCH --time=00:05:00
-# one submission a task; its outcomes go to a file of its own
+# judges one submission a task by every schedule; its line goes to a file of its own (docs/MANY_RUNS.md)
 set -eu
-source=$(printf '%s\n' submissions/*.asm | sed -n "${SLURM_ARRAY_TASK_ID}p")
-grading/grade.sh grading/wanted.cells "$source" grading/schedules/*.schedule >"grades.$SLURM_ARRAY_TASK_ID.tsv"
+submissions=(submissions/*.asm)
+line=grades.$SLURM_ARRAY_TASK_ID.tsv
+mta_lab grade --explore --seconds 120 --memory 500 --expect wanted.expect "${submissions[SLURM_ARRAY_TASK_ID - 1]}" >"$line" ||
+  [ -s "$line" ] # the status is 0 only of one that is right; the task has failed if there is no line
