@@ -29,7 +29,9 @@ COLUMNS = ("task", "submission", "seeds", "least", "every", "case seeds", "case 
 SEEDS, STEPS, STATES, PATIENCE = 400, 2000, 5000, 0.5
 BY_SEEDS = ("--seeds", str(SEEDS), "--steps", str(STEPS))
 BY_EVERY = ("--explore", "--states", str(STATES))
-SHOWN = re.compile(r"(?:case \w+: )?(?:seed (?P<seed>\d+)|schedule (?P<schedule>[\d ,]+))(?:: |$)")
+# the seed or the schedule that shows a verdict, in a row of grade
+BEFORE = r"(?:case \w+: )?(?:some schedules, .*, and )?"
+SHOWN = re.compile(BEFORE + r"(?:seed (?P<seed>\d+)|schedule (?P<schedule>[\d ,]+))(?:: |$)")
 
 
 def rows_of(name):
