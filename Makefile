@@ -149,6 +149,8 @@ install:
 	install -D -m 644 share/completions/_mta_lab $(SHARE)/zsh/site-functions/_mta_lab
 	install -D -m 644 share/completions/mta_sim.fish $(SHARE)/fish/vendor_completions.d/mta_sim.fish
 	install -D -m 644 share/completions/mta_lab.fish $(SHARE)/fish/vendor_completions.d/mta_lab.fish
+	install -d $(SHARE)/mta_sim/schema
+	install -m 644 share/schema/*.json $(SHARE)/mta_sim/schema
 	install -d $(SHARE)/doc/mta_sim/docs
 	cp -r examples editors $(SHARE)/doc/mta_sim
 	install -m 644 README.md CONTRIBUTING.md CHANGELOG.md $(SHARE)/doc/mta_sim
@@ -161,7 +163,7 @@ uninstall:
 	rm -f $(DESTDIR)$(PREFIX)/bin/mta_lab $(SHARE)/man/man1/mta_lab.1 $(SHARE)/bash-completion/completions/mta_lab
 	rm -f $(SHARE)/zsh/site-functions/_mta_sim $(SHARE)/fish/vendor_completions.d/mta_sim.fish
 	rm -f $(SHARE)/zsh/site-functions/_mta_lab $(SHARE)/fish/vendor_completions.d/mta_lab.fish
-	rm -rf $(SHARE)/doc/mta_sim
+	rm -rf $(SHARE)/doc/mta_sim $(SHARE)/mta_sim
 
 clean:
 	rm -rf out crates/*/out

@@ -90,7 +90,8 @@ lay_out_archive() {
 lay_out_debian() {
   local from=$1 to=$2 share=$2/usr/share
   local doc=$share/doc/mta-sim name
-  mkdir -p "$share/man/man1" "$doc" "$to/DEBIAN"
+  mkdir -p "$share/man/man1" "$share/mta-sim" "$doc" "$to/DEBIAN"
+  cp -r "$from/share/schema" "$share/mta-sim"
   for name in $programs; do
     install -D -m 755 "$from/bin/$name" "$to/usr/bin/$name"
     install -D -m 644 "$from/share/completions/$name.bash" "$share/bash-completion/completions/$name"

@@ -77,7 +77,7 @@ class Maker:
             self.waiting[p]["tries"] += 1
             return
         self.waiting[p] = {"stream": f"{p}.0", "word": address, "for": wanted, "from": len(self.steps) + 1, "tries": 1,
-                           "made": self.last_turn(address), "to": None, "met": None}
+                           "made": self.last_turn(address), "to": None, "met": 0}
         self.waits.append(self.waiting[p])
 
     def free(self, p, address):
@@ -100,8 +100,8 @@ class Maker:
 
     def run(self, name):
         source = [f"{place}: {statement} ; what a line may say" for _, place, statement in self.program]
-        return {"version": 1, "name": name, "schedule": "by chance", "source": source, "program": self.program,
-                "data": [[0, 1, 1, "the count"], [8, 1, 1, "the slot"]],
+        return {"version": 2, "object": "page", "name": name, "schedule": "by chance", "source": source,
+                "program": self.program, "data": [[0, 1, 1, "the count"], [8, 1, 1, "the slot"]],
                 "start": {"places": self.start, "memory": self.memory}, "steps": self.steps, "waits": self.waits,
                 "findings": [], "end": self.end()}
 
@@ -137,9 +137,9 @@ def ring(count):
         asked = ["LOAD", "S", word, word, None, None]
         steps.append({"p": p, "s": 0, "pc": 1, "o": "blocked", "ref": asked, "ch": []})
         told = {"stream": f"{p}.0", "word": word, "for": "full", "made": after + 1}
-        waits.append(told | {"from": since, "tries": 1, "to": None, "met": None})
+        waits.append(told | {"from": since, "tries": 1, "to": None, "met": 0})
         waiting.append(told | {"since": since, "by": f"{after}.0"})
-    return {"version": 1, "name": "ring", "schedule": "in turn",
+    return {"version": 2, "object": "page", "name": "ring", "schedule": "in turn",
             "source": ["take: LOAD.S r0, r1, 0", "LOAD.S r0, r2, 0"],
             "program": [[1, "take", "LOAD.S r0, r1, 0"], [2, "take+1", "LOAD.S r0, r2, 0"]],
             "data": [[0, count, 1, "the forks"]], "start": {"places": places, "memory": [[count, "0", 1]]},

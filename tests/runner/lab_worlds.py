@@ -93,11 +93,9 @@ def traced_end(trace):
     return "steps" if len(steps) == MOST_STEPS else "deadlock", len(steps), words
 
 
-def told_words(text, start):
-    """The addresses of the words that a survey tells to have changed, with their values; `start` has those of the
-    image, which stay where the tags alone changed."""
-    found = re.findall(r"\[(\d+)\] (?:-?\d+ -> (-?\d+))?", re.sub(r"waits for \[\d+\]", "", text))
-    return {int(address): int(after or start[f"[{address}].value"]) % 2**64 for address, after in found}
+def told_words(words):
+    """The addresses of the words that a survey tells to have changed, with their values."""
+    return {address: int(value) for address, _, (value, _) in words}
 
 
 def missed_register(trace, wishes):
@@ -108,8 +106,10 @@ def missed_register(trace, wishes):
             stream = ".".join(line.split()[1:])
         elif line.startswith("r"):
             held[stream, int(line[1:3])] = int(line[4:], 16)
-    for wish in filter(None, (line.partition("#")[0].strip() for line in (wishes or b"").decode().splitlines())):
-        _, stream, register, value = wish.split()
-        if held.get((stream, int(register[1:])), 0) != int(value):
-            return wish
+    for number, line in enumerate((wishes or b"").decode().splitlines(), start=1):
+        wish = line.partition("#")[0].strip()
+        if wish:
+            _, stream, register, value = wish.split()
+            if held.get((stream, int(register[1:])), 0) != int(value):
+                return {"line": number, "text": wish}
     return None

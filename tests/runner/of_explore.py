@@ -18,7 +18,6 @@ from table import unescaped
 PROGRAMS, MOST = 24, 150
 RUNNING = re.compile(rb"^stream (\d+) (\d+)\nRunning ", re.MULTILINE)
 STOPPED = re.compile(rb"^Stopped ", re.MULTILINE)
-STREAMS = re.compile(r"(\d+\.\d+) (runs|waits)")
 
 
 @checks.each("lab_explore/worlds.tsv")
@@ -166,19 +165,26 @@ def by_fewer(source, searched, sets, plain, wanted):
     return next((wrong for wrong in (in_end(searched, sets, {**end, "from": None}) for end in ended) if wrong), True)
 
 
+def told_by(end):
+    """What an end is told by: its kind, the words that changed, who waits for which word, and who was stopped."""
+    waiting = [(wait["stream"], wait["word"]) for wait in end["waiting"]]
+    stopped = [(stream["stream"], stream["trap"]) for stream in end["stopped"]]
+    return json.dumps([end["end"], end["words"], waiting, stopped])
+
+
 def ends_in(ends):
     """What both searches tell of ends: all but the schedules, how many worlds they are, from how many worlds they lead
     there, and the first finding of a schedule; of those that spin whether there are any."""
-    told = {(end["end"], end["words"], end["shortest"], end["expected"]) for end in ends if end["end"] != "spinning"}
+    told = {(told_by(end), end["shortest"], end["expected"]) for end in ends if end["end"] != "spinning"}
     return told, any(end["end"] == "spinning" for end in ends)
 
 
 def are_as_told(ends, wanted):
     """Whether the ends are those that the plain search tells, each of no more worlds: of those that differ in registers
     alone that nobody reads again one is told."""
-    most = {(end["end"], end["words"]): end["worlds"] for end in wanted}
+    most = {told_by(end): end["worlds"] for end in wanted}
     return ends_in(ends) == ends_in(wanted) and all(
-        end["worlds"] <= most[end["end"], end["words"]] for end in ends if end["end"] != "spinning")
+        end["worlds"] <= most[told_by(end)] for end in ends if end["end"] != "spinning")
 
 
 def in_end(searched, sets, end):
@@ -197,16 +203,22 @@ def in_end(searched, sets, end):
     if spins and end["sets"] == 1 and len(searched.sources(spins[0])) != end["from"]:
         return f"from {len(searched.sources(spins[0]))} worlds: {end}"
     if spins and end["sets"] == 1:
-        wanted, told = searched.streams_in(spins[0], world), STREAMS.findall(end["words"])
+        wanted, told = searched.streams_in(spins[0], world), streams_told(end)
         if wanted != told:
             return f"in it {wanted}: {end}"
     return in_round(searched, world, steps, end) if spins else None
 
 
+def streams_told(end):
+    """The streams that run in the world of an end, each with whether it runs in a set, or waits in each world of it."""
+    streams = {*end["able"], *(wait["stream"] for wait in end["waiting"])}
+    in_order = sorted(streams, key=lambda name: tuple(map(int, name.split("."))))
+    return [(name, "runs" if name in end["running"] else "waits") for name in in_order]
+
+
 def steps_of(schedule):
-    """The steps of a schedule's text."""
-    return tuple((int(p), int(s)) for p, s, count in (line.split() for line in schedule.splitlines())
-                 for _ in range(int(count)))
+    """The steps of a schedule's turns."""
+    return tuple((p, s) for p, s, count in schedule for _ in range(count))
 
 
 def in_round(searched, world, steps, end):
@@ -290,7 +302,7 @@ def begins():
     with tool.made_files(nothing=b"", some=b"2 0 3\n3 0 1\n") as paths:
         whole = lab("explore", "lock.asm").out == lab("explore", "lock.asm", "--from", paths["nothing"]).out
         head, *ends = map(json.loads, lab("explore", "lock.asm", "--from", paths["some"], "--json").out.splitlines())
-        begin = all(end["schedule"].startswith("2 0 3\n3 0 ") and end["shortest"] == 20 for end in ends)
+        begin = all(steps_of(end["schedule"])[:4] == ((2, 0),) * 3 + ((3, 0),) and end["shortest"] == 20 for end in ends)
     return whole and begin and head["complete"] and 0 < head["worlds"] < 6803 or (whole, begin, head)
 
 

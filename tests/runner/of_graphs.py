@@ -78,8 +78,7 @@ class Graph:
         """The steps that a schedule takes behind so many from the first world on: as (from, to), in order."""
         leads = {(int(step[1]), int(step[3]), int(step[4])): step for step in self.steps}
         here, taken = 1, []
-        for line in schedule.splitlines():
-            p, s, count = map(int, line.split())
+        for p, s, count in schedule:
             for _ in range(count):
                 if begin > 0:
                     begin -= 1

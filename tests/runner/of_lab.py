@@ -19,8 +19,6 @@ CASES = os.path.join(table.CASES, "lab")
 SEEDS = range(8)
 # the most steps of the schedules that are compared with a second maker's
 MOST = 400
-# the names of the object of an end
-END = "able circle fresh kind quit stopped version waiting"
 # programs whose races a survey has to find within 200 seeds, and what it is to look at where they don't show in words
 RACES = {
     "lock": None, "fetch_add": None, "bounded_buffer": None, "barrier": None,
@@ -161,51 +159,13 @@ def finds_race(name, wishes):
     if len(found) < 2:
         return "one end alone"
     image = tool.asm(tool.read(source))
-    start = lab_worlds.Run(lab("view", source, "--to", "1", "--json").out).start()
     for end in found:
         trace = tool.trace(image, lab("schedule", "random", source, "--seed", end["seed"]).out)
         replayed = *lab_worlds.traced_end(trace), lab_worlds.missed_register(trace, wishes)
-        told = end["end"], end["steps"], lab_worlds.told_words(end["words"], start), end["missed"]
+        told = end["end"], end["steps"], lab_worlds.told_words(end["words"]), end["missed"]
         if replayed != told:
             return f"seed {end['seed']}: mta_sim comes to {replayed}, and the survey tells {told}"
     return True
-
-
-# commands that print objects, and the names that their lines have, the last of them the lines' from there on
-OBJECTS = {
-    "check --json grading/submissions/misspelt.asm count.asm": ["column file help line severity version width words"],
-    "view lock.asm lock.ends.schedule --json": [
-        "data name program schedule source start version", "ch o p pc ref s version|ch o p pc s version"],
-    "compare lock.asm lock.ends.schedule lock.lost_update.schedule --json": [
-        "one other step version", "differ position version", END, END],
-    "survey lock.asm --seeds 5 --json": ["end expected finding missed runs seed steps version words"],
-    "explore lock.asm --states 50 --json": ["begin bound complete plain steps version worlds"],
-    "grade --json --expect wishes --seeds 5 lock.asm": ["submission verdict version why"],
-}
-
-
-@checks.others("lab/objects")
-def objects():
-    """What is printed as JSON: an object a line, of the names in docs/LAB.md, with a version; in it numbers of more than
-    32 bits are strings."""
-    for line, names in OBJECTS.items():
-        yield line.split()[0], lambda line=line, names=names: (True, are_objects(line, names))
-
-
-def are_objects(line, names):
-    with tempfile.TemporaryDirectory(prefix="mta-case-") as folder:
-        for path in glob.glob(os.path.join(EXAMPLES, "*")):
-            os.symlink(path, os.path.join(folder, os.path.basename(path)))
-        tool.write(os.path.join(folder, "wishes"), b"word 8 4\n")
-        printed = lab(*line.split(), folder=folder).out.decode().splitlines()
-    if line.startswith("view"):
-        names = names[:1] + names[1:] * (len(printed) - 2) + [END]
-    for number, text in enumerate(printed):
-        found = json.loads(text, parse_int=lambda digits: digits if int(digits) < 2**32 else text)
-        wanted = names[min(number, len(names) - 1)].split("|")
-        if found.get("version") != "1" or " ".join(sorted(found)) not in wanted or text in str(found):
-            return f"line {number + 1}: {text[:300]}"
-    return len(printed) >= len(names) or "too few lines"
 
 
 @checks.others("lab/messages")

@@ -12,6 +12,7 @@ import tempfile
 import xml.etree.ElementTree
 
 import checks
+import schemas
 import tool
 from of_lab import EXAMPLES, lab, source_of
 
@@ -34,8 +35,10 @@ def written(command, *words):
 
 
 def run_in(page):
-    """The run in a page."""
-    return json.loads(re.search(r'<script type="application/json" id="run">(.*?)</script>', page, re.DOTALL).group(1))
+    """The run in a page, which is kept for its schema."""
+    text = re.search(r'<script type="application/json" id="run">(.*?)</script>', page, re.DOTALL).group(1)
+    schemas.SEEN.line(text)
+    return json.loads(text)
 
 
 @checks.others("pages/runs")
@@ -52,11 +55,12 @@ def page_as_viewed(source, *words):
     _, page, _ = written("page", source, *words)
     run = run_in(page)
     head, *steps, end = [json.loads(line) for line in lab("view", source, *words, "--json").out.decode().splitlines()]
-    for step in steps:
-        del step["version"]
+    for part in (*steps, end):
+        del part["version"], part["object"]
+    del end["words"], end["more_findings"]
     name = os.path.basename(source).removesuffix(".asm")
     wanted = {key: head[key] for key in ("version", "source", "program", "data", "start")}
-    wanted |= {"name": name, "steps": steps, "waits": waits_of(run), "end": end}
+    wanted |= {"name": name, "steps": steps, "waits": waits_of(run), "findings": end.pop("findings"), "end": end}
     got = {key: run[key] for key in wanted}
     return json.dumps(wanted, sort_keys=True).encode(), json.dumps(got, sort_keys=True).encode()
 

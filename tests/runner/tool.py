@@ -5,6 +5,7 @@ import os
 import subprocess
 import tempfile
 
+import schemas
 import table
 
 PROGRAM = os.path.join(table.ROOT, "crates/mta_sim/out/mta_sim")
@@ -29,9 +30,10 @@ class Ended:
 
 
 def call(*words, given=b"", folder=None, program=PROGRAM):
-    """Calls a program with these words and this standard input."""
+    """Calls a program with these words and this standard input. The objects that it prints are kept for their schemas."""
     ended = subprocess.run([program, *words], input=given, capture_output=True, cwd=folder, timeout=PATIENCE,
                            check=False)
+    schemas.SEEN.call(words, ended.stdout)
     return Ended(ended.returncode, ended.stdout, ended.stderr)
 
 

@@ -237,13 +237,32 @@ def of_each_end(space, expected, ends, told_as=lambda world: world):
         yield differs("a schedule", (first and space.kind(world), len(steps_of(end["schedule"])), end["shortest"]),
                       (end["end"], first and space.distance[first], first and space.distance[first]))
         missed = wishes.missed(expected, world)
-        yield differs("what is missed", of_missed(end["missed"]), of_missed(missed and missed.text))
+        wanted_line = missed and (expected.index(missed) + 1, numbers_read(missed.text))
+        told_line = end["missed"] and (end["missed"]["line"], numbers_read(end["missed"]["text"]))
+        yield differs("what is missed", told_line, wanted_line)
+        yield from of_world(space, world, end)
     yield differs("worlds and shortest of the ends", told, wanted)
 
 
-def of_missed(text):
+def of_world(space, world, end):
+    """In what the words and the stopped streams differ that are told of a world."""
+    start = space.before[0] if space.before else space.first
+    changed = [[8 * at, held(before), held(after)]
+               for at, (before, after) in enumerate(zip(start.memory, world.memory)) if before != after]
+    yield differs("words", end["words"], changed)
+    stopped = {tuple(map(int, stream["stream"].split("."))): stream["trap"] for stream in end["stopped"]}
+    yield differs("stopped", stopped, search.stopped(world))
+
+
+def held(word):
+    """The value and the tags of a word, as objects have them."""
+    value, tags = word
+    return [str(value), tags]
+
+
+def numbers_read(text):
     """An expectation with its numbers read, however they are written."""
-    return text and [number(word) for word in text.split()]
+    return [number(word) for word in text.split()]
 
 
 def number(word):
@@ -276,12 +295,12 @@ def of_alone(alone, before):
 def of_claims(space, claims, ends, breaking):
     """In what the claims that are broken differ: those that some world breaks are told, with what `breaking` says."""
     wanted = [(claim.text, *breaking(claim)) for claim in broken(space, claims)]
-    told = [(end["words"], end["worlds"], end["shortest"]) for end in ends if end["end"] == "broken"]
+    told = [(end["claim"]["text"], end["worlds"], end["shortest"]) for end in ends if end["end"] == "broken"]
     yield differs("broken claims", told, wanted)
     for end in ends:
         if end["end"] == "broken":
             world = search.world_after(space.program, steps_of(end["schedule"]))
-            claim = next(claim for claim in claims if claim.text == end["words"])
+            claim = next(claim for claim in claims if claim.text == end["claim"]["text"])
             yield differs("a world that breaks it", wishes.holds(claim, world), False)
 
 
@@ -309,6 +328,5 @@ def of_spinning(space, sets, end):
 
 
 def steps_of(schedule):
-    """The steps of a schedule's text."""
-    return tuple((int(p), int(s)) for p, s, count in (line.split() for line in schedule.splitlines())
-                 for _ in range(int(count)))
+    """The steps of a schedule's turns."""
+    return tuple((p, s) for p, s, count in schedule for _ in range(count))

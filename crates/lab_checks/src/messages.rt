@@ -1,30 +1,28 @@
 //! Messages about a file as JSON.
 
 use command_parts::push_object;
-use lab_json::VERSION;
-use serde_json::{Value, json};
+use lab_json::{object_of, put_number, put_text};
+use serde_json::Value;
 use source_faults::Message;
 use std::alloc::{AllocError, Global};
 
-/// Adds the object of a message about a file.
+/// Adds the object of a message about a file. What is wrong, and how it may be mended, are words for people.
 pub(crate) fn push_message_object(
     alloc: Global,
     out: &mut String,
     file: &str,
     message: &Message,
 ) -> Result<(), AllocError> {
-    let severity = message.severity.name();
-    let line = message.line;
-    let column = message.column;
-    let width = message.width;
-    let words = message.words.as_str();
-    let help = match &message.help {
-        Some(help) => Value::String(String::from_str(alloc, help)?),
-        None => Value::Null,
-    };
-    let value = json!(in alloc; {
-        "version": VERSION, "file": file, "line": line, "column": column, "width": width, "severity": severity,
-        "words": words, "help": help
-    })?;
-    push_object(alloc, out, &value)
+    let mut fields = object_of(alloc, "message")?;
+    put_text(alloc, &mut fields, "file", file)?;
+    put_number(alloc, &mut fields, "line", message.line as u64)?;
+    put_number(alloc, &mut fields, "column", message.column as u64)?;
+    put_number(alloc, &mut fields, "width", message.width as u64)?;
+    put_text(alloc, &mut fields, "severity", message.severity.name())?;
+    put_text(alloc, &mut fields, "message", &message.words)?;
+    match &message.help {
+        Some(help) => put_text(alloc, &mut fields, "help", help)?,
+        None => serde_json::put(&mut fields, alloc, "help", Value::Null)?,
+    }
+    push_object(alloc, out, &Value::Object(fields))
 }

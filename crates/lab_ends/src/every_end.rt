@@ -76,6 +76,10 @@ pub struct SpaceEnd {
     pub round: Vec<Step>,
     /// The same in words.
     pub round_words: String,
+    /// The streams that can go on in some world of a set that spins; none of other ends.
+    pub running: Vec<Step>,
+    /// The byte addresses of the words that change in a set that spins; none of other ends.
+    pub changing: Vec<u64>,
 }
 
 impl SpaceEnd {
@@ -249,6 +253,8 @@ pub(crate) fn new_end(
         finding: String::new(alloc),
         round: Vec::new(alloc),
         round_words: String::new(alloc),
+        running: Vec::new(alloc),
+        changing: Vec::new(alloc),
     };
     end.places.push(place)?;
     if place < space.len() {

@@ -88,26 +88,65 @@ fn going_of<const S: usize>(machine: &Machine<'_, S>, stream: Step) -> Going {
     }
 }
 
-/// Adds who runs in a set of worlds and who waits in each of them, the words that differ from the image in its first
-/// world, and those that change in it.
-pub(crate) fn push_set<const S: usize>(
+/// What is told of a set of worlds.
+#[derive(Drop)]
+pub(crate) struct SetTold {
+    /// Who runs in it and who waits in each of its worlds, the words that differ from the image in its first one, and those
+    /// that change in it.
+    pub text: String,
+    /// The streams that can go on in some world of it.
+    pub running: Vec<Step>,
+    /// The byte addresses of the words that change in it.
+    pub changing: Vec<u64>,
+}
+
+/// What is told of the set of the worlds at these places.
+pub(crate) fn set_told<const S: usize>(
     alloc: Global,
-    text: &mut String,
     names: &ProgramNames<'_>,
     style: NumberStyle,
     space: &Space<'_>,
     first: usize,
     others: &[usize],
-) -> Result<(), AllocError> {
+) -> Result<SetTold, AllocError> {
     let machine = machine_at::<S>(alloc, space, first)?;
     let mut seen = Seen::of(alloc, &machine)?;
     for place in others {
         let other = machine_at::<S>(alloc, space, *place)?;
         seen.add(&machine, &other);
     }
-    push_streams(text, &seen.streams)?;
-    push_changed_words(text, names, style, &machine)?;
-    push_changing(text, &seen.is_changing)
+    let changing = changing_words(alloc, &seen.is_changing)?;
+    let mut text = String::new(alloc);
+    push_streams(&mut text, &seen.streams)?;
+    push_changed_words(&mut text, names, style, &machine)?;
+    push_changing(&mut text, &changing)?;
+    Ok(SetTold {
+        text,
+        running: running_of(alloc, &seen.streams)?,
+        changing,
+    })
+}
+
+/// Those of these streams that run.
+fn running_of(alloc: Global, streams: &[GoingStream]) -> Result<Vec<Step>, AllocError> {
+    let mut running = Vec::new(alloc);
+    for GoingStream { stream, going } in streams {
+        if *going == Going::Runs {
+            running.push(*stream)?;
+        }
+    }
+    Ok(running)
+}
+
+/// The byte addresses of the words that are marked.
+fn changing_words(alloc: Global, is_changing: &[bool]) -> Result<Vec<u64>, AllocError> {
+    let mut changing = Vec::new(alloc);
+    for (index, is_marked) in is_changing.iter().enumerate() {
+        if *is_marked {
+            changing.push((index as u64).saturating_mul(8))?;
+        }
+    }
+    Ok(changing)
 }
 
 /// Adds the streams, and how they go on.
@@ -124,14 +163,11 @@ fn push_streams(text: &mut String, streams: &[GoingStream]) -> Result<(), AllocE
     Ok(())
 }
 
-/// Adds the words that are marked, as ones that change.
-fn push_changing(text: &mut String, is_changing: &[bool]) -> Result<(), AllocError> {
-    for (index, is_marked) in is_changing.iter().enumerate() {
-        if *is_marked {
-            let address = (index as u64).saturating_mul(8);
-            push_part_of(text, 0, "")?;
-            write!(text, "[{address}] goes on changing")?;
-        }
+/// Adds the words at these byte addresses, as ones that change.
+fn push_changing(text: &mut String, changing: &[u64]) -> Result<(), AllocError> {
+    for address in changing {
+        push_part_of(text, 0, "")?;
+        write!(text, "[{address}] goes on changing")?;
     }
     Ok(())
 }

@@ -4,7 +4,7 @@ use crate::every_end::{EndTold, SpaceEnd, SpaceEndKind, new_end};
 use crate::links::links_of;
 use crate::machines::machine_at;
 use crate::rounds::{push_round, round_of};
-use crate::set_words::push_set;
+use crate::set_words::{SetTold, set_told};
 use closed_sets::closed_sets;
 use end_kinds::EndKind;
 use lab_texts::{NumberStyle, ProgramNames};
@@ -102,18 +102,17 @@ fn add_set<const S: usize>(
     let Some((first, others)) = places.split_first() else {
         return Ok(());
     };
-    let mut text = String::new(alloc);
-    push_set::<S>(alloc, &mut text, names, style, space, *first, others)?;
+    let told = set_told::<S>(alloc, names, style, space, *first, others)?;
     match ends
         .iter_mut()
-        .find(|end| end.kind == SPINNING && end.text == text)
+        .find(|end| end.kind == SPINNING && end.text == told.text)
     {
         Some(end) => {
             end.sets = end.sets.saturating_add(1);
             end.places.extend_from_slice(places)
         }
         None => {
-            let end = new_set::<S>(alloc, names, space, *first, text)?;
+            let end = new_set::<S>(alloc, names, space, *first, told)?;
             Ok(ends.push(with_places(end, others)?)?)
         }
     }
@@ -132,10 +131,16 @@ fn new_set<const S: usize>(
     names: &ProgramNames<'_>,
     space: &Space<'_>,
     first: usize,
-    text: String,
+    told: SetTold,
 ) -> Result<SpaceEnd, AllocError> {
-    let told = EndTold::of(SPINNING, text);
-    let mut end = new_end(alloc, space, first, told)?;
+    let SetTold {
+        text,
+        running,
+        changing,
+    } = told;
+    let mut end = new_end(alloc, space, first, EndTold::of(SPINNING, text))?;
+    end.running = running;
+    end.changing = changing;
     let mut machine = machine_at::<S>(alloc, space, first)?;
     end.round = round_of(alloc, space, &machine, first)?;
     push_round(&mut end.round_words, names, &mut machine, &end.round)?;

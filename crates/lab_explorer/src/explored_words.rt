@@ -1,74 +1,52 @@
 //! What is told of a search: its head and its ends, in words or as objects.
 
 use crate::expectation_texts::push_expectation;
+use crate::expected_lines::ExpectedLines;
+use crate::explored_objects::push_objects;
 use crate::exploring::Explored;
-use crate::watching::SearchBound;
 use crate::widths::digits_of;
-use command_parts::{Answer, push_object};
+use command_parts::Answer;
 use end_kinds::EndKind;
 use expectations::Expectation;
+use image_file::Image;
 use lab_ends::{SpaceEnd, SpaceEndKind};
-use lab_json::VERSION;
-use lab_requests::ExploreRequest;
 use plain_text::push_plain;
-use serde_json::{Value, json};
 use std::alloc::{AllocError, Global};
-use trace_text::write_schedule;
 
-/// What is told of a search.
+/// What is told of a search among the schedules of an image, of which these lines say what is expected.
 pub(crate) fn answer_of(
     alloc: Global,
-    request: &ExploreRequest,
-    expected: &[Expectation],
+    is_json: bool,
+    image: &Image,
+    lines: ExpectedLines,
     found: &Explored,
 ) -> Result<Answer, AllocError> {
     let mut output = String::new(alloc);
-    push_head(alloc, &mut output, request.shown.json, found)?;
-    let width = digits_of(widest(&found.ends));
-    for end in found.ends.iter() {
-        if request.shown.json {
-            push_end_object(alloc, &mut output, expected, found, end)?;
-        } else {
-            push_end_line(&mut output, width, expected, found, end)?;
-        }
+    if is_json {
+        push_objects(alloc, &mut output, image, lines, found)?;
+    } else {
+        push_lines(&mut output, lines.expected, found)?;
     }
     Ok(Answer::printed(alloc, output, found.status()))
+}
+
+/// Adds how much was found, and the lines of the ends.
+fn push_lines(
+    out: &mut String,
+    expected: &[Expectation],
+    found: &Explored,
+) -> Result<(), AllocError> {
+    push_head_line(out, found)?;
+    let width = digits_of(widest(&found.ends));
+    for end in found.ends.iter() {
+        push_end_line(out, width, expected, found, end)?;
+    }
+    Ok(())
 }
 
 /// The greatest count of worlds of an end.
 fn widest(ends: &[SpaceEnd]) -> usize {
     ends.iter().map(|end| end.worlds()).max().unwrap_or(0)
-}
-
-/// Adds how much was found.
-fn push_head(
-    alloc: Global,
-    out: &mut String,
-    is_json: bool,
-    found: &Explored,
-) -> Result<(), AllocError> {
-    if is_json {
-        let worlds = found.worlds;
-        let steps = found.steps;
-        let complete = found.is_complete;
-        let is_plain = found.is_of_all_worlds;
-        let begin = found.begin;
-        let bound = bound_value(alloc, found.bound)?;
-        let value = json!(in alloc; {
-            "version": VERSION, "worlds": worlds, "steps": steps, "complete": complete, "plain": is_plain,
-            "begin": begin, "bound": bound
-        })?;
-        return push_object(alloc, out, &value);
-    }
-    push_head_line(out, found)
-}
-
-/// What ended a search, as objects have it: null where nothing did.
-pub fn bound_value(alloc: Global, bound: Option<SearchBound>) -> Result<Value, AllocError> {
-    match bound {
-        Some(bound) => Ok(Value::String(String::from_str(alloc, bound.json_name())?)),
-        None => Ok(Value::Null),
-    }
 }
 
 /// Adds how much was found, in words.
@@ -183,52 +161,4 @@ fn push_missed(
 /// The first expectation that an end does not meet.
 fn missed_of<'e>(expected: &'e [Expectation], end: &SpaceEnd) -> Option<&'e Expectation> {
     end.missed.and_then(|place| expected.get(place))
-}
-
-/// How many steps a shortest schedule to an end has; null where it is not known.
-fn shortest_value(alloc: Global, found: &Explored, end: &SpaceEnd) -> Result<Value, AllocError> {
-    if !found.is_shortest(end) {
-        return Ok(Value::Null);
-    }
-    let steps = end.schedule.len();
-    json!(in alloc; steps)
-}
-
-/// Adds the object of an end.
-fn push_end_object(
-    alloc: Global,
-    out: &mut String,
-    expected: &[Expectation],
-    found: &Explored,
-    end: &SpaceEnd,
-) -> Result<(), AllocError> {
-    let kind = end.kind.json_name();
-    let worlds = end.worlds();
-    let sets = end.sets;
-    let words = end.text.as_str();
-    let sources = end.sources;
-    let shortest = shortest_value(alloc, found, end)?;
-    let schedule = write_schedule(alloc, &end.schedule)?;
-    let schedule = schedule.as_str();
-    // (nobody expects a deadlock, whatever else its words hold)
-    let is_bad = end.kind == SpaceEndKind::Broken
-        || end.kind == SpaceEndKind::End(EndKind::Deadlock);
-    let is_as_expected = end.missed.is_none() && !end.is_trapped && !is_bad;
-    let missed = match missed_of(expected, end) {
-        Some(expectation) => {
-            let mut words = String::new(alloc);
-            push_expectation(&mut words, expectation)?;
-            Value::String(words)
-        }
-        None => Value::Null,
-    };
-    let finding = end.finding.as_str();
-    let round = write_schedule(alloc, &end.round)?;
-    let round = round.as_str();
-    let value = json!(in alloc; {
-        "version": VERSION, "end": kind, "worlds": worlds, "sets": sets, "words": words, "from": sources,
-        "shortest": shortest, "schedule": schedule, "expected": is_as_expected, "missed": missed, "finding": finding,
-        "round": round
-    })?;
-    push_object(alloc, out, &value)
 }

@@ -7,6 +7,7 @@ ghost use Rattle.schedule_verdicts.specs.KeptClaims.{AreKeptOnTheWay};
 ghost use Rattle.schedule_verdicts.specs.NamedRegisters.{AreNamed};
 ghost use Rattle.schedule_verdicts.specs.RightSpaces.{IsFollowedForClaims, IsRightOnEachWay, IsRightThroughout};
 
+use crate::expected_lines::ExpectedLines;
 use crate::explored_words::answer_of;
 use crate::graphs::{graph_asked, write_graph};
 use crate::spaces::space_of;
@@ -108,7 +109,8 @@ pub fn show_every_end<C: Clock, F: Files, R: Read, E: Write>(
 ) -> Result<Answer, LabFault> {
     let program = read_program(alloc, inputs, request.program)?;
     let names = ProgramNames::of(alloc, &program.text)?;
-    let wishes = wishes_asked(alloc, inputs, request, &program, &names)?;
+    let text = text_asked(alloc, inputs, request.expected)?;
+    let wishes = wishes_asked(alloc, request.expected, &text, &program, &names)?;
     let begin = begin_asked(alloc, inputs, request, &program)?;
     let made = make_folder(alloc, inputs, request.keep);
     let mut watcher = Watcher::new(alloc, console, request.bounds)?;
@@ -123,7 +125,11 @@ pub fn show_every_end<C: Clock, F: Files, R: Read, E: Write>(
     );
     watcher.finish();
     let found = found?;
-    let mut answer = answer_of(alloc, request, &wishes.ends, &found)?;
+    let lines = ExpectedLines {
+        text: &text,
+        expected: &wishes.ends,
+    };
+    let mut answer = answer_of(alloc, request.shown.json, &program.image, lines, &found)?;
     let kept = keep_schedules(alloc, inputs, request.keep, made, &found.ends);
     let drawn = write_graph(alloc, inputs, request.dot, &found);
     answer.fault = kept.and(drawn).err();
@@ -155,19 +161,30 @@ fn make_folder<F: Files, R: Read>(
     }
 }
 
-/// What is wished of the program; nothing where no file says it.
-fn wishes_asked<F: Files, R: Read>(
+/// The text of the file that says what is wished; empty where none is named.
+fn text_asked<F: Files, R: Read>(
     alloc: Global,
     inputs: &mut Inputs<'_, F, R>,
-    request: &ExploreRequest,
+    path: Option<&str>,
+) -> Result<Vec<u8>, LabFault> {
+    match path {
+        Some(path) => inputs.read(alloc, path),
+        None => Ok(Vec::new(alloc)),
+    }
+}
+
+/// What is wished of the program; nothing where no file says it.
+fn wishes_asked(
+    alloc: Global,
+    path: Option<&str>,
+    text: &[u8],
     program: &Program,
     names: &ProgramNames<'_>,
 ) -> Result<Wishes, LabFault> {
-    let Some(path) = request.expected else {
-        return Ok(Wishes::none(alloc));
-    };
-    let text = inputs.read(alloc, path)?;
-    wishes_of(alloc, path, &text, names, &program.image)
+    match path {
+        Some(path) => wishes_of(alloc, path, text, names, &program.image),
+        None => Ok(Wishes::none(alloc)),
+    }
 }
 
 /// What the search that is asked for comes to.

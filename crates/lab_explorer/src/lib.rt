@@ -3,6 +3,8 @@
 
 mod claim_texts;
 mod expectation_texts;
+mod expected_lines;
+mod explored_objects;
 mod explored_words;
 mod exploring;
 mod graphs;
@@ -13,8 +15,9 @@ mod wished;
 
 pub use claim_texts::claim_words;
 pub use expectation_texts::push_expectation;
-pub use explored_words::bound_value;
+pub use expected_lines::ExpectedLines;
+pub use explored_objects::put_bound;
 pub use exploring::{Explored, Search, explore_program, show_every_end};
 pub use watching::{Console, SearchBound, Watcher};
 pub use widths::digits_of;
-pub use wished::{expectations_of, expected_of, wish_fault, wishes_of};
+pub use wished::{expectations_of, wish_fault, wishes_of};

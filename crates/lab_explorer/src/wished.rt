@@ -1,25 +1,13 @@
 //! What is wished of a program, from files.
 
 use crate::claim_texts::claim_words;
-use command_parts::{Inputs, LabFault};
+use command_parts::LabFault;
 use expectations::{Expectation, ExpectationFault, ExpectationFaultKind, read_expectations};
 use image_file::Image;
 use lab_ends::{WishFault, Wishes};
 use lab_texts::ProgramNames;
 use plain_text::plain;
 use std::alloc::{AllocError, Global};
-use std::io::Read;
-use std::rt::Files;
-
-/// The expectations of a file.
-pub fn expected_of<F: Files, R: Read>(
-    alloc: Global,
-    inputs: &mut Inputs<'_, F, R>,
-    path: &str,
-) -> Result<Vec<Expectation>, LabFault> {
-    let text = inputs.read(alloc, path)?;
-    expectations_of(alloc, path, &text)
-}
 
 /// The expectations of the text of a path.
 pub fn expectations_of(

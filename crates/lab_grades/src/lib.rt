@@ -4,6 +4,7 @@
 mod explored_grades;
 mod grading;
 mod outcomes;
+mod survey_objects;
 mod surveying;
 mod verdicts;
 

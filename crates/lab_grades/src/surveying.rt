@@ -2,19 +2,17 @@
 
 use crate::explored_grades::words_of_bound;
 use crate::outcomes::{Outcome, Seeds, outcomes_of, worst_status};
-use command_parts::{Answer, Inputs, LabFault, Program, push_object, read_program, style_of};
-use end_kinds::EndKind;
+use crate::survey_objects::{Surveyed, push_coverage, push_outcome_objects};
+use command_parts::{Answer, Inputs, LabFault, Program, read_program, style_of};
 use expectations::Expectation;
 use lab_ends::{SpaceEnd, SpaceEndKind, Wishes};
 use lab_explorer::{
-    Console, Explored, Search, Watcher, bound_value, digits_of, expected_of, explore_program,
+    Console, ExpectedLines, Explored, Search, Watcher, digits_of, expectations_of, explore_program,
     push_expectation,
 };
-use lab_json::{VERSION, digits};
 use lab_requests::{Bounds, SurveyRequest};
 use lab_texts::{NumberStyle, ProgramNames};
 use plain_text::push_plain;
-use serde_json::{Value, json};
 use std::alloc::{AllocError, Global};
 use std::io::{Read, Write};
 use std::rt::Files;
@@ -29,20 +27,23 @@ pub fn survey<X: Threads + Sync, C: Clock, F: Files, R: Read, E: Write>(
     request: &SurveyRequest,
     console: &mut Console<'_, C, E>,
 ) -> Result<Answer, LabFault> {
-    let expected = match request.expected {
-        Some(path) => expected_of(alloc, inputs, path)?,
-        None => Vec::new(alloc),
-    };
+    let mut text = Vec::new(alloc);
+    let mut expected = Vec::new(alloc);
+    if let Some(path) = request.expected {
+        text = inputs.read(alloc, path)?;
+        expected = expectations_of(alloc, path, &text)?;
+    }
     let program = read_program(alloc, inputs, request.program)?;
-    survey_of(rt, alloc, request, &program, expected, console)
+    survey_of(rt, alloc, request, &program, &text, expected, console)
 }
 
-/// The survey of a program, of whose ends this is expected.
+/// The survey of a program, of whose ends the lines of this text expect this.
 fn survey_of<X: Threads + Sync, C: Clock, E: Write>(
     rt: &X,
     alloc: Global,
     request: &SurveyRequest,
     program: &Program,
+    text: &[u8],
     expected: Vec<Expectation>,
     console: &mut Console<'_, C, E>,
 ) -> Result<Answer, LabFault> {
@@ -55,7 +56,19 @@ fn survey_of<X: Threads + Sync, C: Clock, E: Write>(
     let mut outcomes = outcomes_of(rt, alloc, program, &expected, seeds)?;
     outcomes.sort_by_key(|outcome: &Outcome| usize::MAX - outcome.runs)?;
     let mut output = String::new(alloc);
-    push_outcomes(alloc, &mut output, request.shown.json, &expected, &outcomes)?;
+    if request.shown.json {
+        let surveyed = Surveyed {
+            program,
+            lines: ExpectedLines {
+                text,
+                expected: &expected,
+            },
+            most: request.most,
+        };
+        push_outcome_objects(alloc, &mut output, surveyed, &outcomes)?;
+    } else {
+        push_outcomes(&mut output, &expected, &outcomes)?;
+    }
     let mut status = worst_status(&outcomes);
     if let Some(bounds) = request.explored {
         let found = every_end(alloc, program, expected, seeds.style, bounds, console)?;
@@ -65,22 +78,16 @@ fn survey_of<X: Threads + Sync, C: Clock, E: Write>(
     Ok(Answer::printed(alloc, output, status))
 }
 
-/// Adds the lines of the outcomes, or their objects.
+/// Adds the lines of the outcomes.
 fn push_outcomes(
-    alloc: Global,
     out: &mut String,
-    is_json: bool,
     expected: &[Expectation],
     outcomes: &[Outcome],
 ) -> Result<(), AllocError> {
     let most_runs = outcomes.iter().map(|outcome| outcome.runs).max();
     let width = digits_of(most_runs.unwrap_or(0));
     for outcome in outcomes {
-        if is_json {
-            push_outcome_object(alloc, out, expected, outcome)?;
-        } else {
-            push_outcome(out, width, expected, outcome)?;
-        }
+        push_outcome(out, width, expected, outcome)?;
     }
     Ok(())
 }
@@ -120,23 +127,17 @@ fn push_met(
     found: &Explored,
     outcomes: &[Outcome],
 ) -> Result<(), AllocError> {
-    let ends = found.ends.len();
     let met = found
         .ends
         .iter()
         .filter(|end| outcomes.iter().any(|outcome| is_met_by(end, outcome)))
         .count();
-    let worlds = found.worlds;
-    let complete = found.is_complete;
     if is_json {
-        let bound = bound_value(alloc, found.bound)?;
-        let value = json!(in alloc; {
-            "version": VERSION, "ends": ends, "met": met, "worlds": worlds, "complete": complete,
-            "bound": bound
-        })?;
-        return push_object(alloc, out, &value);
+        return push_coverage(alloc, out, found, met);
     }
-    let which = if complete {
+    let ends = found.ends.len();
+    let worlds = found.worlds;
+    let which = if found.is_complete {
         "every schedule"
     } else {
         "some schedules"
@@ -188,34 +189,4 @@ fn push_outcome(
 /// The first expectation that an outcome does not meet.
 fn missed_of<'e>(expected: &'e [Expectation], outcome: &Outcome) -> Option<&'e Expectation> {
     outcome.missed.and_then(|place| expected.get(place))
-}
-
-/// Adds the object of an outcome.
-fn push_outcome_object(
-    alloc: Global,
-    out: &mut String,
-    expected: &[Expectation],
-    outcome: &Outcome,
-) -> Result<(), AllocError> {
-    let runs = outcome.runs;
-    let kind = outcome.kind.json_name();
-    let text = outcome.text.as_str();
-    let seed = digits(alloc, outcome.seed)?;
-    let steps = outcome.steps;
-    let finding = outcome.finding.as_str();
-    // (nobody expects a deadlock)
-    let is_as_expected = outcome.is_as_expected() && outcome.kind != EndKind::Deadlock;
-    let missed = match missed_of(expected, outcome) {
-        Some(expectation) => {
-            let mut words = String::new(alloc);
-            push_expectation(&mut words, expectation)?;
-            Value::String(words)
-        }
-        None => Value::Null,
-    };
-    let value = json!(in alloc; {
-        "version": VERSION, "runs": runs, "end": kind, "words": text, "seed": seed, "steps": steps,
-        "expected": is_as_expected, "missed": missed, "finding": finding
-    })?;
-    push_object(alloc, out, &value)
 }

@@ -1,26 +1,49 @@
 //! The end of a run.
 
-use crate::VERSION;
-use crate::fields::{Fields, put_number, put_text};
+use crate::fields::{Fields, object_of, put_number, put_text};
+use crate::findings::put_findings;
+use crate::streams::{put_streams, stream_value};
+use crate::words::put_words;
 use lab_texts::{RunEnd, StoppedStream};
+use machine::Machine;
 use processor::Step;
-use serde_json::{Map, Value, json};
+use serde_json::{Map, Value};
 use std::alloc::{AllocError, Global};
 use stream_waits::StreamWait;
 use waiting::Wanted;
 
-/// How a run ended: its kind, who waits for what, a circle, who could go on, who has quit, who was stopped.
-pub fn end_value(alloc: Global, end: &RunEnd) -> Result<Value, AllocError> {
-    let mut fields = Map::new(alloc);
-    put_number(alloc, &mut fields, "version", VERSION)?;
+/// The end of a run by these steps, which led the machine to its world: its kind, of whom it is, the words that differ from
+/// the image, and the findings.
+pub fn end_value<const S: usize>(
+    alloc: Global,
+    end: &RunEnd,
+    machine: &Machine<'_, S>,
+    steps: &[Step],
+) -> Result<Value, AllocError> {
+    let mut fields = object_of(alloc, "end")?;
     put_text(alloc, &mut fields, "kind", end.kind.json_name())?;
-    put_waits(alloc, &mut fields, &end.waits)?;
-    put_streams(alloc, &mut fields, "circle", &end.circle)?;
-    put_streams(alloc, &mut fields, "able", &end.able)?;
-    put_streams(alloc, &mut fields, "fresh", &end.fresh)?;
-    put_streams(alloc, &mut fields, "quit", &end.quit)?;
-    put_stopped(alloc, &mut fields, &end.stopped)?;
+    put_end(alloc, &mut fields, end)?;
+    put_words(alloc, &mut fields, machine)?;
+    put_findings::<S>(alloc, &mut fields, machine.image(), steps)?;
     Ok(Value::Object(fields))
+}
+
+/// The end of a run as a part of the object of the whole run: its kind, and of whom it is.
+pub fn end_part(alloc: Global, end: &RunEnd) -> Result<Value, AllocError> {
+    let mut fields = Map::new(alloc);
+    put_text(alloc, &mut fields, "kind", end.kind.json_name())?;
+    put_end(alloc, &mut fields, end)?;
+    Ok(Value::Object(fields))
+}
+
+/// Puts who waits for what, a circle, who could go on, who has quit, who was stopped.
+pub(crate) fn put_end(alloc: Global, fields: &mut Fields, end: &RunEnd) -> Result<(), AllocError> {
+    put_waits(alloc, fields, &end.waits)?;
+    put_streams(alloc, fields, "circle", &end.circle)?;
+    put_streams(alloc, fields, "able", &end.able)?;
+    put_streams(alloc, fields, "fresh", &end.fresh)?;
+    put_streams(alloc, fields, "quit", &end.quit)?;
+    put_stopped(alloc, fields, &end.stopped)
 }
 
 /// Puts the streams that wait.
@@ -45,54 +68,41 @@ fn put_stopped(
     serde_json::put(fields, alloc, "stopped", Value::Array(stopped))
 }
 
-/// Puts streams by their names.
-fn put_streams(
-    alloc: Global,
-    fields: &mut Fields,
-    name: &str,
-    streams: &[Step],
-) -> Result<(), AllocError> {
-    serde_json::put(fields, alloc, name, streams_value(alloc, streams)?)
-}
-
-/// The name of a stream.
-fn stream_value(alloc: Global, stream: Step) -> Result<Value, AllocError> {
-    let p = stream.p;
-    let s = stream.s;
-    Ok(Value::String(format!(in alloc; "{p}.{s}")?))
-}
-
-/// The names of streams.
-fn streams_value(alloc: Global, streams: &[Step]) -> Result<Value, AllocError> {
-    let mut names = Vec::with_capacity(alloc, streams.len())?;
-    for stream in streams {
-        names.push(stream_value(alloc, *stream)?)?;
-    }
-    Ok(Value::Array(names))
-}
-
 /// A stream that waits: for which word, for which state, since which try, and who left the word so in which step.
 fn wait_value(alloc: Global, wait: &StreamWait) -> Result<Value, AllocError> {
-    let stream = stream_value(alloc, wait.stream)?;
-    let word = wait.wait.address;
     let wanted = match wait.wait.wanted {
         Wanted::Full => "full",
         Wanted::Empty => "empty",
     };
-    let since = wait.since;
     let (made, by) = match wait.turn {
         Some(turn) => (turn.number, stream_value(alloc, turn.step)?),
         None => (0, Value::Null),
     };
-    json!(in alloc; {
-        "stream": stream, "word": word, "for": wanted, "since": since, "made": made, "by": by
-    })
+    let mut fields = Map::new(alloc);
+    serde_json::put(
+        &mut fields,
+        alloc,
+        "stream",
+        stream_value(alloc, wait.stream)?,
+    )?;
+    put_number(alloc, &mut fields, "word", wait.wait.address)?;
+    put_text(alloc, &mut fields, "for", wanted)?;
+    put_number(alloc, &mut fields, "since", wait.since as u64)?;
+    put_number(alloc, &mut fields, "made", made as u64)?;
+    serde_json::put(&mut fields, alloc, "by", by)?;
+    Ok(Value::Object(fields))
 }
 
 /// A stream that a trap stopped.
 fn stopped_value(alloc: Global, stopped: &StoppedStream) -> Result<Value, AllocError> {
-    let stream = stream_value(alloc, stopped.stream)?;
-    let trap = stopped.trap.number();
-    let address = stopped.address;
-    json!(in alloc; {"stream": stream, "trap": trap, "address": address})
+    let mut fields = Map::new(alloc);
+    serde_json::put(
+        &mut fields,
+        alloc,
+        "stream",
+        stream_value(alloc, stopped.stream)?,
+    )?;
+    put_number(alloc, &mut fields, "trap", u64::from(stopped.trap.number()))?;
+    put_number(alloc, &mut fields, "address", stopped.address)?;
+    Ok(Value::Object(fields))
 }

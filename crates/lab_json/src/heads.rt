@@ -1,7 +1,6 @@
 //! The head of a run: its program and the world at the start.
 
-use crate::VERSION;
-use crate::fields::{put_number, put_text};
+use crate::fields::{object_of, put_text};
 use crate::places::{content_value, digits, place_name};
 use lab_texts::ProgramNames;
 use machine::Machine;
@@ -12,19 +11,28 @@ use step_views::{Content, Place, StreamPart, content_of};
 use stream_core::Status;
 use tag_memory::Word;
 
+/// What a run is called, and of which kind its object is.
+#[derive(Clone, Copy, Debug)]
+pub struct RunTitle<'a> {
+    /// The kind of the object: `run`, or `page` for one that has the steps too.
+    pub object: &'a str,
+    /// The program.
+    pub program: &'a str,
+    /// The schedule.
+    pub schedule: &'a str,
+}
+
 /// The head of a run of a program with this text, on a machine that has taken no step.
 pub fn head_value<const S: usize>(
     alloc: Global,
-    name: &str,
-    schedule: &str,
+    title: RunTitle,
     text: &[u8],
     names: &ProgramNames,
     machine: &Machine<'_, S>,
 ) -> Result<Value, AllocError> {
-    let mut fields = Map::new(alloc);
-    put_number(alloc, &mut fields, "version", VERSION)?;
-    put_text(alloc, &mut fields, "name", name)?;
-    put_text(alloc, &mut fields, "schedule", schedule)?;
+    let mut fields = object_of(alloc, title.object)?;
+    put_text(alloc, &mut fields, "name", title.program)?;
+    put_text(alloc, &mut fields, "schedule", title.schedule)?;
     serde_json::put(&mut fields, alloc, "source", source_value(alloc, text)?)?;
     serde_json::put(&mut fields, alloc, "program", program_value(alloc, names)?)?;
     serde_json::put(&mut fields, alloc, "data", data_value(alloc, names)?)?;

@@ -1,19 +1,32 @@
-//! Runs as JSON: the program, the world at the start, each step with its changes, and the end (docs/LAB.md, "JSON").
-//! 64-bit values are strings of decimal digits; all other numbers are numbers.
+//! Runs as JSON: the program, the world at the start, each step with its changes, and the end (docs/LAB.md, "JSON";
+//! share/schema has the schemas). 64-bit values are strings of decimal digits; all other numbers are numbers; no value is
+//! a sentence.
 #![tactic(auto)]
 
 mod differences;
 mod ends;
 mod fields;
+mod findings;
 mod heads;
+mod lines;
 mod places;
+mod runs;
 mod steps;
+mod streams;
+mod turns;
+mod words;
 
-pub use differences::differences_value;
-pub use ends::end_value;
-pub use heads::head_value;
+pub use differences::{difference_value, parting_value};
+pub use ends::{end_part, end_value};
+pub use fields::{Fields, object_of, put_flag, put_number, put_text};
+pub use findings::findings_value;
+pub use heads::{RunTitle, head_value};
+pub use lines::line_value;
 pub use places::{content_value, digits, outcome_name, place_name};
-pub use steps::step_value;
+pub use runs::put_run;
+pub use steps::{step_part, step_value};
+pub use streams::{put_streams, stream_value};
+pub use turns::{put_turns, turns_value};
 
 /// The version of the objects.
-pub const VERSION: u64 = 1;
+pub const VERSION: u64 = 2;

@@ -1,33 +1,38 @@
 //! Steps.
 
-use crate::VERSION;
-use crate::fields::put_number;
+use crate::fields::{Fields, object_of, put_number};
 use crate::places::{content_value, digits, outcome_name, place_name};
 use serde_json::{Map, Value, json};
 use std::alloc::{AllocError, Global};
 use step_views::{Change, Reference, StepView};
 use tag_memory::{Acc, MemOp, Reply};
 
-/// A step: `p`, `s`, `pc`, the outcome `o`, `ref` where the memory was asked, and the changes `ch`.
+/// A step.
 pub fn step_value(alloc: Global, view: &StepView) -> Result<Value, AllocError> {
+    let mut fields = object_of(alloc, "step")?;
+    put_step(alloc, &mut fields, view)?;
+    Ok(Value::Object(fields))
+}
+
+/// A step as a part of the object of a whole run.
+pub fn step_part(alloc: Global, view: &StepView) -> Result<Value, AllocError> {
     let mut fields = Map::new(alloc);
-    put_number(alloc, &mut fields, "version", VERSION)?;
-    put_number(alloc, &mut fields, "p", u64::from(view.step.p))?;
-    put_number(alloc, &mut fields, "s", u64::from(view.step.s))?;
-    put_number(alloc, &mut fields, "pc", u64::from(view.pc))?;
+    put_step(alloc, &mut fields, view)?;
+    Ok(Value::Object(fields))
+}
+
+/// Puts `p`, `s`, `pc`, the outcome `o`, `ref` where the memory was asked, and the changes `ch`.
+fn put_step(alloc: Global, fields: &mut Fields, view: &StepView) -> Result<(), AllocError> {
+    put_number(alloc, fields, "p", u64::from(view.step.p))?;
+    put_number(alloc, fields, "s", u64::from(view.step.s))?;
+    put_number(alloc, fields, "pc", u64::from(view.pc))?;
     let outcome = Value::String(outcome_name(alloc, view.outcome)?);
-    serde_json::put(&mut fields, alloc, "o", outcome)?;
+    serde_json::put(fields, alloc, "o", outcome)?;
     if let Some(reference) = view.reference {
         let asked = reference_value(alloc, &reference)?;
-        serde_json::put(&mut fields, alloc, "ref", asked)?;
+        serde_json::put(fields, alloc, "ref", asked)?;
     }
-    serde_json::put(
-        &mut fields,
-        alloc,
-        "ch",
-        changes_value(alloc, &view.changes)?,
-    )?;
-    Ok(Value::Object(fields))
+    serde_json::put(fields, alloc, "ch", changes_value(alloc, &view.changes)?)
 }
 
 /// Changes, a list a change.

@@ -6,14 +6,13 @@ use command_parts::{
     style_of,
 };
 use lab_ends::push_findings_of_run;
-use lab_json::{VERSION, differences_value, end_value};
+use lab_json::{difference_value, end_value, parting_value};
 use lab_requests::Shown;
 use lab_texts::{
     ProgramNames, end_of, push_differences, push_differing_words, push_end, push_stream,
 };
 use machine::{LoadFault, Machine};
 use processor::Step;
-use serde_json::json;
 use std::alloc::{AllocError, Global};
 use std::io::Read;
 use std::rt::Files;
@@ -156,15 +155,15 @@ impl<const S: usize> Pair<'_, '_, '_, S> {
         out: &mut String,
         place: usize,
     ) -> Result<(), AllocError> {
-        let one = self.one.step_words(alloc, self.names, place)?;
-        let other = self.other.step_words(alloc, self.names, place)?;
         let number = place.saturating_add(1);
         if self.shown.json {
-            let value = json!(in alloc; {
-                "version": VERSION, "step": number, "one": one, "other": other
-            })?;
+            let one = self.one.views.get(place);
+            let other = self.other.views.get(place);
+            let value = parting_value(alloc, self.names, number, one, other)?;
             return push_object(alloc, out, &value);
         }
+        let one = self.one.step_words(alloc, self.names, place)?;
+        let other = self.other.step_words(alloc, self.names, place)?;
         write!(out, "step {number}: {one} | {other}\n")
     }
 
@@ -177,10 +176,7 @@ impl<const S: usize> Pair<'_, '_, '_, S> {
     ) -> Result<(), AllocError> {
         let position = difference.position;
         if self.shown.json {
-            let differ = differences_value(alloc, &difference.places)?;
-            let value = json!(in alloc; {
-                "version": VERSION, "position": position, "differ": differ
-            })?;
+            let value = difference_value(alloc, position, &difference.places)?;
             return push_object(alloc, out, &value);
         }
         write!(out, "position {position}: ")?;
@@ -194,15 +190,15 @@ impl<const S: usize> Pair<'_, '_, '_, S> {
         for (name, run) in [("one", &self.one), ("other", &self.other)] {
             let end = end_of(alloc, &run.machine, &run.views)?;
             status = status.worse(status_of_run(&end));
+            let steps = steps_taken(alloc, &run.views)?;
             if self.shown.json {
-                let value = end_value(alloc, &end)?;
+                let value = end_value(alloc, &end, &run.machine, &steps)?;
                 push_object(alloc, out, &value)?;
             } else {
                 write!(out, "{name}: ")?;
                 push_end(out, self.names, run.views.len(), &end)?;
                 let style = style_of(self.shown);
                 push_differing_words(out, self.names, style, &run.machine)?;
-                let steps = steps_taken(alloc, &run.views)?;
                 let image = run.machine.image();
                 push_findings_of_run::<S>(alloc, out, self.names, style, image, &steps)?;
             }

@@ -7,7 +7,7 @@ use command_parts::{
 };
 use image_file::Image;
 use lab_ends::push_findings_of_run;
-use lab_json::{end_value, head_value, step_value};
+use lab_json::{RunTitle, end_value, head_value, step_value};
 use lab_requests::{RunChoice, ViewRequest};
 use lab_texts::{
     Columns, ProgramNames, end_of, push_differing_words, push_end, push_lane_head, push_lane_line,
@@ -186,7 +186,7 @@ impl Layout<'_, '_> {
         let mut machine = loaded::<S>(alloc, &program.image)?;
         self.push_head(alloc, out, program, &machine)?;
         let views = self.push_steps(alloc, out, &mut machine, steps)?;
-        let status = self.push_run_end(alloc, out, &machine, &views)?;
+        let status = self.push_run_end(alloc, out, &machine, &views, steps)?;
         if !self.request.shown.json {
             let style = style_of(self.request.shown);
             push_findings_of_run::<S>(alloc, out, self.names, style, &program.image, steps)?;
@@ -209,9 +209,12 @@ impl Layout<'_, '_> {
                 push_lane_head(out, self.columns, &self.lanes)
             };
         }
-        let schedule = schedule_name(self.request.run);
-        let name = self.request.program;
-        let head = head_value(alloc, name, schedule, &program.text, self.names, machine)?;
+        let title = RunTitle {
+            object: "run",
+            program: self.request.program,
+            schedule: schedule_name(self.request.run),
+        };
+        let head = head_value(alloc, title, &program.text, self.names, machine)?;
         push_object(alloc, out, &head)
     }
 
@@ -265,18 +268,19 @@ impl Layout<'_, '_> {
         )
     }
 
-    /// Adds how a run ended, and the words that it changed.
+    /// Adds how the run of these steps ended, and the words that it changed.
     fn push_run_end<const S: usize>(
         &self,
         alloc: Global,
         out: &mut String,
         machine: &Machine<'_, S>,
         views: &[StepView],
+        steps: &[Step],
     ) -> Result<Status, AllocError> {
         let end = end_of(alloc, machine, views)?;
         let shown = self.request.shown;
         if shown.json {
-            let value = end_value(alloc, &end)?;
+            let value = end_value(alloc, &end, machine, steps)?;
             push_object(alloc, out, &value)?;
         } else {
             push_end(out, self.names, views.len(), &end)?;

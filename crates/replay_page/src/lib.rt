@@ -1,7 +1,6 @@
 //! A page that shows a run: the run as JSON, and the page of it (docs/LAB.md, "Pages").
 #![tactic(auto)]
 
-mod findings;
 mod lanes;
 mod marks;
 mod pages;

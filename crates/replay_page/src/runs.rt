@@ -1,9 +1,8 @@
 //! A run as JSON.
 
-use crate::findings::findings_value;
 use crate::waits::RunWait;
 use crate::whole_run::WholeRun;
-use lab_json::{end_value, head_value, step_value};
+use lab_json::{RunTitle, end_part, findings_value, head_value, step_part, stream_value};
 use lab_texts::ProgramNames;
 use machine::Machine;
 use processor::Step;
@@ -32,7 +31,12 @@ pub fn run_json<const S: usize>(
 ) -> Result<String, AllocError> {
     let places = ProgramNames::of(alloc, text)?;
     let run = WholeRun::of(alloc, start, schedule)?;
-    let head = head_value(alloc, names.program, names.schedule, text, &places, start)?;
+    let title = RunTitle {
+        object: "page",
+        program: names.program,
+        schedule: names.schedule,
+    };
+    let head = head_value(alloc, title, text, &places, start)?;
     let mut json = head.to_string(alloc)?;
     // the head is an object, and here its other members follow
     json.pop();
@@ -44,7 +48,7 @@ pub fn run_json<const S: usize>(
         "findings",
         &findings_value(alloc, &run.actions)?,
     )?;
-    push_member(alloc, &mut json, "end", &end_value(alloc, &run.end)?)?;
+    push_member(alloc, &mut json, "end", &end_part(alloc, &run.end)?)?;
     json.push_str("}\n")?;
     Ok(json)
 }
@@ -68,18 +72,10 @@ fn push_steps(alloc: Global, run: &mut String, views: &[StepView]) -> Result<(),
     run.push_str(",\n\"steps\":[")?;
     for (index, view) in views.iter().enumerate() {
         run.push_str(if index == 0 { "\n" } else { ",\n" })?;
-        let value = without_version(step_value(alloc, view)?);
+        let value = step_part(alloc, view)?;
         run.push_str(&value.to_string(alloc)?)?;
     }
     run.push_str("]")
-}
-
-/// A part of a run, which needs no version of its own.
-fn without_version(mut value: Value) -> Value {
-    if let Some(members) = value.as_object_mut() {
-        drop(members.remove("version"));
-    }
-    value
 }
 
 /// The waits of a run.
@@ -93,9 +89,7 @@ fn waits_value(alloc: Global, waits: &[RunWait]) -> Result<Value, AllocError> {
 
 /// A wait.
 fn wait_value(alloc: Global, wait: &RunWait) -> Result<Value, AllocError> {
-    let p = wait.stream.p;
-    let s = wait.stream.s;
-    let stream = format!(in alloc; "{p}.{s}")?;
+    let stream = stream_value(alloc, wait.stream)?;
     let word = wait.wait.address;
     let wanted = match wait.wait.wanted {
         Wanted::Full => "full",

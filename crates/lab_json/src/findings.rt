@@ -1,25 +1,58 @@
-//! Findings as JSON.
+//! Findings.
 
+use crate::fields::{Fields, put_number};
+use crate::runs::loaded;
+use image_file::Image;
 use lab_texts::FindingsOfRun;
+use processor::Step;
 use run_findings::{Action, LostUpdate, TornRead, UnreadStore};
 use serde_json::{Value, json};
 use std::alloc::{AllocError, Global};
+use whole_runs::run_actions;
+
+/// The most findings of a kind that the end of a run has.
+const MOST_OF_A_KIND: usize = 100;
+
+/// Puts the findings of an image's run by these steps, of each kind the first 100, and how many more there are.
+pub(crate) fn put_findings<const S: usize>(
+    alloc: Global,
+    fields: &mut Fields,
+    image: &Image,
+    steps: &[Step],
+) -> Result<(), AllocError> {
+    let mut machine = loaded::<S>(alloc, image)?;
+    let actions = run_actions(alloc, &mut machine, steps)?;
+    let found = FindingsOfRun::of(alloc, &actions)?;
+    let findings = first_findings(alloc, &found, MOST_OF_A_KIND)?;
+    let more = found.count().saturating_sub(findings.len());
+    serde_json::put(fields, alloc, "findings", Value::Array(findings))?;
+    put_number(alloc, fields, "more_findings", more as u64)
+}
 
 /// What went wrong in a run of these actions: lost updates, torn reads, unread stores (docs/FINDINGS.md); no torn reads of
 /// a run of more than 20,000 steps. Steps count from 1 here.
-pub(crate) fn findings_value(alloc: Global, actions: &[Action]) -> Result<Value, AllocError> {
+pub fn findings_value(alloc: Global, actions: &[Action]) -> Result<Value, AllocError> {
     let found = FindingsOfRun::of(alloc, actions)?;
+    Ok(Value::Array(first_findings(alloc, &found, usize::MAX)?))
+}
+
+/// Of each kind of findings the first ones, so many at most.
+fn first_findings(
+    alloc: Global,
+    found: &FindingsOfRun,
+    most: usize,
+) -> Result<Vec<Value>, AllocError> {
     let mut findings = Vec::new(alloc);
-    for lost in &found.lost {
+    for lost in found.lost.iter().take(most) {
         findings.push(lost_value(alloc, lost)?)?;
     }
-    for torn in &found.torn {
+    for torn in found.torn.iter().take(most) {
         findings.push(torn_value(alloc, torn)?)?;
     }
-    for unread in &found.unread {
+    for unread in found.unread.iter().take(most) {
         findings.push(unread_value(alloc, unread)?)?;
     }
-    Ok(Value::Array(findings))
+    Ok(findings)
 }
 
 /// A lost update.

@@ -1,0 +1,53 @@
+//! What is told of a run beside its steps, where a command tells of many.
+
+use crate::ends::put_end;
+use crate::fields::Fields;
+use crate::findings::put_findings;
+use crate::words::put_words;
+use image_file::Image;
+use lab_texts::end_of;
+use machine::{LoadFault, Machine};
+use processor::Step;
+use std::alloc::{AllocError, Global};
+use whole_runs::run_views;
+
+/// Puts what the last object of `view` has of an image's run by these steps, but its kind: of whom the end is, the words
+/// that differ from the image, and the findings.
+pub fn put_run(
+    alloc: Global,
+    fields: &mut Fields,
+    image: &Image,
+    steps: &[Step],
+) -> Result<(), AllocError> {
+    if image.slim() <= 8 {
+        put_run_on::<8>(alloc, fields, image, steps)
+    } else {
+        put_run_on::<128>(alloc, fields, image, steps)
+    }
+}
+
+/// The same on machines with room for `S` streams a processor.
+fn put_run_on<const S: usize>(
+    alloc: Global,
+    fields: &mut Fields,
+    image: &Image,
+    steps: &[Step],
+) -> Result<(), AllocError> {
+    let mut machine = loaded::<S>(alloc, image)?;
+    let views = run_views(alloc, &mut machine, steps)?;
+    let end = end_of(alloc, &machine, &views)?;
+    put_end(alloc, fields, &end)?;
+    put_words(alloc, fields, &machine)?;
+    put_findings::<S>(alloc, fields, image, steps)
+}
+
+/// The machine of an image that has room for its streams.
+pub(crate) fn loaded<const S: usize>(
+    alloc: Global,
+    image: &Image,
+) -> Result<Machine<'_, S>, AllocError> {
+    match Machine::load(alloc, image) {
+        Ok(machine) => Ok(machine),
+        Err(LoadFault::NoMemory | LoadFault::Streams) => Err(AllocError),
+    }
+}

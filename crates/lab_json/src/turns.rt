@@ -1,0 +1,41 @@
+//! Schedules.
+
+use crate::fields::Fields;
+use processor::Step;
+use serde_json::Value;
+use std::alloc::{AllocError, Global};
+
+/// Puts a field with a schedule: of each stream that takes steps in a row its processor, its own number, and how many.
+pub fn put_turns(
+    alloc: Global,
+    fields: &mut Fields,
+    name: &str,
+    steps: &[Step],
+) -> Result<(), AllocError> {
+    serde_json::put(fields, alloc, name, turns_value(alloc, steps)?)
+}
+
+/// A schedule, a list for each turn.
+pub fn turns_value(alloc: Global, steps: &[Step]) -> Result<Value, AllocError> {
+    let mut turns = Vec::new(alloc);
+    let mut at: usize = 0;
+    for _ in 0..steps.len() {
+        let Some(first) = steps.get(at) else {
+            break;
+        };
+        let rest = steps.get(at..).unwrap_or(&[]);
+        let count = rest.iter().take_while(|step| **step == *first).count();
+        turns.push(turn_value(alloc, *first, count)?)?;
+        at = at.saturating_add(count.max(1));
+    }
+    Ok(Value::Array(turns))
+}
+
+/// So many steps of a stream.
+fn turn_value(alloc: Global, step: Step, count: usize) -> Result<Value, AllocError> {
+    let mut parts = Vec::with_capacity(alloc, 3)?;
+    parts.push(Value::from(step.p))?;
+    parts.push(Value::from(step.s))?;
+    parts.push(Value::from(count))?;
+    Ok(Value::Array(parts))
+}
