@@ -180,7 +180,8 @@ OBJECTS = {
         "one other step version", "differ position version", END, END],
     "survey lock.asm --seeds 5 --json": ["end expected finding missed runs seed steps version words"],
     "explore lock.asm --states 50 --json": ["begin bound complete plain steps version worlds"],
-    "grade --json --expect wishes --seeds 5 lock.asm": ["submission verdict version why"],
+    "grade --json --expect wishes --seeds 5 lock.asm": [
+        "case ends known missed place schedule seed seeds submission verdict version worlds"],
 }
 
 
@@ -270,7 +271,7 @@ def control_bytes():
         for words in ([], ["--explore"]):
             printed = lab("grade", *words, "--expect", "w.expect", *names, folder=folder).out.decode()
             rows = [line.split("\t") for line in printed.removesuffix("\n").split("\n")]
-            yield (f"grade {words}", list(zip(WRITTEN_NAMES, ["right", "source fault", "right", "source fault"], [3] * 4)),
+            yield (f"grade {words}", list(zip(WRITTEN_NAMES, ["right", "source fault", "right", "not read"], [3] * 4)),
                    [(row[0], row[1], len(row)) for row in rows])
         for name in names:
             # (it is the command line's own text)
