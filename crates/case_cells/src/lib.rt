@@ -5,4 +5,4 @@ mod given_cells;
 mod reading;
 
 pub use given_cells::with_cells_of;
-pub use reading::{CellsFault, read_cells};
+pub use reading::{CellsFault, program_of_cells, read_cells};

@@ -47,12 +47,20 @@ pub fn read_cells(alloc: Global, text: &[u8]) -> Result<Image, CellsFault>
     if let Some(line) = first_other_line(text) {
         return Err(CellsFault::Line(line));
     }
-    let mut whole = Vec::from_slice(alloc, text)?;
-    whole.extend_from_slice(PROGRAM_BEHIND)?;
+    let whole = program_of_cells(alloc, text)?;
     match assemble(alloc, &whole) {
         Ok(image) => Ok(image),
         Err(fault) => Err(CellsFault::Source(fault)),
     }
+}
+
+/// The source text that has these lines and a program of one word behind them.
+pub fn program_of_cells(alloc: Global, text: &[u8]) -> Result<Vec<u8>, AllocError>
+    ensures { IfOk result (λ v. v.items ≡ text.now ++ program_behind) }
+{
+    let mut whole = Vec::from_slice(alloc, text)?;
+    whole.extend_from_slice(PROGRAM_BEHIND)?;
+    Ok(whole)
 }
 
 /// The number, from 1, of the first line that is none of cells.

@@ -1,7 +1,7 @@
 //! The cases that submissions are judged by.
 
 use asm_text::AsmFault;
-use case_cells::{CellsFault, read_cells};
+use case_cells::{CellsFault, program_of_cells, read_cells};
 use command_parts::{Inputs, LabFault};
 use image_file::Image;
 use lab_requests::GradeCases;
@@ -191,13 +191,14 @@ fn cells_fault(
 fn line_words(alloc: Global) -> Result<String, AllocError> {
     String::from_str(
         alloc,
-        "a line of cells is .data VALUE[, TAGS] or .fill COUNT, VALUE[, TAGS], without a label",
+        "a line of cells is .data VALUE[, TAGS] or .fill COUNT, VALUE, TAGS, without a label",
     )
 }
 
 /// What is wrong with a line of `.data` or `.fill`.
 fn source_words(alloc: Global, text: &[u8], line: usize) -> Result<String, AllocError> {
-    for message in &check_source(alloc, text)? {
+    let whole = program_of_cells(alloc, text)?;
+    for message in &check_source(alloc, &whole)? {
         if message.line == line {
             return String::from_str(alloc, &message.words);
         }
