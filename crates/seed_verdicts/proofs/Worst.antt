@@ -22,13 +22,13 @@ module _ (image : ImageValue) (ts : List Step) (expected : List Expectation) (cl
   End = run image ts
 
   pub trap : ¬ AreTrapsExpected expected End → IsWorst image ts expected claims flaw.Trap
-  trap no = record { shown = no; worst = λ other shows. omega arith }
+  trap not_so = record { shown = not_so; worst = λ other shows. omega arith }
 
   pub deadlock : AreTrapsExpected expected End → IsStandstill image End
       → IsWorst image ts expected claims flaw.Deadlock
   deadlock traps still = record { shown = still; worst = by } where
     by : (other : RunFlaw) → Shows image ts expected claims other → 1 ≤ rank other
-    by flaw.Trap no = absurd (no traps)
+    by flaw.Trap not_so = absurd (not_so traps)
     by flaw.Deadlock shows = omega arith
     by (flaw.Missed place) shows = omega arith
     by (flaw.Broken taken claim) shows = omega arith
@@ -38,7 +38,7 @@ module _ (image : ImageValue) (ts : List Step) (expected : List Expectation) (cl
       → first_missed expected End ≡ Some place → IsWorst image ts expected claims (flaw.Missed place)
   missed place traps none first = record { shown = (none, first); worst = by } where
     by : (other : RunFlaw) → Shows image ts expected claims other → 2 ≤ rank other
-    by flaw.Trap no = absurd (no traps)
+    by flaw.Trap not_so = absurd (not_so traps)
     by flaw.Deadlock still = absurd (none still.some)
     by (flaw.Missed other) shows = omega arith
     by (flaw.Broken taken claim) shows = omega arith
@@ -52,7 +52,7 @@ module _ (image : ImageValue) (ts : List Step) (expected : List Expectation) (cl
       → IsWorst image ts expected claims (flaw.Broken taken claim)
   broken taken claim none first = record { shown = first; worst = by } where
     by : (other : RunFlaw) → Shows image ts expected claims other → 3 ≤ rank other
-    by flaw.Trap no = absurd (no none.traps)
+    by flaw.Trap not_so = absurd (not_so none.traps)
     by flaw.Deadlock still = absurd (none.able still)
     by (flaw.Missed place) shows = absurd (met_or_missed none place shows.0 shows.1)
     by (flaw.Broken other there) shows = omega arith
@@ -62,7 +62,7 @@ module _ (image : ImageValue) (ts : List Step) (expected : List Expectation) (cl
       → IsWorst image ts expected claims flaw.OutOfSteps
   out_of_steps none kept some = record { shown = (some, none.able); worst = by } where
     by : (other : RunFlaw) → Shows image ts expected claims other → 4 ≤ rank other
-    by flaw.Trap no = absurd (no none.traps)
+    by flaw.Trap not_so = absurd (not_so none.traps)
     by flaw.Deadlock still = absurd (none.able still)
     by (flaw.Missed place) shows = absurd (met_or_missed none place shows.0 shows.1)
     by (flaw.Broken taken claim) shows =
@@ -90,7 +90,8 @@ flawless_end image w expected traps stops none = record {
 module _ (image : ImageValue) (w : World) (expected : List Expectation) where
   pub trap_at : ¬ AreTrapsExpected expected w → (ts : List Step) (claims : List Claim) → run image ts ≡ w
       → IsWorst image ts expected claims flaw.Trap
-  trap_at no ts claims at = trap image ts expected claims (subst (λ x. ¬ AreTrapsExpected expected x) (sym at) no)
+  trap_at not_so ts claims at =
+      trap image ts expected claims (subst (λ x. ¬ AreTrapsExpected expected x) (sym at) not_so)
 
   pub deadlock_at : AreTrapsExpected expected w → IsStandstill image w → (ts : List Step) (claims : List Claim)
       → run image ts ≡ w → IsWorst image ts expected claims flaw.Deadlock

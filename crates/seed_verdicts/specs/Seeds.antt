@@ -27,7 +27,7 @@ pub record IsSeedTold (image : ImageValue) (expected : List Expectation) (claims
   pub schedule : List Step
   pub end : MadeEnd
   pub made : IsMade (rule_of_seed seed fair) (loaded image) machine most schedule end
-  pub told : IsTold image schedule expected claims told
+  pub shows : IsTold image schedule expected claims told
 
 -- the seed at a place of seeds that begin with one; behind the greatest comes 0
 abbrev pub seed_at : ℕ → ℕ → ℕ
