@@ -1,6 +1,6 @@
 //! The least of many seeds whose run is not right.
 
-ghost use Rattle.std.specs.Prelude.{◌≡◌, ◌<◌, ◌≤◌, ◌+◌, ◌-◌, ◌%◌, ◌^◌, ◌↔◌, ℕ, IfOk, Err, MatchOption, Some, None, slice_get, length};
+ghost use Rattle.std.specs.Prelude.{◌≡◌, ◌<◌, ◌≤◌, ◌+◌, ◌-◌, ◌%◌, ◌^◌, ◌↔◌, ℕ, IfOk, Err, MatchOption, IfSome, Some, None, slice_get, length};
 ghost use Rattle.seed_verdicts.specs.Seeds.{AreJudged, AreToldFrom, IsSeedTold, seed_at};
 
 use crate::judging::{Judging, fair_length_of};
@@ -101,6 +101,7 @@ fn flaws_of<R: Threads + Sync, const S: usize>(
     requires { begin ≤ end }
     ensures told { let j = judging.now in IfOk result
         (λ v. AreToldFrom j.image.now j.expected.now j.claims.now j.fair j.most first begin end v.items) }
+    ensures memory { ¬ (result ≡ Err LoadFault.Streams) }
 {
     let told = (begin..end)
         .into_par_iter()
@@ -120,7 +121,8 @@ fn flaws_of<R: Threads + Sync, const S: usize>(
 
 /// The first flaw of some, and its place.
 fn first_told(told: &[Option<RunFlaw>]) -> Option<(usize, RunFlaw)>
-    ensures { MatchOption result
+    ensures within { IfSome result (λ f. f.0 < length told.now) }
+    ensures first { MatchOption result
         ((k : ℕ) → k < length told.now → slice_get told.now k ≡ Some None)
         (λ f. (slice_get told.now f.0 ≡ Some (Some f.1)) × ((k : ℕ) → k < f.0 → slice_get told.now k ≡ Some None)) }
 {

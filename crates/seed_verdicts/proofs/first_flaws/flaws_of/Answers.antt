@@ -5,8 +5,8 @@ use Rattle.seed_verdicts.specs.declared.run_flaw.RunFlaw.{RunFlaw}
 use Rattle.seed_verdicts.proofs.Answered.{all_answered}
 use Rattle.seed_verdicts.proofs.first_flaws.flaws_of.Goals as goal
 
-pub returns-in-Ok-Ok : goal.returns-in-Ok-Ok
-returns-in-Ok-Ok g c =
+pub returns-in-Ok-Ok-clause-told : goal.returns-in-Ok-Ok-clause-told
+returns-in-Ok-Ok-clause-told g c =
     let j = c.args.judging.now in
     let h = rw c.in-Ok-Ok.field-0-is at c.in-Ok-Ok.ensures in
     let chain = rw (c.with_min_len.ensures.base, c.map.ensures.base, c.map.ensures.f) at h.1 in
