@@ -9,7 +9,7 @@ _mta_lab_options() {
     compare) echo '--hex --json' ;;
     survey) echo '--seeds --from --steps --expect --explore --states --seconds --memory --hex --json' ;;
     explore) echo '--expect --from --states --seconds --memory --plain --keep --dot --hex --json' ;;
-    grade) echo '--expect --seeds --steps --explore --states --seconds --memory --hex --json' ;;
+    grade) echo '--expect --cases --given --seeds --steps --all --explore --states --seconds --memory --jobs --no-links --format --hex --json' ;;
     debug) echo '--fair --seed --steps' ;;
     page | picture) echo '--fair --rounds --seed --steps --title --out' ;;
     asm) echo '--out' ;;

@@ -23,7 +23,7 @@ def commands_of_help():
 
 
 def options_of_help(command):
-    return {*re.findall(r"(?m)^ +(?:-\w, )?--([a-z]+)", lab(command, "--help").out.decode())}
+    return {*re.findall(r"(?m)^ +(?:-\w, )?--([a-z-]+)", lab(command, "--help").out.decode())}
 
 
 def by_bash(*words):
@@ -43,11 +43,11 @@ def options_of_zsh(command):
     [block] = [block for names, block in re.findall(r"(?ms)^    ([a-z |]+)\)\n(.*?)^      ;;$", text)
                if command in names.split(" | ")]
     parts = [block, *(shared[name] for name in re.findall(r"\$(_mta_lab_\w+)", block))]
-    return {option for part in parts for option in re.findall(r"--([a-z]+)\[", part)}
+    return {option for part in parts for option in re.findall(r"--([a-z-]+)\[", part)}
 
 
 def options_of_fish(command):
-    lines = re.findall(r"(?m)^complete -c mta_lab -n '__fish_seen_subcommand_from ([a-z ]+)' -l (\w+)", read("mta_lab.fish"))
+    lines = re.findall(r"(?m)^complete -c mta_lab -n '__fish_seen_subcommand_from ([a-z ]+)' -l ([\w-]+)", read("mta_lab.fish"))
     return {option for names, option in lines if command in names.split()}
 
 

@@ -230,7 +230,7 @@ def control_bytes():
         for words in ([], ["--explore"]):
             printed = lab("grade", *words, "--expect", "w.expect", *names, folder=folder).out.decode()
             rows = [line.split("\t") for line in printed.removesuffix("\n").split("\n")]
-            yield (f"grade {words}", list(zip(WRITTEN_NAMES, ["right", "source fault", "right", "source fault"], [3] * 4)),
+            yield (f"grade {words}", list(zip(WRITTEN_NAMES, ["right", "source fault", "right", "not read"], [3] * 4)),
                    [(row[0], row[1], len(row)) for row in rows])
         for name in names:
             # (it is the command line's own text)

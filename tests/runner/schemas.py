@@ -182,7 +182,7 @@ class Seen:
         """Also what a call printed that was asked for objects."""
         if "--json" in words:
             for line in printed.splitlines():
-                if line.startswith(b"{") and b'"object":' in line:
+                if line.startswith(b"{"):
                     self.line(line)
 
 

@@ -21,8 +21,14 @@ pub(crate) enum Form {
     Option(&'static str),
     /// `--name VALUE`, which has to be there.
     NeededOption(&'static str),
+    /// The same, unless the option of the last name is.
+    NeededWithout(&'static str, &'static str),
+    /// `--name VALUE`, which does not go with the options of these names.
+    OptionWithout(&'static str, &'static [&'static str]),
     /// `--name VALUE`, one of these words.
     OptionOf(&'static str, &'static [&'static str]),
+    /// The same, which does not go with the option of the last name.
+    OptionOfWithout(&'static str, &'static [&'static str], &'static str),
     /// `--name VALUE`, a number in a range.
     Number(&'static str, u64, u64),
     /// The same, which says nothing without the option of the last name, and so goes only with it.
@@ -46,6 +52,15 @@ pub(crate) fn parser_of<'a>(alloc: Global, argument: &Argument) -> Result<Arg<'a
         Form::Flag(excluded) => flag(alloc, name, about).conflicts_with_all(excluded),
         Form::Option(value) => Ok(option(alloc, name, value, about)),
         Form::NeededOption(value) => Ok(option(alloc, name, value, about).required(true)),
+        Form::NeededWithout(value, other) => {
+            option(alloc, name, value, about).required_unless_present(other)
+        }
+        Form::OptionWithout(value, excluded) => {
+            option(alloc, name, value, about).conflicts_with_all(excluded)
+        }
+        Form::OptionOfWithout(value, words, excluded) => option(alloc, name, value, about)
+            .value_parser(words)
+            .conflicts_with_all(&[excluded]),
         Form::OptionOf(value, words) => {
             Ok(option(alloc, name, value, about).value_parser(words))
         }

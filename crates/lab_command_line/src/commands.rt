@@ -2,7 +2,9 @@
 
 use crate::arguments::{Argument, Form};
 use crate::help;
-use crate::options::{MOST_MEGABYTES, MOST_SECONDS, MOST_SEEDS, MOST_STEPS, MOST_WORLDS};
+use crate::options::{
+    MOST_JOBS, MOST_MEGABYTES, MOST_SECONDS, MOST_SEEDS, MOST_STEPS, MOST_WORLDS,
+};
 
 /// A command.
 #[derive(Clone, Copy)]
@@ -69,7 +71,7 @@ pub(crate) const COMMANDS: [CommandWords; 12] = [
     },
     CommandWords {
         name: "grade",
-        about: "Judges submissions by many random schedules each",
+        about: "Judges submissions by many random schedules each, or by every one",
         long: help::GRADE,
         arguments: &GRADE_ARGUMENTS,
     },
@@ -239,18 +241,33 @@ const EXPLORE_ARGUMENTS: [Argument; 11] = [
     Argument("json", help::JSON, Form::Flag(&[])),
 ];
 
-const GRADE_ARGUMENTS: [Argument; 10] = [
-    Argument("expect", help::EXPECT, Form::NeededOption("FILE")),
+const GRADE_ARGUMENTS: [Argument; 16] = [
+    Argument("expect", help::EXPECT, Form::NeededWithout("FILE", "cases")),
+    Argument(
+        "cases",
+        "a folder of cases, each NAME.data and NAME.expect",
+        Form::OptionWithout("FOLDER", &["expect", "given"]),
+    ),
+    Argument(
+        "given",
+        "the cells, as .data and .fill lines, in place of each submission's own",
+        Form::OptionWithout("FILE", &["cases"]),
+    ),
     Argument(
         "seeds",
-        "how many random schedules",
+        "how many random schedules, 1 to 100000000 [200]",
         Form::Number("N", 1, MOST_SEEDS),
     ),
     Argument("steps", help::STEPS, Form::Number("K", 1, MOST_STEPS)),
     Argument(
+        "all",
+        "counts the ends of all seeds, and of all schedules",
+        Form::Flag(&[]),
+    ),
+    Argument(
         "explore",
-        "every schedule in place of random ones",
-        Form::Flag(&["seeds", "steps"]),
+        "every schedule; where that is not decided, random ones too",
+        Form::Flag(&[]),
     ),
     Argument(
         "states",
@@ -268,12 +285,31 @@ const GRADE_ARGUMENTS: [Argument; 10] = [
         Form::NumberWith("MB", 1, MOST_MEGABYTES, "explore"),
     ),
     Argument(
-        "SUBMISSION",
-        "programs: source texts or images",
-        Form::Files,
+        "jobs",
+        "how many submissions side by side, 1 to 256 [as many as processors]",
+        Form::Number("N", 1, MOST_JOBS),
+    ),
+    Argument(
+        "no-links",
+        "a submission that is a symbolic link is not read",
+        Form::Flag(&[]),
+    ),
+    Argument(
+        "format",
+        "how it is written: text, tsv, json, junit or gradescope [text]",
+        Form::OptionOfWithout(
+            "FORMAT",
+            &["text", "tsv", "json", "junit", "gradescope"],
+            "json",
+        ),
     ),
     Argument("hex", help::HEX, Form::Flag(&[])),
-    Argument("json", help::JSON, Form::Flag(&[])),
+    Argument("json", "the same as --format json", Form::Flag(&[])),
+    Argument(
+        "SUBMISSION",
+        "the submissions: source texts or images",
+        Form::Files,
+    ),
 ];
 
 const PAGE_ARGUMENTS: [Argument; 8] = [

@@ -100,11 +100,20 @@ Examples:
   mta_lab explore race.asm --plain --dot race.dot && dot -Tsvg race.dot > race.svg";
 
 pub(crate) const GRADE: &str = "\
-Judges submissions by many random schedules each: a line a submission, which is right, wrong,
-a deadlock, a trap, out of steps, or a faulty source, with the seed that shows it.
+Judges submissions: a line a submission, which is right, wrong, a deadlock, a trap, out of steps,
+a faulty source or not read, with what shows it. Each runs by many random schedules; the first
+seed whose run is not right decides. With --explore every schedule is looked at; a submission of
+which that says nothing by its bounds runs by the random schedules too.
 
-Example:
-  mta_lab grade --expect wanted.expect submissions/*.asm";
+A file of --expect has lines about the end of a run, and lines always .. and never .. about every
+state on the way (mta_lab explore --help). With --cases each submission is judged by each case of
+a folder, in the order of their names: NAME.data takes the place of its cells, and NAME.expect
+says what the end has to be. All have to be right. Only regular files are read, and - is
+standard input.
+
+Examples:
+  mta_lab grade --expect wanted.expect submissions/*.asm
+  mta_lab grade --cases cases --explore --seconds 10 --format junit submissions/*.asm";
 
 pub(crate) const ASM: &str = "\
 Assembles a source text, and writes the image. The image is written beside its place and

@@ -5,8 +5,8 @@ use crate::parsers::lab_parser;
 use clap::error::ErrorKind;
 use clap::{ArgMatches, Error};
 use lab_requests::{
-    Bounds, CheckRequest, ExploreRequest, FileKind, GradeRequest, LabCommand, Maker, PageRequest,
-    RunChoice, Shown, SurveyRequest, ViewRequest,
+    Bounds, CheckRequest, ExploreRequest, FileKind, GradeCases, GradeFormat, GradeRequest,
+    LabCommand, Maker, PageRequest, RunChoice, Shown, SurveyRequest, ViewRequest,
 };
 use std::alloc::{AllocError, Global};
 use std::convert::AsStr;
@@ -189,13 +189,42 @@ fn explore_of<'a>(found: &ArgMatches<'a>) -> ExploreRequest<'a> {
 /// What `grade` is asked.
 fn grade_of<'a>(alloc: Global, found: &ArgMatches<'a>) -> Result<GradeRequest<'a>, AllocError> {
     Ok(GradeRequest {
-        expected: word(found, "expect"),
+        cases: cases_of(found),
         seeds: count(found, "seeds", USUAL_SEEDS),
         most: count(found, "steps", USUAL_STEPS),
+        counts_all: found.get_flag("all"),
         explored: explored_of(found),
+        jobs: found.get_one::<usize>("jobs"),
+        refuses_links: found.get_flag("no-links"),
         submissions: words(alloc, found, "SUBMISSION")?,
-        shown: shown_of(found),
+        format: format_of(found),
+        hexadecimal: found.get_flag("hex"),
     })
+}
+
+/// What submissions are judged by.
+fn cases_of<'a>(found: &ArgMatches<'a>) -> GradeCases<'a> {
+    match text(found, "cases") {
+        Some(folder) => GradeCases::Folder(folder),
+        None => GradeCases::One {
+            expected: word(found, "expect"),
+            given: text(found, "given"),
+        },
+    }
+}
+
+/// How the answer of `grade` is written.
+fn format_of(found: &ArgMatches) -> GradeFormat {
+    if found.get_flag("json") {
+        return GradeFormat::Json;
+    }
+    match text(found, "format") {
+        Some("tsv") => GradeFormat::Tsv,
+        Some("json") => GradeFormat::Json,
+        Some("junit") => GradeFormat::Junit,
+        Some("gradescope") => GradeFormat::Gradescope,
+        _ => GradeFormat::Text,
+    }
 }
 
 /// Where all schedules are asked for, how far they are looked for.

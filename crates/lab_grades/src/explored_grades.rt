@@ -1,108 +1,103 @@
 //! What every schedule says of a submission.
 
-ghost use Rattle.std.specs.Prelude.{◌≡◌, [], List, IsTrue, IfOk, IfErr};
-ghost use Rattle.expectations.specs.declared.expectation.Expectation.{Expectation};
-ghost use Rattle.claims.specs.declared.claim.Claim.{Claim};
+ghost use Rattle.std.specs.Prelude.{◌≡◌, [], IsTrue, IfOk};
 ghost use Rattle.schedule_verdicts.specs.RightSpaces.{IsRightThroughout};
 
-use crate::grading::push_why;
-use crate::verdicts::{Verdict, VerdictKind};
-use command_parts::{LabFault, Program, style_of};
-use end_kinds::{EndKind, Status};
-use expectations::Expectation;
-use lab_ends::{ClaimFault, SpaceEnd, SpaceEndKind, WishFault, Wishes};
-use lab_explorer::{
-    Console, Explored, Search, SearchBound, Watcher, claim_words, explore_program, wish_fault,
-};
-use lab_requests::{Bounds, GradeRequest};
-use lab_texts::ProgramNames;
+use crate::judged::{Grading, Judged};
+use crate::seed_grades::sampled_verdict;
+use crate::verdicts::{CountedEnd, Known, Verdict, VerdictKind, WishLine, Witness};
+use command_parts::LabFault;
+use end_kinds::EndKind;
+use lab_ends::{SpaceEnd, SpaceEndKind};
+use lab_explorer::{Console, Explored, Search, SearchBound, Watcher, explore_program};
+use lab_requests::Bounds;
 use std::alloc::{AllocError, Global};
 use std::io::Write;
+use std::thread::Threads;
 use std::time::Clock;
-use trace_text::write_schedule;
 
-/// What is said of a submission: the first that holds of any of its ends of a trap, a deadlock, a wrong end, a broken
-/// claim, a set of worlds that spin; where it has none of them, whether the search had all of them. The status is the
-/// worst over all of them.
-pub(crate) fn explored_verdict<C: Clock, E: Write>(
+/// What every schedule says of a submission: the first that holds of any of its ends of a trap, a deadlock, a wrong end, a
+/// broken claim, a set of worlds that spin. Where it has none of them and the search did not have all of them, what random
+/// schedules say of it, and that all is not decided if they say that it is right. The status is the worst over all.
+pub(crate) fn explored_verdict<X: Threads + Sync, C: Clock, E: Write>(
+    rt: &X,
     alloc: Global,
-    request: &GradeRequest,
-    wishes: &[u8],
-    program: &Program,
+    grading: &Grading<'_>,
+    judged: &Judged<'_>,
     bounds: Bounds,
     console: &mut Console<'_, C, E>,
 ) -> Result<Verdict, LabFault>
-    ensures right { IfOk result (λ v. v.kind ≡ VerdictKind.Right → (ends : List Expectation) × (claims : List Claim)
-        × IsRightThroughout program.now.image [] ends claims) }
+    ensures right { let j = judged.now in IfOk result (λ v. v.kind ≡ VerdictKind.Right
+        → IsRightThroughout j.program.now.image [] j.wishes.now.ends.items j.wishes.now.claims.items) }
 {
-    let names = ProgramNames::of(alloc, &program.text)?;
-    let wishes = match wishes_for(alloc, request, wishes, program, &names)? {
-        Ok(wishes) => wishes,
-        Err(verdict) => return Ok(verdict),
-    };
     let begin = Vec::new(alloc);
     let asked = Search {
-        wishes: &wishes,
+        wishes: judged.wishes,
         begin: &begin,
         most: bounds.worlds,
         is_plain: false,
         is_drawn: false,
-        style: style_of(request.shown),
+        style: grading.style,
     };
     let mut watcher = Watcher::new(alloc, console, bounds)?;
-    let found = explore_program(alloc, program, &names, &asked, &mut watcher);
+    let found = explore_program(alloc, judged.program, judged.names, &asked, &mut watcher);
     watcher.finish();
     let found = found?;
-    Ok(verdict_of_ends(alloc, &wishes.ends, &found)?)
-}
-
-/// What is wished of a submission, or what is said of one that has not all that a claim speaks of.
-fn wishes_for(
-    alloc: Global,
-    request: &GradeRequest,
-    text: &[u8],
-    program: &Program,
-    names: &ProgramNames<'_>,
-) -> Result<Result<Wishes, Verdict>, LabFault>
-    ensures { IfOk result (λ r. IfErr r (λ v. v.kind ≡ VerdictKind.Wrong)) }
-{
-    match Wishes::of(alloc, text, names, &program.image) {
-        Ok(wishes) => Ok(Ok(wishes)),
-        Err(WishFault::Claim { line, fault }) if fault.is_of_program() => Ok(Err(
-            verdict_without_parts(alloc, request, program, line, fault)?,
-        )),
-        Err(fault) => Err(wish_fault(alloc, request.expected, fault, &program.image)?),
+    let verdict = verdict_of_ends(alloc, grading, judged, &found)?;
+    if verdict.kind != VerdictKind::NotDecided {
+        return Ok(verdict);
     }
+    Ok(undecided_verdict(rt, alloc, grading, judged, verdict)?)
 }
 
-/// What is said of a submission that has not all that the claim of a line speaks of.
-fn verdict_without_parts(
+/// What is said of a submission that a search said nothing of, for which this stands: what random schedules say.
+fn undecided_verdict<X: Threads + Sync>(
+    rt: &X,
     alloc: Global,
-    request: &GradeRequest,
-    program: &Program,
-    line: usize,
-    fault: ClaimFault,
+    grading: &Grading<'_>,
+    judged: &Judged<'_>,
+    searched: Verdict,
 ) -> Result<Verdict, AllocError>
-    ensures { IfOk result (λ v. v.kind ≡ VerdictKind.Wrong) }
+    ensures { IfOk result (λ v. ¬ (v.kind ≡ VerdictKind.Right)) }
 {
-    let path = request.expected;
-    let words = claim_words(alloc, fault, &program.image)?;
-    Ok(Verdict {
-        kind: VerdictKind::Wrong,
-        why: format!(in alloc; "{path}:{line}: {words}")?,
-        status: Status::Unexpected,
-    })
+    let mut verdict = sampled_verdict(rt, alloc, grading, judged)?;
+    if verdict.kind == VerdictKind::Right {
+        verdict.kind = VerdictKind::NotDecided;
+    }
+    verdict.known = Known {
+        seeds: verdict.known.seeds,
+        ..searched.known
+    };
+    verdict.status = verdict.status.worse(searched.status);
+    Ok(verdict)
 }
 
 /// What is said of a submission with these ends of all schedules.
 fn verdict_of_ends(
     alloc: Global,
-    expected: &[Expectation],
+    grading: &Grading<'_>,
+    judged: &Judged<'_>,
     found: &Explored,
 ) -> Result<Verdict, AllocError>
     ensures right { IfOk result (λ v. v.kind ≡ VerdictKind.Right → IsTrue found.now.is_right) }
 {
-    let status = found.status();
+    let mut verdict = first_verdict(alloc, judged, found)?;
+    verdict.status = verdict.status.worse(found.status());
+    if grading.request.counts_all {
+        verdict.ends = counted_ends(alloc, judged, found)?;
+    }
+    Ok(verdict)
+}
+
+/// The same without its ends.
+fn first_verdict(
+    alloc: Global,
+    judged: &Judged<'_>,
+    found: &Explored,
+) -> Result<Verdict, AllocError>
+    ensures right { IfOk result (λ v. v.kind ≡ VerdictKind.Right → IsTrue found.now.is_right) }
+{
+    let known = known_of(found);
     for flaw in [
         EndFlaw::Trap,
         EndFlaw::Deadlock,
@@ -111,27 +106,25 @@ fn verdict_of_ends(
         EndFlaw::Spinning,
     ] {
         if let Some(end) = found.ends.iter().find(|end| flaw.is_of(end)) {
-            return Ok(Verdict {
-                kind: flaw.kind(),
-                why: why_of_end(alloc, expected, end)?,
-                status,
-            });
+            return verdict_of_end(alloc, judged, flaw.kind(), known, end);
         }
     }
-    let worlds = found.worlds;
-    if !found.is_right {
-        let ended = words_of_bound(alloc, found.bound)?;
-        return Ok(Verdict {
-            kind: VerdictKind::NotDecided,
-            why: format!(in alloc; "some schedules, {worlds} worlds{ended}")?,
-            status: status.worse(Status::OutOfSteps),
-        });
+    let kind = if found.is_right {
+        VerdictKind::Right
+    } else {
+        VerdictKind::NotDecided
+    };
+    Ok(Verdict::plain(alloc, kind, known))
+}
+
+/// What a search found.
+fn known_of(found: &Explored) -> Known {
+    Known {
+        worlds: Some(found.worlds),
+        is_every: found.is_complete,
+        bound: found.bound,
+        seeds: None,
     }
-    Ok(Verdict {
-        kind: VerdictKind::Right,
-        why: format!(in alloc; "every schedule, {worlds} worlds")?,
-        status,
-    })
 }
 
 /// What ended a search, as words that stand behind others; none where nothing did.
@@ -188,23 +181,63 @@ impl EndFlaw {
     }
 }
 
-/// Why an end is wrong: a schedule to it, and what is told of it.
-fn why_of_end(
+/// What is said of a submission with this end.
+fn verdict_of_end(
     alloc: Global,
-    expected: &[Expectation],
+    judged: &Judged<'_>,
+    kind: VerdictKind,
+    known: Known,
     end: &SpaceEnd,
-) -> Result<String, AllocError> {
-    if end.schedule.is_empty() {
-        let mut why = String::from_str(alloc, "at the start")?;
-        push_why(&mut why, expected, end.missed, &end.text, &end.finding)?;
-        return Ok(why);
+) -> Result<Verdict, AllocError>
+    requires { ¬ (kind ≡ VerdictKind.Right) }
+    ensures { IfOk result (λ v. ¬ (v.kind ≡ VerdictKind.Right)) }
+{
+    let mut verdict = Verdict::plain(alloc, kind, known);
+    verdict.witness = Witness::Schedule(Vec::from_slice(alloc, &end.schedule)?);
+    verdict.missed = missed_by(alloc, judged, end)?;
+    if end.kind != SpaceEndKind::Broken {
+        verdict.words = String::from_str(alloc, &end.text)?;
     }
-    let mut why = String::from_str(alloc, "schedule ")?;
-    let schedule = write_schedule(alloc, &end.schedule)?;
-    for (index, line) in schedule.trim().split('\n').enumerate() {
-        why.push_str(if index == 0 { "" } else { ", " })?;
-        why.push_str(line)?;
+    verdict.finding = String::from_str(alloc, &end.finding)?;
+    Ok(verdict)
+}
+
+/// The line that an end misses, or that its worlds break.
+fn missed_by(
+    alloc: Global,
+    judged: &Judged<'_>,
+    end: &SpaceEnd,
+) -> Result<Option<WishLine>, AllocError> {
+    match end.kind {
+        SpaceEndKind::End(_) => judged.lines.end_at(alloc, end.missed),
+        SpaceEndKind::Broken => {
+            let texts = &judged.wishes.claim_texts;
+            let place = texts
+                .iter()
+                .position(|text: &String| text.as_str() == end.text.as_str());
+            judged.lines.claim_at(alloc, place)
+        }
     }
-    push_why(&mut why, expected, end.missed, &end.text, &end.finding)?;
-    Ok(why)
+}
+
+/// The ends of all schedules.
+fn counted_ends(
+    alloc: Global,
+    judged: &Judged<'_>,
+    found: &Explored,
+) -> Result<Vec<CountedEnd>, AllocError> {
+    let mut ends = Vec::new(alloc);
+    for end in found.ends.iter() {
+        ends.push(CountedEnd {
+            kind: match end.kind {
+                SpaceEndKind::End(kind) => Some(kind),
+                SpaceEndKind::Broken => None,
+            },
+            count: end.worlds(),
+            witness: Witness::Schedule(Vec::from_slice(alloc, &end.schedule)?),
+            text: String::from_str(alloc, &end.text)?,
+            missed: missed_by(alloc, judged, end)?,
+        })?;
+    }
+    Ok(ends)
 }

@@ -1,241 +1,113 @@
 //! The command `grade`.
 
-use crate::explored_grades::explored_verdict;
-use crate::outcomes::{Outcome, Seeds, outcomes_of, worst_status};
-use crate::verdicts::{Verdict, VerdictKind};
-use command_parts::{Answer, Inputs, LabFault, Program, Status, program_of, push_object, style_of};
-use end_kinds::EndKind;
-use expectations::Expectation;
-use lab_explorer::{Console, expectations_of, push_expectation};
-use lab_json::VERSION;
+use crate::cases::{Case, read_cases};
+use crate::judged::Grading;
+use crate::reports::report_of;
+use crate::side_by_side::{jobs_of, judge_all};
+use crate::submissions::read_submission;
+use crate::verdicts::Verdict;
+use command_parts::{Answer, Inputs, LabFault, Program, Status};
+use lab_explorer::Console;
 use lab_requests::GradeRequest;
-use plain_text::{plain, push_plain};
-use serde_json::json;
-use std::alloc::{AllocError, Global};
+use lab_texts::NumberStyle;
+use std::alloc::Global;
 use std::io::{Read, Write};
 use std::rt::Files;
 use std::thread::Threads;
 use std::time::Clock;
 
-/// Judges submissions, each by the same seeds or by every schedule.
-pub fn grade<X: Threads + Sync, C: Clock, F: Files, R: Read, E: Write>(
+/// How many submissions are read before they are judged.
+const MOST_READ: usize = 256;
+
+/// How many bytes their texts and images have then, beside the last one.
+const MOST_BYTES: usize = 16_777_216;
+
+/// Judges submissions, each by the same cases: by the same seeds, or by every schedule.
+pub fn grade<X: Threads + Sync + Clock, F: Files, R: Read, E: Write>(
     rt: &X,
     alloc: Global,
     inputs: &mut Inputs<'_, F, R>,
     request: &GradeRequest,
-    console: &mut Console<'_, C, E>,
+    console: &mut Console<'_, X, E>,
 ) -> Result<Answer, LabFault> {
-    let wishes = inputs.read(alloc, request.expected)?;
-    // with every schedule there are claims too, which are read by the names of each submission
-    let expected = if request.explored.is_some() {
-        Vec::new(alloc)
-    } else {
-        expectations_of(alloc, request.expected, &wishes)?
-    };
-    let mut output = String::new(alloc);
+    let cases = read_cases(alloc, inputs, request.cases)?;
+    let verdicts = verdicts_on(rt, alloc, inputs, request, &cases, console)?;
     let mut status = Status::Done;
-    for path in &request.submissions {
-        let verdict = verdict_on(
-            rt, alloc, inputs, request, &wishes, &expected, path, console,
-        )?;
+    for verdict in verdicts.iter() {
         status = status.worse(verdict.status);
-        push_verdict(alloc, &mut output, request.shown.json, path, &verdict)?;
     }
+    let output = report_of(alloc, request, &cases, &verdicts)?;
     Ok(Answer::printed(alloc, output, status))
 }
 
-/// What is said of the submission of a path: by every schedule, where that is asked for, or by seeds.
-fn verdict_on<X: Threads + Sync, C: Clock, F: Files, R: Read, E: Write>(
+/// What is said of each submission, in their order. Some are read, judged and let go before the next are read.
+fn verdicts_on<X: Threads + Sync + Clock, F: Files, R: Read, E: Write>(
     rt: &X,
     alloc: Global,
     inputs: &mut Inputs<'_, F, R>,
     request: &GradeRequest,
-    wishes: &[u8],
-    expected: &[Expectation],
-    path: &str,
-    console: &mut Console<'_, C, E>,
-) -> Result<Verdict, LabFault> {
-    let program = match submission(alloc, inputs, path)? {
-        Ok(program) => program,
-        Err(verdict) => return Ok(verdict),
+    cases: &[Case],
+    console: &mut Console<'_, X, E>,
+) -> Result<Vec<Verdict>, LabFault> {
+    let jobs = jobs_of(rt, request);
+    let grading = Grading {
+        request,
+        cases,
+        style: style_of(request),
+        is_spread: jobs <= 1,
     };
-    match request.explored {
-        Some(bounds) => explored_verdict(alloc, request, wishes, &program, bounds, console),
-        None => Ok(sampled_verdict(rt, alloc, request, expected, &program)?),
+    let mut verdicts = Vec::new(alloc);
+    let mut place: usize = 0;
+    for _ in 0..request.submissions.len() {
+        let read = read_some(alloc, inputs, request, place)?;
+        if read.is_empty() {
+            return Ok(verdicts);
+        }
+        place = place.saturating_add(read.len());
+        for verdict in judge_all(rt, alloc, &grading, jobs, read, console)? {
+            verdicts.push(verdict)?;
+        }
     }
+    Ok(verdicts)
 }
 
-/// The program of a submission, or what is said where it is none.
-fn submission<F: Files, R: Read>(
+/// Some of the submissions, from a place on, as many as are read at once: the program of each, or what is said of it.
+fn read_some<F: Files, R: Read>(
     alloc: Global,
     inputs: &mut Inputs<'_, F, R>,
-    path: &str,
-) -> Result<Result<Program, Verdict>, LabFault> {
-    match inputs
-        .read(alloc, path)
-        .and_then(|bytes| program_of(alloc, path, bytes))
-    {
-        Ok(program) => Ok(Ok(program)),
-        Err(LabFault::Words(why) | LabFault::Lines(why)) => Ok(Err(Verdict {
-            kind: VerdictKind::SourceFault,
-            why: short_fault(alloc, path, &why)?,
-            status: Status::Fault,
-        })),
-        Err(other) => Err(other),
-    }
-}
-
-/// What random schedules say of a submission: the first that holds of any of its runs of a trap, a deadlock, a wrong
-/// end, a bound.
-fn sampled_verdict<X: Threads + Sync>(
-    rt: &X,
-    alloc: Global,
     request: &GradeRequest,
-    expected: &[Expectation],
-    program: &Program,
-) -> Result<Verdict, AllocError> {
-    let seeds = Seeds {
-        first: 0,
-        count: request.seeds,
-        most: request.most,
-        style: style_of(request.shown),
-    };
-    let outcomes = outcomes_of(rt, alloc, program, expected, seeds)?;
-    verdict_of_outcomes(alloc, expected, &outcomes, request.seeds)
-}
-
-/// What is said of a submission with these outcomes.
-fn verdict_of_outcomes(
-    alloc: Global,
-    expected: &[Expectation],
-    outcomes: &[Outcome],
-    seeds: usize,
-) -> Result<Verdict, AllocError> {
-    let status = worst_status(outcomes);
-    for flaw in [Flaw::Trap, Flaw::Deadlock, Flaw::Wrong, Flaw::OutOfSteps] {
-        if let Some(outcome) = outcomes.iter().find(|outcome| flaw.is_of(outcome)) {
-            return Ok(Verdict {
-                kind: flaw.kind(),
-                why: why_of(alloc, expected, outcome)?,
-                status,
-            });
+    place: usize,
+) -> Result<Vec<Result<Program, Verdict>>, LabFault> {
+    let mut read = Vec::new(alloc);
+    let mut bytes: usize = 0;
+    for path in request.submissions.iter().skip(place).take(MOST_READ) {
+        let submission = read_submission(alloc, inputs, path, request.refuses_links)?;
+        if let Ok(program) = &submission {
+            bytes = bytes.saturating_add(size_of(program));
+        }
+        read.push(submission)?;
+        if bytes > MOST_BYTES {
+            return Ok(read);
         }
     }
-    Ok(Verdict {
-        kind: VerdictKind::Right,
-        why: format!(in alloc; "{seeds} seeds")?,
-        status,
-    })
+    Ok(read)
 }
 
-/// What a run of a submission can show against it.
-#[derive(Clone, Copy, Debug)]
-enum Flaw {
-    /// A trap that nobody expected stopped a stream.
-    Trap,
-    /// The end is a deadlock.
-    Deadlock,
-    /// The end is not as expected.
-    Wrong,
-    /// The bound came first.
-    OutOfSteps,
+/// How many bytes a program's text and image have, about.
+fn size_of(program: &Program) -> usize {
+    let words = program
+        .image
+        .program()
+        .len()
+        .saturating_add(program.image.cells().len());
+    program.text.len().saturating_add(words.saturating_mul(16))
 }
 
-impl Flaw {
-    /// What a submission is that shows it.
-    fn kind(self) -> VerdictKind {
-        match self {
-            Flaw::Trap => VerdictKind::Trap,
-            Flaw::Deadlock => VerdictKind::Deadlock,
-            Flaw::Wrong => VerdictKind::Wrong,
-            Flaw::OutOfSteps => VerdictKind::RanOutOfSteps,
-        }
+/// How the numbers of ends are told.
+fn style_of(request: &GradeRequest) -> NumberStyle {
+    if request.hexadecimal {
+        NumberStyle::Hexadecimal
+    } else {
+        NumberStyle::Decimal
     }
-
-    /// Whether an outcome shows it.
-    fn is_of(self, outcome: &Outcome) -> bool {
-        match (self, outcome.kind) {
-            (Flaw::Trap, _) => outcome.is_trapped,
-            (Flaw::Wrong, EndKind::Finished | EndKind::Stopped) => outcome.missed.is_some(),
-            (Flaw::Deadlock, kind) => kind == EndKind::Deadlock,
-            (Flaw::OutOfSteps, kind) => kind == EndKind::OutOfSteps,
-            (Flaw::Wrong, _) => false,
-        }
-    }
-}
-
-/// Why an outcome is wrong: the seed, the expectation that it misses, who was stopped, and the words that changed.
-fn why_of(
-    alloc: Global,
-    expected: &[Expectation],
-    outcome: &Outcome,
-) -> Result<String, AllocError> {
-    let seed = outcome.seed;
-    let mut why = format!(in alloc; "seed {seed}")?;
-    push_why(
-        &mut why,
-        expected,
-        outcome.missed,
-        &outcome.text,
-        &outcome.finding,
-    )?;
-    Ok(why)
-}
-
-/// Adds the expectation that an end misses, what is told of it, and the first finding on the way to it.
-pub(crate) fn push_why(
-    why: &mut String,
-    expected: &[Expectation],
-    missed: Option<usize>,
-    text: &str,
-    finding: &str,
-) -> Result<(), AllocError> {
-    if let Some(expectation) = missed.and_then(|place| expected.get(place)) {
-        why.push_str(": not ")?;
-        push_expectation(why, expectation)?;
-    }
-    if !text.is_empty() {
-        write!(why, ": {text}")?;
-    }
-    if !finding.is_empty() {
-        write!(why, "; {finding}")?;
-    }
-    Ok(())
-}
-
-/// The first line of what is wrong with a file, without its path: `8:9: no operation is called load.N`.
-fn short_fault(alloc: Global, path: &str, lines: &str) -> Result<String, AllocError> {
-    let shown = plain(alloc, path)?;
-    let named = lines.strip_prefix(path);
-    let line = named
-        .or(lines.strip_prefix(shown.as_str()))
-        .unwrap_or(lines);
-    let line = line.strip_prefix(':').unwrap_or(line);
-    let line = line.split('\n').next().unwrap_or("");
-    match line.split_once(" error: ") {
-        Some((place, words)) => format!(in alloc; "{place} {words}"),
-        None => String::from_str(alloc, line.trim()),
-    }
-}
-
-/// Adds the line of a submission, or its object.
-fn push_verdict(
-    alloc: Global,
-    out: &mut String,
-    json: bool,
-    path: &str,
-    verdict: &Verdict,
-) -> Result<(), AllocError> {
-    let word = verdict.kind.word();
-    let why = verdict.why.as_str();
-    if json {
-        let value = json!(in alloc; {
-            "version": VERSION, "submission": path, "verdict": word, "why": why
-        })?;
-        return push_object(alloc, out, &value);
-    }
-    push_plain(out, path)?;
-    write!(out, "\t{word}\t")?;
-    push_plain(out, why)?;
-    out.push_str("\n")
 }

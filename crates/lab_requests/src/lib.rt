@@ -4,6 +4,6 @@
 mod requests;
 
 pub use requests::{
-    Bounds, CheckRequest, ExploreRequest, FileKind, GradeRequest, LabCommand, Maker, PageRequest,
-    RunChoice, Shown, SurveyRequest, ViewRequest,
+    Bounds, CheckRequest, ExploreRequest, FileKind, GradeCases, GradeFormat, GradeRequest,
+    LabCommand, Maker, PageRequest, RunChoice, Shown, SurveyRequest, ViewRequest,
 };

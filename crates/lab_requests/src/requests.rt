@@ -140,21 +140,58 @@ pub struct ExploreRequest<'a> {
     pub shown: Shown,
 }
 
+/// How the answer of `grade` is written.
+#[derive(Clone, Copy, Debug, PartialEq, Eq)]
+pub enum GradeFormat {
+    /// A line a submission, for people.
+    Text,
+    /// A line a submission, of fields that are apart by tabs.
+    Tsv,
+    /// JSON, an object a line.
+    Json,
+    /// The XML of JUnit's reports.
+    Junit,
+    /// The JSON of Gradescope's results.
+    Gradescope,
+}
+
+/// What submissions are judged by.
+#[derive(Clone, Copy, Debug)]
+pub enum GradeCases<'a> {
+    /// By one file of what each end has to be.
+    One {
+        /// That file.
+        expected: &'a str,
+        /// The file of the cells that take the place of a submission's own.
+        given: Option<&'a str>,
+    },
+    /// By the cases of a folder.
+    Folder(&'a str),
+}
+
 /// What `grade` is asked.
 #[derive(Drop)]
 pub struct GradeRequest<'a> {
-    /// The file of what each end has to be.
-    pub expected: &'a str,
+    /// What submissions are judged by.
+    pub cases: GradeCases<'a>,
     /// How many seeds, at least 1.
     pub seeds: usize,
     /// The most steps of each schedule.
     pub most: usize,
-    /// All schedules in place of seeds, and how far they are looked for, of each submission.
+    /// Whether the ends of all seeds are counted too.
+    pub counts_all: bool,
+    /// All schedules before seeds, and how far they are looked for, of each submission and case.
     pub explored: Option<Bounds>,
+    /// How many submissions are judged side by side, at least 1; None: as many as there are processors.
+    pub jobs: Option<usize>,
+    /// Whether a submission that is a symbolic link is not read.
+    pub refuses_links: bool,
     /// The submissions, one at least: source texts or images.
     pub submissions: Vec<&'a str>,
-    /// How it is printed.
-    pub shown: Shown,
+    /// How the answer is written.
+    pub format: GradeFormat,
+    /// Numbers of words are hexadecimal.
+    pub hexadecimal: bool,
 }
 
 /// What a command line asks for. Files are named by their paths, `-` being standard input.

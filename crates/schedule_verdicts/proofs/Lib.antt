@@ -1,8 +1,8 @@
 mod Alike
 mod StandIns
 mod Looking
-mod Every
+pub mod Every
 mod Each
-mod OnTheWay
+pub mod OnTheWay
 mod Unseen
 mod Shown

@@ -8,5 +8,5 @@ mod right_spaces;
 
 pub use kept_claims::are_kept_on_the_way;
 pub use laws::agreeing_worlds_are_judged_alike;
-pub use right_ends::is_right_end;
+pub use right_ends::{are_traps_expected, is_right_end};
 pub use right_spaces::is_right;

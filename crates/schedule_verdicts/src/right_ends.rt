@@ -35,7 +35,10 @@ fn are_met<const S: usize>(machine: &Machine<'_, S>, expected: &[Expectation]) -
 }
 
 /// Whether each trap that stopped a stream is expected of it.
-fn are_traps_expected<const S: usize>(machine: &Machine<'_, S>, expected: &[Expectation]) -> bool
+pub fn are_traps_expected<const S: usize>(
+    machine: &Machine<'_, S>,
+    expected: &[Expectation],
+) -> bool
     ensures { IsTrue result ↔ AreTrapsExpected expected.now machine.now.world }
 {
     let image = machine.image();

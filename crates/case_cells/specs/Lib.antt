@@ -1,0 +1,2 @@
+-- What public contracts promise: which lines say cells.
+pub mod CellLines

@@ -1,0 +1,83 @@
+//! What a submission is judged by, and how.
+
+use crate::cases::Case;
+use crate::verdicts::{Verdict, VerdictKind, WishLine};
+use crate::wish_lines::WishLines;
+use command_parts::{LabFault, Program};
+use lab_ends::{ClaimFault, WishFault, Wishes};
+use lab_explorer::{claim_words, wish_fault};
+use lab_requests::GradeRequest;
+use lab_texts::{NumberStyle, ProgramNames};
+use std::alloc::{AllocError, Global};
+
+/// How submissions are judged.
+#[derive(Clone, Copy)]
+pub(crate) struct Grading<'a> {
+    /// What is asked.
+    pub request: &'a GradeRequest<'a>,
+    /// The cases, one at least.
+    pub cases: &'a [Case],
+    /// How the numbers of ends are told.
+    pub style: NumberStyle,
+    /// Whether the seeds of one submission are shared among the processors: where submissions are not.
+    pub is_spread: bool,
+}
+
+/// A submission with the cells of a case, and what is wanted of it.
+#[derive(Clone, Copy)]
+pub(crate) struct Judged<'a> {
+    /// Its program.
+    pub program: &'a Program,
+    /// The names of its places.
+    pub names: &'a ProgramNames<'a>,
+    /// What is wanted.
+    pub wishes: &'a Wishes,
+    /// The lines that say it.
+    pub lines: &'a WishLines,
+}
+
+/// What a case wants of a submission, or what is said of one that has not all that a claim speaks of.
+pub(crate) fn wishes_for(
+    alloc: Global,
+    case: &Case,
+    program: &Program,
+    names: &ProgramNames<'_>,
+) -> Result<Result<Wishes, Verdict>, LabFault> {
+    match Wishes::of(alloc, &case.wishes, names, &program.image) {
+        Ok(wishes) => Ok(Ok(wishes)),
+        Err(WishFault::Claim { line, fault }) if fault.is_of_program() => Ok(Err(
+            verdict_without_parts(alloc, case, program, line, fault)?,
+        )),
+        Err(fault) => Err(wish_fault(alloc, &case.path, fault, &program.image)?),
+    }
+}
+
+/// What is said of a submission that has not all that the claim of a line speaks of.
+fn verdict_without_parts(
+    alloc: Global,
+    case: &Case,
+    program: &Program,
+    line: usize,
+    fault: ClaimFault,
+) -> Result<Verdict, AllocError> {
+    let path = case.path.as_str();
+    let reason = claim_words(alloc, fault, &program.image)?;
+    let words = format!(in alloc; "{path}:{line}: {reason}")?;
+    let mut verdict = Verdict::of_no_program(alloc, VerdictKind::Wrong, words);
+    verdict.missed = line_of_number(alloc, &case.wishes, line)?;
+    Ok(verdict)
+}
+
+/// The line of a number of a text.
+fn line_of_number(
+    alloc: Global,
+    text: &[u8],
+    number: usize,
+) -> Result<Option<WishLine>, AllocError> {
+    for line in WishLines::of(alloc, text)?.claims.iter() {
+        if line.number == number {
+            return Ok(Some(line.copy(alloc)?));
+        }
+    }
+    Ok(None)
+}

@@ -1,0 +1,123 @@
+//! What is said of one submission, by all cases.
+
+use crate::cases::Case;
+use crate::explored_grades::explored_verdict;
+use crate::judged::{Grading, Judged, wishes_for};
+use crate::seed_grades::sampled_verdict;
+use crate::verdicts::{Known, Verdict, VerdictKind};
+use crate::wish_lines::WishLines;
+use case_cells::with_cells_of;
+use command_parts::{LabFault, Program};
+use image_file::Image;
+use lab_explorer::Console;
+use lab_texts::ProgramNames;
+use std::alloc::{AllocError, Global};
+use std::io::Write;
+use std::thread::Threads;
+use std::time::Clock;
+
+/// What is said of a submission: the verdict by the first case by which it is not right, else that it is right, and what
+/// was looked at of all cases together.
+pub(crate) fn verdict_on<X: Threads + Sync, C: Clock, E: Write>(
+    rt: &X,
+    alloc: Global,
+    grading: &Grading<'_>,
+    program: &Program,
+    console: &mut Console<'_, C, E>,
+) -> Result<Verdict, LabFault> {
+    let mut right = Verdict::plain(alloc, VerdictKind::Right, Known::NOTHING);
+    for case in grading.cases.iter() {
+        let verdict = verdict_by(rt, alloc, grading, case, program, console)?;
+        if verdict.kind != VerdictKind::Right {
+            return Ok(with_name(alloc, verdict, case)?);
+        }
+        add_right(&mut right, verdict)?;
+    }
+    Ok(right)
+}
+
+/// The verdict with the name of its case.
+fn with_name(alloc: Global, verdict: Verdict, case: &Case) -> Result<Verdict, AllocError> {
+    let mut verdict = verdict;
+    if let Some(name) = &case.name {
+        verdict.case = Some(String::from_str(alloc, name)?);
+    }
+    Ok(verdict)
+}
+
+/// Adds to what is said of a submission that it is right by one case more.
+fn add_right(right: &mut Verdict, verdict: Verdict) -> Result<(), AllocError> {
+    let known = verdict.known;
+    right.known = Known {
+        worlds: sum_of(right.known.worlds, known.worlds),
+        is_every: known.is_every,
+        bound: None,
+        seeds: known.seeds,
+    };
+    right.status = right.status.worse(verdict.status);
+    for end in verdict.ends {
+        right.ends.push(end)?;
+    }
+    Ok(())
+}
+
+/// The sum of two numbers, which may be missing.
+fn sum_of(one: Option<usize>, other: Option<usize>) -> Option<usize> {
+    match (one, other) {
+        (Some(one), Some(other)) => Some(one.saturating_add(other)),
+        (None, number) | (number, None) => number,
+    }
+}
+
+/// What is said of a submission by a case.
+fn verdict_by<X: Threads + Sync, C: Clock, E: Write>(
+    rt: &X,
+    alloc: Global,
+    grading: &Grading<'_>,
+    case: &Case,
+    program: &Program,
+    console: &mut Console<'_, C, E>,
+) -> Result<Verdict, LabFault> {
+    match &case.cells {
+        Some(cells) => {
+            let given = with_cells(alloc, program, cells)?;
+            verdict_of(rt, alloc, grading, case, &given, console)
+        }
+        None => verdict_of(rt, alloc, grading, case, program, console),
+    }
+}
+
+/// The program with the cells of an image in place of its own.
+fn with_cells(alloc: Global, program: &Program, cells: &Image) -> Result<Program, AllocError> {
+    Ok(Program {
+        text: Vec::from_slice(alloc, &program.text)?,
+        image: with_cells_of(alloc, &program.image, cells)?,
+    })
+}
+
+/// What is said of a program that has a case's cells already.
+fn verdict_of<X: Threads + Sync, C: Clock, E: Write>(
+    rt: &X,
+    alloc: Global,
+    grading: &Grading<'_>,
+    case: &Case,
+    program: &Program,
+    console: &mut Console<'_, C, E>,
+) -> Result<Verdict, LabFault> {
+    let names = ProgramNames::of(alloc, &program.text)?;
+    let wishes = match wishes_for(alloc, case, program, &names)? {
+        Ok(wishes) => wishes,
+        Err(verdict) => return Ok(verdict),
+    };
+    let lines = WishLines::of(alloc, &case.wishes)?;
+    let judged = Judged {
+        program,
+        names: &names,
+        wishes: &wishes,
+        lines: &lines,
+    };
+    match grading.request.explored {
+        Some(bounds) => explored_verdict(rt, alloc, grading, &judged, bounds, console),
+        None => Ok(sampled_verdict(rt, alloc, grading, &judged)?),
+    }
+}

@@ -1,0 +1,42 @@
+//! The ends of all seeds of a submission, counted.
+
+use crate::judged::{Grading, Judged};
+use crate::outcomes::{Outcome, Seeds, outcomes_of, worst_status};
+use crate::verdicts::{CountedEnd, Witness};
+use end_kinds::Status;
+use std::alloc::{AllocError, Global};
+use std::thread::Threads;
+
+/// The ends of all seeds, those that most seeds come to first, and the worst status over all of them.
+pub(crate) fn counted_ends<X: Threads + Sync>(
+    rt: &X,
+    alloc: Global,
+    grading: &Grading<'_>,
+    judged: &Judged<'_>,
+) -> Result<(Vec<CountedEnd>, Status), AllocError> {
+    let seeds = Seeds {
+        first: 0,
+        count: grading.request.seeds,
+        most: grading.request.most,
+        style: grading.style,
+    };
+    let wishes = judged.wishes;
+    let mut outcomes = outcomes_of(rt, alloc, judged.program, &wishes.ends, seeds)?;
+    outcomes.sort_by_key(|outcome: &Outcome| usize::MAX - outcome.runs)?;
+    let mut ends = Vec::new(alloc);
+    for outcome in outcomes.iter() {
+        ends.push(end_of(alloc, judged, outcome)?)?;
+    }
+    Ok((ends, worst_status(&outcomes)))
+}
+
+/// The end that an outcome is.
+fn end_of(alloc: Global, judged: &Judged<'_>, outcome: &Outcome) -> Result<CountedEnd, AllocError> {
+    Ok(CountedEnd {
+        kind: Some(outcome.kind),
+        count: outcome.runs,
+        witness: Witness::Seed(outcome.seed),
+        text: String::from_str(alloc, &outcome.text)?,
+        missed: judged.lines.end_at(alloc, outcome.missed)?,
+    })
+}

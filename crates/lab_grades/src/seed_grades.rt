@@ -1,0 +1,189 @@
+//! What random schedules say of a submission.
+
+ghost use Rattle.std.specs.Prelude.{◌≡◌, None, IfOk};
+ghost use Rattle.seed_verdicts.specs.Seeds.{AreJudged};
+
+use crate::judged::{Grading, Judged};
+use crate::seed_ends::counted_ends;
+use crate::verdicts::{Known, Verdict, VerdictKind, Witness};
+use command_parts::loaded;
+use end_kinds::{EndKind, end_kind_of, status_of};
+use expectations::first_missed;
+use lab_ends::{end_words_of, first_finding};
+use machine::LoadFault;
+use schedule_makers::{fair_length, seeded};
+use seed_verdicts::{RunFlaw, SeedFlaw, Seeds, first_flaw, first_flaw_alone};
+use std::alloc::{AllocError, Global};
+use std::thread::Threads;
+
+/// What random schedules say of a submission: by the first seed whose run is not right, what is wrong with that run.
+pub(crate) fn sampled_verdict<X: Threads + Sync>(
+    rt: &X,
+    alloc: Global,
+    grading: &Grading<'_>,
+    judged: &Judged<'_>,
+) -> Result<Verdict, AllocError>
+    ensures right { let j = judged.now in IfOk result (λ v. v.kind ≡ VerdictKind.Right → AreJudged
+        j.program.now.image j.wishes.now.ends.items j.wishes.now.claims.items
+        (record { first = 0; count = grading.now.request.now.seeds; most = grading.now.request.now.most }) None) }
+{
+    let seeds = Seeds {
+        first: 0,
+        count: grading.request.seeds,
+        most: grading.request.most,
+    };
+    let found = flaw_of(rt, alloc, judged, seeds, grading.is_spread)?;
+    let verdict = match found {
+        Some(found) => verdict_of_flaw(alloc, grading, judged, found)?,
+        None => Verdict::plain(alloc, VerdictKind::Right, known_of(seeds.count)),
+    };
+    if !grading.request.counts_all {
+        return Ok(verdict);
+    }
+    with_all_ends(rt, alloc, grading, judged, verdict)
+}
+
+/// The same verdict with the ends of all seeds.
+fn with_all_ends<X: Threads + Sync>(
+    rt: &X,
+    alloc: Global,
+    grading: &Grading<'_>,
+    judged: &Judged<'_>,
+    verdict: Verdict,
+) -> Result<Verdict, AllocError>
+    ensures { IfOk result (λ v. v.kind ≡ verdict.kind) }
+{
+    let mut verdict = verdict;
+    let (ends, status) = counted_ends(rt, alloc, grading, judged)?;
+    verdict.ends = ends;
+    verdict.status = verdict.status.worse(status);
+    Ok(verdict)
+}
+
+/// So many seeds were tried.
+fn known_of(seeds: usize) -> Known {
+    Known {
+        seeds: Some(seeds),
+        ..Known::NOTHING
+    }
+}
+
+/// Of seeds the first whose run is not right, and what is wrong with it.
+fn flaw_of<X: Threads + Sync>(
+    rt: &X,
+    alloc: Global,
+    judged: &Judged<'_>,
+    seeds: Seeds,
+    is_spread: bool,
+) -> Result<Option<SeedFlaw>, AllocError>
+    ensures { let j = judged.now in IfOk result (λ found. AreJudged
+        j.program.now.image j.wishes.now.ends.items j.wishes.now.claims.items seeds found) }
+{
+    let found = if judged.program.image.slim() <= 8 {
+        flaw_on::<X, 8>(rt, alloc, judged, seeds, is_spread)
+    } else {
+        flaw_on::<X, 128>(rt, alloc, judged, seeds, is_spread)
+    };
+    match found {
+        Ok(found) => Ok(found),
+        Err(LoadFault::NoMemory | LoadFault::Streams) => Err(AllocError),
+    }
+}
+
+/// The same on machines with room for `S` streams a processor.
+fn flaw_on<X: Threads + Sync, const S: usize>(
+    rt: &X,
+    alloc: Global,
+    judged: &Judged<'_>,
+    seeds: Seeds,
+    is_spread: bool,
+) -> Result<Option<SeedFlaw>, LoadFault>
+    ensures { let j = judged.now in IfOk result (λ found. AreJudged
+        j.program.now.image j.wishes.now.ends.items j.wishes.now.claims.items seeds found) }
+{
+    let image = &judged.program.image;
+    let wishes = judged.wishes;
+    if is_spread {
+        first_flaw::<X, S>(rt, alloc, image, &wishes.ends, &wishes.claims, seeds)
+    } else {
+        first_flaw_alone::<S>(alloc, image, &wishes.ends, &wishes.claims, seeds)
+    }
+}
+
+/// What a submission is with such a run.
+fn kind_of(flaw: RunFlaw) -> VerdictKind
+    ensures { ¬ (result ≡ VerdictKind.Right) }
+{
+    match flaw {
+        RunFlaw::Trap => VerdictKind::Trap,
+        RunFlaw::Deadlock => VerdictKind::Deadlock,
+        RunFlaw::Missed { .. } | RunFlaw::Broken { .. } => VerdictKind::Wrong,
+        RunFlaw::OutOfSteps => VerdictKind::RanOutOfSteps,
+    }
+}
+
+/// What is said of a submission with this flaw.
+fn verdict_of_flaw(
+    alloc: Global,
+    grading: &Grading<'_>,
+    judged: &Judged<'_>,
+    found: SeedFlaw,
+) -> Result<Verdict, AllocError>
+    ensures { IfOk result (λ v. ¬ (v.kind ≡ VerdictKind.Right)) }
+{
+    let shown = if judged.program.image.slim() <= 8 {
+        shown_by::<8>(alloc, grading, judged, found.seed)?
+    } else {
+        shown_by::<128>(alloc, grading, judged, found.seed)?
+    };
+    let missed = match found.flaw {
+        RunFlaw::Broken { claim, .. } => judged.lines.claim_at(alloc, Some(claim))?,
+        RunFlaw::Trap | RunFlaw::Deadlock | RunFlaw::Missed { .. } | RunFlaw::OutOfSteps => {
+            judged.lines.end_at(alloc, shown.missed)?
+        }
+    };
+    let kind = kind_of(found.flaw);
+    // (the seeds begin with 0)
+    let tried = (found.seed as usize).saturating_add(1);
+    let mut verdict = Verdict::plain(alloc, kind, known_of(tried));
+    let is_trapped = found.flaw == RunFlaw::Trap;
+    let status = status_of(shown.kind, shown.missed.is_some(), is_trapped);
+    verdict.status = verdict.status.worse(status);
+    verdict.witness = Witness::Seed(found.seed);
+    verdict.missed = missed;
+    verdict.words = shown.words;
+    verdict.finding = shown.finding;
+    Ok(verdict)
+}
+
+/// What the run of a seed shows.
+#[derive(Drop)]
+struct ShownRun {
+    /// How it ends.
+    kind: EndKind,
+    /// Who was stopped, who waits, and the words that changed.
+    words: String,
+    /// The place of the first expectation that its end misses.
+    missed: Option<usize>,
+    /// Its first finding.
+    finding: String,
+}
+
+/// What the run of a seed shows.
+fn shown_by<const S: usize>(
+    alloc: Global,
+    grading: &Grading<'_>,
+    judged: &Judged<'_>,
+    seed: u64,
+) -> Result<ShownRun, AllocError> {
+    let image = &judged.program.image;
+    let mut machine = loaded::<S>(alloc, image)?;
+    let fair_steps = fair_length(alloc, &machine)?;
+    let made = seeded(alloc, &mut machine, seed, fair_steps, grading.request.most)?;
+    Ok(ShownRun {
+        kind: end_kind_of(&machine),
+        words: end_words_of(alloc, &machine, judged.names, grading.style)?.text,
+        missed: first_missed(&machine, &judged.wishes.ends),
+        finding: first_finding::<S>(alloc, judged.names, grading.style, image, &made.steps)?,
+    })
+}

@@ -1,0 +1,154 @@
+//! Submissions judged side by side.
+
+use crate::judged::Grading;
+use crate::judging::verdict_on;
+use crate::verdicts::Verdict;
+use command_parts::{LabFault, Program};
+use lab_explorer::Console;
+use lab_requests::GradeRequest;
+use rayon::current_num_threads;
+use rayon::prelude::*;
+use std::alloc::{AllocError, Global};
+use std::io::{Write, sink};
+use std::thread::Threads;
+use std::time::Clock;
+
+/// How many submissions are judged side by side: as many as are asked for, else as there are processors, and no more
+/// than there are.
+pub(crate) fn jobs_of<X: Threads>(rt: &X, request: &GradeRequest) -> usize {
+    let jobs = match request.jobs {
+        Some(jobs) => jobs,
+        None => current_num_threads(rt),
+    };
+    jobs.min(request.submissions.len())
+}
+
+/// What is said of some submissions, in their order. The answer is that of one thread.
+pub(crate) fn judge_all<X: Threads + Sync + Clock, E: Write>(
+    rt: &X,
+    alloc: Global,
+    grading: &Grading<'_>,
+    jobs: usize,
+    submissions: Vec<Result<Program, Verdict>>,
+    console: &mut Console<'_, X, E>,
+) -> Result<Vec<Verdict>, LabFault> {
+    let judged = if jobs <= 1 {
+        judge_each(rt, alloc, grading, &submissions, console)?
+    } else {
+        judge_side_by_side(rt, alloc, grading, jobs, &submissions)?
+    };
+    in_order(alloc, submissions, judged)
+}
+
+/// What came of one job: of each of its submissions that are programs the verdict, or why the command gives up.
+type Judgements = Vec<Result<Verdict, LabFault>>;
+
+/// What is said of those that are programs, one after the other.
+fn judge_each<X: Threads + Sync + Clock, E: Write>(
+    rt: &X,
+    alloc: Global,
+    grading: &Grading<'_>,
+    submissions: &[Result<Program, Verdict>],
+    console: &mut Console<'_, X, E>,
+) -> Result<Judgements, AllocError> {
+    let mut judged = Vec::new(alloc);
+    for submission in submissions {
+        if let Ok(program) = submission {
+            judged.push(verdict_on(rt, alloc, grading, program, console))?;
+        }
+    }
+    Ok(judged)
+}
+
+/// The same, so many side by side: each job takes every so many-th of them.
+fn judge_side_by_side<X: Threads + Sync + Clock>(
+    rt: &X,
+    alloc: Global,
+    grading: &Grading<'_>,
+    jobs: usize,
+    submissions: &[Result<Program, Verdict>],
+) -> Result<Judgements, AllocError> {
+    let parts = (0..jobs)
+        .into_par_iter()
+        .map(|job: usize| -> Result<Judgements, AllocError> {
+            judge_part(rt, alloc, grading, jobs, job, submissions)
+        })
+        .with_min_len(1)
+        .collect::<Result<Vec<Judgements>, AllocError>>(rt, alloc);
+    match parts {
+        Ok(Ok(parts)) => interleaved(alloc, parts, submissions.len()),
+        Ok(Err(_)) | Err(_) => Err(AllocError),
+    }
+}
+
+/// What a job says of its programs.
+fn judge_part<X: Threads + Sync + Clock>(
+    rt: &X,
+    alloc: Global,
+    grading: &Grading<'_>,
+    jobs: usize,
+    job: usize,
+    submissions: &[Result<Program, Verdict>],
+) -> Result<Judgements, AllocError> {
+    let mut nowhere = sink();
+    let mut console = Console {
+        clock: rt,
+        errors: &mut nowhere,
+        is_terminal: false,
+    };
+    let mut judged = Vec::new(alloc);
+    let mut place: usize = 0;
+    for submission in submissions {
+        if let Ok(program) = submission {
+            if place % jobs.max(1) == job {
+                judged.push(verdict_on(rt, alloc, grading, program, &mut console))?;
+            }
+            place = place.saturating_add(1);
+        }
+    }
+    Ok(judged)
+}
+
+/// What the jobs said, in the order of the submissions, which are no more than `most`.
+fn interleaved(
+    alloc: Global,
+    parts: Vec<Judgements>,
+    most: usize,
+) -> Result<Judgements, AllocError> {
+    let mut parts = parts;
+    for part in parts.iter_mut() {
+        part.reverse();
+    }
+    let mut judged = Vec::new(alloc);
+    let jobs = parts.len().max(1);
+    for place in 0..most {
+        if let Some(part) = parts.get_mut(place % jobs)
+            && let Some(verdict) = part.pop()
+        {
+            judged.push(verdict)?;
+        }
+    }
+    Ok(judged)
+}
+
+/// The verdicts on all submissions, in their order: those on programs, and what was said of the others already.
+fn in_order(
+    alloc: Global,
+    submissions: Vec<Result<Program, Verdict>>,
+    judged: Judgements,
+) -> Result<Vec<Verdict>, LabFault> {
+    let mut judged = judged;
+    judged.reverse();
+    let mut verdicts = Vec::new(alloc);
+    for submission in submissions {
+        match submission {
+            Err(verdict) => verdicts.push(verdict)?,
+            Ok(_) => {
+                if let Some(verdict) = judged.pop() {
+                    verdicts.push(verdict?)?;
+                }
+            }
+        }
+    }
+    Ok(verdicts)
+}

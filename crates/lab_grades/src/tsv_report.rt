@@ -1,0 +1,51 @@
+//! Verdicts as fields that are apart by tabs.
+
+use crate::reports::Judgement;
+use crate::text_report::push_turns;
+use crate::verdicts::Witness;
+use plain_text::push_plain;
+use std::alloc::{AllocError, Global};
+
+/// Adds the line of a submission: its path, the verdict, the case, how many worlds and how many seeds were looked at, the
+/// seed or the schedule that shows it, the number of the line that is missed and that line, and the words. A field that
+/// says nothing is empty.
+pub(crate) fn push_tsv(
+    alloc: Global,
+    out: &mut String,
+    judgement: &Judgement<'_>,
+) -> Result<(), AllocError> {
+    let verdict = judgement.verdict;
+    push_plain(out, judgement.submission)?;
+    let word = verdict.kind.word();
+    write!(out, "\t{word}\t")?;
+    if let Some(case) = &verdict.case {
+        push_plain(out, case)?;
+    }
+    push_count(out, verdict.known.worlds)?;
+    push_count(out, verdict.known.seeds)?;
+    out.push_str("\t")?;
+    match &verdict.witness {
+        Witness::None => {}
+        Witness::Seed(seed) => write!(out, "{seed}")?,
+        Witness::Schedule(steps) => push_turns(alloc, out, steps)?,
+    }
+    match &verdict.missed {
+        Some(missed) => {
+            let number = missed.number;
+            write!(out, "\t{number}\t")?;
+            push_plain(out, &missed.text)?;
+        }
+        None => out.push_str("\t\t")?,
+    }
+    out.push_str("\t")?;
+    push_plain(out, &verdict.words)?;
+    out.push_str("\n")
+}
+
+/// Adds a field with a number, which may be missing.
+fn push_count(out: &mut String, count: Option<usize>) -> Result<(), AllocError> {
+    match count {
+        Some(count) => write!(out, "\t{count}"),
+        None => out.push_str("\t"),
+    }
+}

@@ -1,0 +1,90 @@
+//! The lines of a file of expectations.
+
+use crate::verdicts::WishLine;
+use std::alloc::{AllocError, Global};
+use std::str;
+
+/// The lines of a file of expectations that say something.
+#[derive(Drop)]
+pub(crate) struct WishLines {
+    /// Those about the end of a run, in their order.
+    pub ends: Vec<WishLine>,
+    /// Those about every world, in their order.
+    pub claims: Vec<WishLine>,
+}
+
+impl WishLines {
+    /// Those of a text.
+    pub(crate) fn of(alloc: Global, text: &[u8]) -> Result<WishLines, AllocError> {
+        let mut lines = WishLines {
+            ends: Vec::new(alloc),
+            claims: Vec::new(alloc),
+        };
+        for (index, line) in text.split(|byte| *byte == b'\n').enumerate() {
+            lines.add(alloc, index.saturating_add(1), line)?;
+        }
+        Ok(lines)
+    }
+
+    /// Adds the line of this number, if it says something.
+    fn add(&mut self, alloc: Global, number: usize, line: &[u8]) -> Result<(), AllocError> {
+        let text = words_of(alloc, line)?;
+        if text.is_empty() {
+            return Ok(());
+        }
+        let first = text.split(' ').next().unwrap_or("");
+        if first == "always" || first == "never" {
+            self.claims.push(WishLine { number, text })?;
+        } else {
+            self.ends.push(WishLine { number, text })?;
+        }
+        Ok(())
+    }
+
+    /// The line of the expectation at a place.
+    pub(crate) fn end_at(
+        &self,
+        alloc: Global,
+        place: Option<usize>,
+    ) -> Result<Option<WishLine>, AllocError> {
+        copy_at(alloc, &self.ends, place)
+    }
+
+    /// The line of the claim at a place.
+    pub(crate) fn claim_at(
+        &self,
+        alloc: Global,
+        place: Option<usize>,
+    ) -> Result<Option<WishLine>, AllocError> {
+        copy_at(alloc, &self.claims, place)
+    }
+}
+
+/// A copy of the line at a place.
+fn copy_at(
+    alloc: Global,
+    lines: &[WishLine],
+    place: Option<usize>,
+) -> Result<Option<WishLine>, AllocError> {
+    match place.and_then(|place| lines.get(place)) {
+        Some(line) => Ok(Some(line.copy(alloc)?)),
+        None => Ok(None),
+    }
+}
+
+/// The words of a line before its comment, with a space between them.
+fn words_of(alloc: Global, line: &[u8]) -> Result<String, AllocError> {
+    let text = str::from_utf8(line).unwrap_or("");
+    let said = match text.split_once('#') {
+        Some((before, _)) => before,
+        None => text,
+    };
+    let mut words = String::new(alloc);
+    for word in said.split_whitespace() {
+        if !words.is_empty() {
+            words.push_str(" ")?;
+        }
+        words.push_str(word)?;
+    }
+    Ok(words)
+}

@@ -1,0 +1,33 @@
+//! What is wrong with the end of a run.
+
+ghost use Rattle.schedule_makers.specs.Made.{IsEnd};
+ghost use Rattle.seed_verdicts.specs.EndFlaws.{EndTold};
+
+use crate::run_flaw::RunFlaw;
+use expectations::{Expectation, first_missed};
+use machine::Machine;
+use schedule_makers::MadeEnd;
+use schedule_verdicts::are_traps_expected;
+
+/// What the end of a run shows: a trap that nobody expected, a deadlock, an expectation that it misses. The run ended
+/// there for this reason.
+pub(crate) fn end_flaw<const S: usize>(
+    machine: &Machine<'_, S>,
+    end: MadeEnd,
+    expected: &[Expectation],
+) -> Option<RunFlaw>
+    requires { IsEnd machine.now.image machine.now.world end }
+    ensures { EndTold machine.now.image machine.now.world expected.now result }
+{
+    if !are_traps_expected(machine, expected) {
+        return Some(RunFlaw::Trap);
+    }
+    match end {
+        MadeEnd::NobodyRuns => match first_missed(machine, expected) {
+            Some(expectation) => Some(RunFlaw::Missed { expectation }),
+            None => None,
+        },
+        MadeEnd::Standstill => Some(RunFlaw::Deadlock),
+        MadeEnd::OutOfSteps => None,
+    }
+}
