@@ -74,10 +74,11 @@ fn expectation_fault(
     let words = match fault.kind {
         ExpectationFaultKind::NoMemory => return Ok(LabFault::NoMemory),
         ExpectationFaultKind::Form => {
-            "a line is word ADDRESS VALUE [full|empty], register P.S rN VALUE, finished, or stopped P.S TRAP; of every schedule also always .. or never .."
+            "a line is word ADDRESS VALUE [full|empty], words FIRST..LAST VALUE [full|empty], sum FIRST..LAST VALUE, word ADDRESS is|above|below word ADDRESS [+ NUMBER] [signed], register P.S rN VALUE, finished, or stopped P.S TRAP; of every schedule also always .. or never .."
         }
         ExpectationFaultKind::Address =>
             "no memory has a word at this address: multiples of 8 below 2097152",
+        ExpectationFaultKind::Range => "the range ends before it begins",
         ExpectationFaultKind::Stream => "a stream is P.S, P 0 to 15 and S 0 to 127",
         ExpectationFaultKind::Register => "a register is r0 to r31",
         ExpectationFaultKind::Number => "this is no number of 64 bits",
