@@ -7,7 +7,7 @@ use crate::widths::digits_of;
 use command_parts::{Answer, push_object};
 use end_kinds::EndKind;
 use expectations::Expectation;
-use lab_ends::{SpaceEnd, SpaceEndKind};
+use lab_ends::{SpaceEnd, SpaceEndKind, Wishes};
 use lab_json::VERSION;
 use lab_requests::ExploreRequest;
 use plain_text::push_plain;
@@ -19,11 +19,13 @@ use trace_text::write_schedule;
 pub(crate) fn answer_of(
     alloc: Global,
     request: &ExploreRequest,
-    expected: &[Expectation],
+    wishes: &Wishes,
     found: &Explored,
 ) -> Result<Answer, AllocError> {
+    let expected = wishes.ends.as_slice();
     let mut output = String::new(alloc);
     push_head(alloc, &mut output, request.shown.json, found)?;
+    push_broken_rule(alloc, &mut output, request.shown.json, wishes, found)?;
     let width = digits_of(widest(&found.ends));
     for end in found.ends.iter() {
         if request.shown.json {
@@ -61,6 +63,27 @@ fn push_head(
         return push_object(alloc, out, &value);
     }
     push_head_line(out, found)
+}
+
+/// Adds the first rule that the program breaks, where it breaks one.
+fn push_broken_rule(
+    alloc: Global,
+    out: &mut String,
+    is_json: bool,
+    wishes: &Wishes,
+    found: &Explored,
+) -> Result<(), AllocError> {
+    let Some(said) = found.broken_rule.and_then(|place| wishes.rules.get(place)) else {
+        return Ok(());
+    };
+    let line = said.line;
+    let words = said.text.as_str();
+    if is_json {
+        let value =
+            json!(in alloc; { "version": VERSION, "rule": words, "line": line, "kept": false })?;
+        return push_object(alloc, out, &value);
+    }
+    write!(out, "NOT as expected: {words} (line {line})\n")
 }
 
 /// What ended a search, as objects have it: null where nothing did.

@@ -4,7 +4,7 @@ use crate::claim_texts::claim_words;
 use command_parts::{Inputs, LabFault};
 use expectations::{Expectation, ExpectationFault, ExpectationFaultKind, read_expectations};
 use image_file::Image;
-use lab_ends::{WishFault, Wishes};
+use lab_ends::{RuleFault, WishFault, Wishes};
 use lab_texts::ProgramNames;
 use plain_text::plain;
 use std::alloc::{AllocError, Global};
@@ -62,6 +62,25 @@ pub fn wish_fault(
             let words = claim_words(alloc, fault, image)?;
             Ok(LabFault::Lines(format!(in alloc; "{path}:{line}:1: error: {words}\n")?))
         }
+        WishFault::Rule { line, fault } => {
+            let path = plain(alloc, path)?;
+            let words = rule_words(fault);
+            Ok(LabFault::Lines(format!(in alloc; "{path}:{line}:1: error: {words}\n")?))
+        }
+    }
+}
+
+/// Why a line that begins as a rule of programs is none, in words.
+fn rule_words(fault: RuleFault) -> &'static str {
+    match fault {
+        RuleFault::Form => {
+            "a rule of programs is entries N, at most N words, forbid OPERATION .., or require OPERATION .."
+        }
+        RuleFault::Count => "this is no number",
+        RuleFault::Operation => {
+            "no operation has this name: LOAD, STORE, FADD, ADD, JUMP and so on, with no suffix; NOP is none"
+        }
+        RuleFault::NoMemory => "no memory",
     }
 }
 
