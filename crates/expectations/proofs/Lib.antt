@@ -1,5 +1,6 @@
 mod Behind
 mod Words
 mod Resting
+mod Ranges
 mod Faults
 mod TextRead

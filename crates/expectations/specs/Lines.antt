@@ -2,23 +2,15 @@
 use Rattle.std.specs.Prelude.{ℕ, if◌then◌else◌, List, [], ◌∷◌, codes, Option, Some, None, Result, Ok, Err}
 use Rattle.std.specs.Str.{bytes_eq}
 use Rattle.expectations.specs.LineWords.{words_on}
-use Rattle.expectations.specs.Values.{address_named, stream_named, register_named, value_named, trap_named, state_named}
+use Rattle.expectations.specs.Values.{stream_named, register_named, value_named, trap_named}
+use Rattle.expectations.specs.WordLines.{Said, word_said, range_said, sum_said}
 use Rattle.expectations.specs.declared.expectation.Expectation.{Expectation}
 use Rattle.expectations.specs.declared.expectation.Expectation.TheVariants as expect
-use Rattle.expectations.specs.declared.expectation.FullEmpty.{FullEmpty}
 use Rattle.expectations.specs.declared.expectation_fault.ExpectationFaultKind.{ExpectationFaultKind}
 use Rattle.expectations.specs.declared.expectation_fault.ExpectationFaultKind.TheVariants as fault
 use Rattle.expectations.specs.declared.values.StreamName.{StreamName}
 
-abbrev pub Said : Type 0
-Said = Result Expectation ExpectationFaultKind
-
 -- Each form by what its words say: the first that says nothing is the fault.
-
-abbrev pub word_of : Option ℕ → Option ℕ → Option FullEmpty → Said
-word_of None v state = Err fault.Address
-word_of (Some a) None state = Err fault.Number
-word_of (Some a) (Some v) state = Ok (expect.Word a v state)
 
 abbrev pub register_of : Option StreamName → Option ℕ → Option ℕ → Said
 register_of None r v = Err fault.Stream
@@ -32,16 +24,6 @@ stopped_of (Some n) None = Err fault.Trap
 stopped_of (Some n) (Some t) = Ok (expect.Stopped n.p n.s t)
 
 -- The operands of each form.
-
-abbrev pub word_in_state : List ℕ → List ℕ → Option FullEmpty → Said
-word_in_state a v None = Err fault.Form
-word_in_state a v (Some state) = word_of (address_named a) (value_named v) (Some state)
-
--- ADDRESS VALUE, or ADDRESS VALUE STATE
-abbrev pub word_said : List (List ℕ) → Said
-word_said (a ∷ v ∷ []) = word_of (address_named a) (value_named v) None
-word_said (a ∷ v ∷ s ∷ []) = word_in_state a v (state_named s)
-word_said _ = Err fault.Form
 
 -- STREAM REGISTER VALUE
 abbrev pub register_said : List (List ℕ) → Said
@@ -62,10 +44,12 @@ stopped_said _ = Err fault.Form
 abbrev pub expectation_named : List ℕ → List (List ℕ) → Said
 expectation_named name os =
     if bytes_eq name (codes "word") then word_said os
+    else (if bytes_eq name (codes "words") then range_said os
+    else (if bytes_eq name (codes "sum") then sum_said os
     else (if bytes_eq name (codes "register") then register_said os
     else (if bytes_eq name (codes "finished") then finished_said os
     else (if bytes_eq name (codes "stopped") then stopped_said os
-    else Err fault.Form)))
+    else Err fault.Form)))))
 
 abbrev pub some_said : Said → Result (Option Expectation) ExpectationFaultKind
 some_said (Ok e) = Ok (Some e)

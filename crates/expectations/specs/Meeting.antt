@@ -1,8 +1,7 @@
 -- Whether a world is as expected.
-use Rattle.std.specs.Prelude.{ℕ, ◌==◌, Bool, true, false, not, ◌&&◌, Option, Some, None, slice_get}
+use Rattle.std.specs.Prelude.{ℕ, ◌==◌, Bool, true, false, Option, Some, None, slice_get}
 use Rattle.std.specs.List.{list_all}
 use Rattle.std.specs.Option.{option_and_then}
-use Rattle.tag_memory.specs.Cell.{Cell}
 use Rattle.tag_memory.specs.Storage.{cell_at}
 use Rattle.stream_core.specs.Streams.{StreamValue}
 use Rattle.stream_core.specs.Traps.{trap_number}
@@ -10,21 +9,10 @@ use Rattle.stream_core.specs.declared.steps.Status.{Status}
 use Rattle.stream_core.specs.declared.steps.Status.TheVariants as status
 use Rattle.processor.specs.Processors.{ProcessorValue, is_idle}
 use Rattle.processor.specs.World.{World}
+use Rattle.expectations.specs.MemoryWords.{is_word, is_compared}
+use Rattle.expectations.specs.WordRanges.{word_count, are_words, is_sum}
 use Rattle.expectations.specs.declared.expectation.Expectation.{Expectation}
 use Rattle.expectations.specs.declared.expectation.Expectation.TheVariants as expect
-use Rattle.expectations.specs.declared.expectation.FullEmpty.{FullEmpty}
-use Rattle.expectations.specs.declared.expectation.FullEmpty.TheVariants.{Full, Empty}
-
--- whether a word, full or not, is in the state that is wanted, if one is
-abbrev pub is_in_state : Option FullEmpty → Bool → Bool
-is_in_state None full = true
-is_in_state (Some Full) full = full
-is_in_state (Some Empty) full = not full
-
--- whether a word is there, with this value and in this state
-abbrev pub is_word : ℕ → Option FullEmpty → Option Cell → Bool
-is_word value state None = false
-is_word value state (Some c) = c.value == value && is_in_state state c.full
 
 -- the stream of these numbers, if there are such a processor and such a stream of it
 abbrev pub stream_in : World → ℕ → ℕ → Option StreamValue
@@ -60,6 +48,9 @@ is_finished w = list_all all_idle w.processors
 -- whether a world is as an expectation says; a word or a stream that is not there is not as expected
 abbrev pub is_met : World → Expectation → Bool
 is_met w (expect.Word a value state) = is_word value state (cell_at w.memory a)
+is_met w (expect.Words a b value state) = are_words value state w.memory a (word_count a b)
+is_met w (expect.Sum a b value) = is_sum value w.memory a (word_count a b)
+is_met w (expect.Compared a r b more) = is_compared r more (cell_at w.memory a) (cell_at w.memory b)
 is_met w (expect.Register p s r value) = holds_in_register r value (stream_in w p s)
 is_met w expect.Finished = is_finished w
 is_met w (expect.Stopped p s trap) = is_stopped_by trap (stream_in w p s)

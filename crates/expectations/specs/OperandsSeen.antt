@@ -1,20 +1,12 @@
 -- What the code holds of the words behind the first word of a line.
 use Rattle.std.specs.Prelude.{◌≡◌, ℕ, List, [], ◌∷◌}
+use Rattle.expectations.specs.LineWords.{words_of}
 use Rattle.expectations.specs.declared.line_words.Operands.{Operands}
 use Rattle.expectations.specs.declared.line_words.Operands.TheVariants as operands
-
--- four words or more
-pub record AreMore (os : List (List ℕ)) : Type 0 where
-  pub first : List ℕ
-  pub second : List ℕ
-  pub third : List ℕ
-  pub fourth : List ℕ
-  pub others : List (List ℕ)
-  pub is : os ≡ first ∷ second ∷ third ∷ fourth ∷ others
 
 abbrev pub AreOperands : Operands → List (List ℕ) → Type 0
 AreOperands operands.Zero os = os ≡ []
 AreOperands (operands.One x) os = os ≡ x.now ∷ []
 AreOperands (operands.Two x y) os = os ≡ x.now ∷ y.now ∷ []
 AreOperands (operands.Three x y z) os = os ≡ x.now ∷ y.now ∷ z.now ∷ []
-AreOperands operands.More os = AreMore os
+AreOperands (operands.More x y z u rest) os = os ≡ x.now ∷ y.now ∷ z.now ∷ u.now ∷ words_of rest.now

@@ -1,6 +1,6 @@
 -- What the words of a line say.
 use Rattle.std.specs.Prelude.{ℕ, ◌-◌, ◌*◌, ◌%◌, ◌^◌, ◌==◌, nat_lt, if◌then◌else◌, List, slice_index, drop, codes}
-use Rattle.std.specs.Prelude.{Option, Some, None}
+use Rattle.std.specs.Prelude.{Option, Some, None, Bool, nat_le, Result, Ok, Err}
 use Rattle.std.specs.Option.{option_map, option_and_then}
 use Rattle.std.specs.Str.{bytes_eq}
 use Rattle.tag_memory.specs.Storage.{most_memory_words}
@@ -9,6 +9,11 @@ use Rattle.text_parts.specs.Pieces.{text_before, text_after}
 use Rattle.text_parts.specs.Reading.{number_of_digits, number_of_text}
 use Rattle.expectations.specs.declared.expectation.FullEmpty.{FullEmpty}
 use Rattle.expectations.specs.declared.expectation.FullEmpty.TheVariants.{Full, Empty}
+use Rattle.expectations.specs.declared.expectation.Relation.{Relation}
+use Rattle.expectations.specs.declared.expectation.Relation.TheVariants.{Is, Above, Below, AboveSigned, BelowSigned}
+use Rattle.expectations.specs.declared.expectation_fault.ExpectationFaultKind.{ExpectationFaultKind}
+use Rattle.expectations.specs.declared.expectation_fault.ExpectationFaultKind.TheVariants as fault
+use Rattle.expectations.specs.declared.values.AddressRange.{AddressRange}
 use Rattle.expectations.specs.declared.values.StreamName.{StreamName}
 
 -- a number of at most so much, decimal or with 0x
@@ -62,3 +67,34 @@ state_named text =
     if bytes_eq text (codes "full") then Some Full
     else (if bytes_eq text (codes "empty") then Some Empty
     else None)
+
+-- is, above or below; the last two perhaps of numbers with a sign
+unfoldable pub relation_named : List ℕ → Bool → Option Relation
+relation_named text signed =
+    if bytes_eq text (codes "is") then (if signed then None else Some Is)
+    else (if bytes_eq text (codes "above") then (if signed then Some AboveSigned else Some Above)
+    else (if bytes_eq text (codes "below") then (if signed then Some BelowSigned else Some Below)
+    else None))
+
+-- Ranges of words.
+
+abbrev pub RangeSaid : Type 0
+RangeSaid = Result AddressRange ExpectationFaultKind
+
+abbrev pub range_between : Option ℕ → Option ℕ → RangeSaid
+range_between None last = Err fault.Address
+range_between (Some first) None = Err fault.Address
+range_between (Some first) (Some last) =
+    if nat_le first last then Ok (record { first = first; last = last }) else Err fault.Range
+
+-- what stands behind a point
+abbrev pub behind_point : List ℕ → Option (List ℕ)
+behind_point text = if slice_index text 0 == 46 then Some (drop 1 text) else None
+
+abbrev pub range_of_texts : List ℕ → Option (List ℕ) → RangeSaid
+range_of_texts first None = Err fault.Form
+range_of_texts first (Some last) = range_between (address_named first) (address_named last)
+
+-- the first address, two points, and the last one, which is not less
+unfoldable pub range_named : List ℕ → RangeSaid
+range_named text = range_of_texts (text_before 46 text) (option_and_then behind_point (text_after 46 text))

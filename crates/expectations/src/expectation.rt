@@ -9,6 +9,21 @@ pub enum FullEmpty {
     Empty,
 }
 
+/// How a number of 64 bits stands to another.
+#[derive(Clone, Copy, Debug, PartialEq, Eq)]
+pub enum Relation {
+    /// They are the same.
+    Is,
+    /// It is greater, as numbers from 0 to 2^64 - 1.
+    Above,
+    /// It is less, as numbers from 0 to 2^64 - 1.
+    Below,
+    /// It is greater, as numbers from -2^63 to 2^63 - 1, in two's complement.
+    AboveSigned,
+    /// It is less, as numbers from -2^63 to 2^63 - 1, in two's complement.
+    BelowSigned,
+}
+
 /// One thing that the end of a run has to be.
 #[derive(Clone, Copy, Debug, PartialEq, Eq)]
 pub enum Expectation {
@@ -20,6 +35,37 @@ pub enum Expectation {
         value: u64,
         /// Whether it is full or empty; None where both will do.
         state: Option<FullEmpty>,
+    },
+    /// Each of the words from one to another.
+    Words {
+        /// The first one's byte address.
+        first: u64,
+        /// The last one's byte address.
+        last: u64,
+        /// The value of each.
+        value: u64,
+        /// Whether each is full or empty; None where both will do.
+        state: Option<FullEmpty>,
+    },
+    /// The values of the words from one to another, together.
+    Sum {
+        /// The first one's byte address.
+        first: u64,
+        /// The last one's byte address.
+        last: u64,
+        /// Their sum, modulo 2^64.
+        value: u64,
+    },
+    /// The value of a word, beside that of another and a number.
+    Compared {
+        /// The word's byte address.
+        address: u64,
+        /// How its value stands to the other word's and the number, modulo 2^64.
+        relation: Relation,
+        /// The other word's byte address.
+        other: u64,
+        /// The number.
+        more: u64,
     },
     /// A register of a stream. A stream that does not run and was not stopped holds zeros.
     Register {

@@ -8,10 +8,12 @@ use std::alloc::{AllocError, AllocFailed};
 /// What is wrong with a text of expectations. Of a line it is the first of these that it has.
 #[derive(Clone, Copy, Debug, PartialEq, Eq)]
 pub enum ExpectationFaultKind {
-    /// It has none of the four forms.
+    /// It has none of the forms.
     Form,
     /// The address is none that a word of some machine has: a multiple of 8 below 2,097,152.
     Address,
+    /// The last word of a range stands before the first.
+    Range,
     /// The stream is none that some machine has: `P.S`, P to 15 and S to 127.
     Stream,
     /// The register is not `r0` to `r31`.

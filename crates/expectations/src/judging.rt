@@ -4,14 +4,15 @@ ghost use Rattle.std.specs.Prelude.{◌≡◌, ◌<◌, not, IsTrue};
 ghost use Rattle.std.specs.List.{position};
 ghost use Rattle.std.specs.Option.{option_copied};
 ghost use Rattle.std.specs.Prelude.{slice_get};
-ghost use Rattle.expectations.specs.Meeting.{is_met, is_word, holds_in_register, is_finished, is_stopped_by};
-ghost use Rattle.expectations.specs.Meeting.{stream_in, is_in_state, all_idle_at};
+ghost use Rattle.expectations.specs.Meeting.{is_met, holds_in_register, is_finished, is_stopped_by};
+ghost use Rattle.expectations.specs.Meeting.{stream_in, all_idle_at};
 ghost use Rattle.expectations.specs.NamedRegisters.{IsOfRegisters};
 
-use crate::expectation::{Expectation, FullEmpty};
+use crate::expectation::Expectation;
+use crate::memory_words::{is_compared, is_word};
+use crate::word_ranges::{are_words, is_sum};
 use machine::Machine;
 use stream_core::{Status, Stream};
-use tag_memory::Word;
 
 /// Whether a machine is as an expectation says. A word or a stream that the machine does not have is not as expected.
 ///
@@ -26,6 +27,19 @@ pub fn is_met<const S: usize>(machine: &Machine<'_, S>, expectation: &Expectatio
             value,
             state,
         } => is_word(machine.word(address), value, state),
+        Expectation::Words {
+            first,
+            last,
+            value,
+            state,
+        } => are_words(machine, first, last, value, state),
+        Expectation::Sum { first, last, value } => is_sum(machine, first, last, value),
+        Expectation::Compared {
+            address,
+            relation,
+            other,
+            more,
+        } => is_compared(machine.word(address), relation, machine.word(other), more),
         Expectation::Register {
             p,
             s,
@@ -49,25 +63,6 @@ pub fn first_missed<const S: usize>(
             ensures { result ≡ not (is_met machine.entry.now.world expectation.now) }
         { !is_met(machine, expectation) },
     )
-}
-
-fn is_word(word: Option<Word>, value: u64, state: Option<FullEmpty>) -> bool
-    ensures { result ≡ is_word value state word }
-{
-    match word {
-        Some(word) => word.value() == value && is_in_state(word.is_full(), state),
-        None => false,
-    }
-}
-
-fn is_in_state(full: bool, state: Option<FullEmpty>) -> bool
-    ensures { result ≡ is_in_state state full }
-{
-    match state {
-        Some(FullEmpty::Full) => full,
-        Some(FullEmpty::Empty) => !full,
-        None => true,
-    }
 }
 
 /// The stream of these numbers, where the machine has it.

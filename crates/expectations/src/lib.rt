@@ -6,11 +6,14 @@ mod expectation_fault;
 mod judging;
 mod line_words;
 mod lines;
+mod memory_words;
 mod names;
 mod reading;
 mod values;
+mod word_lines;
+mod word_ranges;
 
-pub use expectation::{Expectation, FullEmpty};
+pub use expectation::{Expectation, FullEmpty, Relation};
 pub use expectation_fault::{ExpectationFault, ExpectationFaultKind};
 pub use judging::{first_missed, is_met};
 pub use names::named_registers;

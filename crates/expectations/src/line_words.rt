@@ -5,7 +5,7 @@ ghost use Rattle.std.specs.List.{position};
 ghost use Rattle.expectations.specs.LineWords.{is_blank, skip_blanks, words_of};
 ghost use Rattle.expectations.specs.OperandsSeen.{AreOperands};
 
-/// The words behind the first word of a line, up to three.
+/// The words behind the first word of a line.
 #[derive(Clone, Copy)]
 pub(crate) enum Operands<'t> {
     /// None.
@@ -16,8 +16,8 @@ pub(crate) enum Operands<'t> {
     Two(&'t [u8], &'t [u8]),
     /// Three words.
     Three(&'t [u8], &'t [u8], &'t [u8]),
-    /// Four words or more.
-    More,
+    /// Four words, and what stands behind them.
+    More(&'t [u8], &'t [u8], &'t [u8], &'t [u8], &'t [u8]),
 }
 
 /// The words of a text as operands.
@@ -35,7 +35,7 @@ pub(crate) fn read_operands(text: &[u8]) -> Operands<'_>
     };
     match next_word(rest) {
         None => Operands::Three(first, second, third),
-        Some(_) => Operands::More,
+        Some((fourth, rest)) => Operands::More(first, second, third, fourth, rest),
     }
 }
 

@@ -2,17 +2,16 @@
 
 ghost use Rattle.std.specs.Prelude.{◌≡◌, ℕ, List};
 ghost use Rattle.expectations.specs.LineWords.{words_of};
-ghost use Rattle.expectations.specs.Lines.{line_said, expectation_named, word_said, register_said, stopped_said};
-ghost use Rattle.expectations.specs.Lines.{word_of, register_of, stopped_of, finished_said};
-ghost use Rattle.expectations.specs.Values.{address_named, stream_named, register_named, value_named, trap_named};
+ghost use Rattle.expectations.specs.Lines.{line_said, expectation_named, register_said, stopped_said};
+ghost use Rattle.expectations.specs.Lines.{register_of, stopped_of, finished_said};
+ghost use Rattle.expectations.specs.Values.{stream_named, register_named, value_named, trap_named};
 ghost use Rattle.expectations.specs.OperandsSeen.{AreOperands};
 
-use crate::expectation::{Expectation, FullEmpty};
+use crate::expectation::Expectation;
 use crate::expectation_fault::ExpectationFaultKind;
 use crate::line_words::{Operands, next_word, read_operands};
-use crate::values::{
-    address_named, register_named, state_named, stream_named, trap_named, value_named,
-};
+use crate::values::{register_named, stream_named, trap_named, value_named};
+use crate::word_lines::{read_range, read_sum, read_word};
 use text_parts::cut;
 
 /// What a line expects; None where it has nothing but blanks and a comment.
@@ -35,6 +34,12 @@ fn read_named(name: &[u8], operands: &Operands) -> Result<Expectation, Expectati
     if name == b"word".as_slice() {
         return read_word(operands);
     }
+    if name == b"words".as_slice() {
+        return read_range(operands);
+    }
+    if name == b"sum".as_slice() {
+        return read_sum(operands);
+    }
     if name == b"register".as_slice() {
         return read_register(operands);
     }
@@ -45,36 +50,6 @@ fn read_named(name: &[u8], operands: &Operands) -> Result<Expectation, Expectati
         return read_stopped(operands);
     }
     Err(ExpectationFaultKind::Form)
-}
-
-/// `ADDRESS VALUE`, and perhaps `full` or `empty`
-fn read_word(operands: &Operands) -> Result<Expectation, ExpectationFaultKind>
-    ensures { (os : List (List ℕ)) → AreOperands operands.now os → result ≡ word_said os }
-{
-    match *operands {
-        Operands::Two(address, value) => word(address, value, None),
-        Operands::Three(address, value, state) => {
-            let state = state_named(state).ok_or(ExpectationFaultKind::Form)?;
-            word(address, value, Some(state))
-        }
-        _ => Err(ExpectationFaultKind::Form),
-    }
-}
-
-fn word(
-    address: &[u8],
-    value: &[u8],
-    state: Option<FullEmpty>,
-) -> Result<Expectation, ExpectationFaultKind>
-    ensures { result ≡ word_of (address_named address.now) (value_named value.now) state }
-{
-    let address = address_named(address).ok_or(ExpectationFaultKind::Address)?;
-    let value = value_named(value).ok_or(ExpectationFaultKind::Number)?;
-    Ok(Expectation::Word {
-        address,
-        value,
-        state,
-    })
 }
 
 /// `P.S rN VALUE`

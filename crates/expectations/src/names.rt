@@ -33,6 +33,11 @@ fn names_register(expectation: &Expectation, register: u8) -> bool
 {
     match *expectation {
         Expectation::Register { number, .. } => number == register,
-        Expectation::Word { .. } | Expectation::Finished | Expectation::Stopped { .. } => false,
+        Expectation::Word { .. }
+        | Expectation::Words { .. }
+        | Expectation::Sum { .. }
+        | Expectation::Compared { .. }
+        | Expectation::Finished
+        | Expectation::Stopped { .. } => false,
     }
 }

@@ -2,9 +2,12 @@
 
 ghost use Rattle.std.specs.Prelude.{◌≡◌, ◌≤◌, ◌<◌, ◌^◌, IfSome};
 ghost use Rattle.expectations.specs.Values.{number_to, decimal_to, address_named, stream_named, register_named};
-ghost use Rattle.expectations.specs.Values.{value_named, trap_named, state_named};
+ghost use Rattle.expectations.specs.Values.{value_named, trap_named, state_named, relation_named, range_named};
+ghost use Rattle.expectations.specs.Values.{behind_point};
+ghost use Rattle.std.specs.Option.{option_copied, option_and_then};
 
-use crate::expectation::FullEmpty;
+use crate::expectation::{FullEmpty, Relation};
+use crate::expectation_fault::ExpectationFaultKind;
 use tag_memory::MAX_WORDS;
 use text_parts::{Base, cut, read_digits, read_number};
 
@@ -32,6 +35,15 @@ pub(crate) struct StreamName {
     pub(crate) p: u8,
     /// The stream's number.
     pub(crate) s: u8,
+}
+
+/// The words from one to another.
+#[derive(Clone, Copy, Debug, PartialEq, Eq)]
+pub(crate) struct AddressRange {
+    /// The first one's byte address.
+    pub(crate) first: u64,
+    /// The last one's byte address, no less.
+    pub(crate) last: u64,
 }
 
 /// A byte address that a word of some machine has.
@@ -101,6 +113,59 @@ pub(crate) fn state_named(text: &[u8]) -> Option<FullEmpty>
         return Some(FullEmpty::Empty);
     }
     None
+}
+
+/// `is`, `above` or `below`, the last two perhaps of numbers with a sign.
+#[tactic(auto, unfolding(crate::specs::Values::relation_named))]
+pub(crate) fn relation_named(text: &[u8], is_signed: bool) -> Option<Relation>
+    ensures { result ≡ relation_named text.now is_signed }
+{
+    if text == b"is".as_slice() {
+        return if is_signed { None } else { Some(Relation::Is) };
+    }
+    if text == b"above".as_slice() {
+        return if is_signed {
+            Some(Relation::AboveSigned)
+        } else {
+            Some(Relation::Above)
+        };
+    }
+    if text == b"below".as_slice() {
+        return if is_signed {
+            Some(Relation::BelowSigned)
+        } else {
+            Some(Relation::Below)
+        };
+    }
+    None
+}
+
+/// `FIRST..LAST`: byte addresses that words of some machine have, the second no less than the first.
+#[tactic(auto, unfolding(crate::specs::Values::range_named))]
+pub(crate) fn range_named(text: &[u8]) -> Result<AddressRange, ExpectationFaultKind>
+    ensures { result ≡ range_named text.now }
+{
+    let (first, rest) = cut(text, b'.');
+    let Some(last) = behind_point(rest) else {
+        return Err(ExpectationFaultKind::Form);
+    };
+    let first = address_named(first).ok_or(ExpectationFaultKind::Address)?;
+    let last = address_named(last).ok_or(ExpectationFaultKind::Address)?;
+    if first <= last {
+        Ok(AddressRange { first, last })
+    } else {
+        Err(ExpectationFaultKind::Range)
+    }
+}
+
+/// What stands behind a point that a text begins with.
+fn behind_point(text: Option<&[u8]>) -> Option<&[u8]>
+    ensures { option_copied result ≡ option_and_then behind_point (option_copied text.entry) }
+{
+    match text {
+        Some([b'.', rest @ ..]) => Some(rest),
+        _ => None,
+    }
 }
 
 /// A number of at most so much, decimal or with `0x`.

@@ -65,6 +65,7 @@ fn expectation_of(alloc: Global, line: String) -> Result<Expectation, ClaimFault
             ExpectationFaultKind::Number => ClaimFault::Number,
             ExpectationFaultKind::NoMemory => ClaimFault::NoMemory,
             ExpectationFaultKind::Form
+            | ExpectationFaultKind::Range
             | ExpectationFaultKind::Register
             | ExpectationFaultKind::Trap
             | ExpectationFaultKind::Empty => ClaimFault::Form,

@@ -9,6 +9,11 @@ pub fn is_expected_trap(expected: &[Expectation], stopped: &StoppedBy) -> bool {
         Expectation::Stopped { p, s, trap } => {
             p == stopped.p && s == stopped.s && trap == stopped.trap.number()
         }
-        Expectation::Word { .. } | Expectation::Register { .. } | Expectation::Finished => false,
+        Expectation::Word { .. }
+        | Expectation::Words { .. }
+        | Expectation::Sum { .. }
+        | Expectation::Compared { .. }
+        | Expectation::Register { .. }
+        | Expectation::Finished => false,
     })
 }

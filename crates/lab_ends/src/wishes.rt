@@ -1,7 +1,8 @@
-//! What is wished of a program: of its ends, and of all worlds on the way.
+//! What is wished of a program: of its text, of its ends, and of all worlds on the way.
 
 use crate::claim_fault::ClaimFault;
 use crate::claim_lines::ClaimLine;
+use crate::rule_lines::{RuleFault, RuleLine, add_rules, is_rule_word};
 use claims::Claim;
 use expectations::{Expectation, ExpectationFault, read_expectations};
 use image_file::Image;
@@ -18,6 +19,8 @@ pub struct Wishes {
     pub claims: Vec<Claim>,
     /// The words that say each of them, in the same order.
     pub claim_texts: Vec<String>,
+    /// What the program itself has to be.
+    pub rules: Vec<RuleLine>,
 }
 
 /// Why a text says no wishes.
@@ -29,6 +32,13 @@ pub enum WishFault {
         line: usize,
         /// Why it is none.
         fault: ClaimFault,
+    },
+    /// A line begins as a rule of programs, and is none.
+    Rule {
+        /// The line, counted from 1.
+        line: usize,
+        /// Why it is none.
+        fault: RuleFault,
     },
     /// Another line has a fault, or the text says nothing.
     Expectation(ExpectationFault),
@@ -55,45 +65,66 @@ impl Wishes {
             ends: Vec::new(alloc),
             claims: Vec::new(alloc),
             claim_texts: Vec::new(alloc),
+            rules: Vec::new(alloc),
         }
     }
 
     /// The wishes of a text of a program, by its names and its image: a line that begins with `always` or `never` is a
-    /// claim, the others are expectations.
+    /// claim, one that begins with `entries`, `at`, `forbid` or `require` says rules of programs, the others are
+    /// expectations.
     ///
-    /// `Claim` at the first line that begins as a claim and is none about the program; else `Expectation` where the
-    /// others are no expectations, or where the text says nothing.
+    /// `Claim` or `Rule` at the first line that begins as a claim and is none about the program, or begins as a rule and
+    /// is none; else `Expectation` where the others are no expectations, or where the text says nothing.
     pub fn of(
         alloc: Global,
         text: &[u8],
         names: &ProgramNames<'_>,
         image: &Image,
     ) -> Result<Wishes, WishFault> {
-        let mut claims = Vec::new(alloc);
-        let mut claim_texts = Vec::new(alloc);
+        let mut wishes = Wishes::none(alloc);
         let mut others = Vec::with_capacity(alloc, text.len())?;
         for (index, line) in text.split(|byte| *byte == b'\n').enumerate() {
-            let words = claim_words(alloc, line)?;
-            if words.is_empty() {
-                others.extend_from_slice(line)?;
+            let words = line_words(alloc, line)?;
+            let first = words.first().copied().unwrap_or("");
+            let number = index.saturating_add(1);
+            if first == "always" || first == "never" {
+                wishes.add_claim(alloc, number, &words, names, image)?;
+            } else if is_rule_word(first) {
+                wishes.add_rules(alloc, number, &words)?;
             } else {
-                let line = index.saturating_add(1);
-                let said = claim_at(alloc, line, &words, names, image)?;
-                claims.push(said.claim)?;
-                claim_texts.push(said.text)?;
+                others.extend_from_slice(line)?;
             }
             others.push(b'\n')?;
         }
-        let ends = if claims.is_empty() || has_words(&others) {
-            read_ends(alloc, &others)?
-        } else {
-            Vec::new(alloc)
-        };
-        Ok(Wishes {
-            ends,
-            claims,
-            claim_texts,
-        })
+        let says_others = !wishes.claims.is_empty() || !wishes.rules.is_empty();
+        if !says_others || has_words(&others) {
+            wishes.ends = read_ends(alloc, &others)?;
+        }
+        Ok(wishes)
+    }
+
+    /// Adds the claim that the words of a line say about a program.
+    fn add_claim(
+        &mut self,
+        alloc: Global,
+        line: usize,
+        words: &[&str],
+        names: &ProgramNames<'_>,
+        image: &Image,
+    ) -> Result<(), WishFault> {
+        let said = claim_at(alloc, line, words, names, image)?;
+        self.claims.push(said.claim)?;
+        self.claim_texts.push(said.text)?;
+        Ok(())
+    }
+
+    /// Adds the rules that the words of a line say.
+    fn add_rules(&mut self, alloc: Global, line: usize, words: &[&str]) -> Result<(), WishFault> {
+        match add_rules(alloc, &mut self.rules, line, words) {
+            Ok(()) => Ok(()),
+            Err(RuleFault::NoMemory) => Err(WishFault::NoMemory),
+            Err(fault) => Err(WishFault::Rule { line, fault }),
+        }
     }
 }
 
@@ -120,8 +151,8 @@ fn read_ends(alloc: Global, text: &[u8]) -> Result<Vec<Expectation>, WishFault> 
     }
 }
 
-/// The words of a line that is to be a claim; none of another line.
-fn claim_words(alloc: Global, line: &[u8]) -> Result<Vec<&str>, AllocError> {
+/// The words of a line, before its comment; none of one that is no UTF-8.
+fn line_words(alloc: Global, line: &[u8]) -> Result<Vec<&str>, AllocError> {
     let mut words = Vec::new(alloc);
     let text = str::from_utf8(line).unwrap_or("");
     let text = match text.split_once('#') {
@@ -129,9 +160,6 @@ fn claim_words(alloc: Global, line: &[u8]) -> Result<Vec<&str>, AllocError> {
         None => text,
     };
     for word in text.split_whitespace() {
-        if words.is_empty() && word != "always" && word != "never" {
-            return Ok(words);
-        }
         words.push(word)?;
     }
     Ok(words)

@@ -1,9 +1,10 @@
 //! The command `explore`.
 
-ghost use Rattle.std.specs.Prelude.{◌+◌, ◌<◌, ◌⊎◌, ◌↔◌, IsTrue, IfOk, length};
+ghost use Rattle.std.specs.Prelude.{◌⊎◌, ◌↔◌, IsTrue, IfOk};
 ghost use Rattle.schedule_space.specs.Spaces.{IsComplete, HasAllEdges};
 ghost use Rattle.schedule_space.specs.Followed.{AllFollowed};
 ghost use Rattle.schedule_verdicts.specs.KeptClaims.{AreKeptOnTheWay};
+ghost use Rattle.lab_ends.specs.ProgramWishes.{IsJudged};
 ghost use Rattle.schedule_verdicts.specs.NamedRegisters.{AreNamed};
 ghost use Rattle.schedule_verdicts.specs.RightSpaces.{IsFollowedForClaims, IsRightOnEachWay, IsRightThroughout};
 
@@ -17,7 +18,8 @@ use command_parts::{
     Answer, Inputs, LabFault, Program, Status, read_program, read_steps, style_of,
 };
 use end_kinds::EndKind;
-use lab_ends::{SpaceEnd, SpaceEndKind, Wishes, space_ends};
+use image_file::Image;
+use lab_ends::{SpaceEnd, SpaceEndKind, Wishes, are_rules_kept, first_broken_rule, space_ends};
 use lab_requests::ExploreRequest;
 use lab_texts::{NumberStyle, ProgramNames};
 use machine::LoadFault;
@@ -48,12 +50,15 @@ pub struct Search<'a> {
 }
 
 impl Search<'_> {
-    /// Whether something is wished of the program.
-    fn is_judged(&self) -> bool
-        ensures { IsTrue result
-            ↔ 0 < length self.now.wishes.now.ends.items + length self.now.wishes.now.claims.items }
+    /// Whether something is wished of the program, and it keeps the rules of programs that are.
+    fn is_judged(&self, image: &Image) -> bool
+        ensures { IsTrue result ↔ IsJudged image.now self.now.wishes.now }
     {
-        !self.wishes.ends.is_empty() || !self.wishes.claims.is_empty()
+        let wishes = self.wishes;
+        let is_empty = wishes.ends.is_empty()
+            && wishes.claims.is_empty()
+            && wishes.rules.is_empty();
+        !is_empty && are_rules_kept(image, &wishes.rules)
     }
 }
 
@@ -74,9 +79,11 @@ pub struct Explored {
     pub begin: usize,
     /// Their ends.
     pub ends: Vec<SpaceEnd>,
+    /// Which of the rules of programs that are wished is the first that the program breaks.
+    pub broken_rule: Option<usize>,
     /// The graph of the worlds, where it is asked for, and they are no more than a graph has.
     pub graph: Option<String>,
-    /// Whether they are all, something is wished of them, and every schedule is right: its end, and each world on its way
+    /// Whether they are all, something is wished, the program keeps the rules, and every schedule is right: its end, and each world on its way
     /// (PROMISES.md, "Every schedule is right").
     pub is_right: bool,
 }
@@ -94,9 +101,13 @@ impl Explored {
         self.is_of_all_worlds || is_known || end.schedule.is_empty()
     }
 
-    /// The exit status: the worst over all ends and broken claims, and over the bound, where the search came to it.
+    /// The exit status: the worst over all ends, broken claims and rules, and over the bound, where the search came to it.
     pub fn status(&self) -> Status {
-        worst_of(self.is_complete, &self.ends)
+        let status = worst_of(self.is_complete, &self.ends);
+        if self.broken_rule.is_some() {
+            return status.worse(Status::Unexpected);
+        }
+        status
     }
 }
 
@@ -129,7 +140,8 @@ pub fn show_every_end<C: Clock, F: Files, R: Read, E: Write>(
         text: &text,
         expected: &wishes.ends,
     };
-    let mut answer = answer_of(alloc, request.shown.json, &program.image, lines, &found)?;
+    let is_json = request.shown.json;
+    let mut answer = answer_of(alloc, is_json, &program.image, lines, &wishes, &found)?;
     let kept = keep_schedules(alloc, inputs, request.keep, made, &found.ends);
     let drawn = write_graph(alloc, inputs, request.dot, &found);
     answer.fault = kept.and(drawn).err();
@@ -238,7 +250,7 @@ pub fn explore_program<C: Clock, E: Write>(
     watcher: &mut Watcher<'_, '_, C, E>,
 ) -> Result<Explored, AllocError>
     ensures right { IfOk result (λ e. let wishes = asked.now.wishes.now in IsTrue e.is_right
-        ↔ (IsTrue e.is_complete × (0 < length wishes.ends.items + length wishes.claims.items)
+        ↔ (IsTrue e.is_complete × IsJudged program.now.image wishes
         × IsRightThroughout program.now.image asked.now.begin.now wishes.ends.items wishes.claims.items)) }
 {
     match program.image.slim() {
@@ -258,13 +270,13 @@ fn explore_on<const S: usize, C: Clock, E: Write>(
     watcher: &mut Watcher<'_, '_, C, E>,
 ) -> Result<Explored, AllocError>
     ensures right { IfOk result (λ e. let wishes = asked.now.wishes.now in IsTrue e.is_right
-        ↔ (IsTrue e.is_complete × (0 < length wishes.ends.items + length wishes.claims.items)
+        ↔ (IsTrue e.is_complete × IsJudged program.now.image wishes
         × IsRightThroughout program.now.image asked.now.begin.now wishes.ends.items wishes.claims.items)) }
 {
     let (space, is_complete) = space_of::<S, C, E>(alloc, &program.image, asked, watcher)?;
     let ends = space_ends::<S>(alloc, names, asked.style, asked.wishes, &space, is_complete)?;
     let graph = graph_asked(alloc, asked.is_drawn, &space, &ends)?;
-    let is_asked = asked.is_judged();
+    let is_asked = asked.is_judged(&program.image);
     let is_right = are_all_right::<S>(alloc, asked.wishes, &space, is_complete, is_asked)?;
     Ok(Explored {
         worlds: space.len(),
@@ -274,6 +286,7 @@ fn explore_on<const S: usize, C: Clock, E: Write>(
         is_of_all_worlds: asked.is_plain,
         begin: asked.begin.len(),
         ends,
+        broken_rule: first_broken_rule(&program.image, &asked.wishes.rules),
         graph,
         is_right,
     })

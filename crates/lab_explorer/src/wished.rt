@@ -4,7 +4,7 @@ use crate::claim_texts::claim_words;
 use command_parts::LabFault;
 use expectations::{Expectation, ExpectationFault, ExpectationFaultKind, read_expectations};
 use image_file::Image;
-use lab_ends::{WishFault, Wishes};
+use lab_ends::{RuleFault, WishFault, Wishes};
 use lab_texts::ProgramNames;
 use plain_text::plain;
 use std::alloc::{AllocError, Global};
@@ -50,6 +50,25 @@ pub fn wish_fault(
             let words = claim_words(alloc, fault, image)?;
             Ok(LabFault::Lines(format!(in alloc; "{path}:{line}:1: error: {words}\n")?))
         }
+        WishFault::Rule { line, fault } => {
+            let path = plain(alloc, path)?;
+            let words = rule_words(fault);
+            Ok(LabFault::Lines(format!(in alloc; "{path}:{line}:1: error: {words}\n")?))
+        }
+    }
+}
+
+/// Why a line that begins as a rule of programs is none, in words.
+fn rule_words(fault: RuleFault) -> &'static str {
+    match fault {
+        RuleFault::Form => {
+            "a rule of programs is entries N, at most N words, forbid OPERATION .., or require OPERATION .."
+        }
+        RuleFault::Count => "this is no number",
+        RuleFault::Operation => {
+            "no operation has this name: LOAD, STORE, FADD, ADD, JUMP and so on, with no suffix; NOP is none"
+        }
+        RuleFault::NoMemory => "no memory",
     }
 }
 
@@ -62,10 +81,11 @@ fn expectation_fault(
     let words = match fault.kind {
         ExpectationFaultKind::NoMemory => return Ok(LabFault::NoMemory),
         ExpectationFaultKind::Form => {
-            "a line is word ADDRESS VALUE [full|empty], register P.S rN VALUE, finished, or stopped P.S TRAP; of every schedule also always .. or never .."
+            "a line is word ADDRESS VALUE [full|empty], words FIRST..LAST VALUE [full|empty], sum FIRST..LAST VALUE, word ADDRESS is|above|below word ADDRESS [+ NUMBER] [signed], register P.S rN VALUE, finished, or stopped P.S TRAP; of every schedule also always .. or never .."
         }
         ExpectationFaultKind::Address =>
             "no memory has a word at this address: multiples of 8 below 2097152",
+        ExpectationFaultKind::Range => "the range ends before it begins",
         ExpectationFaultKind::Stream => "a stream is P.S, P 0 to 15 and S 0 to 127",
         ExpectationFaultKind::Register => "a register is r0 to r31",
         ExpectationFaultKind::Number => "this is no number of 64 bits",

@@ -10,10 +10,13 @@ const STOPPING: &str = ".slim 1\n.entry 0\nLIT r1, 5\nSTORE.N r1, r0, 0\n.data 0
 
 const QUITTING: &str = ".slim 1\n.entry 0\nLIT r1, 5\nQUIT\n.data 0xFFFFFFFFFFFFFFFF\n";
 
+/// Two words whose sum is 2^64 + 1.
+const HUGE: &str = ".slim 1\n.entry 0\nQUIT\n.data 0x8000000000000000\n.data 0x8000000000000001\n";
+
 /// A source, how many steps are taken, a text of expectations, and which of them is the first that is not met.
 type Row = (&'static str, usize, &'static str, Option<usize>);
 
-const ROWS: [Row; 12] = [
+const ROWS: [Row; 28] = [
     (
         STOPPING,
         3,
@@ -41,10 +44,41 @@ const ROWS: [Row; 12] = [
         "finished # quit\r\n\r\n\tword\t0 -1 full\nregister 0.0 r1 0\n",
         None,
     ),
+    (
+        STOPPING,
+        3,
+        "words 0..0 5 full\nwords 0x8..8 7 empty\nsum 0..8 12\nsum 8..8 7",
+        None,
+    ),
+    (STOPPING, 3, "words 0..8 5", Some(0)),
+    (STOPPING, 3, "words 8..8 7\nwords 8..8 7 full", Some(1)),
+    (STOPPING, 3, "words 0..16 5", Some(0)),
+    (STOPPING, 3, "words 16..16 0", Some(0)),
+    (STOPPING, 3, "sum 0..8 13", Some(0)),
+    (STOPPING, 3, "sum 0..16 12", Some(0)),
+    (STOPPING, 3, "sum 0..2097144 12", Some(0)),
+    (
+        STOPPING,
+        3,
+        "word 8 above word 0\nword 0 below word 8\nword 8 is word 0 + 2\nword 0 is word 8 + -2",
+        None,
+    ),
+    (STOPPING, 3, "word 0 above word 8 + -8 signed", None),
+    (STOPPING, 3, "word 0 above word 8 + -8", Some(0)),
+    (STOPPING, 3, "word 0 above word 0", Some(0)),
+    (STOPPING, 3, "word 0 is word 0\nword 0 is word 16", Some(1)),
+    (STOPPING, 3, "word 16 is word 16", Some(0)),
+    (
+        QUITTING,
+        2,
+        "word 0 above word 0 + 1\nword 0 below word 0 + 1 signed\nword 0 below word 0 + 1",
+        Some(2),
+    ),
+    (HUGE, 1, "sum 0..8 1\nword 8 is word 0 + 1", None),
 ];
 
 /// A text that has a fault, its line, and what it is.
-const FAULTS: [(&str, usize, ExpectationFaultKind); 18] = [
+const FAULTS: [(&str, usize, ExpectationFaultKind); 38] = [
     ("", 0, ExpectationFaultKind::Empty),
     ("# finished\n \t\r\n", 0, ExpectationFaultKind::Empty),
     ("finished\nword 8", 2, ExpectationFaultKind::Form),
@@ -71,6 +105,26 @@ const FAULTS: [(&str, usize, ExpectationFaultKind); 18] = [
     ),
     ("stopped 0.0 0", 1, ExpectationFaultKind::Trap),
     ("stopped 15.127 11", 1, ExpectationFaultKind::Trap),
+    ("words 8..0 1", 1, ExpectationFaultKind::Range),
+    ("words 8 1", 1, ExpectationFaultKind::Form),
+    ("words 0.8 1", 1, ExpectationFaultKind::Form),
+    ("words 0..8 1 fill", 1, ExpectationFaultKind::Form),
+    ("words 0..8 1 full full", 1, ExpectationFaultKind::Form),
+    ("words 4..8 1", 1, ExpectationFaultKind::Address),
+    ("words 0..2097152 1", 1, ExpectationFaultKind::Address),
+    ("words 0...8 1", 1, ExpectationFaultKind::Address),
+    ("words 0.. 1", 1, ExpectationFaultKind::Address),
+    ("words 0..8 x", 1, ExpectationFaultKind::Number),
+    ("sum 0..8", 1, ExpectationFaultKind::Form),
+    ("sum 0..8 1 full", 1, ExpectationFaultKind::Form),
+    ("sum 8..0 x", 1, ExpectationFaultKind::Range),
+    ("word 0 is word", 1, ExpectationFaultKind::Form),
+    ("word 0 over word 8", 1, ExpectationFaultKind::Form),
+    ("word 0 is word 8 signed", 1, ExpectationFaultKind::Form),
+    ("word 0 is word 8 + 1 2", 1, ExpectationFaultKind::Form),
+    ("word 0 below word 8 1 +", 1, ExpectationFaultKind::Form),
+    ("word 0 is word 3 + x", 1, ExpectationFaultKind::Address),
+    ("word 0 is word 8 + x", 1, ExpectationFaultKind::Number),
 ];
 
 /// The machine of an image after so many steps of its only stream.

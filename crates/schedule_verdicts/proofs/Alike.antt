@@ -115,6 +115,9 @@ module _ (l : LiveValue) where
       → is_met (cleared l w) e ≡ is_met w e
   unfolding cleared
   met_cleared w (expect.Word a value state) named = refl
+  met_cleared w (expect.Words a b value state) named = refl
+  met_cleared w (expect.Sum a b value) named = refl
+  met_cleared w (expect.Compared a r b more) named = refl
   met_cleared w (expect.Register p s r value) named =
       ap (holds_in_register r value) (stream_cleared w p s) ∙ held r value (named r (eq-eqb r r refl)) (stream_in w p s)
   met_cleared w expect.Finished named = idle_processors w.processors

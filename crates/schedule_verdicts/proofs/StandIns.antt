@@ -30,6 +30,9 @@ use Rattle.schedule_verdicts.proofs.Alike.{agreeing_right}
 
 below_one : (e : Expectation) (r : ℕ) → IsOfRegisters e → IsTrue (names_register r e) → r < 32
 below_one (expect.Word a value state) r of named = absurd cc
+below_one (expect.Words a b value state) r of named = absurd cc
+below_one (expect.Sum a b value) r of named = absurd cc
+below_one (expect.Compared a t b more) r of named = absurd cc
 below_one (expect.Register p s n value) r of named = grind (arith, of, named)
 below_one expect.Finished r of named = absurd cc
 below_one (expect.Stopped p s trap) r of named = absurd cc

@@ -20,6 +20,9 @@ are_met w expected = list_all (is_met w) expected
 -- whether an expectation is that a trap of this kind stops the stream of these numbers
 abbrev pub is_stop_by : ℕ → ℕ → TrapKind → Expectation → Bool
 is_stop_by p s kind (expect.Word a value state) = false
+is_stop_by p s kind (expect.Words a b value state) = false
+is_stop_by p s kind (expect.Sum a b value) = false
+is_stop_by p s kind (expect.Compared a r b more) = false
 is_stop_by p s kind (expect.Register q t r value) = false
 is_stop_by p s kind expect.Finished = false
 is_stop_by p s kind (expect.Stopped q t trap) = (q == p && t == s) && trap == trap_number kind

@@ -101,6 +101,11 @@ fn is_stop_by(expectation: &Expectation, p: u8, s: u8, kind: TrapKind) -> bool
             s: stream,
             trap,
         } => { of == p && stream == s && trap == kind.number() }
-        Expectation::Word { .. } | Expectation::Register { .. } | Expectation::Finished => false,
+        Expectation::Word { .. }
+        | Expectation::Words { .. }
+        | Expectation::Sum { .. }
+        | Expectation::Compared { .. }
+        | Expectation::Register { .. }
+        | Expectation::Finished => false,
     }
 }

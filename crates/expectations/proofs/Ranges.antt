@@ -1,0 +1,44 @@
+-- Tests and sums of each number of a range.
+use Rattle.std.proofs.Common.{◌≡◌, ℕ, zero, suc, ◌+◌, ◌<◌, ◌≤◌, ◌⊎◌, inl, inr, refl, sym, ap, ◌∙◌, arith, add-one}
+use Rattle.std.proofs.Common.{Bool, true, false, ◌&&◌, []}
+use Rattle.std.proofs.lemmas.Bool.{cases_lt}
+use Rattle.std.proofs.lemmas.List.Sums.{sum_by-cons}
+use Rattle.std.specs.List.{list_all, sum_by, range_with_len}
+
+pub all_from : (P : ℕ → Bool) (a n : ℕ) → ((k : ℕ) → a ≤ k → k < a + n → P k ≡ true)
+    → list_all P (range_with_len a n) ≡ true
+all_from P a zero each = refl
+all_from P a (suc n) each =
+    let here : P a ≡ true = each a (omega arith) (omega arith) in
+    rw here (all_from P (a + 1) n (λ k low high. each k (omega arith) (omega arith)))
+
+and_fails : (b x : Bool) → x ≡ false → (b && x) ≡ false
+and_fails true x fails = fails
+and_fails false x fails = refl
+
+pub fails_from : (P : ℕ → Bool) (a n k : ℕ) → a ≤ k → k < a + n → P k ≡ false → list_all P (range_with_len a n) ≡ false
+fails_from P a zero k low high fails = absurd (omega arith)
+fails_from P a (suc n) k low high fails = by (cases_lt a k) where
+  by : (a < k) ⊎ (k ≤ a) → list_all P (range_with_len a (suc n)) ≡ false
+  by (inl later) =
+      let rest = fails_from P (a + 1) n k (omega arith) (omega arith) fails in
+      and_fails (P a) (list_all P (range_with_len (a + 1) n)) rest
+  by (inr here) =
+      let same : k ≡ a = omega arith in
+      let first : P a ≡ false = ap P (sym same) ∙ fails in
+      rw first refl
+
+sum_suc : (f : ℕ → ℕ) (a n k : ℕ) → a + n ≡ k
+    → sum_by f (range_with_len a (suc n)) ≡ sum_by f (range_with_len a n) + f k
+sum_suc f a zero k is =
+    let same : a ≡ k = omega (arith, is) in
+    sum_by-cons f a [] ∙ omega (arith, ap f same)
+sum_suc f a (suc n) k is =
+    let rest = sum_suc f (a + 1) n k (omega (arith, is)) in
+    sum_by-cons f a (range_with_len (a + 1) (suc n))
+    ∙ omega (arith, rest, sum_by-cons f a (range_with_len (a + 1) n))
+
+-- one number more
+pub sum_more : (f : ℕ → ℕ) (n : ℕ)
+    → sum_by f (range_with_len 0 (n + 1)) ≡ sum_by f (range_with_len 0 n) + f n
+sum_more f n = ap (λ k. sum_by f (range_with_len 0 k)) (add-one n) ∙ sum_suc f 0 n n (omega arith)

@@ -1,0 +1,16 @@
+-- What is wished of a program whatever its schedule.
+use Rattle.std.specs.Prelude.{ℕ, ◌+◌, ◌<◌, Bool, IsTrue, List, length}
+use Rattle.std.specs.List.{list_all}
+use Rattle.image_file.specs.ImageValue.{ImageValue}
+use Rattle.program_rules.specs.Keeping.{is_kept}
+use Rattle.lab_ends.specs.declared.rule_lines.RuleLine.{RuleLine}
+use Rattle.lab_ends.specs.declared.wishes.Wishes.{Wishes}
+
+-- whether the program of an image keeps the rules of lines
+abbrev pub are_rules_kept : ImageValue → List RuleLine → Bool
+are_rules_kept i rules = list_all (λ (r : RuleLine). is_kept i r.rule) rules
+
+-- something is wished, and the program keeps the rules that are
+pub record IsJudged (i : ImageValue) (w : Wishes) : Type 0 where
+  pub some : 0 < length w.ends.items + length w.claims.items + length w.rules.items
+  pub kept : IsTrue (are_rules_kept i w.rules.items)
