@@ -10,6 +10,7 @@ mod number_styles;
 mod outputs;
 mod programs;
 mod runs;
+mod sources;
 
 pub use answer::Answer;
 pub use end_kinds::Status;
@@ -20,3 +21,4 @@ pub use loose_schedules::{check_loose_schedule, read_loose_schedule};
 pub use number_styles::style_of;
 pub use programs::{Program, is_image, program_of, read_program};
 pub use runs::{loaded, made_by, read_steps, steps_of};
+pub use sources::SourceText;

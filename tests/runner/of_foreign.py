@@ -1,0 +1,64 @@
+"""Bytes above 7F and other hostile ones in source texts, stars in schedules, seeds compared, parts of pictures."""
+
+import os
+import re
+import tempfile
+import unicodedata
+import xml.etree.ElementTree as ElementTree
+
+import checks
+import tool
+from of_lab import EXAMPLES, lab
+
+BEGIN, LINE, END = b".entry go\n.data 0\n", b"go: LIT r1, 7 ; seven", b"\nSTORE.N r1, r0, 0\nQUIT\n"
+# bytes that begin a character of UTF-8 or go on with one, and some that never stand in it
+FOREIGN = [0x80, 0x9B, 0xBF, 0xC0, 0xC3, 0xE2, 0xED, 0xF4, 0xFF]
+# what stands in a comment, and how it is shown: as it is, or a question mark for each byte
+COMMENTS = {
+    "umlaut": ("ä".encode(), True), "kanji": ("終わり".encode(), True), "far": ("\U0001F600".encode(), True),
+    "overlong": (b"\xC0\x80", False), "cut": (b"\xE2\x82", False), "surrogate": (b"\xED\xA0\x80", False),
+    "too far": (b"\xF4\x90\x80\x80", False), "control": (b"\xC2\x9B2K", False), "override": ("\u202E".encode(), False),
+    "isolate": ("\u2066".encode(), False), "no character": ("\uFFFE".encode(), False), "alone": (b"\xBF", False),
+}
+
+
+def assembled(text):
+    """The image that mta_lab makes of a text; None where it makes none."""
+    with tempfile.TemporaryDirectory(prefix="mta-case-") as folder:
+        tool.write(os.path.join(folder, "a.asm"), text)
+        ended = lab("asm", "a.asm", folder=folder)
+        return tool.read(os.path.join(folder, "a.image")) if ended.status == 0 else ended.err[:6]
+
+
+@checks.others("lab/foreign_bytes")
+def foreign_bytes():
+    """In each place of a line: in a comment they leave the image as it is, elsewhere they are an error."""
+    image = tool.asm(BEGIN + LINE.partition(b";")[0] + END)
+    for place in range(len(LINE) + 1):
+        for byte in (FOREIGN if place <= LINE.index(b";") else range(0x80, 0x100)):
+            text = BEGIN + LINE[:place] + bytes([byte]) + LINE[place:] + END
+            wanted = image if place > LINE.index(b";") else b"a.asm:"
+            yield f"{byte:02X} at {place}", lambda text=text, wanted=wanted: (wanted, assembled(text))
+    yield "NUL in a comment", image, assembled(BEGIN + LINE + b"\0\xC3\xA4" + END)
+    yield "NUL in a statement", b"a.asm:", assembled(BEGIN + b"go: LIT\0 r1, 7 ; \xC3\xA4" + END)
+    yield "mark", image, assembled(b"\xEF\xBB\xBF" + BEGIN + LINE + END)
+    yield "two marks", b"a.asm:", assembled(b"\xEF\xBB\xBF" * 2 + BEGIN + LINE + END)
+    yield "mark in the middle", b"a.asm:", assembled(BEGIN + b"\xEF\xBB\xBF" + LINE + END)
+    yield "cut mark", b"a.asm:", assembled(b"\xEF\xBB" + BEGIN + LINE + END)
+
+
+@checks.others("lab/foreign_comments")
+def foreign_comments():
+    """They are shown where they can be, and never so that they change what stands beside them."""
+    for name, (comment, is_shown) in COMMENTS.items():
+        text = b".entry go\n.data 0 ; a " + comment + b" b\ngo: LIT r1, 7\nSTORE.N r1, r0, 0\nQUIT\n"
+        shown = comment if is_shown else re.sub(rb"[\x80-\xFF]", b"?", comment)
+        with tempfile.TemporaryDirectory(prefix="mta-case-") as folder:
+            tool.write(os.path.join(folder, "a.asm"), text)
+            for words in (["view"], ["view", "--json"], ["survey", "--seeds", "2"], ["explore"], ["debug"], ["page", "--out", "a"],
+                          ["picture", "--out", "a"]):
+                ended = lab(words[0], "a.asm", *words[1:], given=b"step 2\nlist\n", folder=folder)
+                out = tool.read(os.path.join(folder, "a")) if "--out" in words else ended.out
+                hidden = [c for c in out.decode() if c > "\x7f" and unicodedata.category(c) in ("Cc", "Cn", "Cs")]
+                yield f"{name}: {words}", (0, True, []), (ended.status, b"a " + shown + b" b" in out, hidden)
+            yield f"{name}: check", 0, lab("check", "a.asm", folder=folder).status
