@@ -62,3 +62,27 @@ def foreign_comments():
                 hidden = [c for c in out.decode() if c > "\x7f" and unicodedata.category(c) in ("Cc", "Cn", "Cs")]
                 yield f"{name}: {words}", (0, True, []), (ended.status, b"a " + shown + b" b" in out, hidden)
             yield f"{name}: check", 0, lab("check", "a.asm", folder=folder).status
+
+
+@checks.others("lab/stars")
+def stars():
+    """Stars are the steps that numbers in their place are, and their bound holds."""
+    lock = os.path.join(EXAMPLES, "lock.asm")
+    with tempfile.TemporaryDirectory(prefix="mta-case-") as folder:
+        for name, starred, counted in (
+            ("one by one", "0 0 *\n1 0 *\n2 0 *\n3 0 *\n", "0 0 6\n1 0 6\n2 0 4\n3 0 4\n"),
+            ("blocked", "0 0 2\n1 0 *\n0 0 *\n1 0 *\n", "0 0 2\n1 0 1\n0 0 4\n1 0 6\n"),
+            ("not there", "7 0 *\n0 9 *\n255 255 *\n0 0 *\n", "0 0 6\n"),
+        ):
+            tool.write(os.path.join(folder, "starred.schedule"), starred.encode())
+            tool.write(os.path.join(folder, "counted.schedule"), counted.encode())
+            for words in (["view", lock], ["view", lock, "--json"], ["debug", lock]):
+                one, other = (lab(*words[:2], f"{it}.schedule", *words[2:], given=b"step 3\n", folder=folder)
+                              for it in ("starred", "counted"))
+                yield (f"{name}: {words[0]}", (other.status, other.out),
+                       (one.status, one.out.replace(b"starred.schedule", b"counted.schedule")))
+        tool.write(os.path.join(folder, "loop.asm"), b".entry 0\nmore: SKIP ALWAYS, 0, more\n.data 0\n")
+        for count, wanted in ((100, 5), (101, 1), (1_000_000, 1)):
+            tool.write(os.path.join(folder, "loop.schedule"), b"0 0 *\n" * count)
+            ended = lab("view", "loop.asm", "loop.schedule", "--from", "1000000", folder=folder)
+            yield f"{count} stars", (wanted, True), (ended.status, count == 100 or b":101:1: error: with this" in ended.err)

@@ -21,7 +21,8 @@ Example:
 
 pub(crate) const CHECK: &str = "\
 Judges source texts, images and schedules. Each message stands on a line
-FILE:LINE:COLUMN: error: WORDS, with the line and a mark under the place below it.
+FILE:LINE:COLUMN: error: WORDS, with the line and a mark under the place below it. Of what only
+mta_lab reads, letters beyond ASCII in comments and * in schedules, it warns.
 
 Example:
   mta_lab check lock.asm";
@@ -133,7 +134,7 @@ pub(crate) const PROGRAM: &str = "the program: a source text or an image";
 pub(crate) const FAIR: &str = "the processors step in turn, and within each its streams";
 
 pub(crate) const SCHEDULE_FILE: &str =
-    "its schedule: lines of processor, stream and number of steps";
+    "its schedule: lines of processor, stream and number of steps, or * until it is blocked";
 
 pub(crate) const STEPS: &str = "the most steps of a made schedule, 1 to 1000000 [10000]";
 
