@@ -11,7 +11,8 @@ _mta_lab_options() {
     explore) echo '--expect --from --states --seconds --memory --plain --keep --dot --hex --json' ;;
     grade) echo '--expect --seeds --steps --explore --states --seconds --memory --hex --json' ;;
     debug) echo '--fair --seed --steps' ;;
-    page | picture) echo '--fair --rounds --seed --steps --title --out' ;;
+    page) echo '--fair --rounds --seed --steps --title --out' ;;
+    picture) echo '--fair --rounds --seed --steps --from --to --title --out' ;;
     asm) echo '--out' ;;
   esac
 }

@@ -86,3 +86,17 @@ def stars():
             tool.write(os.path.join(folder, "loop.schedule"), b"0 0 *\n" * count)
             ended = lab("view", "loop.asm", "loop.schedule", "--from", "1000000", folder=folder)
             yield f"{count} stars", (wanted, True), (ended.status, count == 100 or b":101:1: error: with this" in ended.err)
+
+
+@checks.others("lab/parts_of_pictures")
+def parts_of_pictures():
+    """A part has the numbers of its steps and a mark for each, and nothing of others."""
+    lock, lost = (os.path.join(EXAMPLES, name) for name in ("lock.asm", "lock.lost_update.schedule"))
+    steps = len([line for line in lab("view", lock, lost).out.decode().splitlines() if re.match(r" *\d+  \d", line)])
+    for first, last in ((1, steps), (1, 4), (5, 9), (steps, steps), (3, steps + 7)):
+        with tempfile.TemporaryDirectory(prefix="mta-case-") as folder:
+            path = os.path.join(folder, "a.svg")
+            ended = lab("picture", lock, lost, "--from", str(first), "--to", str(last), "--out", path)
+            texts = [(it.get("class"), it.text) for it in ElementTree.parse(path).iter("{http://www.w3.org/2000/svg}text")]
+        numbers = [text for kind, text in texts if kind == "number"]
+        yield f"{first} to {last}", (0, [str(it) for it in range(first, min(last, steps) + 1)]), (ended.status, numbers)

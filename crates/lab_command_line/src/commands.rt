@@ -295,7 +295,7 @@ const PAGE_ARGUMENTS: [Argument; 8] = [
     Argument("out", "the page, FILE.html", Form::NeededOption("FILE")),
 ];
 
-const PICTURE_ARGUMENTS: [Argument; 8] = [
+const PICTURE_ARGUMENTS: [Argument; 10] = [
     Argument("PROGRAM", help::PROGRAM, Form::Needed),
     Argument(
         "SCHEDULE",
@@ -310,6 +310,16 @@ const PICTURE_ARGUMENTS: [Argument; 8] = [
     ),
     Argument("seed", help::SEED, Form::Number("N", 0, u64::MAX)),
     Argument("steps", help::STEPS, Form::Number("K", 1, MOST_STEPS)),
+    Argument(
+        "from",
+        "the first step that is drawn",
+        Form::Number("K", 1, u64::MAX / 2),
+    ),
+    Argument(
+        "to",
+        "the last step that is drawn",
+        Form::Number("K", 1, u64::MAX / 2),
+    ),
     Argument("title", help::TITLE, Form::Option("TEXT")),
     Argument("out", "the picture, FILE.svg", Form::NeededOption("FILE")),
 ];

@@ -124,10 +124,11 @@ Example:
 
 pub(crate) const PICTURE: &str = "\
 Writes the lanes of a run as a picture, an SVG file: a lane a stream and a lane a word over
-time, with a legend. A run has up to 500 steps there.
+time, with a legend. Up to 500 steps are drawn: of a longer run those from --from to --to.
 
-Example:
-  mta_lab picture lock.asm lock.lost_update.schedule --out lock.svg";
+Examples:
+  mta_lab picture lock.asm lock.lost_update.schedule --out lock.svg
+  mta_lab picture lock.asm --seed 3 --from 10 --to 30 --out part.svg";
 
 pub(crate) const PROGRAM: &str = "the program: a source text or an image";
 

@@ -71,7 +71,7 @@ fn command_of_runs<'a>(name: &str, found: &ArgMatches<'a>) -> LabCommand<'a> {
             shown: shown_of(found),
         },
         "page" => LabCommand::Page(page_of(found)),
-        "picture" => LabCommand::Picture(page_of(found)),
+        "picture" => LabCommand::Picture(picture_of(found)),
         "asm" => LabCommand::Assemble {
             source: word(found, "SOURCE"),
             image: text(found, "out"),
@@ -141,7 +141,7 @@ fn run_of<'a>(found: &ArgMatches<'a>) -> RunChoice<'a> {
     }
 }
 
-/// What `page` or `picture` is asked.
+/// What `page` is asked.
 fn page_of<'a>(found: &ArgMatches<'a>) -> PageRequest<'a> {
     let run = if found.get_flag("rounds") {
         RunChoice::Made {
@@ -154,8 +154,19 @@ fn page_of<'a>(found: &ArgMatches<'a>) -> PageRequest<'a> {
     PageRequest {
         program: word(found, "PROGRAM"),
         run,
+        from: 1,
+        to: usize::MAX,
         title: text(found, "title"),
         out: word(found, "out"),
+    }
+}
+
+/// What `picture` is asked.
+fn picture_of<'a>(found: &ArgMatches<'a>) -> PageRequest<'a> {
+    PageRequest {
+        from: count(found, "from", 1),
+        to: count(found, "to", usize::MAX),
+        ..page_of(found)
     }
 }
 

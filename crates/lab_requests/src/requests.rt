@@ -83,6 +83,10 @@ pub struct PageRequest<'a> {
     pub program: &'a str,
     /// Its schedule.
     pub run: RunChoice<'a>,
+    /// The first step that a picture shows, from 1.
+    pub from: usize,
+    /// The last step that a picture shows.
+    pub to: usize,
     /// What the program is called; None where its file's name says it.
     pub title: Option<&'a str>,
     /// The file that is written.
