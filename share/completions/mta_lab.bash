@@ -6,7 +6,7 @@ _mta_lab_options() {
     check) echo '--as --program --strict --json' ;;
     schedule) echo '--seed --steps' ;;
     view) echo '--fair --seed --steps --from --to --only --word --columns --hex --json' ;;
-    compare) echo '--hex --json' ;;
+    compare) echo '--seeds --steps --hex --json' ;;
     survey) echo '--seeds --from --steps --expect --explore --states --seconds --memory --hex --json' ;;
     explore) echo '--expect --from --states --seconds --memory --plain --keep --dot --hex --json' ;;
     grade) echo '--expect --seeds --steps --explore --states --seconds --memory --hex --json' ;;

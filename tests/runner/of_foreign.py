@@ -88,6 +88,20 @@ def stars():
             yield f"{count} stars", (wanted, True), (ended.status, count == 100 or b":101:1: error: with this" in ended.err)
 
 
+@checks.others("lab/compared_seeds")
+def compared_seeds():
+    """Seeds are compared as the schedules are that they make."""
+    lock = os.path.join(EXAMPLES, "lock.asm")
+    with tempfile.TemporaryDirectory(prefix="mta-case-") as folder:
+        for one, other in ((0, 1), (2, 3), (5, 5), (7, 2**64 - 1)):
+            for seed in (one, other):
+                made = lab("schedule", "random", lock, "--seed", str(seed))
+                tool.write(os.path.join(folder, f"{seed}.schedule"), made.out)
+            by_files = lab("compare", lock, f"{one}.schedule", f"{other}.schedule", folder=folder)
+            by_seeds = lab("compare", lock, "--seeds", str(one), str(other))
+            yield f"{one} {other}", (by_files.status, by_files.out), (by_seeds.status, by_seeds.out)
+
+
 @checks.others("lab/parts_of_pictures")
 def parts_of_pictures():
     """A part has the numbers of its steps and a mark for each, and nothing of others."""

@@ -167,10 +167,20 @@ const DEBUG_ARGUMENTS: [Argument; 5] = [
     Argument("steps", help::STEPS, Form::Number("K", 1, MOST_STEPS)),
 ];
 
-const COMPARE_ARGUMENTS: [Argument; 5] = [
+const COMPARE_ARGUMENTS: [Argument; 7] = [
     Argument("PROGRAM", help::PROGRAM, Form::Needed),
-    Argument("ONE", "a schedule", Form::Needed),
+    Argument("ONE", "a schedule, or with --seeds its seed", Form::Needed),
     Argument("OTHER", "another one", Form::Needed),
+    Argument(
+        "seeds",
+        "ONE and OTHER are seeds of random schedules",
+        Form::Flag(&[]),
+    ),
+    Argument(
+        "steps",
+        help::STEPS,
+        Form::NumberWith("K", 1, MOST_STEPS, "seeds"),
+    ),
     Argument("hex", help::HEX, Form::Flag(&["json"])),
     Argument("json", help::JSON, Form::Flag(&[])),
 ];

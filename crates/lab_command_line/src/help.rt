@@ -66,10 +66,12 @@ Example:
 
 pub(crate) const COMPARE: &str = "\
 Shows the first step at which two schedules of a program part, the first position at which
-the worlds differ, and in what, and both ends.
+the worlds differ, and in what, and both ends. With --seeds these are the random schedules of
+two seeds.
 
-Example:
-  mta_lab compare lock.asm lock.ends.schedule lock.lost_update.schedule";
+Examples:
+  mta_lab compare lock.asm lock.ends.schedule lock.lost_update.schedule
+  mta_lab compare lock.asm --seeds 3 8";
 
 pub(crate) const SURVEY: &str = "\
 Runs a program by many random schedules, over all cores, and counts the ends they come to, each

@@ -184,8 +184,8 @@ pub enum LabCommand<'a> {
     /// Shows where two schedules of a program part.
     Compare {
         program: &'a str,
-        one: &'a str,
-        other: &'a str,
+        one: RunChoice<'a>,
+        other: RunChoice<'a>,
         shown: Shown,
     },
     /// Runs many random schedules, and counts their ends.
