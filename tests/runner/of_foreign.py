@@ -114,3 +114,16 @@ def parts_of_pictures():
             texts = [(it.get("class"), it.text) for it in ElementTree.parse(path).iter("{http://www.w3.org/2000/svg}text")]
         numbers = [text for kind, text in texts if kind == "number"]
         yield f"{first} to {last}", (0, [str(it) for it in range(first, min(last, steps) + 1)]), (ended.status, numbers)
+
+
+@checks.others("lab/skipped_steps")
+def skipped_steps():
+    """Steps of streams that do not run take nothing from what is found in a run."""
+    source, torn = (os.path.join(EXAMPLES, f"readers_writer.{it}") for it in ("asm", "torn_read.schedule"))
+    with tempfile.TemporaryDirectory(prefix="mta-case-") as folder:
+        path = os.path.join(folder, "later.schedule")
+        tool.write(path, b"15 15 25000\n" + tool.read(torn))
+        found, later = ([line for line in lab("view", source, it).out.decode().splitlines() if " read" in line and " step " in line]
+                        for it in (torn, path))
+    shifted = [re.sub(r"step (\d+)", lambda step: f"step {int(step[1]) + 25000}", line) for line in found]
+    yield "a torn read", (True, shifted), (any(line.startswith("torn read") for line in found), later)
