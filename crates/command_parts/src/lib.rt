@@ -10,13 +10,17 @@ mod number_styles;
 mod outputs;
 mod programs;
 mod runs;
+mod sources;
+mod star_words;
+mod stars;
 
 pub use answer::Answer;
 pub use end_kinds::Status;
 pub use inputs::Inputs;
 pub use json_lines::push_object;
 pub use lab_fault::LabFault;
-pub use loose_schedules::{check_loose_schedule, read_loose_schedule};
+pub use loose_schedules::check_loose_schedule;
 pub use number_styles::style_of;
 pub use programs::{Program, is_image, program_of, read_program};
 pub use runs::{loaded, made_by, read_steps, steps_of};
+pub use sources::SourceText;

@@ -1,10 +1,16 @@
-//! Schedules as people write them: with comments behind `#`, blank lines, tabs and CR LF.
+//! Schedules as people write them: with comments behind `#`, blank lines, tabs and CR LF, and stars.
 
+use crate::star_words::{past_words, star_here, star_words};
+use crate::stars::{SaidSteps, expand};
 use image_file::Image;
 use processor::Step;
 use source_faults::{Message, check_schedule};
 use std::alloc::{AllocError, Global};
-use trace_text::{ScheduleFault, read_schedule};
+use std::str;
+use trace_text::{ScheduleFault, ScheduleFaultKind, read_schedule};
+
+/// How many stars of a schedule are told of at most.
+const MOST_STARS_TOLD: usize = 100_000;
 
 /// Where a line stands in its text.
 #[derive(Clone, Copy, Debug)]
@@ -13,9 +19,12 @@ struct LinePlace {
     number: usize,
     /// How many bytes stand before it.
     start: usize,
+    /// Where on it a star stands in the place of the third number, from 0.
+    star: Option<usize>,
 }
 
-/// A schedule in the strict form, and of each of its lines the place of the line that said it.
+/// A schedule in the strict form, and of each of its lines the place of the line that said it. Where that has a star, the
+/// strict form has a 1.
 #[derive(Drop)]
 struct StrictSchedule {
     text: Vec<u8>,
@@ -31,10 +40,13 @@ impl StrictSchedule {
         let mut place = LinePlace {
             number: 1,
             start: 0,
+            star: None,
         };
         for line in text.split(|byte| *byte == b'\n') {
-            if push_strict(&mut strict, &mut kept, line)? {
-                note_line(&mut lines, place)?;
+            keep_bytes(&mut kept, line)?;
+            place.star = take_star(&mut kept);
+            if push_strict(&mut strict, &kept)? {
+                lines.push(place)?;
             }
             place = behind(place, line);
         }
@@ -49,6 +61,45 @@ impl StrictSchedule {
         let line = self.lines.get(number.checked_sub(1)?)?;
         Some(*line)
     }
+
+    /// Where the first star stands.
+    fn first_star(&self) -> Option<LinePlace> {
+        let line = self.lines.iter().find(|line| line.star.is_some())?;
+        Some(*line)
+    }
+
+    /// What the lines say, of a text that is a schedule.
+    fn said(&self, alloc: Global) -> Result<Vec<SaidSteps>, AllocError> {
+        let mut said = Vec::with_capacity(alloc, self.lines.len())?;
+        let mut places = self.lines.iter();
+        for line in self.text.split(|byte| *byte == b'\n') {
+            let Some(place) = places.next() else {
+                break;
+            };
+            said.push(steps_said(line, place.star.is_some()))?;
+        }
+        Ok(said)
+    }
+}
+
+/// What a line of the strict form says.
+fn steps_said(line: &[u8], is_star: bool) -> SaidSteps {
+    let mut fields = line.split(|byte| *byte == b' ');
+    let p = number_in(fields.next()).unwrap_or(0);
+    let s = number_in(fields.next()).unwrap_or(0);
+    let times = number_in(fields.next()).unwrap_or(1);
+    SaidSteps {
+        stream: Step {
+            p: u8::try_from(p).unwrap_or(u8::MAX),
+            s: u8::try_from(s).unwrap_or(u8::MAX),
+        },
+        times: if is_star { None } else { Some(times) },
+    }
+}
+
+/// The number that a field is.
+fn number_in(field: Option<&[u8]>) -> Option<usize> {
+    str::from_utf8(field?).ok()?.parse::<usize>().ok()
 }
 
 /// The place of the line behind this one.
@@ -56,16 +107,26 @@ fn behind(place: LinePlace, line: &[u8]) -> LinePlace {
     LinePlace {
         number: place.number.saturating_add(1),
         start: place.start.saturating_add(line.len()).saturating_add(1),
+        star: None,
     }
 }
 
-/// The steps that a text says.
-pub fn read_loose_schedule(alloc: Global, text: &[u8]) -> Result<Vec<Step>, ScheduleFault> {
+/// The steps that a text says, of a run of an image's program.
+pub(crate) fn read_loose_schedule(
+    alloc: Global,
+    text: &[u8],
+    image: &Image,
+) -> Result<Vec<Step>, ScheduleFault> {
     let strict = StrictSchedule::of(alloc, text)?;
-    read_schedule(alloc, &strict.text)
+    let steps = read_schedule(alloc, &strict.text)?;
+    if strict.first_star().is_none() {
+        return Ok(steps);
+    }
+    expand(alloc, image, &strict.said(alloc)?)?.into_steps()
 }
 
-/// What is to be said of a schedule, with the places of its own text.
+/// What is to be said of a schedule, with the places of its own text. Where there is an image, what stars stand for in a run
+/// of its program.
 pub fn check_loose_schedule(
     alloc: Global,
     text: &[u8],
@@ -82,7 +143,63 @@ pub fn check_loose_schedule(
             point_at(message, &kept);
         }
     }
+    tell_stars(alloc, &strict, image, &mut messages)?;
+    messages.sort_by_key(|message| (message.line, message.column))?;
     Ok(messages)
+}
+
+/// Tells what the stars of a schedule mean: of a run of an image's program, or else in general; nothing where the text is no
+/// schedule for another reason.
+fn tell_stars(
+    alloc: Global,
+    strict: &StrictSchedule,
+    image: Option<&Image>,
+    messages: &mut Vec<Message>,
+) -> Result<(), AllocError> {
+    let Some(first) = strict.first_star() else {
+        return Ok(());
+    };
+    match read_schedule(alloc, &strict.text) {
+        Ok(_) => {}
+        Err(
+            ScheduleFault {
+                kind: ScheduleFaultKind::NoMemory,
+                ..
+            },
+        ) => return Err(AllocError),
+        Err(_) => return Ok(()),
+    }
+    match image {
+        Some(image) => tell_stars_of_run(alloc, strict, image, messages),
+        None => {
+            let words = star_words(alloc)?;
+            messages.push(words.message(first.number, first.start, first.star.unwrap_or(0)))?;
+            Ok(())
+        }
+    }
+}
+
+/// Tells what the stars of a schedule stand for in a run of an image's program, and where that are too many steps.
+fn tell_stars_of_run(
+    alloc: Global,
+    strict: &StrictSchedule,
+    image: &Image,
+    messages: &mut Vec<Message>,
+) -> Result<(), AllocError> {
+    let all = expand(alloc, image, &strict.said(alloc)?)?;
+    for star in all.stars.iter().take(MOST_STARS_TOLD) {
+        if let Some(place) = strict.lines.get(star.line) {
+            let words = star_here(alloc, *star)?;
+            messages.push(words.message(place.number, place.start, place.star.unwrap_or(0)))?;
+        }
+    }
+    if let Some(line) = all.past
+        && let Some(place) = strict.lines.get(line)
+    {
+        let words = past_words(alloc)?;
+        messages.push(words.message(place.number, place.start, 0))?;
+    }
+    Ok(())
 }
 
 /// The line that begins behind so many bytes of a text.
@@ -107,11 +224,6 @@ fn place_of(kept: &[Kept], index: usize) -> usize {
         (None, Some(last)) => last.place.saturating_add(1),
         (None, None) => 0,
     }
-}
-
-/// Notes the place of a line.
-fn note_line(lines: &mut Vec<LinePlace>, place: LinePlace) -> Result<(), AllocError> {
-    Ok(lines.push(place)?)
 }
 
 /// A byte of a line's strict form.
@@ -148,13 +260,28 @@ fn keep_bytes(kept: &mut Vec<Kept>, line: &[u8]) -> Result<(), AllocError> {
     Ok(())
 }
 
+/// Where a star stands on a line in the place of the third number; there is a 1 in its place then.
+fn take_star(kept: &mut Vec<Kept>) -> Option<usize> {
+    let mut spaces: usize = 0;
+    let mut length: usize = 0;
+    for byte in kept.iter() {
+        if byte.byte == b' ' {
+            spaces = spaces.saturating_add(1);
+            length = 0;
+        } else {
+            length = length.saturating_add(1);
+        }
+    }
+    let last = kept.last_mut()?;
+    if spaces != 2 || length != 1 || last.byte != b'*' {
+        return None;
+    }
+    last.byte = b'1';
+    Some(last.place)
+}
+
 /// Adds what a line says in the strict form; whether it says anything.
-fn push_strict(
-    strict: &mut Vec<u8>,
-    kept: &mut Vec<Kept>,
-    line: &[u8],
-) -> Result<bool, AllocError> {
-    keep_bytes(kept, line)?;
+fn push_strict(strict: &mut Vec<u8>, kept: &[Kept]) -> Result<bool, AllocError> {
     for byte in kept.iter() {
         strict.push(byte.byte)?;
     }

@@ -2,10 +2,11 @@
 
 use crate::inputs::Inputs;
 use crate::lab_fault::LabFault;
+use crate::sources::SourceText;
 use asm_text::{AsmFault, Fault, assemble, listing};
 use image_file::{Image, ImageFault, read_image};
 use plain_text::plain;
-use source_faults::{check_source, image_fault_words, push_message};
+use source_faults::{image_fault_words, push_message};
 use std::alloc::Global;
 use std::io::Read;
 use std::rt::Files;
@@ -16,7 +17,7 @@ const IMAGE_BEGIN: &[u8] = b"MTAP\0";
 /// A program: its text, the source or else the listing of its image, and its image.
 #[derive(Drop)]
 pub struct Program {
-    /// The text, which names its places.
+    /// The text, which names its places. Its comments are UTF-8 without control characters above 7F.
     pub text: Vec<u8>,
     /// The image.
     pub image: Image,
@@ -42,15 +43,19 @@ pub fn program_of(alloc: Global, path: &str, bytes: Vec<u8>) -> Result<Program, 
     if is_image(&bytes) {
         return program_of_image(alloc, path, &bytes);
     }
-    match assemble(alloc, &bytes) {
-        Ok(image) => Ok(Program { text: bytes, image }),
+    let source = SourceText::of(alloc, bytes)?;
+    match assemble(alloc, source.ascii()) {
+        Ok(image) => Ok(Program {
+            text: source.into_shown(),
+            image,
+        }),
         Err(
             AsmFault {
                 kind: Fault::NoMemory,
                 ..
             },
         ) => Err(LabFault::NoMemory),
-        Err(_) => Err(LabFault::Lines(source_messages(alloc, path, &bytes)?)),
+        Err(_) => Err(LabFault::Lines(source_messages(alloc, path, &source)?)),
     }
 }
 
@@ -75,11 +80,11 @@ fn program_of_image(alloc: Global, path: &str, bytes: &[u8]) -> Result<Program, 
 }
 
 /// What is wrong with a source text, in lines.
-fn source_messages(alloc: Global, path: &str, text: &[u8]) -> Result<String, LabFault> {
+fn source_messages(alloc: Global, path: &str, source: &SourceText) -> Result<String, LabFault> {
     let mut lines = String::new(alloc);
     let path = plain(alloc, path)?;
-    for message in &check_source(alloc, text)? {
-        push_message(&mut lines, &path, text, message)?;
+    for message in &source.messages(alloc)? {
+        push_message(&mut lines, &path, source.written(), message)?;
     }
     Ok(lines)
 }

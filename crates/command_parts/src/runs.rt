@@ -78,7 +78,7 @@ pub fn read_steps<F: Files, R: Read>(
     path: &str,
 ) -> Result<Vec<Step>, LabFault> {
     let text = inputs.read(alloc, path)?;
-    match read_loose_schedule(alloc, &text) {
+    match read_loose_schedule(alloc, &text, &program.image) {
         Ok(steps) => Ok(steps),
         Err(
             ScheduleFault {

@@ -2,12 +2,12 @@
 
 use crate::messages::push_message_object;
 use command_parts::{
-    Answer, Inputs, LabFault, Status, check_loose_schedule, is_image, read_program,
+    Answer, Inputs, LabFault, SourceText, Status, check_loose_schedule, is_image, read_program,
 };
 use image_file::{Image, ImageFault, read_image};
 use lab_requests::{CheckRequest, FileKind};
 use plain_text::plain;
-use source_faults::{Message, Severity, check_source, image_fault_words, push_message};
+use source_faults::{Message, Severity, image_fault_words, push_message};
 use std::alloc::{AllocError, Global};
 use std::io::Read;
 use std::rt::Files;
@@ -64,11 +64,11 @@ fn check_file<F: Files, R: Read>(
 ) -> Result<Status, LabFault> {
     let bytes = inputs.read(alloc, path)?;
     let kind = kind_of(request.kind, path, &bytes);
-    let messages = messages_of(alloc, kind, &bytes, program)?;
+    let Judged { text, messages } = judge(alloc, kind, bytes, program)?;
     if request.json {
         push_objects(alloc, told, path, &messages)?;
     } else {
-        push_messages(alloc, told, path, shown_text(kind, &bytes), &messages)?;
+        push_messages(alloc, told, path, &text, &messages)?;
     }
     let is_right = messages.iter().all(|message| message.severity != Severity::Error
         && !request.strict);
@@ -117,32 +117,50 @@ fn kind_of(said: Option<FileKind>, path: &str, bytes: &[u8]) -> FileKind {
     }
 }
 
-/// The text whose lines are shown; an image has none.
-fn shown_text(kind: FileKind, bytes: &[u8]) -> &[u8] {
+/// A file that was judged.
+#[derive(Drop)]
+struct Judged {
+    /// The text whose lines are shown; an image has none.
+    text: Vec<u8>,
+    /// What is to be said of it.
+    messages: Vec<Message>,
+}
+
+/// Judges the bytes of a file.
+fn judge(
+    alloc: Global,
+    kind: FileKind,
+    bytes: Vec<u8>,
+    program: Option<&Image>,
+) -> Result<Judged, LabFault> {
     match kind {
-        FileKind::Source | FileKind::Schedule => bytes,
-        FileKind::Image => b"",
+        FileKind::Source => {
+            let source = SourceText::of(alloc, bytes)?;
+            let messages = source.messages(alloc)?;
+            let text = source.into_written();
+            Ok(Judged { text, messages })
+        }
+        FileKind::Schedule => {
+            let messages = check_loose_schedule(alloc, &bytes, program)?;
+            Ok(Judged {
+                text: bytes,
+                messages,
+            })
+        }
+        FileKind::Image => Ok(Judged {
+            text: Vec::new(alloc),
+            messages: image_messages(alloc, &bytes)?,
+        }),
     }
 }
 
-/// What is to be said of a file.
-fn messages_of(
-    alloc: Global,
-    kind: FileKind,
-    bytes: &[u8],
-    program: Option<&Image>,
-) -> Result<Vec<Message>, LabFault> {
-    match kind {
-        FileKind::Source => Ok(check_source(alloc, bytes)?),
-        FileKind::Schedule => Ok(check_loose_schedule(alloc, bytes, program)?),
-        FileKind::Image => {
-            let mut messages = Vec::new(alloc);
-            match read_image(alloc, bytes) {
-                Ok(_) => {}
-                Err(ImageFault::NoMemory) => return Err(LabFault::NoMemory),
-                Err(fault) => messages.push(image_fault_words(alloc, bytes, fault)?)?,
-            }
-            Ok(messages)
-        }
+/// What is to be said of the bytes of an image.
+fn image_messages(alloc: Global, bytes: &[u8]) -> Result<Vec<Message>, LabFault> {
+    let mut messages = Vec::new(alloc);
+    match read_image(alloc, bytes) {
+        Ok(_) => {}
+        Err(ImageFault::NoMemory) => return Err(LabFault::NoMemory),
+        Err(fault) => messages.push(image_fault_words(alloc, bytes, fault)?)?,
     }
+    Ok(messages)
 }

@@ -169,10 +169,20 @@ const DEBUG_ARGUMENTS: [Argument; 5] = [
     Argument("steps", help::STEPS, Form::Number("K", 1, MOST_STEPS)),
 ];
 
-const COMPARE_ARGUMENTS: [Argument; 5] = [
+const COMPARE_ARGUMENTS: [Argument; 7] = [
     Argument("PROGRAM", help::PROGRAM, Form::Needed),
-    Argument("ONE", "a schedule", Form::Needed),
+    Argument("ONE", "a schedule, or with --seeds its seed", Form::Needed),
     Argument("OTHER", "another one", Form::Needed),
+    Argument(
+        "seeds",
+        "ONE and OTHER are seeds of random schedules",
+        Form::Flag(&[]),
+    ),
+    Argument(
+        "steps",
+        help::STEPS,
+        Form::NumberWith("K", 1, MOST_STEPS, "seeds"),
+    ),
     Argument("hex", help::HEX, Form::Flag(&["json"])),
     Argument("json", help::JSON, Form::Flag(&[])),
 ];
@@ -331,7 +341,7 @@ const PAGE_ARGUMENTS: [Argument; 8] = [
     Argument("out", "the page, FILE.html", Form::NeededOption("FILE")),
 ];
 
-const PICTURE_ARGUMENTS: [Argument; 8] = [
+const PICTURE_ARGUMENTS: [Argument; 10] = [
     Argument("PROGRAM", help::PROGRAM, Form::Needed),
     Argument(
         "SCHEDULE",
@@ -346,6 +356,16 @@ const PICTURE_ARGUMENTS: [Argument; 8] = [
     ),
     Argument("seed", help::SEED, Form::Number("N", 0, u64::MAX)),
     Argument("steps", help::STEPS, Form::Number("K", 1, MOST_STEPS)),
+    Argument(
+        "from",
+        "the first step that is drawn",
+        Form::Number("K", 1, u64::MAX / 2),
+    ),
+    Argument(
+        "to",
+        "the last step that is drawn",
+        Form::Number("K", 1, u64::MAX / 2),
+    ),
     Argument("title", help::TITLE, Form::Option("TEXT")),
     Argument("out", "the picture, FILE.svg", Form::NeededOption("FILE")),
 ];

@@ -21,7 +21,8 @@ Example:
 
 pub(crate) const CHECK: &str = "\
 Judges source texts, images and schedules. Each message stands on a line
-FILE:LINE:COLUMN: error: WORDS, with the line and a mark under the place below it.
+FILE:LINE:COLUMN: error: WORDS, with the line and a mark under the place below it. Of what only
+mta_lab reads, letters beyond ASCII in comments and * in schedules, it warns.
 
 Example:
   mta_lab check lock.asm";
@@ -65,10 +66,12 @@ Example:
 
 pub(crate) const COMPARE: &str = "\
 Shows the first step at which two schedules of a program part, the first position at which
-the worlds differ, and in what, and both ends.
+the worlds differ, and in what, and both ends. With --seeds these are the random schedules of
+two seeds.
 
-Example:
-  mta_lab compare lock.asm lock.ends.schedule lock.lost_update.schedule";
+Examples:
+  mta_lab compare lock.asm lock.ends.schedule lock.lost_update.schedule
+  mta_lab compare lock.asm --seeds 3 8";
 
 pub(crate) const SURVEY: &str = "\
 Runs a program by many random schedules, over all cores, and counts the ends they come to, each
@@ -132,17 +135,18 @@ Example:
 
 pub(crate) const PICTURE: &str = "\
 Writes the lanes of a run as a picture, an SVG file: a lane a stream and a lane a word over
-time, with a legend. A run has up to 500 steps there.
+time, with a legend. Up to 500 steps are drawn: of a longer run those from --from to --to.
 
-Example:
-  mta_lab picture lock.asm lock.lost_update.schedule --out lock.svg";
+Examples:
+  mta_lab picture lock.asm lock.lost_update.schedule --out lock.svg
+  mta_lab picture lock.asm --seed 3 --from 10 --to 30 --out part.svg";
 
 pub(crate) const PROGRAM: &str = "the program: a source text or an image";
 
 pub(crate) const FAIR: &str = "the processors step in turn, and within each its streams";
 
 pub(crate) const SCHEDULE_FILE: &str =
-    "its schedule: lines of processor, stream and number of steps";
+    "its schedule: lines of processor, stream and number of steps, or * until it is blocked";
 
 pub(crate) const STEPS: &str = "the most steps of a made schedule, 1 to 1000000 [10000]";
 

@@ -22,6 +22,10 @@ pub fn read_lab_command<'a, S: AsStr>(
     if has_idle_seed(&matches) {
         return Err(refused(alloc, "--seed goes with the rule random alone")?);
     }
+    if has_no_seeds(&matches) {
+        let words = "with --seeds ONE and OTHER are numbers from 0 to 18446744073709551615";
+        return Err(refused(alloc, words)?);
+    }
     Ok(command_of(alloc, &matches)?)
 }
 
@@ -30,6 +34,27 @@ fn has_idle_seed(matches: &ArgMatches) -> bool {
     match matches.subcommand_matches("schedule") {
         Some(found) => word(found, "RULE") != "random" && found.contains_id("seed"),
         None => false,
+    }
+}
+
+/// Whether `compare` is to take seeds, and a word is none.
+fn has_no_seeds(matches: &ArgMatches) -> bool {
+    match matches.subcommand_matches("compare") {
+        Some(found) => {
+            let is_seed = seed_in(found, "ONE").is_some() && seed_in(found, "OTHER").is_some();
+            found.get_flag("seeds") && !is_seed
+        }
+        None => false,
+    }
+}
+
+/// The seed that a word is; None where it is none.
+fn seed_in(found: &ArgMatches, name: &str) -> Option<u64> {
+    let digits = word(found, name);
+    if digits.bytes().all(|byte| byte.is_ascii_digit()) {
+        digits.parse::<u64>().ok()
+    } else {
+        None
     }
 }
 
@@ -66,17 +91,30 @@ fn command_of_runs<'a>(name: &str, found: &ArgMatches<'a>) -> LabCommand<'a> {
         },
         "compare" => LabCommand::Compare {
             program: word(found, "PROGRAM"),
-            one: word(found, "ONE"),
-            other: word(found, "OTHER"),
+            one: compared_of(found, "ONE"),
+            other: compared_of(found, "OTHER"),
             shown: shown_of(found),
         },
         "page" => LabCommand::Page(page_of(found)),
-        "picture" => LabCommand::Picture(page_of(found)),
+        "picture" => LabCommand::Picture(picture_of(found)),
         "asm" => LabCommand::Assemble {
             source: word(found, "SOURCE"),
             image: text(found, "out"),
         },
         _ => LabCommand::Adapt,
+    }
+}
+
+/// One of the two schedules of `compare`.
+fn compared_of<'a>(found: &ArgMatches<'a>, name: &str) -> RunChoice<'a> {
+    if !found.get_flag("seeds") {
+        return RunChoice::File(word(found, name));
+    }
+    RunChoice::Made {
+        maker: Maker::Random {
+            seed: seed_in(found, name).unwrap_or(0),
+        },
+        most: count(found, "steps", USUAL_STEPS),
     }
 }
 
@@ -141,7 +179,7 @@ fn run_of<'a>(found: &ArgMatches<'a>) -> RunChoice<'a> {
     }
 }
 
-/// What `page` or `picture` is asked.
+/// What `page` is asked.
 fn page_of<'a>(found: &ArgMatches<'a>) -> PageRequest<'a> {
     let run = if found.get_flag("rounds") {
         RunChoice::Made {
@@ -154,8 +192,19 @@ fn page_of<'a>(found: &ArgMatches<'a>) -> PageRequest<'a> {
     PageRequest {
         program: word(found, "PROGRAM"),
         run,
+        from: 1,
+        to: usize::MAX,
         title: text(found, "title"),
         out: word(found, "out"),
+    }
+}
+
+/// What `picture` is asked.
+fn picture_of<'a>(found: &ArgMatches<'a>) -> PageRequest<'a> {
+    PageRequest {
+        from: count(found, "from", 1),
+        to: count(found, "to", usize::MAX),
+        ..page_of(found)
     }
 }
 

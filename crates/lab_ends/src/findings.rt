@@ -38,7 +38,7 @@ pub fn push_findings_of_run<const S: usize>(
         actions: &actions,
     };
     push_findings(out, &telling, &found)?;
-    if actions.len() > MOST_STEPS_OF_TORN {
+    if !found.is_torn_sought {
         write!(
             out,
             "torn reads are looked for in runs of at most {MOST_STEPS_OF_TORN} steps\n"

@@ -3,7 +3,7 @@
 use crate::paging::{RunToShow, program_name, run_to_show, schedule_words};
 use command_parts::{Answer, Inputs, LabFault, loaded};
 use lab_requests::PageRequest;
-use replay_page::{MOST_DRAWN_STEPS, RunNames, picture_of};
+use replay_page::{MOST_DRAWN_STEPS, MOST_STEPS, RunNames, picture_of};
 use std::alloc::{AllocError, Global};
 use std::io::Read;
 use std::rt::Files;
@@ -14,10 +14,43 @@ pub fn write_picture<F: Files, R: Read>(
     inputs: &mut Inputs<'_, F, R>,
     request: &PageRequest,
 ) -> Result<Answer, LabFault> {
-    let run = run_to_show(alloc, inputs, request, MOST_DRAWN_STEPS)?;
+    if request.from > request.to {
+        return Err(none_drawn(alloc, request)?);
+    }
+    let mut run = run_to_show(alloc, inputs, request, MOST_STEPS)?;
+    run.steps.truncate(request.to);
+    let count = run.steps.len();
+    if request.from > count.max(1) {
+        return Err(past_end(alloc, request.from, count)?);
+    }
+    let drawn = count.saturating_sub(request.from.saturating_sub(1));
+    if drawn > MOST_DRAWN_STEPS {
+        return Err(too_many(alloc, request.out, drawn)?);
+    }
     let picture = picture_text(alloc, request, &run)?;
     inputs.write(alloc, request.out, picture.as_bytes())?;
     Ok(Answer::silent(alloc))
+}
+
+/// What is said of steps that end before they begin.
+fn none_drawn(alloc: Global, request: &PageRequest) -> Result<LabFault, AllocError> {
+    let (from, to) = (request.from, request.to);
+    Ok(LabFault::Words(format!(in alloc; "--from {from} is behind --to {to}: no step is drawn")?))
+}
+
+/// What is said of steps that begin behind the last of so many.
+fn past_end(alloc: Global, from: usize, count: usize) -> Result<LabFault, AllocError> {
+    let plural = if count == 1 { "" } else { "s" };
+    Ok(LabFault::Words(format!(in alloc;
+        "--from {from}: the run has {count} step{plural}, so no step is drawn"
+    )?))
+}
+
+/// What is said of more steps than are drawn.
+fn too_many(alloc: Global, out: &str, count: usize) -> Result<LabFault, AllocError> {
+    Ok(LabFault::Words(format!(in alloc;
+        "{out}: {count} steps, and no more than {MOST_DRAWN_STEPS} are drawn; --from and --to make fewer"
+    )?))
 }
 
 /// The picture of a run.
@@ -32,18 +65,27 @@ fn picture_text(
         schedule: &schedule,
     };
     if run.program.image.slim() <= 8 {
-        picture_on::<8>(alloc, names, run)
+        picture_on::<8>(alloc, names, run, request.from)
     } else {
-        picture_on::<128>(alloc, names, run)
+        picture_on::<128>(alloc, names, run, request.from)
     }
 }
 
-/// The picture on a machine with room for `S` streams a processor.
+/// The picture from this step on, on a machine with room for `S` streams a processor.
 fn picture_on<const S: usize>(
     alloc: Global,
     names: RunNames,
     run: &RunToShow,
+    from: usize,
 ) -> Result<String, AllocError> {
     let machine = loaded::<S>(alloc, &run.program.image)?;
-    picture_of(alloc, names, &run.program.text, &machine, &run.steps)
+    let before = from.saturating_sub(1);
+    picture_of(
+        alloc,
+        names,
+        &run.program.text,
+        &machine,
+        &run.steps,
+        before,
+    )
 }

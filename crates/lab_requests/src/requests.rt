@@ -83,6 +83,10 @@ pub struct PageRequest<'a> {
     pub program: &'a str,
     /// Its schedule.
     pub run: RunChoice<'a>,
+    /// The first step that a picture shows, from 1.
+    pub from: usize,
+    /// The last step that a picture shows.
+    pub to: usize,
     /// What the program is called; None where its file's name says it.
     pub title: Option<&'a str>,
     /// The file that is written.
@@ -217,8 +221,8 @@ pub enum LabCommand<'a> {
     /// Shows where two schedules of a program part.
     Compare {
         program: &'a str,
-        one: &'a str,
-        other: &'a str,
+        one: RunChoice<'a>,
+        other: RunChoice<'a>,
         shown: Shown,
     },
     /// Runs many random schedules, and counts their ends.

@@ -3,14 +3,16 @@
 use crate::names::ProgramNames;
 use crate::words::{NumberStyle, push_stream, push_value};
 use run_findings::{
-    Access, Action, LostUpdate, TornRead, UnreadStore, lost_updates, torn_reads, unread_stores,
+    Access, Action, Deed, LostUpdate, TornRead, UnreadStore, lost_updates, torn_reads,
+    unread_stores,
 };
 use std::alloc::{AllocError, Global};
 
 /// Of each kind of findings so many are told, and how many more there are.
 const MOST_OF_A_KIND: usize = 10;
 
-/// The most steps of a run whose torn reads are looked for: how long that takes may grow faster than the run.
+/// The most steps of a run whose torn reads are looked for, without those that were skipped or blocked: how long that takes
+/// may grow faster than the run.
 pub const MOST_STEPS_OF_TORN: usize = 20_000;
 
 /// The findings of a run (docs/FINDINGS.md).
@@ -18,8 +20,10 @@ pub const MOST_STEPS_OF_TORN: usize = 20_000;
 pub struct FindingsOfRun {
     /// Its lost updates.
     pub lost: Vec<LostUpdate>,
-    /// Its torn reads; none of a run of more than 20,000 steps.
+    /// Its torn reads; none where they are not looked for.
     pub torn: Vec<TornRead>,
+    /// Whether torn reads are looked for: the run has at most 20,000 steps that were not skipped or blocked.
+    pub is_torn_sought: bool,
     /// Its unread stores.
     pub unread: Vec<UnreadStore>,
 }
@@ -27,14 +31,17 @@ pub struct FindingsOfRun {
 impl FindingsOfRun {
     /// The findings of a run with these steps.
     pub fn of(alloc: Global, actions: &[Action]) -> Result<FindingsOfRun, AllocError> {
-        let torn = if actions.len() > MOST_STEPS_OF_TORN {
-            Vec::new(alloc)
+        let counted = counted_steps(alloc, actions)?;
+        let is_torn_sought = counted.len() <= MOST_STEPS_OF_TORN;
+        let torn = if is_torn_sought {
+            torn_reads_among(alloc, actions, &counted)?
         } else {
-            torn_reads(alloc, actions)?
+            Vec::new(alloc)
         };
         Ok(FindingsOfRun {
             lost: lost_updates(alloc, actions)?,
             torn,
+            is_torn_sought,
             unread: unread_stores(alloc, actions)?,
         })
     }
@@ -46,6 +53,55 @@ impl FindingsOfRun {
             .saturating_add(self.torn.len())
             .saturating_add(self.unread.len())
     }
+}
+
+/// The steps, from 0, that did something to their stream or to a word: those that were not skipped or blocked.
+fn counted_steps(alloc: Global, actions: &[Action]) -> Result<Vec<usize>, AllocError> {
+    let mut counted = Vec::new(alloc);
+    for (step, action) in actions.iter().enumerate() {
+        if did_something(action) {
+            counted.push(step)?;
+        }
+    }
+    Ok(counted)
+}
+
+/// Whether a step did something to its stream or to a word.
+fn did_something(action: &Action) -> bool {
+    match action.deed {
+        Deed::Nothing => action.access.is_some(),
+        Deed::Trap | Deed::Instruction(_) => true,
+    }
+}
+
+/// The torn reads of a run in which these steps did something: a step that did nothing has no part in one.
+fn torn_reads_among(
+    alloc: Global,
+    actions: &[Action],
+    counted: &[usize],
+) -> Result<Vec<TornRead>, AllocError> {
+    if counted.len() == actions.len() {
+        return torn_reads(alloc, actions);
+    }
+    let mut kept = Vec::with_capacity(alloc, counted.len())?;
+    for step in counted {
+        if let Some(action) = actions.get(*step) {
+            kept.push(*action)?;
+        }
+    }
+    let mut torn = torn_reads(alloc, &kept)?;
+    for read in torn.iter_mut() {
+        read.stale_read = step_at(counted, read.stale_read);
+        read.fresh_read = step_at(counted, read.fresh_read);
+        read.stale_write = step_at(counted, read.stale_write);
+        read.fresh_write = step_at(counted, read.fresh_write);
+    }
+    Ok(torn)
+}
+
+/// The step at a place of those that count.
+fn step_at(counted: &[usize], place: usize) -> usize {
+    counted.get(place).copied().unwrap_or(place)
 }
 
 /// How findings are told: by which names, in which numbers, of a run with which steps.

@@ -2,12 +2,12 @@
 
 use crate::run_status::status_of_run;
 use command_parts::{
-    Answer, Inputs, LabFault, Program, Status, loaded, push_object, read_program, read_steps,
+    Answer, Inputs, LabFault, Program, Status, loaded, push_object, read_program, steps_of,
     style_of,
 };
 use lab_ends::push_findings_of_run;
 use lab_json::{difference_value, end_value, parting_value};
-use lab_requests::Shown;
+use lab_requests::{RunChoice, Shown};
 use lab_texts::{
     ProgramNames, end_of, push_differences, push_differing_words, push_end, push_stream,
 };
@@ -24,13 +24,13 @@ pub fn compare<F: Files, R: Read>(
     alloc: Global,
     inputs: &mut Inputs<'_, F, R>,
     path: &str,
-    one: &str,
-    other: &str,
+    one: RunChoice,
+    other: RunChoice,
     shown: Shown,
 ) -> Result<Answer, LabFault> {
     let program = read_program(alloc, inputs, path)?;
-    let first = read_steps(alloc, inputs, &program, one)?;
-    let second = read_steps(alloc, inputs, &program, other)?;
+    let first = steps_of(alloc, inputs, &program, one)?;
+    let second = steps_of(alloc, inputs, &program, other)?;
     let (output, status) = if program.image.slim() <= 8 {
         compare_on::<8>(alloc, &program, &first, &second, shown)?
     } else {

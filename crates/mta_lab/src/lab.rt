@@ -152,7 +152,7 @@ fn answer_to<X: Threads + Sync + Clock, F: Files, R: Read, E: Write>(
             one,
             other,
             shown,
-        } => compare(alloc, inputs, program, one, other, *shown),
+        } => compare(alloc, inputs, program, *one, *other, *shown),
         // (these have their own way of writing)
         LabCommand::Debug { .. } | LabCommand::Adapt => Err(LabFault::Closed),
         LabCommand::Survey(request) => survey(rt, alloc, inputs, request, &mut console),

@@ -12,17 +12,19 @@ use machine::Machine;
 use processor::Step;
 use std::alloc::{AllocError, Global};
 
-/// The picture of a run of the program with this text, whose machine has taken no step.
+/// The picture of a run of the program with this text, whose machine has taken no step, without so many steps at its
+/// beginning.
 pub fn picture_of<const S: usize>(
     alloc: Global,
     names: RunNames,
     text: &[u8],
     start: &Machine<'_, S>,
     schedule: &[Step],
+    before: usize,
 ) -> Result<String, AllocError> {
     let places = ProgramNames::of(alloc, text)?;
     let run = WholeRun::of(alloc, start, schedule)?;
-    let lanes = Lanes::of(alloc, &run)?;
+    let lanes = Lanes::of(alloc, &run, before)?;
     let mut out = String::new(alloc);
     push_frame(&mut out, &lanes)?;
     push_title(&mut out, names)?;
@@ -73,7 +75,8 @@ fn push_paper(out: &mut String, lanes: &Lanes) -> Result<(), AllocError> {
 
 /// Adds the numbers of the steps, as many as have room.
 fn push_numbers(out: &mut String, lanes: &Lanes) -> Result<(), AllocError> {
-    for number in 1..lanes.steps().saturating_add(1) {
+    for place in 1..lanes.steps().saturating_add(1) {
+        let number = lanes.before().saturating_add(place);
         if number.checked_rem(lanes.numbered()) == Some(0) {
             let x = lanes.x(number);
             write!(

@@ -23,7 +23,7 @@ pub(crate) fn push_streams(
     for wait in &run.waits {
         push_wait(out, lanes, run, wait)?;
     }
-    for (index, view) in run.views.iter().enumerate() {
+    for (index, view) in run.views.iter().enumerate().skip(lanes.before()) {
         let Some(y) = lanes.stream_y(view.step) else {
             continue;
         };
@@ -120,6 +120,11 @@ fn push_wait(
     let Some(y) = lanes.stream_y(wait.stream) else {
         return Ok(());
     };
+    if let Some(to) = wait.to
+        && to <= lanes.before()
+    {
+        return Ok(());
+    }
     let from = lanes.x(wait.from);
     let to = match wait.to {
         Some(to) => lanes.x(to),
@@ -177,8 +182,11 @@ fn push_arrow(
     )
 }
 
-/// The middle of the lane of the stream that took the step of this number.
+/// The middle of the lane of the stream that took the step of this number; None where the step is not drawn.
 fn step_y(lanes: &Lanes, run: &WholeRun, number: usize) -> Option<usize> {
+    if number <= lanes.before() {
+        return None;
+    }
     let view = run.views.get(number.checked_sub(1)?)?;
     lanes.stream_y(view.step)
 }

@@ -87,10 +87,8 @@ fn push_bar(
         let number = index.saturating_add(1);
         let next = after_step(state, number, view, address);
         if next.from == number {
-            push_state(out, lanes.x(state.from), lanes.x(number), floor, state)?;
-            if next.value != state.value {
-                let x = lanes.x(number);
-                write!(out, "<path class=\"tick\" d=\"M{x} {floor}m0 3v-24\"/>")?;
+            if number > lanes.before() {
+                push_change(out, lanes, floor, state, next)?;
             }
             state = next;
         }
@@ -103,6 +101,22 @@ fn push_bar(
         out,
         "<text class=\"note\" x=\"{note}\" y=\"{floor}\" dy=\"-5\">{value}, {words}</text>\n"
     )
+}
+
+/// Adds what a word held up to a step, with a tick where its value changed then.
+fn push_change(
+    out: &mut String,
+    lanes: &Lanes,
+    floor: usize,
+    state: WordState,
+    next: WordState,
+) -> Result<(), AllocError> {
+    let x = lanes.x(next.from);
+    push_state(out, lanes.x(state.from), x, floor, state)?;
+    if next.value != state.value {
+        write!(out, "<path class=\"tick\" d=\"M{x} {floor}m0 3v-24\"/>")?;
+    }
+    Ok(())
 }
 
 /// What a word holds after a step; as before where the step did not change it.
@@ -156,7 +170,7 @@ fn push_state(
 
 /// Adds where steps met words: a ring, a wedge or bars, and a stem up to the step.
 fn push_meetings(out: &mut String, lanes: &Lanes, views: &[StepView]) -> Result<(), AllocError> {
-    for (index, view) in views.iter().enumerate() {
+    for (index, view) in views.iter().enumerate().skip(lanes.before()) {
         let Some(reference) = view.reference else {
             continue;
         };
@@ -175,11 +189,15 @@ fn push_meetings(out: &mut String, lanes: &Lanes, views: &[StepView]) -> Result<
     Ok(())
 }
 
-/// Adds a lost update: a bracket from the read to the store that was made of it, and a cross at the other store.
+/// Adds a lost update whose last step is drawn: a bracket from the read to the store that was made of it, and a cross at
+/// the other store.
 fn push_lost(out: &mut String, lanes: &Lanes, lost: &LostUpdate) -> Result<(), AllocError> {
     let Some(y) = lanes.word_y(lost.word) else {
         return Ok(());
     };
+    if lost.stored < lanes.before() {
+        return Ok(());
+    }
     let y = y.saturating_add(47);
     let from = lanes.x(lost.read.saturating_add(1));
     let over = lanes.x(lost.over.saturating_add(1));
@@ -187,8 +205,16 @@ fn push_lost(out: &mut String, lanes: &Lanes, lost: &LostUpdate) -> Result<(), A
     let text = to.saturating_add(6);
     write!(
         out,
-        "<path class=\"lost\" d=\"M{from} {y}m0 -5v5H{to}v-5\"/>\
-         <path class=\"lost\" d=\"M{over} {y}m-4.5 -4.5l9 9m0 -9l-9 9\"/>\
-         <text class=\"lost\" x=\"{text}\" y=\"{y}\" dy=\"3\">lost</text>\n"
+        "<path class=\"lost\" d=\"M{from} {y}m0 -5v5H{to}v-5\"/>"
+    )?;
+    if lost.over >= lanes.before() {
+        write!(
+            out,
+            "<path class=\"lost\" d=\"M{over} {y}m-4.5 -4.5l9 9m0 -9l-9 9\"/>"
+        )?;
+    }
+    write!(
+        out,
+        "<text class=\"lost\" x=\"{text}\" y=\"{y}\" dy=\"3\">lost</text>\n"
     )
 }

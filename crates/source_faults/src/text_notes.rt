@@ -175,6 +175,6 @@ pub(crate) fn note_foreign(notes: &mut Notes, line: &Line) -> Result<(), AllocEr
     notes.add_with(
         line.spot(marked),
         words,
-        "a text is ASCII alone, in comments too",
+        "outside comments a text is ASCII alone",
     )
 }

@@ -1,0 +1,3 @@
+ .entry go
+ .data 0 ; Zähler für Jürgen
+go: QUIT

@@ -1,0 +1,3 @@
+﻿ .entry go ; é
+ .data 0
+go: QUIT
