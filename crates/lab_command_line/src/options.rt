@@ -24,6 +24,9 @@ pub(crate) const MOST_SECONDS: u64 = 1_000_000_000;
 /// The most megabytes that it may be asked to hold.
 pub(crate) const MOST_MEGABYTES: u64 = 1_000_000_000;
 
+/// The most states of a page of `play`, and how many it has at most, where none are said.
+pub(crate) const MOST_PLAYED: u64 = 100_000;
+
 /// How many seeds `grade` tries, where none are said.
 pub(crate) const USUAL_SEEDS: usize = 200;
 

@@ -13,7 +13,7 @@ pub use differences::differences_value;
 pub use ends::end_value;
 pub use heads::head_value;
 pub use places::{content_value, digits, outcome_name, place_name};
-pub use steps::step_value;
+pub use steps::{reference_value, step_value};
 
 /// The version of the objects.
 pub const VERSION: u64 = 1;

@@ -5,5 +5,5 @@ mod requests;
 
 pub use requests::{
     Bounds, CheckRequest, ExploreRequest, FileKind, GradeRequest, LabCommand, Maker, PageRequest,
-    RunChoice, Shown, SurveyRequest, ViewRequest,
+    PlayRequest, RunChoice, Shown, SurveyRequest, ViewRequest,
 };
