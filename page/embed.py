@@ -1,42 +1,42 @@
 #!/usr/bin/env python3
-"""embed.py [--check]: makes the constants of crates/replay_page/src/parts of the files in this folder, since a program
-of the kit can't include a file's text. The hashes that the page's policy names are among them. With --check nothing is
-written, and each file of constants that is not up to date is named."""
+"""embed.py [--check]: makes the constants of the pages' crates, below src/parts of each, of the files in this folder, since
+a program of the kit can't include a file's text. The hashes that a page's policy names are among them. With --check nothing
+is written, and each file of constants that is not up to date is named."""
 
+import pathlib
 import re
 import sys
 
 sys.dont_write_bytecode = True
 
-from build import HERE, hash_of, read, script, style
+from build import HERE, PAGES, hash_of
 
-SOURCE = HERE.parent / "crates/replay_page/src"
-TEMPLATE, STYLE = "page.html.template", "page.css"
-# the functions of the texts between what a run fills in, the title and the run itself, and where they stand
-SECTIONS = {"head": "before the title", "middle": "between the title and the run", "tail": "behind the run"}
+CRATES = HERE.parent / "crates"
+# the functions of the texts between what is filled in, the title and the data, and where they stand
+SECTIONS = {"head": "before the title", "middle": "between the title and the data", "tail": "behind the data"}
 # the longest line in the layout of rt fmt
 LINE = 100
 
 
-def texts():
-    """The texts of a page: (None, what a run fills in), or (the file, its text or a part of it)."""
-    if re.search(r"</(script|style)|<!--", script() + style(), re.IGNORECASE):
+def texts(page):
+    """The texts of a page: (None, what is filled in), or (the file, its text or a part of it)."""
+    if re.search(r"</(script|style)|<!--", page.script() + page.style(), re.IGNORECASE):
         raise ValueError("a script or style would end its element")
-    hashes = {"SCRIPT_HASH": hash_of(script()), "STYLE_HASH": hash_of(style())}
+    hashes = {"SCRIPT_HASH": hash_of(page.script()), "STYLE_HASH": hash_of(page.style())}
     found, text = [], ""
-    for i, piece in enumerate(read(TEMPLATE).split("@")):
+    for i, piece in enumerate(page.read(page.template).split("@")):
         if i % 2 == 0 or piece in hashes:
             text += hashes.get(piece, piece) if i % 2 else piece
             continue
-        found.append((TEMPLATE, text))
+        found.append((page.template, text))
         text = ""
         if piece == "STYLE":
-            found.append((STYLE, style()))
+            found += [(name, page.read(name)) for name in page.styles]
         elif piece == "SCRIPT":
-            found += [(name, read(name)) for name in read("ORDER").split()]
+            found += [(name, page.read(name)) for name in page.order()]
         else:
             found.append((None, piece.capitalize()))
-    return found + [(TEMPLATE, text)]
+    return found + [(page.template, text)]
 
 
 def constant(text):
@@ -49,10 +49,10 @@ def constant(text):
     return name + ("\n    " if is_long else " ") + value + "\n"
 
 
-def module(source, before):
+def module(page, source, before):
     """The module of a file's text, or of the next part of it."""
-    name, _, kind = source.partition(".")
-    if source == TEMPLATE:
+    name, _, kind = pathlib.Path(source).name.partition(".")
+    if source == page.template:
         return f"template_{sum(other.startswith('template') for other in before) + 1}"
     return f"{name}_{'style' if kind == 'css' else 'script'}"
 
@@ -66,17 +66,18 @@ def section(place, names):
     )
 
 
-def files():
-    """Each file of constants with its text."""
+def files(page):
+    """Each file of constants of a page with its text."""
     made, modules, sections = {}, [], [[]]
-    for source, text in texts():
+    for source, text in texts(page):
         if source is None:
             sections.append([])
             continue
-        name = module(source, modules)
+        name = module(page, source, modules)
         modules.append(name)
         sections[-1].append(name)
-        about = f"//! A text of the page: page/{source}. Made by page/embed.py.\n\n"
+        place = (page.folder / source).resolve().relative_to(HERE.parent)
+        about = f"//! A text of the page: {place}. Made by page/embed.py.\n\n"
         made[f"parts/{name}.rt"] = about + constant(text)
     made["parts.rt"] = (
         "//! The texts of a page. Made by page/embed.py of the files in page/.\n\n"
@@ -87,26 +88,27 @@ def files():
     return made
 
 
-def stale_files(made):
+def stale_files(made, source):
     """The files that are not what is made."""
-    there = {path.relative_to(SOURCE).as_posix(): path.read_text(encoding="utf-8")
-             for path in SOURCE.glob("parts/*.rt")}
-    path = SOURCE / "parts.rt"
+    there = {path.relative_to(source).as_posix(): path.read_text(encoding="utf-8")
+             for path in source.glob("parts/*.rt")}
+    path = source / "parts.rt"
     if path.is_file():
         there["parts.rt"] = path.read_text(encoding="utf-8")
     return [path for path in sorted(made.keys() | there.keys()) if made.get(path) != there.get(path)]
 
 
 def main(words):
-    made = files()
-    for path in stale_files(made):
-        if words == ["--check"]:
-            print(f"crates/replay_page/src/{path}: not what page/embed.py makes")
-        elif path in made:
-            (SOURCE / path).parent.mkdir(exist_ok=True)
-            (SOURCE / path).write_text(made[path], encoding="utf-8")
-        else:
-            (SOURCE / path).unlink()
+    for page in PAGES.values():
+        made, source = files(page), CRATES / page.crate / "src"
+        for path in stale_files(made, source):
+            if words == ["--check"]:
+                print(f"crates/{page.crate}/src/{path}: not what page/embed.py makes")
+            elif path in made:
+                (source / path).parent.mkdir(exist_ok=True)
+                (source / path).write_text(made[path], encoding="utf-8")
+            else:
+                (source / path).unlink()
 
 
 if __name__ == "__main__":

@@ -13,6 +13,7 @@ _mta_lab_options() {
     debug) echo '--fair --seed --steps' ;;
     page) echo '--fair --rounds --seed --steps --title --out' ;;
     picture) echo '--fair --rounds --seed --steps --from --to --title --out' ;;
+    play) echo '--expect --from --states --title --goal --out' ;;
     asm) echo '--out' ;;
   esac
 }
@@ -20,14 +21,16 @@ _mta_lab_options() {
 _mta_lab() {
   local current=${COMP_WORDS[COMP_CWORD]} before=${COMP_WORDS[COMP_CWORD - 1]} command=${COMP_WORDS[1]} words
   if [ "$COMP_CWORD" -eq 1 ]; then
-    words='check schedule view compare survey explore grade page picture debug dap asm --help --version'
+    words='check schedule view compare survey explore grade page picture play debug dap asm --help --version'
   elif [ "$before" = --as ]; then
     words='source image schedule'
+  elif [ "$before" = --goal ]; then
+    words='right wrong deadlock stopped spinning broken'
   elif [ "$command $COMP_CWORD" = 'schedule 2' ]; then
     words='rounds fair random'
   elif [[ $current = -* ]]; then
     words="$(_mta_lab_options "$command") --help"
-  elif [[ $before = --@(seed|seeds|steps|states|seconds|memory|from|to|only|word|title) && $command$before != explore--from ]]; then
+  elif [[ $before = --@(seed|seeds|steps|states|seconds|memory|from|to|only|word|title) && $command$before != @(explore|play)--from ]]; then
     words=''
   else
     # a folder gets a slash and no blank, and a name with blanks is quoted

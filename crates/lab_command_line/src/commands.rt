@@ -3,7 +3,7 @@
 use crate::arguments::{Argument, Form};
 use crate::help;
 use crate::options::{
-    MOST_JOBS, MOST_MEGABYTES, MOST_SECONDS, MOST_SEEDS, MOST_STEPS, MOST_WORLDS,
+    MOST_JOBS, MOST_MEGABYTES, MOST_PLAYED, MOST_SECONDS, MOST_SEEDS, MOST_STEPS, MOST_WORLDS,
 };
 
 /// A command.
@@ -20,7 +20,7 @@ pub(crate) struct CommandWords {
 }
 
 /// The commands, in the order of the help.
-pub(crate) const COMMANDS: [CommandWords; 12] = [
+pub(crate) const COMMANDS: [CommandWords; 13] = [
     CommandWords {
         name: "check",
         about: "Judges source texts, images and schedules, in words",
@@ -86,6 +86,12 @@ pub(crate) const COMMANDS: [CommandWords; 12] = [
         about: "Writes a picture of a run's lanes",
         long: help::PICTURE,
         arguments: &PICTURE_ARGUMENTS,
+    },
+    CommandWords {
+        name: "play",
+        about: "Writes a page on which the reader is the scheduler",
+        long: help::PLAY,
+        arguments: &PLAY_ARGUMENTS,
     },
     CommandWords {
         name: "asm",
@@ -368,6 +374,24 @@ const PICTURE_ARGUMENTS: [Argument; 10] = [
     ),
     Argument("title", help::TITLE, Form::Option("TEXT")),
     Argument("out", "the picture, FILE.svg", Form::NeededOption("FILE")),
+];
+
+const PLAY_ARGUMENTS: [Argument; 7] = [
+    Argument("PROGRAM", help::PROGRAM, Form::Needed),
+    Argument("expect", help::EXPECT, Form::Option("FILE")),
+    Argument("from", help::BEGIN, Form::Option("SCHEDULE")),
+    Argument(
+        "states",
+        "the most states of the page, 1 to 100000 [100000]",
+        Form::Number("N", 1, MOST_PLAYED),
+    ),
+    Argument("title", help::TITLE, Form::Option("TEXT")),
+    Argument(
+        "goal",
+        "the first goal: right, wrong, deadlock, stopped, spinning, broken, or the number of an end [none]",
+        Form::Option("TEXT"),
+    ),
+    Argument("out", "the page, FILE.html", Form::NeededOption("FILE")),
 ];
 
 const ASM_ARGUMENTS: [Argument; 2] = [

@@ -141,6 +141,19 @@ Examples:
   mta_lab picture lock.asm lock.lost_update.schedule --out lock.svg
   mta_lab picture lock.asm --seed 3 --from 10 --to 30 --out part.svg";
 
+pub(crate) const PLAY: &str = "\
+Writes a page on which the reader is the scheduler, for a browser: at each step the reader
+chooses which stream goes on, forwards and back, and sees which ends can still come, and the step
+at which the right one got out of reach. The page is one file, which needs no network, and has
+every state that a schedule of the program can reach, up to 100000. With --expect ends are right or
+wrong; each end is a goal.
+
+If a program has more states, take fewer turns of its loops, or give a beginning by --from.
+
+Examples:
+  mta_lab play lock.asm --out lock.html --expect lock.expect
+  mta_lab play dinner.asm --out dinner.html --goal deadlock";
+
 pub(crate) const PROGRAM: &str = "the program: a source text or an image";
 
 pub(crate) const FAIR: &str = "the processors step in turn, and within each its streams";

@@ -1,12 +1,14 @@
 //! The command line, read.
 
-use crate::options::{USUAL_SEEDS, USUAL_STEPS, USUAL_WORLDS, count, number, text, word, words};
+use crate::options::{
+    MOST_PLAYED, USUAL_SEEDS, USUAL_STEPS, USUAL_WORLDS, count, number, text, word, words,
+};
 use crate::parsers::lab_parser;
 use clap::error::ErrorKind;
 use clap::{ArgMatches, Error};
 use lab_requests::{
     Bounds, CheckRequest, ExploreRequest, FileKind, GradeCases, GradeFormat, GradeRequest,
-    LabCommand, Maker, PageRequest, RunChoice, Shown, SurveyRequest, ViewRequest,
+    LabCommand, Maker, PageRequest, PlayRequest, RunChoice, Shown, SurveyRequest, ViewRequest,
 };
 use std::alloc::{AllocError, Global};
 use std::convert::AsStr;
@@ -97,6 +99,7 @@ fn command_of_runs<'a>(name: &str, found: &ArgMatches<'a>) -> LabCommand<'a> {
         },
         "page" => LabCommand::Page(page_of(found)),
         "picture" => LabCommand::Picture(picture_of(found)),
+        "play" => LabCommand::Play(play_of(found)),
         "asm" => LabCommand::Assemble {
             source: word(found, "SOURCE"),
             image: text(found, "out"),
@@ -218,6 +221,19 @@ fn survey_of<'a>(found: &ArgMatches<'a>) -> SurveyRequest<'a> {
         expected: text(found, "expect"),
         explored: explored_of(found),
         shown: shown_of(found),
+    }
+}
+
+/// What `play` is asked.
+fn play_of<'a>(found: &ArgMatches<'a>) -> PlayRequest<'a> {
+    PlayRequest {
+        program: word(found, "PROGRAM"),
+        expected: text(found, "expect"),
+        from: text(found, "from"),
+        states: count(found, "states", MOST_PLAYED as usize),
+        title: text(found, "title"),
+        goal: text(found, "goal"),
+        out: word(found, "out"),
     }
 }
 

@@ -24,7 +24,7 @@ pub use heads::{RunTitle, head_value};
 pub use lines::line_value;
 pub use places::{content_value, digits, outcome_name, place_name};
 pub use runs::put_run;
-pub use steps::{step_part, step_value};
+pub use steps::{reference_value, step_part, step_value};
 pub use streams::{put_streams, stream_value};
 pub use turns::{put_turns, turns_value};
 

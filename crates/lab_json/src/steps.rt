@@ -54,7 +54,7 @@ fn change_value(alloc: Global, change: &Change) -> Result<Value, AllocError> {
 }
 
 /// A reference: operation, control, the address asked, that of the word that answered, the value given, the reply.
-fn reference_value(alloc: Global, reference: &Reference) -> Result<Value, AllocError> {
+pub fn reference_value(alloc: Global, reference: &Reference) -> Result<Value, AllocError> {
     let request = reference.request;
     let operation = operation_name(request.op);
     let control = control_name(request.acc);

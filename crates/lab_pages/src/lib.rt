@@ -1,8 +1,11 @@
-//! The commands `page` and `picture`: runs for a browser.
+//! The commands `page`, `picture` and `play`: runs, and all schedules, for a browser.
 #![tactic(auto)]
 
+mod goals;
 mod paging;
 mod picturing;
+mod playing;
 
 pub use paging::write_page;
 pub use picturing::write_picture;
+pub use playing::write_play_page;

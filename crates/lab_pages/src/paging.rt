@@ -92,7 +92,12 @@ pub(crate) fn program_name<'a>(request: &PageRequest<'a>) -> &'a str {
     if let Some(title) = request.title {
         return title;
     }
-    let name = file_name(request.program);
+    stem_of(request.program)
+}
+
+/// A path's last name, without what stands behind its last point.
+pub(crate) fn stem_of(path: &str) -> &str {
+    let name = file_name(path);
     match name.rsplit_once('.') {
         Some((stem, _)) if !stem.is_empty() => stem,
         _ => name,

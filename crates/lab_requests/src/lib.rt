@@ -5,5 +5,5 @@ mod requests;
 
 pub use requests::{
     Bounds, CheckRequest, ExploreRequest, FileKind, GradeCases, GradeFormat, GradeRequest,
-    LabCommand, Maker, PageRequest, RunChoice, Shown, SurveyRequest, ViewRequest,
+    LabCommand, Maker, PageRequest, PlayRequest, RunChoice, Shown, SurveyRequest, ViewRequest,
 };

@@ -93,6 +93,25 @@ pub struct PageRequest<'a> {
     pub out: &'a str,
 }
 
+/// What `play` is asked.
+#[derive(Clone, Copy, Debug)]
+pub struct PlayRequest<'a> {
+    /// The program: a source text or an image.
+    pub program: &'a str,
+    /// The file of what each end has to be, and what is claimed of each world.
+    pub expected: Option<&'a str>,
+    /// The file of the schedule that all schedules begin with.
+    pub from: Option<&'a str>,
+    /// The most states, at least 1.
+    pub states: usize,
+    /// What the program is called; None where its file's name says it.
+    pub title: Option<&'a str>,
+    /// The kind or the number of the end that is the reader's first goal.
+    pub goal: Option<&'a str>,
+    /// The file that is written.
+    pub out: &'a str,
+}
+
 /// How far a search among all schedules goes.
 #[derive(Clone, Copy, Debug)]
 pub struct Bounds {
@@ -235,6 +254,8 @@ pub enum LabCommand<'a> {
     Page(PageRequest<'a>),
     /// Writes a picture of a run's lanes.
     Picture(PageRequest<'a>),
+    /// Writes a page on which the reader is the scheduler.
+    Play(PlayRequest<'a>),
     /// Assembles a source text, beside its place, and renames it to there.
     Assemble {
         source: &'a str,

@@ -7,7 +7,7 @@ use lab_command_line::read_lab_command;
 use lab_debugger::{Screen, debug};
 use lab_explorer::{Console, show_every_end};
 use lab_grades::{grade, survey};
-use lab_pages::{write_page, write_picture};
+use lab_pages::{write_page, write_picture, write_play_page};
 use lab_requests::LabCommand;
 use lab_views::{compare, view};
 use plain_text::{plain, push_plain};
@@ -160,6 +160,7 @@ fn answer_to<X: Threads + Sync + Clock, F: Files, R: Read, E: Write>(
         LabCommand::Grade(request) => grade(rt, alloc, inputs, request, &mut console),
         LabCommand::Page(request) => write_page(alloc, inputs, request),
         LabCommand::Picture(request) => write_picture(alloc, inputs, request),
+        LabCommand::Play(request) => write_play_page(alloc, inputs, request, &mut console),
         LabCommand::Assemble { source, image } => assemble_file(alloc, inputs, source, *image),
     }
 }

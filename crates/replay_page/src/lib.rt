@@ -12,7 +12,7 @@ mod waits;
 mod whole_run;
 mod words_drawn;
 
-pub use pages::page_of;
+pub use pages::{page_of, push_escaped, push_script_data};
 pub use pictures::picture_of;
 pub use runs::{RunNames, run_json};
 pub use waits::{RunWait, run_waits};

@@ -17,7 +17,7 @@ pub fn page_of(alloc: Global, title: &str, run: &str) -> Result<String, AllocErr
 }
 
 /// Adds text to markup. What no markup may have, as control characters, becomes a blank.
-pub(crate) fn push_escaped(out: &mut String, text: &str) -> Result<(), AllocError> {
+pub fn push_escaped(out: &mut String, text: &str) -> Result<(), AllocError> {
     for letter in text.chars() {
         match letter {
             '&' => out.push_str("&amp;")?,
@@ -33,7 +33,7 @@ pub(crate) fn push_escaped(out: &mut String, text: &str) -> Result<(), AllocErro
 }
 
 /// Adds JSON to a script element, which no `<` of a text can end then.
-fn push_script_data(out: &mut String, json: &str) -> Result<(), AllocError> {
+pub fn push_script_data(out: &mut String, json: &str) -> Result<(), AllocError> {
     for (index, piece) in json.split('<').enumerate() {
         if index > 0 {
             out.push_str("\\u003c")?;

@@ -1,8 +1,10 @@
 //! The texts of a page. Made by page/embed.py of the files in page/.
 
+mod base_style;
 mod chart_script;
 mod circle_script;
 mod columns_script;
+mod elements_script;
 mod end_script;
 mod lanes_script;
 mod page_script;
@@ -11,6 +13,7 @@ mod panels_script;
 mod papers_script;
 mod picture_script;
 mod picture_words_script;
+mod program_script;
 mod run_script;
 mod source_script;
 mod tables_script;
@@ -20,6 +23,7 @@ mod template_2;
 mod template_3;
 mod template_4;
 mod template_5;
+mod values_script;
 mod world_script;
 
 use std::alloc::AllocError;
@@ -29,17 +33,21 @@ pub(crate) fn push_head(page: &mut String) -> Result<(), AllocError> {
     page.push_str(template_1::TEXT)
 }
 
-/// Adds what stands between the title and the run.
+/// Adds what stands between the title and the data.
 pub(crate) fn push_middle(page: &mut String) -> Result<(), AllocError> {
     page.push_str(template_2::TEXT)?;
+    page.push_str(base_style::TEXT)?;
     page.push_str(page_style::TEXT)?;
     page.push_str(template_3::TEXT)
 }
 
-/// Adds what stands behind the run.
+/// Adds what stands behind the data.
 pub(crate) fn push_tail(page: &mut String) -> Result<(), AllocError> {
     page.push_str(template_4::TEXT)?;
+    page.push_str(elements_script::TEXT)?;
     page.push_str(run_script::TEXT)?;
+    page.push_str(values_script::TEXT)?;
+    page.push_str(program_script::TEXT)?;
     page.push_str(world_script::TEXT)?;
     page.push_str(columns_script::TEXT)?;
     page.push_str(lanes_script::TEXT)?;

@@ -5,7 +5,7 @@ pub(crate) const TEXT: &str = r#"<!doctype html>
 <head>
 <meta charset="utf-8">
 <meta http-equiv="Content-Security-Policy"
- content="default-src 'none'; script-src 'sha256-Od/1VjC84ZA8pEqf76WKF4et5UelxRxNG3P72NToJ8M='; style-src 'sha256-EiKM6UUeRnj5khqD/lQbOYplYFCFrICYgvvo7hvu4EM=';
+ content="default-src 'none'; script-src 'sha256-ttiDzXdVKZuuyo6SEbbFqyhI4o3re6/vO9KKYQsHA58='; style-src 'sha256-YAq7EGmhigaPDz6SOSxnHNm78D0nEo/E8eheHn//pgg=';
  base-uri 'none'; form-action 'none'">
 <meta name="viewport" content="width=device-width, initial-scale=1">
 <meta name="color-scheme" content="light dark">

@@ -1,0 +1,143 @@
+//! The command `play`.
+
+use crate::goals::goal_place;
+use crate::paging::stem_of;
+use command_parts::{Answer, Inputs, LabFault, Program, read_program, read_steps};
+use lab_ends::{Wishes, space_ends};
+use lab_explorer::{Console, Watcher, push_expectation, wishes_of};
+use lab_requests::{Bounds, PlayRequest};
+use lab_texts::{NumberStyle, ProgramNames};
+use machine::LoadFault;
+use processor::Step;
+use schedule_page::{GraphNames, graph_json, page_of_graph};
+use schedule_space::{Exploration, explore};
+use std::alloc::{AllocError, Global};
+use std::io::{Read, Write};
+use std::rt::Files;
+use std::time::Clock;
+
+/// Writes a page on which the reader is the scheduler.
+pub fn write_play_page<C: Clock, F: Files, R: Read, E: Write>(
+    alloc: Global,
+    inputs: &mut Inputs<'_, F, R>,
+    request: &PlayRequest,
+    console: &mut Console<'_, C, E>,
+) -> Result<Answer, LabFault> {
+    let program = read_program(alloc, inputs, request.program)?;
+    let names = ProgramNames::of(alloc, &program.text)?;
+    let wishes = match request.expected {
+        Some(path) => {
+            let text = inputs.read(alloc, path)?;
+            wishes_of(alloc, path, &text, &names, &program.image)?
+        }
+        None => Wishes::none(alloc),
+    };
+    let begin = match request.from {
+        Some(path) => read_steps(alloc, inputs, &program, path)?,
+        None => Vec::new(alloc),
+    };
+    let played = Played {
+        program: &program,
+        names: &names,
+        wishes: &wishes,
+        begin: &begin,
+    };
+    let page = page_text(alloc, request, &played, console)?;
+    inputs.write(alloc, request.out, page.as_bytes())?;
+    Ok(Answer::silent(alloc))
+}
+
+/// What a page is made of.
+#[derive(Clone, Copy)]
+struct Played<'a> {
+    program: &'a Program,
+    names: &'a ProgramNames<'a>,
+    wishes: &'a Wishes,
+    begin: &'a [Step],
+}
+
+/// The page of a program.
+fn page_text<C: Clock, E: Write>(
+    alloc: Global,
+    request: &PlayRequest,
+    played: &Played<'_>,
+    console: &mut Console<'_, C, E>,
+) -> Result<String, LabFault> {
+    let bounds = Bounds {
+        worlds: request.states,
+        seconds: None,
+        megabytes: None,
+    };
+    let mut watcher = Watcher::new(alloc, console, bounds)?;
+    let graph = match played.program.image.slim() {
+        0 | 1 => graph_on::<1, C, E>(alloc, request, played, &mut watcher),
+        2..=4 => graph_on::<4, C, E>(alloc, request, played, &mut watcher),
+        5..=16 => graph_on::<16, C, E>(alloc, request, played, &mut watcher),
+        _ => graph_on::<128, C, E>(alloc, request, played, &mut watcher),
+    };
+    watcher.finish();
+    let graph = graph?;
+    let name = program_name(request);
+    let title = format!(in alloc; "{name}, you are the scheduler")?;
+    Ok(page_of_graph(alloc, &title, &graph)?)
+}
+
+/// The data of the page, on machines with room for `S` streams a processor; a fault if there are too many states.
+fn graph_on<const S: usize, C: Clock, E: Write>(
+    alloc: Global,
+    request: &PlayRequest,
+    played: &Played<'_>,
+    watcher: &mut Watcher<'_, '_, C, E>,
+) -> Result<String, LabFault> {
+    let image = &played.program.image;
+    let most = request.states.max(1);
+    let space = match explore::<S, _>(alloc, image, played.begin, most, watcher) {
+        Ok(Exploration::Complete(space)) => space,
+        Ok(Exploration::Bounded(_, _)) => return Err(too_many(alloc, request)?),
+        Err(LoadFault::NoMemory | LoadFault::Streams) => return Err(LabFault::NoMemory),
+    };
+    let style = NumberStyle::Decimal;
+    let mut ends = space_ends::<S>(alloc, played.names, style, played.wishes, &space, true)?;
+    // (a claim that only the given beginning breaks has no state on the page)
+    ends.retain(|end| !end.places.is_empty());
+    let expected = expected_texts(alloc, played.wishes)?;
+    let asked = GraphNames {
+        program: program_name(request),
+        expected: &expected,
+        is_judged: !expected.is_empty(),
+        goal: goal_place(alloc, request, &ends, !expected.is_empty())?,
+    };
+    let text = &played.program.text;
+    Ok(graph_json::<S>(alloc, asked, text, played.names, &space, &ends)?)
+}
+
+/// What is said of a program of too many states.
+fn too_many(alloc: Global, request: &PlayRequest) -> Result<LabFault, AllocError> {
+    let out = request.out;
+    let states = request.states;
+    Ok(LabFault::Words(format!(in alloc;
+        "{out}: not written: the program has more than {states} states; with fewer turns of its loops it has fewer, and so have the schedules that begin with one of --from"
+    )?))
+}
+
+/// What is expected of ends, and what is claimed, as it is written.
+fn expected_texts(alloc: Global, wishes: &Wishes) -> Result<Vec<String>, AllocError> {
+    let mut texts = Vec::new(alloc);
+    for expectation in &wishes.ends {
+        let mut text = String::new(alloc);
+        push_expectation(&mut text, expectation)?;
+        texts.push(text)?;
+    }
+    for claim in &wishes.claim_texts {
+        texts.push(String::from_str(alloc, claim)?)?;
+    }
+    Ok(texts)
+}
+
+/// What the program is called: as was asked, or by its file's name.
+fn program_name<'a>(request: &PlayRequest<'a>) -> &'a str {
+    match request.title {
+        Some(title) => title,
+        None => stem_of(request.program),
+    }
+}

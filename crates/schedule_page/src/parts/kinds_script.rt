@@ -1,0 +1,66 @@
+//! A text of the page: page/play/kinds.js. Made by page/embed.py.
+
+pub(crate) const TEXT: &str =
+    r#"// ---------------------------------------------------------------- ends and states by kind
+
+const isJudged = data.ends.some((end) => end.right !== null);
+const SIGNS = { right: "✓", plain: "•", wrong: "!", broken: "!", deadlock: "∞", stopped: "×", spinning: "↻" };
+function kindOf(end) {
+  if (end.kind !== "finished") return end.kind;
+  return end.right === null ? "plain" : end.right ? "right" : "wrong";
+}
+const kinds = data.ends.map(kindOf);
+const rightEnds = data.ends.flatMap((end, e) => (end.right ? [e] : []));
+const isBad = (e) => kinds[e] === "wrong" || kinds[e] === "broken";
+
+/** [address, value before, value, was full, is full] of each word of a state that differs from the start. */
+const changedWords = (w) => [...wordMap(w)].map(([a, [value, tags]]) =>
+  [a, startWord(a)[0], value, startWord(a)[1] & 1, tags & 1]);
+
+/** Writes to each end what its first state holds: the words that changed, who waits for which word,
+  who was stopped. */
+function describeEnds() {
+  for (const end of data.ends) {
+    const w = end.states[0];
+    end.words = changedWords(w);
+    const running = names.map((name, k) => [name, k]).filter(([, k]) => runs(w, k));
+    end.waiting = end.kind === "deadlock" ? running.map(([name, k]) => [name, recordOf(w, k)[4]
+      ?? recordOf(w, k)[3]]) : [];
+    end.stopped = names.flatMap((name, k) => {
+      const [status, trap] = (content(w, k).status ?? "").split(" ");
+      return status === "stopped" ? [[name, Number(trap)]] : [];
+    });
+  }
+  data.ends.forEach((end, e) => (end.label = end.kind === "broken" ? end.text : labelOf(end, e)));
+}
+
+/** A short name that tells an end from the others of its kind: by words that differ between them,
+  and by who waits. */
+function labelOf(end, e) {
+  const alike = data.ends.filter((other) => other.kind === end.kind);
+  const valueIn = (other, a) => other.words.find((word) => word[0] === a)?.[2] ?? startWord(a)[0];
+  const all = [...new Set(alike.flatMap((other) => other.words.map((word) => word[0])))].sort((a, b) => a - b);
+  const telling = all.filter((a) => new Set(alike.map((other) => valueIn(other, a))).size > 1).slice(0, 3);
+  const told = telling.map((a) => `[${a}]=${valueIn(end, a)}`).join(", ");
+  const who = end.waiting.map(([name]) => name).join(", ");
+  const isByWho = new Set(alike.map((other) => JSON.stringify(other.waiting))).size > 1;
+  const first = end.words.slice(0, 2).map((word) => `[${word[0]}]=${word[2]}`).join(", ");
+  if (end.kind === "finished") return told || `finished ${first}`.trim();
+  const waits = isByWho && who ? [`${who} ${end.waiting.length > 1 ? "wait" : "waits"}`] : [];
+  const texts = [...waits, ...(told ? [told] : [])].join(", ");
+  const number = !texts && alike.length > 1 ? ` ${alike.indexOf(data.ends[e]) + 1}` : "";
+  return texts ? `${end.kind}: ${texts}` : `${end.kind}${number}`;
+}
+describeEnds();
+
+/** What is told of a state by what can still come: open, right, wrong, dead, plain. */
+function classOf(set) {
+  const all = set.map((e) => kinds[e]);
+  if (all.length && all.every((kind) => kind === "deadlock")) return "dead";
+  if (!isJudged) return all.length === 1 ? "plain" : "open";
+  if (all.every((kind) => kind === "right")) return "right";
+  return all.includes("right") ? "open" : "wrong";
+}
+const classes = data.sets.map(classOf);
+const stateClass = (w) => classes[aheadOf[w]];
+"#;

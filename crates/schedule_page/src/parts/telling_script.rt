@@ -1,0 +1,133 @@
+//! A text of the page: page/play/telling.js. Made by page/embed.py.
+
+pub(crate) const TEXT: &str =
+    r#"// ---------------------------------------------------------------- telling what happened
+
+function outOfReach(n) {
+  const lost = lostIn(n);
+  if (!isAheadShown() || !lost.length) return [];
+  const left = endsAhead(stateAt(n));
+  const isLost = lost.some((e) => data.ends[e].right);
+  const gone = and(lost.map(theLabel));
+  const rest = left.length === 1 ? `: only ${theLabel(left[0])} can come.` : ".";
+  const text = `From here ${gone} can’t be reached any more${rest}`;
+  return [" ", html("b", { class: isLost ? "lost" : "" }, isLost ? "Point of no return. " : ""), text];
+}
+
+function tell() {
+  const n = view.at;
+  if (view.told) {
+    const told = view.told;
+    view.told = null;
+    return byId("told").replaceChildren(...told);
+  }
+  if (n === 0) {
+    const begun = data.begin ? " The first steps were given: your way begins after them." : " No stream has stepped.";
+    return byId("told").replaceChildren(html("b", {}, "The start."), begun, " Choose a stream below.");
+  }
+  const [k] = way[n - 1];
+  const before = stateAt(n - 1);
+  const { pc } = content(before, k);
+  byId("told").replaceChildren(`Step ${n}: `, html("b", {}, names[k]), " at ", html("b", {}, placeOf(pc)), " ",
+    code(cut(statement(pc), 90)), ": ", ...joined(effectParts(before, k)), ".", ...outOfReach(n));
+}
+
+const button = (text, act) => {
+  const node = html("button", { type: "button" }, text);
+  node.addEventListener("click", act);
+  return node;
+};
+const stepButton = (n) => {
+  const node = html("button", { type: "button", class: "link" }, `step ${n}`);
+  node.addEventListener("click", () => goTo(n));
+  return node;
+};
+
+function resultTitle(e) {
+  const end = data.ends[e];
+  const values = end.words.filter(([, was, is]) => was !== is).slice(0, 4);
+  const text = values.length ? `: ${and(values.map(([a, , is]) => `${fullName(a)} is ${number(is)}`))}` : "";
+  if (end.kind === "deadlock") {
+    const who = end.waiting.map(([name]) => name);
+    return `Deadlock: ${and(who)} wait${who.length > 1 ? "" : "s"} for ever`;
+  }
+  const stopped = and(end.stopped.map(([who, trap]) => `${who} (${trapName(trap)})`));
+  if (end.kind === "stopped") return `Stopped by a trap: ${stopped}`;
+  if (end.kind === "broken") return `A claim does not hold here: ${end.text}`;
+  if (end.kind === "spinning") return "It runs for ever from here: no schedule ends it";
+  return `${end.right === null ? "Finished" : end.right ? "Finished, and right" : "Finished, but wrong"}${text}`;
+}
+
+const expectedText = () => and(data.expected.map((text) => `“${text}”`));
+
+/** The steps of an end's schedule, as names. */
+function scheduleSteps(text) {
+  return text.trim().split("\n").filter(Boolean).flatMap((line) => {
+    const [p, s, n] = line.split(" ").map(Number);
+    return Array(n).fill(`${p}.${s}`);
+  });
+}
+
+function goalLine(e) {
+  if (view.goal === null) return [];
+  const fewest = data.ends[view.goal].shortest;
+  if (e !== view.goal) return [html("li", { class: "won" }, `Your goal is another: ${goalText(view.goal)}.`)];
+  if (view.shown) return [html("li", {}, "This was shown to you. Now find a way yourself: start again.")];
+  const helped = view.hints ? `, with ${count(view.hints, "hint", "hints")}` : "";
+  const how = view.at === fewest ? "the fewest that any schedule needs" : `the fewest are ${fewest}`;
+  const best = won.get(e);
+  if (!view.hints && (best === undefined || view.at < best)) won.set(e, view.at);
+  return [html("li", { class: "won" }, `${steps(view.at)}, ${how}${helped}.`)];
+}
+
+function resultLines(e) {
+  const end = data.ends[e];
+  const lines = goalLine(e);
+  if (end.missed) lines.push(html("li", {}, "Expected: ", code(end.missed), "."));
+  if (end.kind === "deadlock") {
+    names.forEach((name, k) => {
+      if (runs(here(), k)) lines.push(html("li", {}, html("b", {}, name), " ",
+        ...waitParts(recordOf(here(), k), view.at), "."));
+    });
+  }
+  const n = pointOfNoReturn();
+  if (n) {
+    const { pc } = content(stateAt(n - 1), way[n - 1][0]);
+    lines.push(html("li", {}, html("b", { class: "lost" }, "Point of no return: "), stepButton(n),
+      ` (${names[way[n - 1][0]]} `,
+      code(cut(statement(pc), 60)), `). Before it ${rightEnds.length > 1 ? "a right end" : label(rightEnds[0])} could `
+      + "still come, after it no schedule leads there."));
+  }
+  const own = way.slice(0, view.at).map(([k]) => names[k]).join();
+  const isTold = scheduleSteps(end.schedule).join() === own;
+  for (const finding of end.findings.slice(0, 3)) {
+    const text = finding.replace(/\s{2,}.*$/, "");
+    lines.push(html("li", {}, isTold ? "" : "By a shortest schedule to this end: ",
+      html("b", { class: "lost" }, text.split(": ")[0]),
+      `: ${text.split(": ").slice(1).join(": ")}.`));
+  }
+  return [lines, isTold, n];
+}
+
+let hadFocus = false; // whether the focus is on a button of the result, which is made anew
+
+function showResult() {
+  const e = endHere();
+  const box = byId("result");
+  hadFocus = box.contains(document.activeElement);
+  box.hidden = e === undefined;
+  if (e === undefined) return box.replaceChildren();
+  const [lines, isTold, n] = resultLines(e);
+  const actions = [button("Start again", () => goTo(0))];
+  if (n) actions.unshift(button(`Back to before step ${n}`, () => goTo(n - 1)));
+  if (!isTold && data.ends[e].findings.length) actions.push(button("Show that schedule", () => showSchedule(e)));
+  const isWon = e === view.goal && !view.shown;
+  if (isWon) lines.splice(1, 0, html("li", {}, signOf(e), ` ${resultTitle(e)}.`));
+  const next = goalOrder[goalOrder.indexOf(view.goal) + 1];
+  if (isWon && next !== undefined) actions.push(button(`Next goal: ${goalText(next)}`, () => setGoal(next)));
+  box.className = isWon ? "reached" : kinds[e];
+  const sign = isWon ? html("span", { class: "sign reached", "aria-hidden": "true" }, "★") : signOf(e);
+  return box.replaceChildren(sign, html("h2", {}, isWon ? `Goal reached: ${wonText(e)}` : resultTitle(e)),
+    html("ul", {}, ...lines), html("div", { class: "actions" }, ...actions));
+}
+"#;

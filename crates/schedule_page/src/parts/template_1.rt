@@ -1,0 +1,12 @@
+//! A text of the page: page/play/play.html.template. Made by page/embed.py.
+
+pub(crate) const TEXT: &str = r#"<!doctype html>
+<html lang="en">
+<head>
+<meta charset="utf-8">
+<meta http-equiv="Content-Security-Policy"
+ content="default-src 'none'; script-src 'sha256-GzgW+n7KEZ19MyfwSNSmyUNKvf5zZwb90mIbNnknmx8='; style-src 'sha256-xMTH7bl3EpXFTuJ46ptqNpF5t2RZDIjyB/xprwDh1Dk=';
+ base-uri 'none'; form-action 'none'">
+<meta name="viewport" content="width=device-width, initial-scale=1">
+<meta name="color-scheme" content="light dark">
+<title>"#;

@@ -1,0 +1,120 @@
+//! What steps do that the two states do not say: how they come out, and what they ask of the memory. It hangs on what the
+//! stream holds and on what no stream has for itself alone.
+
+use lab_json::{outcome_name, reference_value};
+use serde_json::Value;
+use std::alloc::{AllocError, Global};
+use step_views::StepView;
+use world_keys::Table;
+
+/// The distinct records of steps, and which of them a stream's step has.
+#[derive(Drop)]
+pub(crate) struct Records {
+    texts: Vec<String>,
+    values: Vec<Value>,
+    pairs: Table,
+    of_pairs: Vec<u32>,
+}
+
+impl Records {
+    /// No records.
+    pub(crate) fn new(alloc: Global) -> Records {
+        Records {
+            texts: Vec::new(alloc),
+            values: Vec::new(alloc),
+            pairs: Table::new(alloc),
+            of_pairs: Vec::new(alloc),
+        }
+    }
+
+    /// Whether the record of a stream's step is there, by the numbers of what it holds and of what is shared.
+    pub(crate) fn has(&self, content: u32, shared: u32) -> bool {
+        self.pairs.find(&[content, shared]).is_some()
+    }
+
+    /// Adds the record of a step that was not there.
+    pub(crate) fn add(
+        &mut self,
+        alloc: Global,
+        content: u32,
+        shared: u32,
+        view: &StepView,
+    ) -> Result<(), AllocError> {
+        let value = record_json(alloc, view)?;
+        let number = self.number_of(alloc, value)?;
+        self.pairs.place(&[content, shared])?;
+        Ok(self.of_pairs.push(number)?)
+    }
+
+    /// The number of a record, which is added if it is not there.
+    fn number_of(&mut self, alloc: Global, value: Value) -> Result<u32, AllocError> {
+        let text = value.to_string(alloc)?;
+        let number = match self.texts.iter().position(|known| *known == text) {
+            Some(number) => number,
+            None => {
+                self.texts.push(text)?;
+                self.values.push(value)?;
+                self.texts.len().saturating_sub(1)
+            }
+        };
+        Ok(number as u32)
+    }
+
+    /// The records as JSON, and of each of so many contents which record its step has: -1 if no stream that holds it runs,
+    /// the record's number if it has the same whatever is shared, else pairs of what is shared and the record.
+    pub(crate) fn into_json(
+        self,
+        alloc: Global,
+        contents: usize,
+    ) -> Result<(Value, Value), AllocError> {
+        let mut rows: Vec<Vec<(u32, u32)>> = Vec::with_capacity(alloc, contents)?;
+        for _ in 0..contents {
+            rows.push(Vec::new(alloc))?;
+        }
+        for (place, record) in self.of_pairs.iter().enumerate() {
+            let Some(pair) = self.pairs.list(place) else {
+                continue;
+            };
+            let content = pair.first().copied().unwrap_or(0);
+            let shared = pair.get(1).copied().unwrap_or(0);
+            if let Some(row) = rows.get_mut(content as usize) {
+                row.push((shared, *record))?;
+            }
+        }
+        let mut does = Vec::with_capacity(alloc, contents)?;
+        for row in &rows {
+            does.push(row_json(alloc, row)?)?;
+        }
+        Ok((Value::Array(self.values), Value::Array(does)))
+    }
+}
+
+/// A step as JSON: how it came out, and behind it what it asked of the memory, if it did.
+fn record_json(alloc: Global, view: &StepView) -> Result<Value, AllocError> {
+    let mut parts = Vec::new(alloc);
+    parts.push(Value::String(outcome_name(alloc, view.outcome)?))?;
+    if let Some(reference) = view.reference {
+        if let Value::Array(values) = reference_value(alloc, &reference)? {
+            for value in values {
+                parts.push(value)?;
+            }
+        }
+    }
+    Ok(Value::Array(parts))
+}
+
+/// Which record the steps of a content have, of which these pairs of what is shared and the record are known.
+fn row_json(alloc: Global, row: &[(u32, u32)]) -> Result<Value, AllocError> {
+    let Some((_, first)) = row.first().copied() else {
+        return Ok(Value::from(-1_i64));
+    };
+    if row.iter().all(|(_, record)| *record == first) {
+        return Ok(Value::from(u64::from(first)));
+    }
+    let mut numbers = Vec::with_capacity(alloc, row.len().saturating_mul(2))?;
+    for (shared, record) in row {
+        numbers.push(Value::from(u64::from(*shared)))?;
+        numbers.push(Value::from(u64::from(*record)))?;
+    }
+    Ok(Value::Array(numbers))
+}
