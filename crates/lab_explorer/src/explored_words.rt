@@ -56,11 +56,7 @@ fn widest(ends: &[SpaceEnd]) -> usize {
 }
 
 /// Adds the first rule that the program breaks, if it breaks one.
-fn push_broken_rule(
-    out: &mut String,
-    wishes: &Wishes,
-    found: &Explored,
-) -> Result<(), AllocError> {
+fn push_broken_rule(out: &mut String, wishes: &Wishes, found: &Explored) -> Result<(), AllocError> {
     let Some(said) = found.broken_rule.and_then(|place| wishes.rules.get(place)) else {
         return Ok(());
     };

@@ -6,7 +6,7 @@ use crate::sets::EndSets;
 use crate::state_tables::{StateTables, machine_at};
 use crate::targets::targets_of;
 use lab_ends::SpaceEnd;
-use lab_json::head_value;
+use lab_json::{RunTitle, head_value};
 use lab_texts::ProgramNames;
 use schedule_space::Space;
 use serde_json::{Map, Value, json};
@@ -84,7 +84,12 @@ fn head_fields<const S: usize>(
     space: &Space<'_>,
 ) -> Result<Map<String, Value>, AllocError> {
     let machine = machine_at::<S>(alloc, space, 0)?;
-    match head_value(alloc, asked.program, "", text, names, &machine)? {
+    let title = RunTitle {
+        object: "graph",
+        program: asked.program,
+        schedule: "",
+    };
+    match head_value(alloc, title, text, names, &machine)? {
         Value::Object(fields) => Ok(fields),
         _ => Ok(Map::new(alloc)),
     }
