@@ -16,17 +16,20 @@ and_fails : (b x : Bool) → x ≡ false → (b && x) ≡ false
 and_fails true x fails = fails
 and_fails false x fails = refl
 
+fails_first : (P : ℕ → Bool) (a n k : ℕ) → a ≤ k → P k ≡ false → (a < k) ⊎ (k ≤ a)
+    → (a < k → list_all P (range_with_len (a + 1) n) ≡ false) → list_all P (range_with_len a (suc n)) ≡ false
+fails_first P a n k low fails (inl later) rest =
+    and_fails (P a) (list_all P (range_with_len (a + 1) n)) (rest later)
+fails_first P a n k low fails (inr here) rest =
+    let same : k ≡ a = omega arith in
+    let first : P a ≡ false = ap P (sym same) ∙ fails in
+    rw first refl
+
 pub fails_from : (P : ℕ → Bool) (a n k : ℕ) → a ≤ k → k < a + n → P k ≡ false → list_all P (range_with_len a n) ≡ false
 fails_from P a zero k low high fails = absurd (omega arith)
-fails_from P a (suc n) k low high fails = by (cases_lt a k) where
-  by : (a < k) ⊎ (k ≤ a) → list_all P (range_with_len a (suc n)) ≡ false
-  by (inl later) =
-      let rest = fails_from P (a + 1) n k (omega arith) (omega arith) fails in
-      and_fails (P a) (list_all P (range_with_len (a + 1) n)) rest
-  by (inr here) =
-      let same : k ≡ a = omega arith in
-      let first : P a ≡ false = ap P (sym same) ∙ fails in
-      rw first refl
+fails_from P a (suc n) k low high fails =
+    fails_first P a n k low fails (cases_lt a k)
+    (λ later. fails_from P (a + 1) n k (omega arith) (omega arith) fails)
 
 sum_suc : (f : ℕ → ℕ) (a n k : ℕ) → a + n ≡ k
     → sum_by f (range_with_len a (suc n)) ≡ sum_by f (range_with_len a n) + f k

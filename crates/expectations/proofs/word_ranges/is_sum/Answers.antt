@@ -38,14 +38,14 @@ loop-number-preserved g c =
     let first = c.args.first in
     let number = c.loop-number.number in
     let value_at : ℕ → ℕ = λ k. value_in (word_behind m first k) in
-    let here : c.value.result ≡ value_at number =
-    c.value.ensures ∙ ap value_in c.in-Some.ensures in
+    let here : c.value-sum.result ≡ value_at number =
+    c.value-sum.ensures ∙ ap value_in c.in-Some.ensures in
     record {
       there = below_more _ _ c.loop-number.invariant.there (ap is_there (sym c.in-Some.ensures));
       sum =
-          c.wrapping_add.ensures
-          ∙ ap (λ s. (s + c.value.result) % 2 ^ 64) c.loop-number.invariant.sum
-          ∙ mod-add-mod (sum_of_words m first number) c.value.result (2 ^ 64)
+          c.wrapping_add-sum.ensures
+          ∙ ap (λ s. (s + c.value-sum.result) % 2 ^ 64) c.loop-number.invariant.sum
+          ∙ mod-add-mod (sum_of_words m first number) c.value-sum.result (2 ^ 64)
           ∙ ap (λ v. (sum_of_words m first number + v) % 2 ^ 64) here
           ∙ ap (λ s. s % 2 ^ 64) (sym (sum_more value_at number));
     }
