@@ -3,11 +3,10 @@
 use crate::machines::loaded;
 use image_file::Image;
 use lab_texts::{
-    FindingsOfRun, MOST_STEPS_OF_TORN, NumberStyle, ProgramNames, Telling, push_findings,
-    push_first_finding,
+    MOST_STEPS_OF_TORN, NumberStyle, ProgramNames, Telling, push_findings, push_first_finding,
 };
 use processor::Step;
-use run_findings::Action;
+use run_findings::{Action, Findings};
 use std::alloc::{AllocError, Global};
 use whole_runs::run_actions;
 
@@ -31,7 +30,7 @@ pub fn push_findings_of_run<const S: usize>(
     steps: &[Step],
 ) -> Result<(), AllocError> {
     let actions = actions_of::<S>(alloc, image, steps)?;
-    let found = FindingsOfRun::of(alloc, &actions)?;
+    let found = Findings::of(alloc, &actions, MOST_STEPS_OF_TORN)?;
     let telling = Telling {
         names,
         style,
@@ -57,7 +56,7 @@ pub fn first_finding<const S: usize>(
 ) -> Result<String, AllocError> {
     let mut out = String::new(alloc);
     let actions = actions_of::<S>(alloc, image, steps)?;
-    let found = FindingsOfRun::of(alloc, &actions)?;
+    let found = Findings::of(alloc, &actions, MOST_STEPS_OF_TORN)?;
     let telling = Telling {
         names,
         style,

@@ -2,9 +2,7 @@
 
 use crate::names::ProgramNames;
 use crate::words::{NumberStyle, push_stream, push_value};
-use run_findings::{
-    Access, Action, LostUpdate, TornRead, UnreadStore, lost_updates, torn_reads, unread_stores,
-};
+use run_findings::{Access, Action, Findings, LostUpdate, TornRead, UnreadStore};
 use std::alloc::{AllocError, Global};
 
 /// Of each kind of findings so many are told, and how many more there are.
@@ -12,41 +10,6 @@ const MOST_OF_A_KIND: usize = 10;
 
 /// The most steps of a run whose torn reads are looked for: how long that takes may grow faster than the run.
 pub const MOST_STEPS_OF_TORN: usize = 20_000;
-
-/// The findings of a run (docs/FINDINGS.md).
-#[derive(Drop)]
-pub struct FindingsOfRun {
-    /// Its lost updates.
-    pub lost: Vec<LostUpdate>,
-    /// Its torn reads; none of a run of more than 20,000 steps.
-    pub torn: Vec<TornRead>,
-    /// Its unread stores.
-    pub unread: Vec<UnreadStore>,
-}
-
-impl FindingsOfRun {
-    /// The findings of a run with these steps.
-    pub fn of(alloc: Global, actions: &[Action]) -> Result<FindingsOfRun, AllocError> {
-        let torn = if actions.len() > MOST_STEPS_OF_TORN {
-            Vec::new(alloc)
-        } else {
-            torn_reads(alloc, actions)?
-        };
-        Ok(FindingsOfRun {
-            lost: lost_updates(alloc, actions)?,
-            torn,
-            unread: unread_stores(alloc, actions)?,
-        })
-    }
-
-    /// How many there are.
-    pub fn count(&self) -> usize {
-        self.lost
-            .len()
-            .saturating_add(self.torn.len())
-            .saturating_add(self.unread.len())
-    }
-}
 
 /// How findings are told: by which names, in which numbers, of a run with which steps.
 #[derive(Clone, Copy)]
@@ -63,7 +26,7 @@ pub struct Telling<'a, 't> {
 pub fn push_findings(
     out: &mut String,
     telling: &Telling<'_, '_>,
-    found: &FindingsOfRun,
+    found: &Findings,
 ) -> Result<(), AllocError> {
     for update in found.lost.iter().take(MOST_OF_A_KIND) {
         telling.push_lost(out, update)?;
@@ -86,7 +49,7 @@ pub fn push_findings(
 pub fn push_first_finding(
     out: &mut String,
     telling: &Telling<'_, '_>,
-    found: &FindingsOfRun,
+    found: &Findings,
 ) -> Result<(), AllocError> {
     match (found.lost.first(), found.torn.first(), found.unread.first()) {
         (Some(update), _, _) => telling.push_lost(out, update)?,
@@ -94,7 +57,7 @@ pub fn push_first_finding(
         (None, None, Some(store)) => telling.push_unread(out, store)?,
         (None, None, None) => return Ok(()),
     }
-    match found.count() {
+    match count_of(found) {
         0 | 1 => Ok(()),
         2 => out.push_str("; 1 more finding"),
         count => {
@@ -102,6 +65,15 @@ pub fn push_first_finding(
             write!(out, "; {more} more findings")
         }
     }
+}
+
+/// How many findings there are.
+fn count_of(found: &Findings) -> usize {
+    found
+        .lost
+        .len()
+        .saturating_add(found.torn.len())
+        .saturating_add(found.unread.len())
 }
 
 impl Telling<'_, '_> {

@@ -1,14 +1,14 @@
 //! Findings as JSON.
 
-use lab_texts::FindingsOfRun;
-use run_findings::{Action, LostUpdate, TornRead, UnreadStore};
+use lab_texts::MOST_STEPS_OF_TORN;
+use run_findings::{Action, Findings, LostUpdate, TornRead, UnreadStore};
 use serde_json::{Value, json};
 use std::alloc::{AllocError, Global};
 
 /// What went wrong in a run of these actions: lost updates, torn reads, unread stores (docs/FINDINGS.md); no torn reads of
 /// a run of more than 20,000 steps. Steps count from 1 here.
 pub(crate) fn findings_value(alloc: Global, actions: &[Action]) -> Result<Value, AllocError> {
-    let found = FindingsOfRun::of(alloc, actions)?;
+    let found = Findings::of(alloc, actions, MOST_STEPS_OF_TORN)?;
     let mut findings = Vec::new(alloc);
     for lost in &found.lost {
         findings.push(lost_value(alloc, lost)?)?;
