@@ -7,12 +7,12 @@ use Rattle.std.proofs.lemmas.Bool.{false≢true, cases_lt, eqb-true, ltb-false, 
 use Rattle.std.proofs.lemmas.List.{get_or_append_left, get_or_push}
 use Rattle.std.proofs.lemmas.Option.{slice_get-get_or}
 use Rattle.processor.specs.declared.steps.Step.{Step}
-use Rattle.run_findings.specs.Actions.{op_reads, op_hears, is_change, is_load, is_store, reads, writes, is_by, read_by}
-use Rattle.run_findings.specs.Actions.{access_reads, access_writes, written_or_read_by, met}
+use Rattle.run_findings.specs.Actions.{op_reads, op_hears, is_load, is_store, reads, writes, is_by, read_by}
+use Rattle.run_findings.specs.Actions.{access_reads, written_or_read_by, met}
 use Rattle.run_findings.specs.Places.{passes, last_before}
 use Rattle.run_findings.specs.LostUpdates.{full_store}
 use Rattle.run_findings.specs.UnreadStores.{store_of}
-use Rattle.run_findings.specs.TornReads.{meets, is_load_of, is_later, is_newer, brings_news, word_loaded, word_heard}
+use Rattle.run_findings.specs.TornReads.{meets, is_later, is_newer, brings_news, word_loaded, word_heard}
 use Rattle.run_findings.specs.Links.{word_of, word_in, word_at, link_to, AreLinks}
 use Rattle.run_findings.specs.Links.{later, is_after, news_in, news_at, other_step}
 use Rattle.run_findings.specs.declared.actions.Access.{Access}

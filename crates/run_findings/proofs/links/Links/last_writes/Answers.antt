@@ -1,4 +1,4 @@
-use Rattle.std.proofs.Common.{◌≡◌, ◌+◌, ◌<◌, [], ◌∷◌, length, get_or, ap, ◌∙◌, arith, length-append}
+use Rattle.std.proofs.Common.{◌≡◌, ◌+◌, [], ◌∷◌, length, get_or, ap, ◌∙◌, arith, length-append}
 use Rattle.run_findings.specs.Links.{last_write_at}
 use Rattle.run_findings.proofs.Chains.{links-more}
 use Rattle.run_findings.proofs.links.Links.last_writes.Goals as goal
