@@ -2,10 +2,7 @@
 
 use crate::names::ProgramNames;
 use crate::words::{NumberStyle, push_stream, push_value};
-use run_findings::{
-    Access, Action, Deed, LostUpdate, TornRead, UnreadStore, lost_updates, torn_reads,
-    unread_stores,
-};
+use run_findings::{Access, Action, Deed, Findings, LostUpdate, TornRead, UnreadStore, torn_reads};
 use std::alloc::{AllocError, Global};
 
 /// Of each kind of findings so many are told, and how many more there are.
@@ -31,6 +28,15 @@ pub struct FindingsOfRun {
 impl FindingsOfRun {
     /// The findings of a run with these steps.
     pub fn of(alloc: Global, actions: &[Action]) -> Result<FindingsOfRun, AllocError> {
+        let found = Findings::of(alloc, actions, MOST_STEPS_OF_TORN)?;
+        if actions.len() <= MOST_STEPS_OF_TORN {
+            return Ok(FindingsOfRun {
+                lost: found.lost,
+                torn: found.torn,
+                is_torn_sought: true,
+                unread: found.unread,
+            });
+        }
         let counted = counted_steps(alloc, actions)?;
         let is_torn_sought = counted.len() <= MOST_STEPS_OF_TORN;
         let torn = if is_torn_sought {
@@ -39,10 +45,10 @@ impl FindingsOfRun {
             Vec::new(alloc)
         };
         Ok(FindingsOfRun {
-            lost: lost_updates(alloc, actions)?,
+            lost: found.lost,
             torn,
             is_torn_sought,
-            unread: unread_stores(alloc, actions)?,
+            unread: found.unread,
         })
     }
 
@@ -80,9 +86,6 @@ fn torn_reads_among(
     actions: &[Action],
     counted: &[usize],
 ) -> Result<Vec<TornRead>, AllocError> {
-    if counted.len() == actions.len() {
-        return torn_reads(alloc, actions);
-    }
     let mut kept = Vec::with_capacity(alloc, counted.len())?;
     for step in counted {
         if let Some(action) = actions.get(*step) {
@@ -119,7 +122,7 @@ pub struct Telling<'a, 't> {
 pub fn push_findings(
     out: &mut String,
     telling: &Telling<'_, '_>,
-    found: &FindingsOfRun,
+    found: &Findings,
 ) -> Result<(), AllocError> {
     for update in found.lost.iter().take(MOST_OF_A_KIND) {
         telling.push_lost(out, update)?;
@@ -142,7 +145,7 @@ pub fn push_findings(
 pub fn push_first_finding(
     out: &mut String,
     telling: &Telling<'_, '_>,
-    found: &FindingsOfRun,
+    found: &Findings,
 ) -> Result<(), AllocError> {
     match (found.lost.first(), found.torn.first(), found.unread.first()) {
         (Some(update), _, _) => telling.push_lost(out, update)?,
@@ -150,7 +153,7 @@ pub fn push_first_finding(
         (None, None, Some(store)) => telling.push_unread(out, store)?,
         (None, None, None) => return Ok(()),
     }
-    match found.count() {
+    match count_of(found) {
         0 | 1 => Ok(()),
         2 => out.push_str("; 1 more finding"),
         count => {
@@ -158,6 +161,15 @@ pub fn push_first_finding(
             write!(out, "; {more} more findings")
         }
     }
+}
+
+/// How many findings there are.
+fn count_of(found: &Findings) -> usize {
+    found
+        .lost
+        .len()
+        .saturating_add(found.torn.len())
+        .saturating_add(found.unread.len())
 }
 
 impl Telling<'_, '_> {

@@ -7,86 +7,28 @@ use Rattle.std.proofs.lemmas.Bool.{false≢true, cases_lt, eqb-true, ltb-false, 
 use Rattle.std.proofs.lemmas.List.{get_or_append_left, get_or_push}
 use Rattle.std.proofs.lemmas.Option.{slice_get-get_or}
 use Rattle.processor.specs.declared.steps.Step.{Step}
-use Rattle.run_findings.specs.Actions.{op_reads, op_hears, is_change, is_load, is_store, reads, writes, is_by, read_by}
-use Rattle.run_findings.specs.Actions.{access_reads, access_writes, written_or_read_by, met}
+use Rattle.run_findings.specs.Actions.{op_reads, op_hears, is_load, is_store, reads, writes, is_by, read_by}
+use Rattle.run_findings.specs.Actions.{access_reads, written_or_read_by, met}
 use Rattle.run_findings.specs.Places.{passes, last_before}
 use Rattle.run_findings.specs.LostUpdates.{full_store}
 use Rattle.run_findings.specs.UnreadStores.{store_of}
-use Rattle.run_findings.specs.TornReads.{meets, is_load_of, is_later, is_newer, brings_news, word_loaded, word_heard}
-use Rattle.run_findings.specs.Links.{word_of, word_in, word_at, link_to, link_at, last_at, AreLinks, latest_of, latest_in}
-use Rattle.run_findings.specs.Links.{word_met, with_step, later, is_after, news_in, news_at, other_step}
+use Rattle.run_findings.specs.TornReads.{meets, is_later, is_newer, brings_news, word_loaded, word_heard}
+use Rattle.run_findings.specs.Links.{word_of, word_in, word_at, link_to, AreLinks}
+use Rattle.run_findings.specs.Links.{later, is_after, news_in, news_at, other_step}
 use Rattle.run_findings.specs.declared.actions.Access.{Access}
 use Rattle.run_findings.specs.declared.actions.Action.{Action}
-use Rattle.run_findings.specs.declared.links.Latest.{Latest}
 use Rattle.run_findings.specs.declared.parting.Meeting.{Meeting}
 use Rattle.run_findings.specs.declared.parting.Meeting.TheVariants as meeting
 use Rattle.run_findings.proofs.Before.{last-is, last-below}
 use Rattle.run_findings.proofs.Finding.{both_true}
 
--- The word that a step meets.
-
 and_true : (t : Bool) → (t && true) ≡ t
 and_true true = refl
 and_true false = refl
 
-and_false : (t : Bool) → (t && false) ≡ false
-and_false true = refl
-and_false false = refl
-
-gated : (a b : ℕ) (t : Bool) → (b == a && t) ≡ is_load_of (cond t (Some b) None) a
-gated a b true = and_true (b == a)
-gated a b false = and_false (b == a)
-
-reads-word : (a : ℕ) (o : Option Access) → access_reads a o ≡ is_load_of (word_met meeting.Reads o) a
-reads-word a None = refl
-reads-word a (Some x) = gated a x.address (op_reads x.op)
-
-writes-word : (a : ℕ) (o : Option Access) → access_writes a o ≡ is_load_of (word_met meeting.Writes o) a
-writes-word a None = refl
-writes-word a (Some x) = gated a x.address (is_change x)
-
-news-word : (a : ℕ) (o : Option Access) → false ≡ is_load_of (word_met meeting.News o) a
-news-word a None = refl
-news-word a (Some x) = refl
-
-meets-word : (way : Meeting) (a : ℕ) (d : Action) → meets way a d ≡ is_load_of (word_met way d.access) a
-meets-word meeting.Reads a d = reads-word a d.access
-meets-word meeting.Writes a d = writes-word a d.access
-meets-word meeting.News a d = news-word a d.access
-
--- The last step so far.
-
-with-cases : (a n : ℕ) (o before : Option ℕ) → with_step a o n before ≡ cond (is_load_of o a) (Some n) before
-with-cases a n None before = refl
-with-cases a n (Some b) before = refl
-
-pub latest-more : (way : Meeting) (ds : List Action) (n next a : ℕ) (d : Action) (before : Option ℕ) → suc n ≡ next
-    → n < length ds → before ≡ last_before (meets way a) ds n
-    → with_step a (word_met way (get_or ds n d).access) n before ≡ last_before (meets way a) ds next
-latest-more way ds n next a d before same within is =
-    let e = get_or ds n d in
-    let test : is_load_of (word_met way e.access) a ≡ passes (meets way a) (slice_get ds n) =
-    sym (meets-word way a e) ∙ sym (ap (passes (meets way a)) (slice_get-get_or ds n d within)) in
-    with-cases a n (word_met way e.access) before
-    ∙ ap (λ t. cond t (Some n) before) test
-    ∙ ap (cond (passes (meets way a) (slice_get ds n)) (Some n)) is
-    ∙ ap (last_before (meets way a) ds) same
-
-in-latest : (way : Meeting) (ds : List Action) (n : ℕ) (latest : Latest) (word : Option ℕ)
-    → ((a : ℕ) → latest_of latest a ≡ last_before (meets way a) ds n) → latest_in latest word ≡ link_to way ds n word
-in-latest way ds n latest None is = refl
-in-latest way ds n latest (Some a) is = is a
-
 -- the word of a step that is there
 pub word-is : (ds : List Action) (n : ℕ) (d : Action) → n < length ds → word_at ds n ≡ word_of (get_or ds n d).access
 word-is ds n d within = ap word_in (slice_get-get_or ds n d within)
-
-pub link-made : (way : Meeting) (ds : List Action) (n : ℕ) (d : Action) (latest : Latest) → n < length ds
-    → ((a : ℕ) → latest_of latest a ≡ last_before (meets way a) ds n)
-    → latest_in latest (word_of (get_or ds n d).access) ≡ link_at way ds n
-link-made way ds n d latest within is =
-    in-latest way ds n latest (word_of (get_or ds n d).access) is
-    ∙ ap (link_to way ds n) (sym (word-is ds n d within))
 
 pub links-more : (of : ℕ → Option ℕ) (links : List (Option ℕ)) (n : ℕ) (link : Option ℕ) → length links ≡ n
     → ((k : ℕ) (other : Option ℕ) → k < n → get_or links k other ≡ of k) → link ≡ of n
@@ -97,13 +39,6 @@ links-more of links n link count is here k other below = ⊎_elim
     let same : k ≡ n = omega arith in
     get_or_push links link other k (count ∙ sym same) ∙ here ∙ ap of (sym same))
     (cases_lt k n)
-
-pub last-made : (way : Meeting) (ds : List Action) (n : ℕ) (d : Action) (latest : Latest) → n < length ds
-    → ((a : ℕ) → latest_of latest a ≡ last_before (meets way a) ds (length ds))
-    → latest_in latest (word_of (get_or ds n d).access) ≡ last_at way ds n
-last-made way ds n d latest within is =
-    in-latest way ds (length ds) latest (word_of (get_or ds n d).access) is
-    ∙ ap (link_to way ds (length ds)) (sym (word-is ds n d within))
 
 -- What a link is.
 

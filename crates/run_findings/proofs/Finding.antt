@@ -1,5 +1,5 @@
 -- What is in a list of what was found.
-use Rattle.std.proofs.Common.{◌≡◌, ℕ, zero, suc, ◌<◌, List, [], ◌∷◌, ◌++◌, length, get_or, Option, Some, None}
+use Rattle.std.proofs.Common.{◌≡◌, ℕ, zero, suc, ◌+◌, ◌<◌, List, [], ◌∷◌, ◌++◌, length, get_or, Option, Some, None}
 use Rattle.std.proofs.Common.{Bool, true, false, refl, sym, ap, ◌∙◌, subst, arith, ⊎_elim, append-nil, ◌&&◌}
 use Rattle.std.specs.List.{Contains, AllPairs}
 use Rattle.std.proofs.lemmas.Bool.{false≢true, cases_lt}
@@ -42,6 +42,14 @@ within_is : {F : Type 0} (fs : List F) (k : ℕ) (d : F) → k < length fs → g
 within_is [] k d h = absurd (omega arith)
 within_is (f ∷ fs) zero d h = refl
 within_is (f ∷ fs) (suc k) d h = within_is fs k d (omega arith)
+
+-- nothing in one more step
+pub none-more : {F : Type 0} (at : ℕ → Option F) (n : ℕ) → ((k : ℕ) → k < n → at k ≡ None) → at n ≡ None
+    → (k : ℕ) → k < n + 1 → at k ≡ None
+none-more at n none here k below = ⊎_elim
+    (λ h. none k h)
+    (λ h. let same : k ≡ n = omega arith in ap at same ∙ here)
+    (cases_lt k n)
 
 -- Where a step may have several.
 

@@ -15,3 +15,4 @@ pub mod SourceSteps
 mod TornReads
 pub mod Unmarked
 mod UnreadStores
+mod Words

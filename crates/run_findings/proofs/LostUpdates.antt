@@ -5,8 +5,8 @@ use Rattle.std.specs.List.{slice_get, Contains, AllPairs}
 use Rattle.std.proofs.lemmas.Option.{slice_get_within}
 use Rattle.run_findings.specs.Actions.{is_by, written_or_read_by}
 use Rattle.run_findings.specs.Places.{last_before, last_below}
-use Rattle.run_findings.specs.LostUpdates.{IsLostUpdate, full_store, is_source, lost_from, lost_over, lost_last, lost_store}
-use Rattle.run_findings.specs.LostUpdates.{lost_by, lost_at}
+use Rattle.run_findings.specs.LostUpdates.{IsLostUpdate, full_store, is_source, unless_own, other_write, lost_from, lost_over}
+use Rattle.run_findings.specs.LostUpdates.{lost_store, lost_by, lost_at}
 use Rattle.run_findings.specs.Found.{found_to}
 use Rattle.run_findings.specs.declared.actions.Action.{Action}
 use Rattle.run_findings.specs.declared.lost.LostUpdate.{LostUpdate}
@@ -45,7 +45,7 @@ by_read ds n d e a o f (Some r) stands stores last stood others made is =
 by_test : (ds : List Action) (n : ℕ) (d e : Action) (a o : ℕ) (f : LostUpdate) (t : Bool)
     → is_by d.stream e ≡ t → slice_get ds n ≡ Some d → full_store d.access ≡ Some a
     → last_before (written_or_read_by d.stream a) ds n ≡ Some o → slice_get ds o ≡ Some e
-    → cond t None (lost_from n a o (last_below (is_source ds n d a) o)) ≡ Some f → IsAt ds n f
+    → lost_over ds n d a (cond t None (Some o)) ≡ Some f → IsAt ds n f
 by_test ds n d e a o f true others stands stores last stood is = absurd cc
 by_test ds n d e a o f false others stands stores last stood is =
     by_read ds n d e a o f (last_below (is_source ds n d a) o) stands stores last stood others refl is
@@ -53,14 +53,15 @@ by_test ds n d e a o f false others stands stores last stood is =
 by_writer : (ds : List Action) (n : ℕ) (d : Action) (a o : ℕ) (f : LostUpdate) (writer : Option Action)
     → slice_get ds n ≡ Some d → full_store d.access ≡ Some a
     → last_before (written_or_read_by d.stream a) ds n ≡ Some o → slice_get ds o ≡ writer
-    → lost_over ds n d a o writer ≡ Some f → IsAt ds n f
+    → lost_over ds n d a (unless_own d o writer) ≡ Some f → IsAt ds n f
 by_writer ds n d a o f None stands stores last stood is = absurd cc
 by_writer ds n d a o f (Some e) stands stores last stood is =
     by_test ds n d e a o f (is_by d.stream e) refl stands stores last stood is
 
 by_last : (ds : List Action) (n : ℕ) (d : Action) (a : ℕ) (f : LostUpdate) (over : Option ℕ)
     → slice_get ds n ≡ Some d → full_store d.access ≡ Some a
-    → last_before (written_or_read_by d.stream a) ds n ≡ over → lost_last ds n d a over ≡ Some f → IsAt ds n f
+    → last_before (written_or_read_by d.stream a) ds n ≡ over → lost_over ds n d a (other_write ds d over) ≡ Some f
+    → IsAt ds n f
 by_last ds n d a f None stands stores last is = absurd cc
 by_last ds n d a f (Some o) stands stores last is =
     by_writer ds n d a o f (slice_get ds o) stands stores last refl is
@@ -87,10 +88,11 @@ unfolding lost_at
 computed ds f h =
     let n = f.stored in
     let d = h.storer in
-    let made = last_below (is_source ds n d f.word) f.over in
-    ap (lost_by ds n) h.stands ∙ ap (lost_store ds n d) h.stores ∙ ap (lost_last ds n d f.word) h.last
-    ∙ ap (lost_over ds n d f.word f.over) h.stood
-    ∙ ap (λ t. cond t None (lost_from n f.word f.over made)) h.others
+    let over = lost_over ds n d f.word in
+    ap (lost_by ds n) h.stands ∙ ap (lost_store ds n d) h.stores
+    ∙ ap (λ o. over (other_write ds d o)) h.last
+    ∙ ap (λ e. over (unless_own d f.over e)) h.stood
+    ∙ ap (λ t. over (cond t None (Some f.over))) h.others
     ∙ ap (lost_from n f.word f.over) h.made
 
 -- where none is computed there is none

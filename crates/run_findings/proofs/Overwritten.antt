@@ -2,7 +2,7 @@
 use Rattle.std.proofs.Common.{◌≡◌, ℕ, zero, suc, ◌<◌, ◌≤◌, ◌==◌, Bool, true, false, not, cond, List, length, Option, Some, None}
 use Rattle.std.proofs.Common.{refl, sym, ap, ◌∙◌, arith, lt-ltb, ⊎_elim, ◌&&◌, ◌||◌}
 use Rattle.std.specs.List.{slice_get}
-use Rattle.std.proofs.lemmas.Bool.{false≢true, eqb-true, eq-eqb, cases_lt}
+use Rattle.std.proofs.lemmas.Bool.{false≢true, eq-eqb, cases_lt}
 use Rattle.processor.specs.declared.steps.Step.{Step}
 use Rattle.run_findings.specs.Actions.{access_writes, writes, is_by, is_other_bit}
 use Rattle.run_findings.specs.Places.{passes, last_before}
@@ -13,6 +13,7 @@ use Rattle.run_findings.specs.declared.actions.Action.{Action}
 use Rattle.run_findings.specs.declared.parting.Meeting.TheVariants as meeting
 use Rattle.run_findings.proofs.Chains.{loaded-word}
 use Rattle.run_findings.proofs.Finding.{both_true}
+use Rattle.run_findings.proofs.Words.{load_is}
 
 -- A change is a write.
 
@@ -53,15 +54,11 @@ last-from test ds (suc m) k below passed =
 
 -- The word that a step read.
 
-load-is : (o : Option ℕ) (a : ℕ) → is_load_of o a ≡ true → o ≡ Some a
-load-is None a h = absurd (false≢true h)
-load-is (Some b) a h = ap Some (eqb-true b a h)
-
 loaded-in : (t : Step) (a : ℕ) (o : Option Action) → passes (loaded_by t a) o ≡ true → word_in o ≡ Some a
 loaded-in t a None h = absurd (false≢true h)
 loaded-in t a (Some d) h =
     loaded-word d.access a
-    (load-is (word_loaded d.access) a (both_true (is_by t d) (is_load_of (word_loaded d.access) a) h).1)
+    (load_is (word_loaded d.access) a (both_true (is_by t d) (is_load_of (word_loaded d.access) a) h).1)
 
 -- a word that was read, and is written after that, is overwritten
 pub overwritten : (ds : List Action) (t : Step) (a i k : ℕ) → i < k → k < length ds

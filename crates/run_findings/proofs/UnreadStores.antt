@@ -7,9 +7,8 @@ use Rattle.std.proofs.lemmas.Option.{slice_get_within}
 use Rattle.run_findings.specs.Actions.{is_by, met}
 use Rattle.run_findings.specs.Places.{last_before}
 use Rattle.run_findings.specs.LostUpdates.{lost_at}
-use Rattle.run_findings.specs.UnreadStores.{IsUnreadStore, store_of, is_of_other, is_unread, unless_lost, unread_by}
-use Rattle.run_findings.specs.UnreadStores.{unread_before}
-use Rattle.run_findings.specs.UnreadStores.{unread_store, unread_in, unread_at}
+use Rattle.run_findings.specs.UnreadStores.{IsUnreadStore, store_of, is_of_other, is_unread, unless_lost, if_unread}
+use Rattle.run_findings.specs.UnreadStores.{unread_before, unread_over, unread_store, unread_in, unread_at}
 use Rattle.run_findings.specs.Found.{found_to}
 use Rattle.run_findings.specs.declared.actions.Access.{Access}
 use Rattle.run_findings.specs.declared.actions.Action.{Action}
@@ -71,7 +70,7 @@ by_update ds n o d e x f None alone test stands stores last stood is =
 by_test : (ds : List Action) (n o : ℕ) (d e : Action) (x : Access) (f : UnreadStore) (t : Bool)
     → is_unread d x e ≡ t → slice_get ds n ≡ Some d → store_of d.access ≡ Some x
     → last_before (met x.address) ds n ≡ Some o → slice_get ds o ≡ Some e
-    → cond t (unless_lost (store_at x.address o n) (lost_at ds n)) None ≡ Some f → IsAt ds n f
+    → unread_over ds x n (cond t (Some o) None) ≡ Some f → IsAt ds n f
 by_test ds n o d e x f false test stands stores last stood is = absurd cc
 by_test ds n o d e x f true test stands stores last stood is =
     by_update ds n o d e x f (lost_at ds n) refl test stands stores last stood is
@@ -79,14 +78,14 @@ by_test ds n o d e x f true test stands stores last stood is =
 by_other : (ds : List Action) (n o : ℕ) (d : Action) (x : Access) (f : UnreadStore) (other : Option Action)
     → slice_get ds n ≡ Some d → store_of d.access ≡ Some x
     → last_before (met x.address) ds n ≡ Some o → slice_get ds o ≡ other
-    → unread_by ds d x n o other ≡ Some f → IsAt ds n f
+    → unread_over ds x n (if_unread d x o other) ≡ Some f → IsAt ds n f
 by_other ds n o d x f None stands stores last stood is = absurd cc
 by_other ds n o d x f (Some e) stands stores last stood is =
     by_test ds n o d e x f (is_unread d x e) refl stands stores last stood is
 
 by_last : (ds : List Action) (n : ℕ) (d : Action) (x : Access) (f : UnreadStore) (over : Option ℕ)
     → slice_get ds n ≡ Some d → store_of d.access ≡ Some x → last_before (met x.address) ds n ≡ over
-    → unread_before ds d x n over ≡ Some f → IsAt ds n f
+    → unread_over ds x n (unread_before ds d x over) ≡ Some f → IsAt ds n f
 by_last ds n d x f None stands stores last is = absurd cc
 by_last ds n d x f (Some o) stands stores last is =
     by_other ds n o d x f (slice_get ds o) stands stores last refl is
@@ -124,9 +123,10 @@ computed ds f h =
     ap (is_of_other x.after) h.stored_before ∙ ap not (ne_eqb h.lost.after x.after h.differs) in
     let test : is_unread d x e ≡ true =
     passes_test (is_by d.stream e) (is_of_other x.after (store_of e.access)) h.by_other value in
-    ap (unread_in ds n) h.stands ∙ ap (unread_store ds n d) h.stores ∙ ap (unread_before ds d x n) last
-    ∙ ap (unread_by ds d x n f.over) h.stood
-    ∙ ap (λ t. cond t (unless_lost (store_at x.address f.over n) (lost_at ds n)) None) test
+    ap (unread_in ds n) h.stands ∙ ap (unread_store ds n d) h.stores
+    ∙ ap (λ o. unread_over ds x n (unread_before ds d x o)) last
+    ∙ ap (λ e. unread_over ds x n (if_unread d x f.over e)) h.stood
+    ∙ ap (λ t. unread_over ds x n (cond t (Some f.over) None)) test
     ∙ ap (unless_lost (store_at x.address f.over n)) (lost_none ds n h.alone)
     ∙ ap (λ a. Some (store_at a f.over n)) h.word
 

@@ -36,18 +36,22 @@ abbrev pub lost_from : ℕ → ℕ → ℕ → Option ℕ → Option LostUpdate
 lost_from n a o None = None
 lost_from n a o (Some r) = Some (record { word = a; read = r; over = o; stored = n })
 
-abbrev pub lost_over : List Action → ℕ → Action → ℕ → ℕ → Option Action → Option LostUpdate
-lost_over ds n d a o None = None
-lost_over ds n d a o (Some e) =
-    if is_by d.stream e then None else lost_from n a o (last_below (is_source ds n d a) o)
+abbrev pub unless_own : Action → ℕ → Option Action → Option ℕ
+unless_own d o None = None
+unless_own d o (Some e) = if is_by d.stream e then None else Some o
 
-abbrev pub lost_last : List Action → ℕ → Action → ℕ → Option ℕ → Option LostUpdate
-lost_last ds n d a None = None
-lost_last ds n d a (Some o) = lost_over ds n d a o (slice_get ds o)
+-- step o, if there is one and it is not of the stream of this one
+abbrev pub other_write : List Action → Action → Option ℕ → Option ℕ
+other_write ds d None = None
+other_write ds d (Some o) = unless_own d o (slice_get ds o)
+
+abbrev pub lost_over : List Action → ℕ → Action → ℕ → Option ℕ → Option LostUpdate
+lost_over ds n d a None = None
+lost_over ds n d a (Some o) = lost_from n a o (last_below (is_source ds n d a) o)
 
 abbrev pub lost_store : List Action → ℕ → Action → Option ℕ → Option LostUpdate
 lost_store ds n d None = None
-lost_store ds n d (Some a) = lost_last ds n d a (last_before (written_or_read_by d.stream a) ds n)
+lost_store ds n d (Some a) = lost_over ds n d a (other_write ds d (last_before (written_or_read_by d.stream a) ds n))
 
 abbrev pub lost_by : List Action → ℕ → Option Action → Option LostUpdate
 lost_by ds n None = None

@@ -46,18 +46,22 @@ abbrev pub unless_lost : UnreadStore → Option LostUpdate → Option UnreadStor
 unless_lost f None = Some f
 unless_lost f (Some g) = None
 
-abbrev pub unread_by : List Action → Action → Access → ℕ → ℕ → Option Action → Option UnreadStore
-unread_by ds d x n o None = None
-unread_by ds d x n o (Some e) =
-    if is_unread d x e then unless_lost (record { word = x.address; over = o; stored = n }) (lost_at ds n) else None
+abbrev pub if_unread : Action → Access → ℕ → Option Action → Option ℕ
+if_unread d x o None = None
+if_unread d x o (Some e) = if is_unread d x e then Some o else None
 
-abbrev pub unread_before : List Action → Action → Access → ℕ → Option ℕ → Option UnreadStore
-unread_before ds d x n None = None
-unread_before ds d x n (Some o) = unread_by ds d x n o (slice_get ds o)
+-- step o, if there is one and it is another stream's store of another value
+abbrev pub unread_before : List Action → Action → Access → Option ℕ → Option ℕ
+unread_before ds d x None = None
+unread_before ds d x (Some o) = if_unread d x o (slice_get ds o)
+
+abbrev pub unread_over : List Action → Access → ℕ → Option ℕ → Option UnreadStore
+unread_over ds x n None = None
+unread_over ds x n (Some o) = unless_lost (record { word = x.address; over = o; stored = n }) (lost_at ds n)
 
 abbrev pub unread_store : List Action → ℕ → Action → Option Access → Option UnreadStore
 unread_store ds n d None = None
-unread_store ds n d (Some x) = unread_before ds d x n (last_before (met x.address) ds n)
+unread_store ds n d (Some x) = unread_over ds x n (unread_before ds d x (last_before (met x.address) ds n))
 
 abbrev pub unread_in : List Action → ℕ → Option Action → Option UnreadStore
 unread_in ds n None = None

@@ -3,6 +3,7 @@
 #![tactic(auto)]
 
 mod actions;
+mod findings;
 mod glimpse;
 mod halves;
 mod links;
@@ -20,6 +21,7 @@ mod torn;
 mod unread;
 
 pub use actions::{Access, Action, Deed};
+pub use findings::Findings;
 pub use lost::{LostUpdate, lost_updates};
 pub use torn::{TornRead, torn_reads};
 pub use unread::{UnreadStore, unread_stores};

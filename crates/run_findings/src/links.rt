@@ -1,16 +1,15 @@
 //! Of each step of a run, the last step before it that met its word.
 
-ghost use Rattle.std.specs.Prelude.{◌≡◌, ℕ, length, IfOk};
-ghost use Rattle.run_findings.specs.Places.{last_before};
-ghost use Rattle.run_findings.specs.TornReads.{meets};
-ghost use Rattle.run_findings.specs.Links.{AreLinks, AreLast, latest_of, word_of, word_met, is_met};
+ghost use Rattle.std.specs.Prelude.{◌≡◌, ℕ, ◌<◌, Option, length, IfOk, IfSome};
+ghost use Rattle.run_findings.specs.Links.{AreLinksOfRun, AreLinksSoFar, AreLastWrites, last_write_at};
+ghost use Rattle.run_findings.specs.Links.{link_to, same_to, word_of, is_met, meets_its_word};
 
 use crate::actions::{Access, Action, op_reads};
 use crate::parting::Meeting;
 use std::alloc::{AllocError, Global};
 use std::collections::HashMap;
 
-/// The last step so far that met each word.
+/// The last step so far that had each word.
 #[derive(Drop)]
 pub(crate) struct Latest {
     steps: HashMap<u64, usize>,
@@ -20,7 +19,7 @@ impl Latest {
     ghost use Rattle.std.specs.Prelude.{ℕ, None, OnOk};
     ghost use Rattle.run_findings.specs.Links.{latest_of, latest_in, with_step};
 
-    /// None has met any.
+    /// None had any.
     #[tactic(auto, unfolding(crate::specs::Links::latest_of))]
     pub(crate) fn new(alloc: Global) -> Latest
         ensures { (a : ℕ) → latest_of result a ≡ None }
@@ -30,9 +29,9 @@ impl Latest {
         }
     }
 
-    /// The last step that met a word, where there is one.
+    /// The last step that had a word, where there is one.
     #[tactic(auto, unfolding(crate::specs::Links::latest_of))]
-    pub(crate) fn before(&self, word: Option<u64>) -> Option<usize>
+    fn before(&self, word: Option<u64>) -> Option<usize>
         ensures { result ≡ latest_in self.now word }
     {
         match word {
@@ -41,64 +40,108 @@ impl Latest {
         }
     }
 
-    /// Notes the word that a step meets, if it does.
+    /// Notes the word of a step, if it has one, and gives the last step before it that had it.
     #[tactic(auto, unfolding(crate::specs::Links::latest_of))]
-    pub(crate) fn note(&mut self, word: Option<u64>, step: usize) -> Result<(), AllocError>
-        ensures { OnOk result ((a : ℕ) → latest_of self.new a ≡ with_step a word step (latest_of self.old a)) }
+    pub(crate) fn note(
+        &mut self,
+        word: Option<u64>,
+        step: usize,
+    ) -> Result<Option<usize>, AllocError>
+        ensures before { IfOk result (λ before. before ≡ latest_in self.old word) }
+        ensures noted { OnOk result ((a : ℕ) → latest_of self.new a ≡ with_step a word step (latest_of self.old a)) }
     {
-        if let Some(address) = word {
-            self.steps.insert(address, step)?;
+        match word {
+            Some(address) => {
+                let before = self.steps.insert(address, step)?;
+                Ok(before)
+            }
+            None => Ok(None),
         }
-        Ok(())
     }
 }
 
-/// The links of a run with these steps: of each step, the last one before it that met its word in this way.
-pub(crate) fn links(
-    alloc: Global,
+/// What is known of each step of a run from its word. It is made once for all that is looked for in the run.
+#[derive(Drop)]
+pub(crate) struct Links {
+    /// The last step before it that wrote its word.
+    pub(crate) writes: Vec<Option<usize>>,
+    /// The last step before it that read its word.
+    pub(crate) reads: Vec<Option<usize>>,
+    /// The last step of the run that has each word.
+    pub(crate) latest: Latest,
+}
+
+impl Links {
+    /// Those of a run with these steps.
+    pub(crate) fn of(alloc: Global, actions: &[Action]) -> Result<Links, AllocError>
+        ensures { IfOk result (λ links. AreLinksOfRun actions.now links) }
+    {
+        let mut latest = Latest::new(alloc);
+        let mut writes = Vec::new(alloc);
+        let mut reads = Vec::new(alloc);
+        for step in 0..actions.len() {
+            let same = latest.note(word_of(&actions[step].access), step)?;
+            let write = link_by(actions, &writes, Meeting::Writes, same);
+            writes.push(write)?;
+            let read = link_by(actions, &reads, Meeting::Reads, same);
+            reads.push(read)?;
+        }
+        Ok(Links {
+            writes,
+            reads,
+            latest,
+        })
+    }
+
+    /// Of each step of the run, the last step of the run that writes its word.
+    pub(crate) fn last_writes(
+        &self,
+        alloc: Global,
+        actions: &[Action],
+    ) -> Result<Vec<Option<usize>>, AllocError>
+        requires linked { AreLinksOfRun actions.now self.now }
+        ensures { IfOk result (λ lasts. AreLastWrites actions.now lasts.items) }
+    {
+        let mut lasts = Vec::new(alloc);
+        for step in 0..actions.len() {
+            let last = self.last_write(actions, step);
+            lasts.push(last)?;
+        }
+        Ok(lasts)
+    }
+
+    /// The last step of the run that writes the word of this step.
+    fn last_write(&self, actions: &[Action], step: usize) -> Option<usize>
+        requires linked { AreLinksOfRun actions.now self.now }
+        requires step_in { step < length actions.now }
+        ensures { result ≡ last_write_at actions.now step }
+    {
+        let last = self.latest.before(word_of(&actions[step].access));
+        link_by(actions, &self.writes, Meeting::Writes, last)
+    }
+}
+
+/// The last step before some step that met its word in a way, by the last one before it that had the word at all.
+fn link_by(
     actions: &[Action],
+    links: &[Option<usize>],
     way: Meeting,
-) -> Result<Vec<Option<usize>>, AllocError>
-    ensures { IfOk result (λ links. AreLinks way actions.now links.items) }
+    same: Option<usize>,
+) -> Option<usize>
+    requires within { IfSome same (λ k. k < length links.now) }
+    requires links { AreLinksSoFar way actions.now links.now }
+    ensures { (n : ℕ) (word : Option ℕ) → same ≡ same_to actions.now n word → result ≡ link_to way actions.now n word }
 {
-    let mut latest = Latest::new(alloc);
-    let mut links = Vec::new(alloc);
-    for step in 0..actions.len() {
-        let access = &actions[step].access;
-        links.push(latest.before(word_of(access)))?;
-        latest.note(word_met(way, access), step)?;
+    match same {
+        Some(before) => {
+            if meets_its_word(way, &actions[before].access) {
+                Some(before)
+            } else {
+                links[before]
+            }
+        }
+        None => None,
     }
-    Ok(links)
-}
-
-/// Of each step of a run, the last step of the run that meets its word in this way.
-pub(crate) fn last_meetings(
-    alloc: Global,
-    actions: &[Action],
-    way: Meeting,
-) -> Result<Vec<Option<usize>>, AllocError>
-    ensures { IfOk result (λ lasts. AreLast way actions.now lasts.items) }
-{
-    let latest = latest_of_run(alloc, actions, way)?;
-    let mut lasts = Vec::new(alloc);
-    for step in 0..actions.len() {
-        let access = &actions[step].access;
-        lasts.push(latest.before(word_of(access)))?;
-    }
-    Ok(lasts)
-}
-
-/// The last step of a run that met each word.
-fn latest_of_run(alloc: Global, actions: &[Action], way: Meeting) -> Result<Latest, AllocError>
-    ensures { IfOk result (λ latest. (a : ℕ) → latest_of latest a
-        ≡ last_before (meets way a) actions.now (length actions.now)) }
-{
-    let mut latest = Latest::new(alloc);
-    for step in 0..actions.len() {
-        let access = &actions[step].access;
-        latest.note(word_met(way, access), step)?;
-    }
-    Ok(latest)
 }
 
 /// The word of an access, where there is one.
@@ -111,13 +154,13 @@ fn word_of(access: &Option<Access>) -> Option<u64>
     }
 }
 
-/// The word that an access meets in a way, if it does.
-fn word_met(way: Meeting, access: &Option<Access>) -> Option<u64>
-    ensures { result ≡ word_met way access.now }
+/// Whether a step with this access meets its word in a way.
+fn meets_its_word(way: Meeting, access: &Option<Access>) -> bool
+    ensures { result ≡ meets_its_word way access.now }
 {
     match access {
-        Some(access) if is_met(way, access) => Some(access.address),
-        _ => None,
+        Some(access) => is_met(way, access),
+        None => false,
     }
 }
 

@@ -1,16 +1,16 @@
 //! Lost updates.
 
-ghost use Rattle.std.specs.Prelude.{◌≡◌, ◌↔◌, ◌<◌, length, map, Contains, AllPairs, IfOk, slice_get};
-ghost use Rattle.run_findings.specs.LostUpdates.{IsLostUpdate, lost_at, full_store, is_source};
-ghost use Rattle.run_findings.specs.Places.{last_below};
+ghost use Rattle.std.specs.Prelude.{◌≡◌, ◌↔◌, ℕ, None, false, ◌<◌, length, map, Contains, AllPairs, IfOk, IfSome, slice_get};
+ghost use Rattle.run_findings.specs.LostUpdates.{IsLostUpdate, lost_at, full_store, other_write, is_source};
+ghost use Rattle.run_findings.specs.Actions.{written_or_read_by};
+ghost use Rattle.run_findings.specs.Places.{last_before, last_below};
 ghost use Rattle.run_findings.specs.Sources.{AreSources, is_needed_read};
-ghost use Rattle.run_findings.specs.Links.{AreWrites, AreReads};
+ghost use Rattle.run_findings.specs.Links.{AreLinksOfRun, word_at};
 
 use crate::actions::{Access, Action, is_store};
-use crate::links::links;
+use crate::links::Links;
 use crate::marks::Marks;
 use crate::own::own_before;
-use crate::parting::Meeting;
 use crate::searching::last_written_or_read;
 use crate::sources::Sources;
 use std::alloc::{AllocError, Global};
@@ -34,46 +34,76 @@ pub fn lost_updates(alloc: Global, actions: &[Action]) -> Result<Vec<LostUpdate>
     ensures exact { IfOk result (λ found. (f : LostUpdate) → Contains found.items f ↔ IsLostUpdate actions.now f) }
     ensures order { IfOk result (λ found. AllPairs (λ (f g : LostUpdate). f.stored < g.stored) found.items) }
 {
-    let past_writes = links(alloc, actions, Meeting::Writes)?;
-    let past_reads = links(alloc, actions, Meeting::Reads)?;
-    let sources = Sources::of(alloc, actions)?;
+    let links = Links::of(alloc, actions)?;
+    lost_by_links(alloc, actions, &links)
+}
+
+/// The same, by the run's links.
+pub(crate) fn lost_by_links(
+    alloc: Global,
+    actions: &[Action],
+    links: &Links,
+) -> Result<Vec<LostUpdate>, AllocError>
+    requires linked { AreLinksOfRun actions.now links.now }
+    ensures exact { IfOk result (λ found. (f : LostUpdate) → Contains found.items f ↔ IsLostUpdate actions.now f) }
+    ensures order { IfOk result (λ found. AllPairs (λ (f g : LostUpdate). f.stored < g.stored) found.items) }
+{
     let mut found = Vec::new(alloc);
+    if !may_any_be_lost(actions, links) {
+        return Ok(found);
+    }
+    let sources = Sources::of(alloc, actions)?;
     for stored in 0..actions.len() {
-        if let Some(update) = lost_at(actions, &past_writes, &past_reads, &sources, stored) {
+        if let Some(update) = lost_at(actions, links, &sources, stored) {
             found.push(update)?;
         }
     }
     Ok(found)
 }
 
-/// The lost update of a step, if it is one, by the run's links.
+/// Whether a step may be a lost update, as far as the links tell. Where none may, sources are not needed.
+fn may_any_be_lost(actions: &[Action], links: &Links) -> bool
+    requires linked { AreLinksOfRun actions.now links.now }
+    ensures { result ≡ false → (n : ℕ) → n < length actions.now → lost_at actions.now n ≡ None }
+{
+    for step in 0..actions.len() {
+        if may_be_lost(actions, links, step) {
+            return true;
+        }
+    }
+    false
+}
+
+/// Whether a step stores over another stream's write of a word that its own stream has not read since.
+#[tactic(auto, unfolding(crate::specs::LostUpdates::lost_at))]
+fn may_be_lost(actions: &[Action], links: &Links, stored: usize) -> bool
+    requires stored_in { stored < length actions.now }
+    requires linked { AreLinksOfRun actions.now links.now }
+    ensures { result ≡ false → lost_at actions.now stored ≡ None }
+{
+    let action = &actions[stored];
+    match full_store(&action.access) {
+        Some(word) => other_write(actions, links, stored, action, word).is_some(),
+        None => false,
+    }
+}
+
+/// The lost update of a step, if it is one.
 #[tactic(auto, unfolding(crate::specs::LostUpdates::lost_at))]
 pub(crate) fn lost_at(
     actions: &[Action],
-    past_writes: &[Option<usize>],
-    past_reads: &[Option<usize>],
+    links: &Links,
     sources: &Sources,
     stored: usize,
 ) -> Option<LostUpdate>
     requires stored_in { stored < length actions.now }
-    requires writes_linked { AreWrites actions.now past_writes.now }
-    requires reads_linked { AreReads actions.now past_reads.now }
+    requires linked { AreLinksOfRun actions.now links.now }
     requires sources { AreSources actions.now sources.now }
     ensures { result ≡ lost_at actions.now stored }
 {
     let action = &actions[stored];
     let word = full_store(&action.access)?;
-    let over = last_written_or_read(
-        actions,
-        past_writes,
-        past_reads,
-        stored,
-        word,
-        action.stream,
-    )?;
-    if actions[over].is_by(action.stream) {
-        return None;
-    }
+    let over = other_write(actions, links, stored, action, word)?;
     let read = last_source(actions, sources, stored, action, word, over)?;
     Some(LostUpdate {
         word,
@@ -81,6 +111,36 @@ pub(crate) fn lost_at(
         over,
         stored,
     })
+}
+
+/// The last write of this word before step `stored`, which this is, if another stream's, and its own has not read the
+/// word since.
+fn other_write(
+    actions: &[Action],
+    links: &Links,
+    stored: usize,
+    action: &Action,
+    word: u64,
+) -> Option<usize>
+    requires stored_in { stored < length actions.now }
+    requires word_is { word_at actions.now stored ≡ Some word }
+    requires linked { AreLinksOfRun actions.now links.now }
+    ensures is { result ≡ other_write actions.now action.now
+        (last_before (written_or_read_by action.now.stream word) actions.now stored) }
+    ensures below { IfSome result (λ k. k < stored) }
+{
+    let over = last_written_or_read(
+        actions,
+        &links.writes,
+        &links.reads,
+        stored,
+        word,
+        action.stream,
+    )?;
+    if actions[over].is_by(action.stream) {
+        return None;
+    }
+    Some(over)
 }
 
 /// The last step before step `end` in which the stream of step `stored`, which this is, read this word and from which

@@ -16,8 +16,8 @@ pub(crate) fn own_links(alloc: Global, actions: &[Action]) -> Result<Vec<Option<
     let mut links = Vec::new(alloc);
     for step in 0..actions.len() {
         let number = number_of(actions[step].stream);
-        links.push(latest.before(Some(number)))?;
-        latest.note(Some(number), step)?;
+        let before = latest.note(Some(number), step)?;
+        links.push(before)?;
     }
     Ok(links)
 }

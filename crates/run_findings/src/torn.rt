@@ -1,15 +1,15 @@
 //! Torn reads.
 
-ghost use Rattle.std.specs.Prelude.{◌≡◌, ◌↔◌, ◌<◌, ◌++◌, length, Contains, IfOk, OnOk, Some};
-ghost use Rattle.run_findings.specs.TornReads.{IsTornRead, torn_reads, torn_by_write, torn_by_read, other_half};
+ghost use Rattle.std.specs.Prelude.{◌≡◌, ◌↔◌, ℕ, None, false, ◌<◌, ◌++◌, length, Contains, IfOk, OnOk, Some};
+ghost use Rattle.run_findings.specs.TornReads.{IsTornRead, torn_reads, glimpse_at, torn_by_write, torn_by_read, other_half};
 ghost use Rattle.run_findings.specs.Found.{list_of, found_to, lists_to};
-ghost use Rattle.run_findings.specs.Links.{AreWrites, AreLastWrites};
+ghost use Rattle.run_findings.specs.Links.{AreLinksOfRun, AreWrites};
 ghost use Rattle.run_findings.specs.Stale.{AreLooks};
 
 use crate::actions::Action;
 use crate::glimpse::{Glimpse, glimpse_at};
 use crate::halves::{is_torn_pair, other_half};
-use crate::links::{last_meetings, links};
+use crate::links::Links;
 use crate::parting::{Meeting, Pair, word_loaded};
 use crate::rounds::Round;
 use crate::stale::{is_load_of, may_tear, stale_looks};
@@ -40,16 +40,54 @@ pub fn torn_reads(alloc: Global, actions: &[Action]) -> Result<Vec<TornRead>, Al
     ensures is { IfOk result (λ found. found.items ≡ torn_reads actions.now) }
     ensures exact { IfOk result (λ found. (f : TornRead) → Contains found.items f ↔ IsTornRead actions.now f) }
 {
-    let past_writes = links(alloc, actions, Meeting::Writes)?;
-    let last_writes = last_meetings(alloc, actions, Meeting::Writes)?;
+    let links = Links::of(alloc, actions)?;
+    torn_by_links(alloc, actions, &links)
+}
+
+/// The same, by the run's links.
+pub(crate) fn torn_by_links(
+    alloc: Global,
+    actions: &[Action],
+    links: &Links,
+) -> Result<Vec<TornRead>, AllocError>
+    requires linked { AreLinksOfRun actions.now links.now }
+    ensures is { IfOk result (λ found. found.items ≡ torn_reads actions.now) }
+    ensures exact { IfOk result (λ found. (f : TornRead) → Contains found.items f ↔ IsTornRead actions.now f) }
+{
     let mut found = Vec::new(alloc);
+    if !is_any_glimpse(actions, &links.writes) {
+        return Ok(found);
+    }
+    let last_writes = links.last_writes(alloc, actions)?;
     for read in 0..actions.len() {
-        if let Some(glimpse) = glimpse_at(actions, &past_writes, read) {
-            let looks = stale_looks(alloc, actions, &past_writes, &last_writes, &glimpse)?;
-            push_torn(&mut found, actions, &past_writes, &glimpse, &looks)?;
+        if let Some(glimpse) = glimpse_at(actions, &links.writes, read) {
+            let looks = stale_looks(alloc, actions, &links.writes, &last_writes, &glimpse)?;
+            push_torn(&mut found, actions, &links.writes, &glimpse, &looks)?;
         }
     }
     Ok(found)
+}
+
+/// Whether any step sees another stream's change. Where none does, no read is torn.
+fn is_any_glimpse(actions: &[Action], past_writes: &[Option<usize>]) -> bool
+    requires linked { AreWrites actions.now past_writes.now }
+    ensures { result ≡ false → (j : ℕ) → j < length actions.now → glimpse_at actions.now j ≡ None }
+{
+    for step in 0..actions.len() {
+        if sees_change(actions, past_writes, step) {
+            return true;
+        }
+    }
+    false
+}
+
+/// Whether a step sees another stream's change.
+fn sees_change(actions: &[Action], past_writes: &[Option<usize>], step: usize) -> bool
+    requires step_in { step < length actions.now }
+    requires linked { AreWrites actions.now past_writes.now }
+    ensures { result ≡ false → glimpse_at actions.now step ≡ None }
+{
+    glimpse_at(actions, past_writes, step).is_some()
 }
 
 /// Appends the torn reads of which this is the second, and one of these the first.

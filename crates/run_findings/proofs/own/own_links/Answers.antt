@@ -10,11 +10,11 @@ loop-step-preserved c =
     let ds = c.args.actions.now in
     let step = c.loop-step.step in
     let links = c.loop-step.links.items in
-    let link = c.before-in-loop-step.result in
+    let link = c.in_ok-before.before in
     let number = c.number_of-number.ensures in
     let within : step < length ds = omega arith in
     let here : link ≡ own_at ds step =
-    c.before-in-loop-step.ensures
+    c.in_ok-before.ensures.before
     ∙ ap (λ a. latest_in c.loop-step.latest (Some a)) number.is
     ∙ own_made ds step _ c.loop-step.latest within number.range c.loop-step.invariant.ranges c.loop-step.invariant.latest in
     let longer : length c.push.new.self.items ≡ length links + 1 =
@@ -28,7 +28,7 @@ loop-step-preserved c =
       ranges = λ k below.
           ranges_more ds step _ within number.range c.loop-step.invariant.ranges k (omega arith);
       latest = λ a.
-          c.in_ok-note.ensures a
+          c.in_ok-before.ensures.noted a
           ∙ ap (λ w. with_step a (Some w) step (latest_of c.loop-step.latest a)) number.is
           ∙ own_more ds step (step + 1) a _ (latest_of c.loop-step.latest a) (omega arith) within
           (c.loop-step.invariant.latest a);
