@@ -105,7 +105,7 @@ def lines_of(ended):
 
 
 def compared(column, *words):
-    """Of each submission the verdict and, by seeds, the least seed that shows it: a case for each."""
+    """Of each submission the verdict, and by one expectation the least seed that shows it, or how the schedule ends."""
     for task in TASKS:
         found = lines_of(graded(task, *words))
         names = [f"submissions/{wanted.name}" for wanted in of_task(task)]
@@ -113,7 +113,7 @@ def compared(column, *words):
         for wanted, (_, verdict, why) in zip(of_task(task), found):
             yield f"{task}/{wanted.name}", wanted.verdict(column), verdict
             shown = SHOWN.match(why)
-            if shown and shown["seed"]:
+            if shown and shown["seed"] and not column.startswith("case"):
                 yield f"{task}/{wanted.name}, least seed", wanted.of["least"], shown["seed"]
             elif shown and column == "every" and os.path.isfile(wanted.path()):
                 yield f"{task}/{wanted.name}, schedule", verdict, ends_as(wanted, shown["schedule"])
