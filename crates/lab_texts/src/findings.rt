@@ -122,7 +122,7 @@ pub struct Telling<'a, 't> {
 pub fn push_findings(
     out: &mut String,
     telling: &Telling<'_, '_>,
-    found: &Findings,
+    found: &FindingsOfRun,
 ) -> Result<(), AllocError> {
     for update in found.lost.iter().take(MOST_OF_A_KIND) {
         telling.push_lost(out, update)?;
@@ -145,7 +145,7 @@ pub fn push_findings(
 pub fn push_first_finding(
     out: &mut String,
     telling: &Telling<'_, '_>,
-    found: &Findings,
+    found: &FindingsOfRun,
 ) -> Result<(), AllocError> {
     match (found.lost.first(), found.torn.first(), found.unread.first()) {
         (Some(update), _, _) => telling.push_lost(out, update)?,
@@ -153,7 +153,7 @@ pub fn push_first_finding(
         (None, None, Some(store)) => telling.push_unread(out, store)?,
         (None, None, None) => return Ok(()),
     }
-    match count_of(found) {
+    match found.count() {
         0 | 1 => Ok(()),
         2 => out.push_str("; 1 more finding"),
         count => {
@@ -161,15 +161,6 @@ pub fn push_first_finding(
             write!(out, "; {more} more findings")
         }
     }
-}
-
-/// How many findings there are.
-fn count_of(found: &Findings) -> usize {
-    found
-        .lost
-        .len()
-        .saturating_add(found.torn.len())
-        .saturating_add(found.unread.len())
 }
 
 impl Telling<'_, '_> {
