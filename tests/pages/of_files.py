@@ -27,23 +27,39 @@ def functions(text):
         yield line.strip(), end - begin + 1
 
 
-def part(_):
-    files = sorted(path for path in PAGE.iterdir() if path.is_file() and path.suffix != ".md")
-    for path in files:
+def sizes(folder):
+    """How long the files of a folder are."""
+    for path in sorted(path for path in folder.iterdir() if path.is_file() and path.suffix != ".md"):
         lines = path.read_text(encoding="utf-8").split("\n")
         tally.check(f"{path.name} has at most {LINES} lines", len(lines) <= LINES + 1, len(lines))
         long = [number for number, line in enumerate(lines, 1) if len(line) > COLUMNS]
         tally.check(f"the lines of {path.name} have at most {COLUMNS} columns", not long, long)
-    scripts = (PAGE / "ORDER").read_text(encoding="utf-8").split()
-    tally.same("ORDER names each script once", sorted(scripts), sorted(path.name for path in PAGE.glob("*.js")))
-    for name in scripts:
-        text = (PAGE / name).read_text(encoding="utf-8")
+
+
+def scripts(page):
+    """The script of a page: its functions, and that no text acts in it."""
+    own = [name for name in page.order() if not name.startswith("../")]
+    tally.same("ORDER names each script once", sorted(own), sorted(path.name for path in page.folder.glob("*.js")))
+    for name in page.order():
+        text = page.read(name)
         long = [(what, length) for what, length in functions(text) if length > FUNCTION]
         tally.check(f"the functions of {name} have at most {FUNCTION} lines", not long, long)
         tally.same(f"{name} takes no text for markup and asks for nothing", ACTING.findall(text), [])
         tally.check(f"{name} can stand in the page", "</script" not in text.lower() and "<!--" not in text)
-    template = (PAGE / "page.html.template").read_text(encoding="utf-8")
-    tally.same("the template has no styles and handlers of its own", MARKUP.findall(template), [])
-    places = template.split("@")[1::2]
-    tally.same("the template's places", set(places), {"RUN", "SCRIPT", "SCRIPT_HASH", "STYLE", "STYLE_HASH", "TITLE"})
+
+
+def template(page):
+    """The template of a page: its places."""
+    text = page.read(page.template)
+    tally.same("the template has no styles and handlers of its own", MARKUP.findall(text), [])
+    places = text.split("@")[1::2]
+    wanted = {page.place, "SCRIPT", "SCRIPT_HASH", "STYLE", "STYLE_HASH", "TITLE"}
+    tally.same("the template's places", set(places), wanted)
     tally.same("each stands there once", len(places), len(set(places)))
+
+
+def part(_):
+    for page in runs.build.PAGES.values():
+        sizes(page.folder)
+        scripts(page)
+        template(page)

@@ -7,6 +7,7 @@ import of_files
 import of_firefox
 import of_hostile
 import of_pictures
+import of_play
 import of_sizes
 import of_states
 import of_widths
@@ -18,6 +19,7 @@ ALL = {
     "controls": of_controls.part,
     "access": of_access.part,
     "pictures": of_pictures.part,
+    "play": of_play.part,
     "hostile": of_hostile.part,
     "sizes": of_sizes.part,
     "widths": of_widths.part,

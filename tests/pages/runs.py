@@ -67,12 +67,21 @@ def example(folder, name):
     """The page of an example by its schedule."""
     if has_pages():
         return page_of(folder, *files_of(name))
-    return build.page((SAMPLES / f"{name}.json").read_text(encoding="utf-8"))
+    return build.PAGES["run"].text((SAMPLES / f"{name}.json").read_text(encoding="utf-8"))
 
 
 def page(run):
     """The page of a run that a test has made."""
-    return build.page(json.dumps(run, separators=(",", ":")))
+    return build.PAGES["run"].text(json.dumps(run, separators=(",", ":")))
+
+
+def played(folder, source, *words):
+    """The page of mta_lab play of a source text; None where the program makes no such pages."""
+    if not has_pages():
+        return None
+    file = pathlib.Path(folder) / "played.html"
+    call(LAB, "play", str(source), *words, "--out", str(file))
+    return file.read_text(encoding="utf-8")
 
 
 def sample(name):

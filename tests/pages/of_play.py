@@ -1,0 +1,134 @@
+"""The page on which the reader is the scheduler: steps by keys and clicks, undo and redo, links, goals and hints, the map,
+the texts that are copied; each state that is shown beside the graph in the page."""
+
+import json
+import random
+import re
+
+import runs
+import tally
+from selenium.webdriver.common.keys import Keys
+
+LEFT, RIGHT, HOME, END, ESCAPE = Keys.ARROW_LEFT, Keys.ARROW_RIGHT, Keys.HOME, Keys.END, Keys.ESCAPE
+PROGRAMS = runs.ROOT / "tests/cases/lab_play"
+DIGITS = "0123456789ABCDEFGHIJKLMNOPQRSTUVWXYZabcdefghijklmnopqrstuvwxyz-_"
+WALKS, STEPS = 6, 30
+
+
+class Graph:
+    """The graph that stands in a page."""
+
+    def __init__(self, page):
+        self.data = json.loads(re.search(r'id="graph-data">(.*?)</script>', page, re.DOTALL)[1])
+        self.to = [column(one) for one in self.data["states"]["to"]]
+        self.held = [column(one) for one in self.data["states"]["streams"]]
+        self.ahead = column(self.data["states"]["ahead"])
+        self.ends = {state: number for number, end in enumerate(self.data["ends"]) for state in end["states"]}
+
+    def running(self, state):
+        """The places of the streams that run in a state."""
+        return [at for at, held in enumerate(self.held) if self.data["contents"][held[state]].get("status") == "running"]
+
+    def steps(self, state):
+        """The places of the streams whose step leads to another state."""
+        return [at for at in self.running(state) if self.to[at][state] != state]
+
+
+def column(packed):
+    """The numbers of a column."""
+    width, text = packed
+    numbers = []
+    for begin in range(0, len(text), width):
+        number = 0
+        for digit in text[begin:begin + width]:
+            number = 64 * number + DIGITS.index(digit)
+        numbers.append(number)
+    return numbers
+
+
+def shown(page):
+    """The state that the page shows."""
+    return int(page.script("return document.body.dataset.state"))
+
+
+def is_as(page, graph, state, what):
+    """Whether the page shows a state: its number, its choices, the ends that can still come, the result."""
+    tally.same(f"{what}: the state", shown(page), state)
+    choices = page.script("return [...document.querySelectorAll('.choice:not([hidden])')].map((c) => [Number(c.dataset.stream), "
+                          "c.getAttribute('aria-disabled')])")
+    can_step = graph.steps(state)
+    if page.script("return !document.getElementById('choices').hidden"):
+        wanted = [[at, "false" if at in can_step else "true"] for at in graph.running(state)]
+        tally.same(f"{what}: the choices", choices, wanted)
+    left = page.script("return [...document.querySelectorAll('#ends li')].map((row) => Number(row.dataset.left) >= 0)")
+    ahead = graph.data["sets"][graph.ahead[state]]
+    tally.same(f"{what}: the ends ahead", [number for number, is_ahead in enumerate(left) if is_ahead], ahead)
+    has_result = page.script("return !document.getElementById('result').hidden")
+    tally.same(f"{what}: whether there is a result", has_result, state in graph.ends)
+
+
+def walk(page, graph, chance, name):
+    """A random walk by keys and clicks, and back."""
+    page.press(HOME)
+    way = [0]
+    for number in range(STEPS):
+        choices = graph.steps(way[-1])
+        if not choices:
+            break
+        at = chance.choice(choices)
+        if chance.random() < 0.5 and at < 9:
+            page.press(str(at + 1))
+        else:
+            page.script("document.querySelector(`.choice[data-stream='${arguments[0]}']`).click()", at)
+        way.append(graph.to[at][way[-1]])
+        is_as(page, graph, way[-1], f"{name}, step {number + 1}")
+    if len(way) > 2:
+        page.press(LEFT, LEFT, RIGHT)
+        tally.same(f"{name}: two back and one on", shown(page), way[-2])
+    return way
+
+
+def walks(page, name, text, graph):
+    page.open(name, text)
+    is_as(page, graph, 0, f"{name}, the start")
+    chance = random.Random(name)
+    for number in range(WALKS):
+        way = walk(page, graph, chance, f"{name}, walk {number + 1}")
+    page.press(END)
+    link = page.script("return location.hash")
+    page.open(name, text, link)
+    tally.same(f"{name}: the link opens the same state", shown(page), way[-1])
+    page.press("c")
+    schedule = page.script("return document.getElementById('as-schedule').value")
+    steps = sum(int(line.split()[2]) for line in schedule.splitlines())
+    tally.same(f"{name}: the schedule has the steps of the way", steps, len(way) - 1)
+    page.press(ESCAPE)
+    page.quiet(f"{name}: walks")
+
+
+def goals(page, name, text, graph):
+    """Each goal is reached by its hints, in the fewest steps."""
+    page.open(name, text)
+    for number, end in enumerate(graph.data["ends"][:8]):
+        page.script("document.querySelector(`.goal[data-goal='${arguments[0]}']`).click()", number)
+        tally.same(f"{name}, goal {number}: it begins at the start", shown(page), 0)
+        for _ in range(end["shortest"]):
+            page.press("h")
+            hinted = page.script("return document.querySelector('.choice.hinted')?.dataset.stream")
+            if hinted is None:
+                break
+            page.script("document.querySelector(`.choice[data-stream='${arguments[0]}']`).click()", hinted)
+        tally.check(f"{name}, goal {number}: the hints lead there", shown(page) in end["states"], shown(page))
+        tally.check(f"{name}, goal {number}: it says so", "reached" in page.script(
+            "return document.getElementById('result').className"))
+    page.quiet(f"{name}: goals")
+
+
+def part(page):
+    for source in sorted(PROGRAMS.glob("*.asm")):
+        text = runs.played(page.folder, source)
+        if text is None:
+            return
+        graph = Graph(text)
+        walks(page, source.stem, text, graph)
+        goals(page, source.stem, text, graph)
