@@ -1,8 +1,8 @@
 #!/usr/bin/env python3
 """Puts a page together from the files in this folder: build.py run|play DATA.json OUT.html
 
-The program does the same by `mta_lab page` and `mta_lab play`. ORDER of a page's folder names the parts of its script, a
-line each, in the order in which they are joined."""
+The program does the same by `mta_lab page` and `mta_lab play`. ORDER of a page's folder names the parts of its script,
+a line each, in the order in which they are joined."""
 
 import base64
 import hashlib

@@ -1,6 +1,6 @@
 #!/usr/bin/env python3
 """embed.py [--check]: makes the constants of the pages' crates, below src/parts of each, of the files in this folder,
-since a program of the kit can't include a file's text. The hashes that a page's policy names are among them. With --check
+since a program of the kit can't include a file's text. The hashes that a policy names are among them. With --check
 nothing is written, and each file of constants that is not up to date is named."""
 
 import pathlib
