@@ -18,7 +18,8 @@ const PROGRAM_BEHIND: &[u8] = b"\n .entry 0\n QUIT\n";
 /// Why a text says no cells.
 #[derive(Clone, Copy, Debug, PartialEq, Eq)]
 pub enum CellsFault {
-    /// The line of this number, from 1, has something else than a comment, `.data` or `.fill`. It is the least such line.
+    /// The line of this number, from 1, has something else than a comment, `.data` or `.fill`. It is the least such
+    /// line.
     Line(usize),
     /// The assembler finds this in its lines; of line 0 where there is no cell.
     Source(AsmFault),
@@ -38,8 +39,8 @@ impl<T: Drop> From<AllocFailed<T>> for CellsFault {
     }
 }
 
-/// The image of the cells that a text says and a program of one word, as the assembler reads them. Each line of the text
-/// is one of `.data` or `.fill`, without a label, or has nothing but a comment.
+/// The image of the cells that a text says and a program of one word, as the assembler reads them. Each line of the
+/// text is one of `.data` or `.fill`, without a label, or has nothing but a comment.
 pub fn read_cells(alloc: Global, text: &[u8]) -> Result<Image, CellsFault>
     ensures means { IfOk result (Means (text.now ++ program_behind)) }
     ensures cells { IfOk result (λ _. IsTrue (list_all is_cells_line (lines text.now))) }
