@@ -1,7 +1,6 @@
-use Rattle.std.proofs.Common.{◌≡◌, ℕ, ◌+◌, ◌<◌, ◌%◌, ◌^◌, Bool, true, false, ap, sym, ◌∙◌, refl, arith, below_more}
+use Rattle.std.proofs.Common.{◌≡◌, ℕ, ◌+◌, ◌%◌, ◌^◌, true, false, ap, sym, ◌∙◌, arith, below_more}
 use Rattle.std.proofs.Math.Nat.{mod-add-mod}
 use Rattle.std.specs.Prelude.{◌==◌, ◌&&◌}
-use Rattle.std.specs.List.{list_all, range_with_len}
 use Rattle.expectations.specs.WordRanges.{is_there, value_in, word_behind, are_there, sum_of_words, is_sum}
 use Rattle.expectations.proofs.Ranges.{all_from, fails_from, sum_more}
 use Rattle.expectations.proofs.word_ranges.is_sum.Goals as goal
@@ -43,9 +42,8 @@ loop-number-preserved g c =
     record {
       there = below_more _ _ c.loop-number.invariant.there (ap is_there (sym c.in-Some.ensures));
       sum =
-          c.wrapping_add-sum.ensures
-          ∙ ap (λ s. (s + c.value-sum.result) % 2 ^ 64) c.loop-number.invariant.sum
-          ∙ mod-add-mod (sum_of_words m first number) c.value-sum.result (2 ^ 64)
+          ap (λ s. (s + c.value-sum.result) % 2 ^ 64) c.loop-number.invariant.sum
+          ∙ mod-add-mod (sum_of_words m first number) (2 ^ 64) c.value-sum.result
           ∙ ap (λ v. (sum_of_words m first number + v) % 2 ^ 64) here
           ∙ ap (λ s. s % 2 ^ 64) (sym (sum_more value_at number));
     }
