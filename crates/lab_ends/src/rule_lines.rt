@@ -69,7 +69,7 @@ pub fn are_rules_kept(image: &Image, rules: &[RuleLine]) -> bool
 }
 
 /// Whether a line that begins with this word says rules.
-pub(crate) fn is_rule_word(word: &str) -> bool {
+pub fn is_rule_word(word: &str) -> bool {
     matches!(word, "entries" | "at" | "forbid" | "require")
 }
 

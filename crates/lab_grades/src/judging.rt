@@ -4,11 +4,12 @@ use crate::cases::Case;
 use crate::explored_grades::explored_verdict;
 use crate::judged::{Grading, Judged, wishes_for};
 use crate::seed_grades::sampled_verdict;
-use crate::verdicts::{Known, Verdict, VerdictKind};
+use crate::verdicts::{Known, Verdict, VerdictKind, WishLine};
 use crate::wish_lines::WishLines;
 use case_cells::with_cells_of;
 use command_parts::{LabFault, Program};
 use image_file::Image;
+use lab_ends::{Wishes, first_broken_rule};
 use lab_explorer::Console;
 use lab_texts::ProgramNames;
 use std::alloc::{AllocError, Global};
@@ -95,6 +96,29 @@ fn with_cells(alloc: Global, program: &Program, cells: &Image) -> Result<Program
     })
 }
 
+/// What is said of a program that breaks a rule of programs; None where it keeps all.
+fn broken_rule(
+    alloc: Global,
+    case: &Case,
+    wishes: &Wishes,
+    program: &Program,
+) -> Result<Option<Verdict>, AllocError> {
+    let broken = first_broken_rule(&program.image, &wishes.rules);
+    let Some(said) = broken.and_then(|place| wishes.rules.get(place)) else {
+        return Ok(None);
+    };
+    let path = case.path.as_str();
+    let line = said.line;
+    let text = said.text.as_str();
+    let words = format!(in alloc; "{path}:{line}: not {text}")?;
+    let mut verdict = Verdict::of_no_program(alloc, VerdictKind::Wrong, words);
+    verdict.missed = Some(WishLine {
+        number: line,
+        text: String::from_str(alloc, text)?,
+    });
+    Ok(Some(verdict))
+}
+
 /// What is said of a program that has a case's cells already.
 fn verdict_of<X: Threads + Sync, C: Clock, E: Write>(
     rt: &X,
@@ -109,6 +133,9 @@ fn verdict_of<X: Threads + Sync, C: Clock, E: Write>(
         Ok(wishes) => wishes,
         Err(verdict) => return Ok(verdict),
     };
+    if let Some(verdict) = broken_rule(alloc, case, &wishes, program)? {
+        return Ok(verdict);
+    }
     let lines = WishLines::of(alloc, &case.wishes)?;
     let judged = Judged {
         program,

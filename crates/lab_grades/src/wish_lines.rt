@@ -1,10 +1,11 @@
 //! The lines of a file of expectations.
 
 use crate::verdicts::WishLine;
+use lab_ends::is_rule_word;
 use std::alloc::{AllocError, Global};
 use std::str;
 
-/// The lines of a file of expectations that say something.
+/// The lines of a file of expectations that say something of runs.
 #[derive(Drop)]
 pub(crate) struct WishLines {
     /// Those about the end of a run, in their order.
@@ -35,7 +36,7 @@ impl WishLines {
         let first = text.split(' ').next().unwrap_or("");
         if first == "always" || first == "never" {
             self.claims.push(WishLine { number, text })?;
-        } else {
+        } else if !is_rule_word(first) {
             self.ends.push(WishLine { number, text })?;
         }
         Ok(())
