@@ -8,13 +8,22 @@ use plain_text::plain;
 use schedule_page::is_right_end;
 use std::alloc::Global;
 
+/// By what ends are right or wrong.
+#[derive(Clone, Copy)]
+pub(crate) struct Judging {
+    /// Whether something is expected of ends, or claimed.
+    pub is_judged: bool,
+    /// Whether the program keeps the rules for programs: of one that does not no end is right.
+    pub keeps_rules: bool,
+}
+
 /// The place of the end that is asked for as the first goal, among these ends: the first of its kind, or the one of its
 /// number, from 1; None if no goal is asked for. A fault if there is no such end.
 pub(crate) fn goal_place(
     alloc: Global,
     request: &PlayRequest,
     ends: &[SpaceEnd],
-    is_judged: bool,
+    judging: Judging,
 ) -> Result<Option<usize>, LabFault> {
     let Some(goal) = request.goal else {
         return Ok(None);
@@ -25,7 +34,7 @@ pub(crate) fn goal_place(
             .filter(|place: &usize| *place < ends.len()),
         Err(_) => ends
             .iter()
-            .position(|end| is_goal(goal, end, ends, is_judged)),
+            .position(|end| is_goal(goal, end, ends, judging)),
     };
     match found {
         Some(place) => Ok(Some(place)),
@@ -39,13 +48,12 @@ pub(crate) fn goal_place(
 }
 
 /// Whether an end is of the kind that a word says; right and wrong are those that something is expected of.
-fn is_goal(word: &str, end: &SpaceEnd, ends: &[SpaceEnd], is_judged: bool) -> bool {
+fn is_goal(word: &str, end: &SpaceEnd, ends: &[SpaceEnd], judging: Judging) -> bool {
+    let is_right = judging.keeps_rules && is_right_end(end, ends);
+    let is_finished = end.kind == SpaceEndKind::End(EndKind::Finished);
     match word {
-        "right" => is_judged && is_right_end(end, ends),
-        "wrong" => {
-            let is_finished = end.kind == SpaceEndKind::End(EndKind::Finished);
-            is_judged && is_finished && !is_right_end(end, ends)
-        }
+        "right" => judging.is_judged && is_right,
+        "wrong" => judging.is_judged && is_finished && !is_right,
         _ => end.kind.json_name() == word,
     }
 }

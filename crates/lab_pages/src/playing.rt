@@ -1,9 +1,9 @@
 //! The command `play`.
 
-use crate::goals::goal_place;
+use crate::goals::{Judging, goal_place};
 use crate::paging::stem_of;
 use command_parts::{Answer, Inputs, LabFault, Program, read_program, read_steps};
-use lab_ends::{Wishes, space_ends};
+use lab_ends::{Wishes, are_rules_kept, space_ends};
 use lab_explorer::{Console, Watcher, push_expectation, wishes_of};
 use lab_requests::{Bounds, PlayRequest};
 use lab_texts::{NumberStyle, ProgramNames};
@@ -101,11 +101,16 @@ fn graph_on<const S: usize, C: Clock, E: Write>(
     // (a claim that only the given beginning breaks has no state on the page)
     ends.retain(|end| !end.places.is_empty());
     let expected = expected_texts(alloc, played.wishes)?;
+    let judging = Judging {
+        is_judged: !expected.is_empty(),
+        keeps_rules: are_rules_kept(image, &played.wishes.rules),
+    };
     let asked = GraphNames {
         program: program_name(request),
         expected: &expected,
-        is_judged: !expected.is_empty(),
-        goal: goal_place(alloc, request, &ends, !expected.is_empty())?,
+        is_judged: judging.is_judged,
+        are_rules_kept: judging.keeps_rules,
+        goal: goal_place(alloc, request, &ends, judging)?,
     };
     let text = &played.program.text;
     Ok(graph_json::<S>(alloc, asked, text, played.names, &space, &ends)?)
@@ -130,6 +135,9 @@ fn expected_texts(alloc: Global, wishes: &Wishes) -> Result<Vec<String>, AllocEr
     }
     for claim in &wishes.claim_texts {
         texts.push(String::from_str(alloc, claim)?)?;
+    }
+    for said in &wishes.rules {
+        texts.push(String::from_str(alloc, &said.text)?)?;
     }
     Ok(texts)
 }

@@ -14,6 +14,8 @@ pub(crate) struct Judging<'a> {
     pub expected: &'a [String],
     /// Whether something is expected or claimed: without it no end is right or wrong.
     pub is_judged: bool,
+    /// Whether the program keeps the rules for programs: of one that does not no end is right.
+    pub are_rules_kept: bool,
 }
 
 /// The ends as JSON; of each the schedule after so many steps that all schedules begin with.
@@ -25,7 +27,9 @@ pub(crate) fn ends_json(
 ) -> Result<Value, AllocError> {
     let mut values = Vec::with_capacity(alloc, ends.len())?;
     for end in ends {
-        let right = judging.is_judged.then_some(is_right_end(end, ends));
+        let right = judging
+            .is_judged
+            .then_some(judging.are_rules_kept && is_right_end(end, ends));
         values.push(end_json(alloc, end, right, begin, judging)?)?;
     }
     Ok(Value::Array(values))

@@ -22,6 +22,8 @@ pub struct GraphNames<'a> {
     pub expected: &'a [String],
     /// Whether something is expected or claimed: without it no end is right or wrong.
     pub is_judged: bool,
+    /// Whether the program keeps the rules for programs: of one that does not no end is right.
+    pub are_rules_kept: bool,
     /// The place of the end that is the reader's first goal.
     pub goal: Option<usize>,
 }
@@ -40,6 +42,7 @@ pub fn graph_json<const S: usize>(
     let judging = Judging {
         expected: asked.expected,
         is_judged: asked.is_judged,
+        are_rules_kept: asked.are_rules_kept,
     };
     let begin = space.begin().len();
     put(
