@@ -19,7 +19,7 @@ from table import unescaped
 
 PLAYED = os.path.join(table.ROOT, "tests", "spaces", "played.py")
 # examples of few states, and programs that trap, spin, forward, or start streams of their own
-SMALL = ("mailbox", "producer_consumer", "silent_wait", "trap_handler", "future", "forwarding", "count", "limited_wait",
+SMALL = ("producer_consumer", "silent_wait", "trap_handler", "future", "forwarding", "count", "limited_wait",
          "grading/submissions/racing", "grading/submissions/locked", "grading/submissions/never_given_back", "lock")
 
 

@@ -1,5 +1,6 @@
 //! What a stream holds, as numbers that tell it from others, and as JSON.
 
+use crate::numbers::{halves, number_of};
 use lab_json::{content_value, place_name};
 use machine::Machine;
 use serde_json::{Map, Value};
@@ -42,7 +43,7 @@ pub(crate) fn write_numbers<const S: usize>(
             numbers,
             machine,
             Place::Stream { p, s, part: *part },
-            index as u32,
+            number_of(index),
         )?;
     }
     for number in 0..REGISTERS {
@@ -81,8 +82,7 @@ fn push_part<const S: usize>(
         return Ok(());
     }
     numbers.push(number)?;
-    numbers.push(bits as u32)?;
-    Ok(numbers.push((bits >> 32) as u32)?)
+    Ok(numbers.extend_from_slice(&halves(bits))?)
 }
 
 /// What stands in a place as 64 bits; a status as 0 for idle, 1 for running, and above that the trap that stopped it.

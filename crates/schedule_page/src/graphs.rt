@@ -2,6 +2,7 @@
 
 use crate::columns::column_of;
 use crate::ends::{Judging, ends_json, numbers_json, schedule_text, texts_json};
+use crate::numbers::number_of;
 use crate::sets::EndSets;
 use crate::state_tables::{StateTables, machine_at};
 use crate::targets::targets_of;
@@ -210,7 +211,7 @@ fn depths_of(alloc: Global, space: &Space<'_>) -> Result<Vec<u32>, AllocError> {
         } else {
             begin
         };
-        depths.push(steps.saturating_sub(begin) as u32)?;
+        depths.push(number_of(steps.saturating_sub(begin)))?;
     }
     Ok(depths)
 }

@@ -6,6 +6,7 @@ mod columns;
 mod contents;
 mod ends;
 mod graphs;
+mod numbers;
 mod pages;
 mod parts;
 mod records;

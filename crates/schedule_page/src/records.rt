@@ -1,6 +1,7 @@
 //! What steps do that the two states do not say: how they come out, and what they ask of the memory. It hangs on what the
 //! stream holds and on what no stream has for itself alone.
 
+use crate::numbers::number_of;
 use lab_json::{outcome_name, reference_value};
 use serde_json::Value;
 use std::alloc::{AllocError, Global};
@@ -57,7 +58,7 @@ impl Records {
                 self.texts.len().saturating_sub(1)
             }
         };
-        Ok(number as u32)
+        Ok(number_of(number))
     }
 
     /// The records as JSON, and of each of so many contents which record its step has: -1 if no stream that holds it runs,

@@ -1,5 +1,6 @@
 //! The distinct sets of ends that can still be reached.
 
+use crate::numbers::number_of;
 use std::alloc::{AllocError, Global};
 
 /// The distinct sets of ends, and which of them each state has.
@@ -21,9 +22,9 @@ impl EndSets {
                 .get(*first)
                 .is_some_and(|other| other == ends));
             match known {
-                Some(number) => set_of.push(number as u32)?,
+                Some(number) => set_of.push(number_of(number))?,
                 None => {
-                    set_of.push(firsts.len() as u32)?;
+                    set_of.push(number_of(firsts.len()))?;
                     firsts.push(place)?;
                 }
             }

@@ -1,6 +1,7 @@
 //! What no stream has for itself: the words that are not as at the start, and the counts of the processors; as numbers
 //! that tell it from others, and as JSON.
 
+use crate::numbers::halves;
 use lab_json::digits;
 use machine::Machine;
 use serde_json::{Map, Value, json};
@@ -66,9 +67,8 @@ pub(crate) fn write_shared<const S: usize>(
     }
     for address in &touched.addresses {
         if let Some(word) = changed_word(machine, *address) {
-            numbers.push((*address >> 3) as u32)?;
-            numbers.push(word.value() as u32)?;
-            numbers.push((word.value() >> 32) as u32)?;
+            numbers.extend_from_slice(&halves(*address))?;
+            numbers.extend_from_slice(&halves(word.value()))?;
             numbers.push(u32::from(word.tag_number()))?;
         }
     }

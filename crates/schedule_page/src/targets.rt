@@ -1,5 +1,6 @@
 //! Where the steps of a stream lead.
 
+use crate::numbers::number_of;
 use processor::Step;
 use schedule_space::Edge;
 use std::alloc::{AllocError, Global};
@@ -14,7 +15,7 @@ pub fn targets_of(
 ) -> Result<Vec<u32>, AllocError> {
     let mut targets = Vec::with_capacity(alloc, states)?;
     for state in 0..states {
-        targets.push(state as u32)?;
+        targets.push(number_of(state))?;
     }
     for edge in edges {
         if edge.step == stream {

@@ -1,0 +1,11 @@
+//! Numbers of 32 bits.
+
+/// A count as a number of 32 bits; the greatest one if it is greater.
+pub(crate) fn number_of(count: usize) -> u32 {
+    u32::try_from(count).unwrap_or(u32::MAX)
+}
+
+/// The lower and the upper half of 64 bits.
+pub(crate) fn halves(bits: u64) -> [u32; 2] {
+    [(bits & 0xFFFF_FFFF) as u32, (bits >> 32) as u32]
+}
