@@ -1,3 +1,4 @@
 mod Places
 mod Worst
 mod Answered
+mod Chunks

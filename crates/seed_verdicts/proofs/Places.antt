@@ -1,7 +1,7 @@
 -- The place of the first that fails: none where each passes.
-use Rattle.std.proofs.Common.{◌≡◌, ℕ, suc, ◌+◌, ◌<◌, ◌≤◌, ◌⊎◌, inl, inr, cond, refl, sym, ◌∙◌, arith, ⊎_elim, lt-ltb, le-ltb}
-use Rattle.std.proofs.Common.{List, [], ◌∷◌, length, Option, Some, None, ◌&&◌}
-use Rattle.std.specs.Prelude.{Bool, true, false, not, IsTrue}
+use Rattle.std.proofs.Common.{◌≡◌, ℕ, suc, ◌+◌, ◌≤◌, cond, refl, arith, ⊎_elim, lt-ltb, le-ltb}
+use Rattle.std.proofs.Common.{List, [], ◌∷◌, length, Some, None, ◌&&◌}
+use Rattle.std.specs.Prelude.{Bool, true, false, not}
 use Rattle.std.specs.List.{list_all, position_or_len, position}
 use Rattle.std.proofs.lemmas.Bool.{cases_lt}
 

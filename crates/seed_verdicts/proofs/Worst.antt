@@ -1,6 +1,5 @@
 -- Which flaw of a run is the worst.
-use Rattle.std.proofs.Common.{◌≡◌, ℕ, ◌≤◌, sym, ap, ◌∙◌, subst, arith, List, length, take, Option, Some, None}
-use Rattle.std.specs.Prelude.{IsTrue}
+use Rattle.std.proofs.Common.{◌≡◌, ℕ, ◌≤◌, sym, ap, ◌∙◌, subst, arith, List, take, Some, None}
 use Rattle.image_file.specs.ImageValue.{ImageValue}
 use Rattle.processor.specs.World.{World, run}
 use Rattle.processor.specs.declared.steps.Step.{Step}
@@ -9,7 +8,7 @@ use Rattle.expectations.specs.Meeting.{is_met}
 use Rattle.expectations.specs.declared.expectation.Expectation.{Expectation}
 use Rattle.claims.specs.Holding.{holds}
 use Rattle.claims.specs.declared.claim.Claim.{Claim}
-use Rattle.schedule_verdicts.specs.RightEnds.{AreTrapsExpected, are_met}
+use Rattle.schedule_verdicts.specs.RightEnds.{AreTrapsExpected}
 use Rattle.schedule_verdicts.specs.KeptClaims.{AreKeptOnTheWay}
 use Rattle.seed_verdicts.specs.RunFlaws.{first_missed, IsFirstBroken, IsRightRun, Shows, rank, IsWorst}
 use Rattle.seed_verdicts.specs.EndFlaws.{IsFlawless}

@@ -28,7 +28,7 @@ const MOST_COUNT: usize = 256;
 /// thread gives. Few seeds are run before what they show is looked at, then more and more: a program that is wrong by
 /// some of the first costs little.
 ///
-/// `Streams` only where the image's slim is above `S`.
+/// `Streams` exactly where the image's slim is above `S`.
 pub fn first_flaw<R: Threads + Sync, const S: usize>(
     rt: &R,
     alloc: Global,
@@ -38,7 +38,7 @@ pub fn first_flaw<R: Threads + Sync, const S: usize>(
     seeds: Seeds,
 ) -> Result<Option<SeedFlaw>, LoadFault>
     ensures judged { IfOk result (λ found. AreJudged image.now expected.now claims.now seeds found) }
-    ensures streams { result ≡ Err LoadFault.Streams → S < image.now.slim }
+    ensures streams { (result ≡ Err LoadFault.Streams) ↔ (S < image.now.slim) }
 {
     let judging = Judging {
         image,
@@ -71,7 +71,7 @@ pub fn first_flaw_alone<const S: usize>(
     seeds: Seeds,
 ) -> Result<Option<SeedFlaw>, LoadFault>
     ensures judged { IfOk result (λ found. AreJudged image.now expected.now claims.now seeds found) }
-    ensures streams { result ≡ Err LoadFault.Streams → S < image.now.slim }
+    ensures streams { (result ≡ Err LoadFault.Streams) ↔ (S < image.now.slim) }
 {
     let judging = Judging {
         image,

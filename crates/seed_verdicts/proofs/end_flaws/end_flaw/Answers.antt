@@ -1,4 +1,4 @@
-use Rattle.std.proofs.Common.{sym, ◌∙◌, subst, rules}
+use Rattle.std.proofs.Common.{sym, subst, rules}
 use Rattle.schedule_makers.specs.Made.{IsEnd}
 use Rattle.seed_verdicts.proofs.Worst.{flawless_end}
 use Rattle.seed_verdicts.proofs.end_flaws.end_flaw.Goals as goal

@@ -1,4 +1,4 @@
-use Rattle.std.proofs.Common.{◌≡◌, ℕ, ◌+◌, ◌-◌, ◌∙◌, Option, arith}
+use Rattle.std.proofs.Common.{ℕ, ◌-◌, ◌∙◌, Option, arith}
 use Rattle.rayon.specs.Numbers.{nat_range}
 use Rattle.seed_verdicts.specs.Seeds.{IsSeedTold, seed_at}
 use Rattle.seed_verdicts.specs.declared.run_flaw.RunFlaw.{RunFlaw}

@@ -1,4 +1,4 @@
-use Rattle.std.proofs.Common.{subst, rules}
+use Rattle.std.proofs.Common.{subst}
 use Rattle.processor.specs.World.{run}
 use Rattle.schedule_makers.specs.Made.{IsEnd}
 use Rattle.seed_verdicts.proofs.Worst.{broken, out_of_steps}
