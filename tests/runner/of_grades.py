@@ -50,9 +50,8 @@ def unusual():
         os.symlink("-.asm", os.path.join(folder, "link.asm"))
         os.symlink("nowhere", os.path.join(folder, "loose.asm"))
         names = ["a\tright\t9\nb.asm", "./-.asm", "empty.asm", "folder.asm", "fifo.asm", "link.asm", "loose.asm"]
-        wanted = ["right", "right", "source fault", "not read", "not read", "right", "not read"]
         for words, links in (((), "right"), (("--no-links",), "not read")):
-            wanted[5] = links
+            wanted = ["right", "right", "source fault", "not read", "not read", links, "not read"]
             call = ("grade", *words, "--expect", "w.expect", "--seeds", "2")
             for jobs in ("1", "3"):
                 rows = lab(*call, "--jobs", jobs, *names, folder=folder).out.decode().splitlines()
