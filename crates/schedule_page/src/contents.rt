@@ -140,11 +140,16 @@ fn put_part<const S: usize>(
         return Ok(());
     }
     let name = place_name(alloc, place)?;
-    let part = match name.rsplit_once('.') {
+    let value = content_value(alloc, place, content)?;
+    serde_json::put(fields, alloc, last_part(&name), value)
+}
+
+/// The part of a place's name behind its last point.
+fn last_part(name: &str) -> &str {
+    match name.rsplit_once('.') {
         Some((_, part)) => part,
-        None => name.as_str(),
-    };
-    serde_json::put(fields, alloc, part, content_value(alloc, place, content)?)
+        None => name,
+    }
 }
 
 /// Whether what stands in a place is shown: the pc always, no target that names no handler, nothing that is zero.
