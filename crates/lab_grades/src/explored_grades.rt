@@ -22,8 +22,8 @@ use std::time::Clock;
 pub(crate) fn explored_verdict<X: Threads + Sync, C: Clock, E: Write>(
     rt: &X,
     alloc: Global,
-    grading: &Grading<'_>,
-    judged: &Judged<'_>,
+    grading: &Grading<'_, '_>,
+    judged: &Judged<'_, '_>,
     bounds: Bounds,
     console: &mut Console<'_, C, E>,
 ) -> Result<Verdict, LabFault>
@@ -54,8 +54,8 @@ pub(crate) fn explored_verdict<X: Threads + Sync, C: Clock, E: Write>(
 fn undecided_verdict<X: Threads + Sync>(
     rt: &X,
     alloc: Global,
-    grading: &Grading<'_>,
-    judged: &Judged<'_>,
+    grading: &Grading<'_, '_>,
+    judged: &Judged<'_, '_>,
     searched: Verdict,
 ) -> Result<Verdict, AllocError>
     ensures { IfOk result (λ v. ¬ (v.kind ≡ VerdictKind.Right)) }
@@ -75,8 +75,8 @@ fn undecided_verdict<X: Threads + Sync>(
 /// What is said of a submission with these ends of all schedules.
 fn verdict_of_ends(
     alloc: Global,
-    grading: &Grading<'_>,
-    judged: &Judged<'_>,
+    grading: &Grading<'_, '_>,
+    judged: &Judged<'_, '_>,
     found: &Explored,
 ) -> Result<Verdict, AllocError>
     ensures right { IfOk result (λ v. v.kind ≡ VerdictKind.Right → IsTrue found.now.is_right) }
@@ -92,7 +92,7 @@ fn verdict_of_ends(
 /// The same without its ends.
 fn first_verdict(
     alloc: Global,
-    judged: &Judged<'_>,
+    judged: &Judged<'_, '_>,
     found: &Explored,
 ) -> Result<Verdict, AllocError>
     ensures right { IfOk result (λ v. v.kind ≡ VerdictKind.Right → IsTrue found.now.is_right) }
@@ -184,7 +184,7 @@ impl EndFlaw {
 /// What is said of a submission with this end.
 fn verdict_of_end(
     alloc: Global,
-    judged: &Judged<'_>,
+    judged: &Judged<'_, '_>,
     kind: VerdictKind,
     known: Known,
     end: &SpaceEnd,
@@ -205,7 +205,7 @@ fn verdict_of_end(
 /// The line that an end misses, or that its worlds break.
 fn missed_by(
     alloc: Global,
-    judged: &Judged<'_>,
+    judged: &Judged<'_, '_>,
     end: &SpaceEnd,
 ) -> Result<Option<WishLine>, AllocError> {
     match end.kind {
@@ -223,7 +223,7 @@ fn missed_by(
 /// The ends of all schedules.
 fn counted_ends(
     alloc: Global,
-    judged: &Judged<'_>,
+    judged: &Judged<'_, '_>,
     found: &Explored,
 ) -> Result<Vec<CountedEnd>, AllocError> {
     let mut ends = Vec::new(alloc);

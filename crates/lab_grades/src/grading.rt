@@ -31,7 +31,7 @@ pub fn grade<X: Threads + Sync + Clock, F: Files, R: Read, E: Write>(
     console: &mut Console<'_, X, E>,
 ) -> Result<Answer, LabFault> {
     let cases = read_cases(alloc, inputs, request.cases)?;
-    let verdicts = verdicts_on(rt, alloc, inputs, request, &cases, console)?;
+    let verdicts = verdicts_on(rt, alloc, inputs, &*request, &cases, console)?;
     let mut status = Status::Done;
     for verdict in verdicts.iter() {
         status = status.worse(verdict.status);
@@ -41,12 +41,12 @@ pub fn grade<X: Threads + Sync + Clock, F: Files, R: Read, E: Write>(
 }
 
 /// What is said of each submission, in their order. Some are read, judged and let go before the next are read.
-fn verdicts_on<X: Threads + Sync + Clock, F: Files, R: Read, E: Write>(
+fn verdicts_on<'a, 'r, X: Threads + Sync + Clock, F: Files, R: Read, E: Write>(
     rt: &X,
     alloc: Global,
     inputs: &mut Inputs<'_, F, R>,
-    request: &GradeRequest,
-    cases: &[Case],
+    request: &'a GradeRequest<'r>,
+    cases: &'a [Case],
     console: &mut Console<'_, X, E>,
 ) -> Result<Vec<Verdict>, LabFault> {
     let jobs = jobs_of(rt, request);

@@ -12,9 +12,9 @@ use std::alloc::{AllocError, Global};
 
 /// How submissions are judged.
 #[derive(Clone, Copy)]
-pub(crate) struct Grading<'a> {
+pub(crate) struct Grading<'a, 'r> {
     /// What is asked.
-    pub request: &'a GradeRequest<'a>,
+    pub request: &'a GradeRequest<'r>,
     /// The cases, one at least.
     pub cases: &'a [Case],
     /// How the numbers of ends are told.
@@ -25,11 +25,11 @@ pub(crate) struct Grading<'a> {
 
 /// A submission with the cells of a case, and what is wanted of it.
 #[derive(Clone, Copy)]
-pub(crate) struct Judged<'a> {
+pub(crate) struct Judged<'a, 't> {
     /// Its program.
     pub program: &'a Program,
     /// The names of its places.
-    pub names: &'a ProgramNames<'a>,
+    pub names: &'a ProgramNames<'t>,
     /// What is wanted.
     pub wishes: &'a Wishes,
     /// The lines that say it.

@@ -22,7 +22,7 @@ use std::time::Clock;
 pub(crate) fn verdict_on<X: Threads + Sync, C: Clock, E: Write>(
     rt: &X,
     alloc: Global,
-    grading: &Grading<'_>,
+    grading: &Grading<'_, '_>,
     program: &Program,
     console: &mut Console<'_, C, E>,
 ) -> Result<Verdict, LabFault> {
@@ -74,7 +74,7 @@ fn sum_of(one: Option<usize>, other: Option<usize>) -> Option<usize> {
 fn verdict_by<X: Threads + Sync, C: Clock, E: Write>(
     rt: &X,
     alloc: Global,
-    grading: &Grading<'_>,
+    grading: &Grading<'_, '_>,
     case: &Case,
     program: &Program,
     console: &mut Console<'_, C, E>,
@@ -123,7 +123,7 @@ fn broken_rule(
 fn verdict_of<X: Threads + Sync, C: Clock, E: Write>(
     rt: &X,
     alloc: Global,
-    grading: &Grading<'_>,
+    grading: &Grading<'_, '_>,
     case: &Case,
     program: &Program,
     console: &mut Console<'_, C, E>,
@@ -137,11 +137,27 @@ fn verdict_of<X: Threads + Sync, C: Clock, E: Write>(
         return Ok(verdict);
     }
     let lines = WishLines::of(alloc, &case.wishes)?;
+    verdict_by_lines(
+        rt, alloc, grading, program, &names, &wishes, &lines, console,
+    )
+}
+
+/// What is said of a program with these names, of which these lines say what is wanted.
+fn verdict_by_lines<'a, 't, X: Threads + Sync, C: Clock, E: Write>(
+    rt: &X,
+    alloc: Global,
+    grading: &Grading<'_, '_>,
+    program: &'a Program,
+    names: &'a ProgramNames<'t>,
+    wishes: &'a Wishes,
+    lines: &'a WishLines,
+    console: &mut Console<'_, C, E>,
+) -> Result<Verdict, LabFault> {
     let judged = Judged {
         program,
-        names: &names,
-        wishes: &wishes,
-        lines: &lines,
+        names,
+        wishes,
+        lines,
     };
     match grading.request.explored {
         Some(bounds) => explored_verdict(rt, alloc, grading, &judged, bounds, console),

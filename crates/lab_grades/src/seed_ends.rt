@@ -11,8 +11,8 @@ use std::thread::Threads;
 pub(crate) fn counted_ends<X: Threads + Sync>(
     rt: &X,
     alloc: Global,
-    grading: &Grading<'_>,
-    judged: &Judged<'_>,
+    grading: &Grading<'_, '_>,
+    judged: &Judged<'_, '_>,
 ) -> Result<(Vec<CountedEnd>, Status), AllocError> {
     let seeds = Seeds {
         first: 0,
@@ -31,7 +31,11 @@ pub(crate) fn counted_ends<X: Threads + Sync>(
 }
 
 /// The end that an outcome is.
-fn end_of(alloc: Global, judged: &Judged<'_>, outcome: &Outcome) -> Result<CountedEnd, AllocError> {
+fn end_of(
+    alloc: Global,
+    judged: &Judged<'_, '_>,
+    outcome: &Outcome,
+) -> Result<CountedEnd, AllocError> {
     Ok(CountedEnd {
         kind: Some(outcome.kind),
         count: outcome.runs,

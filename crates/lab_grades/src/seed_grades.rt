@@ -20,8 +20,8 @@ use std::thread::Threads;
 pub(crate) fn sampled_verdict<X: Threads + Sync>(
     rt: &X,
     alloc: Global,
-    grading: &Grading<'_>,
-    judged: &Judged<'_>,
+    grading: &Grading<'_, '_>,
+    judged: &Judged<'_, '_>,
 ) -> Result<Verdict, AllocError>
     ensures right { let j = judged.now in IfOk result (λ v. v.kind ≡ VerdictKind.Right → AreJudged
         j.program.now.image j.wishes.now.ends.items j.wishes.now.claims.items
@@ -47,8 +47,8 @@ pub(crate) fn sampled_verdict<X: Threads + Sync>(
 fn with_all_ends<X: Threads + Sync>(
     rt: &X,
     alloc: Global,
-    grading: &Grading<'_>,
-    judged: &Judged<'_>,
+    grading: &Grading<'_, '_>,
+    judged: &Judged<'_, '_>,
     verdict: Verdict,
 ) -> Result<Verdict, AllocError>
     ensures { IfOk result (λ v. v.kind ≡ verdict.kind) }
@@ -72,7 +72,7 @@ fn known_of(seeds: usize) -> Known {
 fn flaw_of<X: Threads + Sync>(
     rt: &X,
     alloc: Global,
-    judged: &Judged<'_>,
+    judged: &Judged<'_, '_>,
     seeds: Seeds,
     is_spread: bool,
 ) -> Result<Option<SeedFlaw>, AllocError>
@@ -94,7 +94,7 @@ fn flaw_of<X: Threads + Sync>(
 fn flaw_on<X: Threads + Sync, const S: usize>(
     rt: &X,
     alloc: Global,
-    judged: &Judged<'_>,
+    judged: &Judged<'_, '_>,
     seeds: Seeds,
     is_spread: bool,
 ) -> Result<Option<SeedFlaw>, LoadFault>
@@ -125,8 +125,8 @@ fn kind_of(flaw: RunFlaw) -> VerdictKind
 /// What is said of a submission with this flaw.
 fn verdict_of_flaw(
     alloc: Global,
-    grading: &Grading<'_>,
-    judged: &Judged<'_>,
+    grading: &Grading<'_, '_>,
+    judged: &Judged<'_, '_>,
     found: SeedFlaw,
 ) -> Result<Verdict, AllocError>
     ensures { IfOk result (λ v. ¬ (v.kind ≡ VerdictKind.Right)) }
@@ -172,8 +172,8 @@ struct ShownRun {
 /// What the run of a seed shows.
 fn shown_by<const S: usize>(
     alloc: Global,
-    grading: &Grading<'_>,
-    judged: &Judged<'_>,
+    grading: &Grading<'_, '_>,
+    judged: &Judged<'_, '_>,
     seed: u64,
 ) -> Result<ShownRun, AllocError> {
     let image = &judged.program.image;

@@ -27,7 +27,7 @@ pub(crate) fn jobs_of<X: Threads>(rt: &X, request: &GradeRequest) -> usize {
 pub(crate) fn judge_all<X: Threads + Sync + Clock, E: Write>(
     rt: &X,
     alloc: Global,
-    grading: &Grading<'_>,
+    grading: &Grading<'_, '_>,
     jobs: usize,
     submissions: Vec<Result<Program, Verdict>>,
     console: &mut Console<'_, X, E>,
@@ -47,7 +47,7 @@ type Judgements = Vec<Result<Verdict, LabFault>>;
 fn judge_each<X: Threads + Sync + Clock, E: Write>(
     rt: &X,
     alloc: Global,
-    grading: &Grading<'_>,
+    grading: &Grading<'_, '_>,
     submissions: &[Result<Program, Verdict>],
     console: &mut Console<'_, X, E>,
 ) -> Result<Judgements, AllocError> {
@@ -64,7 +64,7 @@ fn judge_each<X: Threads + Sync + Clock, E: Write>(
 fn judge_side_by_side<X: Threads + Sync + Clock>(
     rt: &X,
     alloc: Global,
-    grading: &Grading<'_>,
+    grading: &Grading<'_, '_>,
     jobs: usize,
     submissions: &[Result<Program, Verdict>],
 ) -> Result<Judgements, AllocError> {
@@ -85,7 +85,7 @@ fn judge_side_by_side<X: Threads + Sync + Clock>(
 fn judge_part<X: Threads + Sync + Clock>(
     rt: &X,
     alloc: Global,
-    grading: &Grading<'_>,
+    grading: &Grading<'_, '_>,
     jobs: usize,
     job: usize,
     submissions: &[Result<Program, Verdict>],

@@ -57,15 +57,16 @@ fn survey_of<X: Threads + Sync, C: Clock, E: Write>(
     outcomes.sort_by_key(|outcome: &Outcome| usize::MAX - outcome.runs)?;
     let mut output = String::new(alloc);
     if request.shown.json {
-        let surveyed = Surveyed {
+        let most = request.most;
+        push_objects(
+            alloc,
+            &mut output,
             program,
-            lines: ExpectedLines {
-                text,
-                expected: &expected,
-            },
-            most: request.most,
-        };
-        push_outcome_objects(alloc, &mut output, surveyed, &outcomes)?;
+            text,
+            &expected,
+            most,
+            &outcomes,
+        )?;
     } else {
         push_outcomes(&mut output, &expected, &outcomes)?;
     }
@@ -76,6 +77,24 @@ fn survey_of<X: Threads + Sync, C: Clock, E: Write>(
         status = status.worse(found.status());
     }
     Ok(Answer::printed(alloc, output, status))
+}
+
+/// Adds the objects of the outcomes of runs of at most so many steps.
+fn push_objects<'a>(
+    alloc: Global,
+    out: &mut String,
+    program: &'a Program,
+    text: &'a [u8],
+    expected: &'a [Expectation],
+    most: usize,
+    outcomes: &[Outcome],
+) -> Result<(), AllocError> {
+    let surveyed = Surveyed {
+        program,
+        lines: ExpectedLines { text, expected },
+        most,
+    };
+    push_outcome_objects(alloc, out, surveyed, outcomes)
 }
 
 /// Adds the lines of the outcomes.

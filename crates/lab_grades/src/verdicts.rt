@@ -1,5 +1,7 @@
 //! What is said of a submission.
 
+ghost use Rattle.std.specs.Prelude.{◌≡◌};
+
 use end_kinds::{EndKind, Status};
 use lab_explorer::SearchBound;
 use processor::Step;
@@ -166,7 +168,9 @@ pub(crate) struct Verdict {
 
 impl Verdict {
     /// The verdict of this kind by what was looked at, with nothing else.
-    pub(crate) fn plain(alloc: Global, kind: VerdictKind, known: Known) -> Verdict {
+    pub(crate) fn plain(alloc: Global, kind: VerdictKind, known: Known) -> Verdict
+        ensures { result.kind ≡ kind }
+    {
         Verdict {
             kind,
             case: None,
@@ -181,7 +185,9 @@ impl Verdict {
     }
 
     /// That of a submission that did not run, for this reason.
-    pub(crate) fn of_no_program(alloc: Global, kind: VerdictKind, words: String) -> Verdict {
+    pub(crate) fn of_no_program(alloc: Global, kind: VerdictKind, words: String) -> Verdict
+        ensures { result.kind ≡ kind }
+    {
         let mut verdict = Verdict::plain(alloc, kind, Known::NOTHING);
         verdict.words = words;
         verdict

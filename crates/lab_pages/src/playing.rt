@@ -48,10 +48,10 @@ pub fn write_play_page<C: Clock, F: Files, R: Read, E: Write>(
 }
 
 /// What a page is made of.
-#[derive(Clone, Copy)]
-struct Played<'a> {
+#[derive(Drop)]
+struct Played<'a, 't> {
     program: &'a Program,
-    names: &'a ProgramNames<'a>,
+    names: &'a ProgramNames<'t>,
     wishes: &'a Wishes,
     begin: &'a [Step],
 }
@@ -60,7 +60,7 @@ struct Played<'a> {
 fn page_text<C: Clock, E: Write>(
     alloc: Global,
     request: &PlayRequest,
-    played: &Played<'_>,
+    played: &Played<'_, '_>,
     console: &mut Console<'_, C, E>,
 ) -> Result<String, LabFault> {
     let bounds = Bounds {
@@ -86,7 +86,7 @@ fn page_text<C: Clock, E: Write>(
 fn graph_on<const S: usize, C: Clock, E: Write>(
     alloc: Global,
     request: &PlayRequest,
-    played: &Played<'_>,
+    played: &Played<'_, '_>,
     watcher: &mut Watcher<'_, '_, C, E>,
 ) -> Result<String, LabFault> {
     let image = &played.program.image;
