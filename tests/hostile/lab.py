@@ -21,7 +21,7 @@ NO_THREAD = b"mta_lab: dap takes a second thread, and the system starts none\n"
 # the bytes of a small stack
 SMALL_STACK = 65_536
 # what stands in the answer of a search that lacked memory on its way: nothing is said of all schedules
-NOT_ALL = re.compile(rb"some schedules(?: that begin so)?: |\"complete\":false|\tnot decided\tsome schedules, |\twrong\tschedule ")
+NOT_ALL = re.compile(rb"some schedules(?: that begin so)?: |\"complete\":false|\t(?:not decided|wrong)\tsome schedules, |\twrong\tschedule ")
 # how many damaged images and texts are tried
 DAMAGED, TEXTS = 400, 400
 LARGEST = 33_554_432
@@ -57,6 +57,7 @@ def commands(folder):
         ["view", lock, lost, "--json"],
         ["view", example("philosophers.asm"), example("philosophers.deadlock.schedule"), "--columns"],
         ["compare", lock, ends, lost],
+        ["compare", lock, "--seeds", "3", "8"],
         ["survey", lock, "--seeds", "5"],
         ["survey", lock, "--seeds", "5", "--json"],
         ["explore", racing],
@@ -64,7 +65,10 @@ def commands(folder):
         ["explore", write(folder, "round.asm", ROUND)],
         ["explore", "--plain", write(folder, "shared.asm", SHARED)],
         ["explore", racing, "--from", begin, "--expect", claims],
+        ["play", racing, "--expect", wishes, "--out", os.path.join(folder, "played.html")],
         ["grade", "--explore", "--expect", wishes, racing],
+        ["grade", "--all", "--format", "junit", "--expect", wishes, "--seeds", "5", racing],
+        ["grade", "--json", "--expect", claims, "--seeds", "5", racing],
         ["grade", "--expect", wishes, "--seeds", "5", *sorted(os.path.join(GRADED, it) for it in os.listdir(GRADED))],
     ]
 
