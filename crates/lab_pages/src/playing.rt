@@ -10,7 +10,7 @@ use lab_texts::{NumberStyle, ProgramNames};
 use machine::LoadFault;
 use processor::Step;
 use schedule_page::{GraphNames, graph_json, page_of_graph};
-use schedule_space::{Exploration, explore};
+use schedule_space::{Bound, Exploration, explore};
 use std::alloc::{AllocError, Global};
 use std::io::{Read, Write};
 use std::rt::Files;
@@ -93,7 +93,8 @@ fn graph_on<const S: usize, C: Clock, E: Write>(
     let most = request.states.max(1);
     let space = match explore::<S, _>(alloc, image, played.begin, most, watcher) {
         Ok(Exploration::Complete(space)) => space,
-        Ok(Exploration::Bounded(_, _)) => return Err(too_many(alloc, request)?),
+        Ok(Exploration::Bounded(_, Bound::Worlds)) => return Err(too_many(alloc, request)?),
+        Ok(Exploration::Bounded(_, _)) => return Err(LabFault::NoMemory),
         Err(LoadFault::NoMemory | LoadFault::Streams) => return Err(LabFault::NoMemory),
     };
     let style = NumberStyle::Decimal;
