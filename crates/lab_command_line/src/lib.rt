@@ -6,9 +6,12 @@ pub const VERSION: &str = "0.3.0";
 
 mod arguments;
 mod commands;
+mod file_arguments;
 mod help;
+mod many_runs_arguments;
 mod options;
 mod parsers;
 mod reading;
+mod run_arguments;
 
 pub use reading::read_lab_command;

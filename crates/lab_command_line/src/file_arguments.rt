@@ -1,0 +1,31 @@
+//! The arguments of the commands over files alone, in the order of the help.
+
+use crate::arguments::{Argument, Form};
+use crate::help;
+
+/// Of `check`.
+pub(crate) const CHECK_ARGUMENTS: [Argument; 5] = [
+    Argument("FILE", "source texts, images or schedules", Form::Files),
+    Argument(
+        "as",
+        "all are of this kind: source, image or schedule",
+        Form::OptionOf("KIND", &["source", "image", "schedule"]),
+    ),
+    Argument(
+        "program",
+        "the schedules are of this program",
+        Form::Option("PROGRAM"),
+    ),
+    Argument("strict", "warnings count as errors", Form::Flag(&[])),
+    Argument("json", help::JSON, Form::Flag(&[])),
+];
+
+/// Of `asm`.
+pub(crate) const ASM_ARGUMENTS: [Argument; 2] = [
+    Argument("SOURCE", "the source text", Form::Needed),
+    Argument(
+        "out",
+        "the image file [the source's name, with .image]",
+        Form::Option("IMAGE"),
+    ),
+];
