@@ -11,7 +11,7 @@ const wordNode = (x, y, text) => node("word", x, y, text, 10 + 8 * text.length, 
 const edgeHead = (x, y, degrees) =>
   svg("path", { class: "edge-head", d: "M0 0l-10 -5v10z", transform: `translate(${x} ${y}) rotate(${degrees})` });
 
-const waitWords = (wait) => `${wait.stream} waits for ${wordName(wait.word)} of ${wait.by ?? "nobody"}`;
+const waitWords = (wait) => `${wait.stream} waits for ${fullName(wait.word)} of ${wait.by ?? "nobody"}`;
 
 /** A picture of waits, which a screen reader reads as words. */
 const waitPicture = (width, height, waits) =>
@@ -77,7 +77,9 @@ function drawCircle(circle, waiting) {
   waits.forEach((wait, i) => {
     const arc = arcOf(ring, i);
     picture.append(arc.line, arc.head);
-    nodes.push(wordNode(...arc.middle, wordName(wait.word)), streamNode(...ring.spot(i), wait.stream));
+    const word = wordNode(...arc.middle, wordName(wait.word));
+    word.append(svg("title", {}, fullName(wait.word)));
+    nodes.push(word, streamNode(...ring.spot(i), wait.stream));
   });
   const told = ["each arrow: waits for", "this word, which the next took"];
   const [x, y] = [ring.width / 2, ring.height / 2];
