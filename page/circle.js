@@ -45,18 +45,19 @@ function ringOf(count) {
     const by = count > ROOMY ? WITHIN / Math.hypot(right, down) : 0;
     return [x - right * by, y - down * by];
   };
-  return { width, height, rx, ry, spot, within };
+  const head = 0.06 * Math.min(1, count / ROOMY); // of the way to the next node
+  return { width, height, rx, ry, spot, within, head };
 }
 
 /** The arc from node i of a ring to the next one's box, and where the word stands on it. */
-function arcOf({ spot, within, rx, ry }, i) {
+function arcOf({ spot, within, rx, ry, head }, i) {
   const [nextX, nextY] = spot(i + 1);
   const isInBox = ([x, y]) => Math.abs(x - nextX) < 30 && Math.abs(y - nextY) < 18;
   let end = i + 1;
   while (end > i && isInBox(spot(end))) end -= 0.01;
   const [x, y] = spot(i);
   const [tipX, tipY] = spot(end);
-  const [nearX, nearY] = spot(end - 0.06);
+  const [nearX, nearY] = spot(end - head);
   const degrees = (Math.atan2(tipY - nearY, tipX - nearX) * 180) / Math.PI;
   return {
     line: svg("path", { class: "edge", d: `M${x} ${y}A${rx} ${ry} 0 0 1 ${nearX} ${nearY}` }),

@@ -60,9 +60,9 @@ let telling = [];
 function stepThatMatters() {
   const found = Math.max(0, ...run.findings.map(lastOfFinding));
   if (found) return found;
-  const since = (ids) => ids.map((id) => atEnd.waiting.get(id)?.since ?? 0).filter(Boolean);
-  const stuck = isHeldUp() ? since(stuckAtEnd()) : [];
-  return stuck.length ? Math.max(...stuck) : steps.length;
+  const stuck = isHeldUp() ? stuckAtEnd().map((id) => atEnd.waiting.get(id)) : [];
+  // (one that has not tried would wait since the word was turned)
+  return Math.max(0, ...stuck.map(({ since, made }) => since || made)) || steps.length;
 }
 
 function seekMarked(by) {

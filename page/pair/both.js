@@ -16,7 +16,7 @@ const differing = data.difference?.position ?? 0;
 function drawCaption(k, width) {
   const [, title] = endTitle();
   const picture = svg("svg", { class: "pic caption", width, height: CAPTION });
-  const text = svg("text", { class: "side-title", x: 8, y: 17 }, `${k + 1}  ${run.schedule}: ${title}`);
+  const text = svg("text", { class: "side-title", x: 8, y: 17 }, `${run.schedule}: ${title}`);
   const sheet = svg("rect", { class: k === shownSide ? "sheet taken" : "sheet", width, height: CAPTION });
   picture.append(sheet, text);
   return picture;

@@ -4,6 +4,8 @@ pub(crate) const TEXT: &str =
     r#"// ---------------------------------------------------------------- the page of two runs begins
 
 KEYS.o = () => showSide(1 - shownSide);
+byId("keys").querySelector("tbody").append(
+  html("tr", {}, html("td", {}, html("kbd", {}, "o")), html("td", {}, "show the other run")));
 
 /** Gathers what belongs to a run. */
 function makeSide(k) {
