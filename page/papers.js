@@ -29,7 +29,9 @@ function pictureStyle() {
   const rules = [...document.styleSheets[0].cssRules];
   const light = rules.find((rule) => rule.selectorText === ":root").style;
   const own = rules.filter((rule) => rule.selectorText?.startsWith(".pic"));
-  const colour = (_, name) => light.getPropertyValue(name).trim();
+  // (as page.css has it where the end is as expected)
+  const calm = run.expected === true ? { "--lost": "--muted", "--stopped": "--trapped" } : {};
+  const colour = (_, name) => light.getPropertyValue(calm[name] ?? name).trim();
   return own.map((rule) => rule.cssText).join("\n").replace(/var\((--[\w-]+)\)/g, colour);
 }
 

@@ -5,7 +5,7 @@ pub(crate) const TEXT: &str = r#"<!doctype html>
 <head>
 <meta charset="utf-8">
 <meta http-equiv="Content-Security-Policy"
- content="default-src 'none'; script-src 'sha256-c+cV3u/MI6ARFTVrDuw8MiZqepxKrRAbS5NHcoZ+Vbw='; style-src 'sha256-VpY6QsZ5b/Bk55PK2ut2Vz1DUqW/XdjbZnClWibk/W0=';
+ content="default-src 'none'; script-src 'sha256-pSzSw49n5q0v2tSS+BVvNkwcAizVCYwRR3S0W65jLjU='; style-src 'sha256-VpY6QsZ5b/Bk55PK2ut2Vz1DUqW/XdjbZnClWibk/W0=';
  base-uri 'none'; form-action 'none'">
 <meta name="viewport" content="width=device-width, initial-scale=1">
 <meta name="color-scheme" content="light dark">
