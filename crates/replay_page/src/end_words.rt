@@ -24,7 +24,12 @@ pub(crate) fn end_words(
         actions: &run.actions,
     };
     push_end(&mut words, places, run.views.len(), &run.end)?;
-    push_first_finding(&mut words, &telling, found)?;
+    // (it ends its line)
+    words.pop();
+    if found.count() > 0 {
+        words.push_str("; ")?;
+        push_first_finding(&mut words, &telling, found)?;
+    }
     Ok(words)
 }
 
