@@ -39,8 +39,8 @@ fn page_text<F: Files, R: Read>(
         schedule: &schedule,
         verdict: RunVerdict::NotJudged,
     };
-    let Program { text, image, .. } = &run.program;
-    Ok(page_of_run(alloc, names, text, image, &run.steps)?)
+    let program = &run.program;
+    Ok(page_of_run(alloc, names, &program.text, &program.image, &run.steps)?)
 }
 
 /// The page of two runs, the second by this schedule.
@@ -60,8 +60,15 @@ fn pair_text<F: Files, R: Read>(
         one: &one,
         other: &other,
     };
-    let Program { text, image, .. } = &first.program;
-    Ok(page_of_pair(alloc, names, text, image, &first.steps, &second)?)
+    let program = &first.program;
+    Ok(page_of_pair(
+        alloc,
+        names,
+        &program.text,
+        &program.image,
+        &first.steps,
+        &second,
+    )?)
 }
 
 /// A program and the steps by which it runs.
