@@ -1,5 +1,5 @@
 #!/usr/bin/env python3
-"""Puts a page together from the files in this folder: build.py run|play DATA.json OUT.html
+"""Puts a page together from the files in this folder: build.py run|pair|play DATA.json OUT.html
 
 The program does the same by `mta_lab page` and `mta_lab play`. ORDER of a page's folder names the parts of its script,
 a line each, in the order in which they are joined."""
@@ -51,6 +51,8 @@ class Page:
 PAGES = {
     "run": Page("replay_page", ".", "page.html.template", ["base.css", "page.css"], "RUN",
                 lambda run: run["name"] + ", " + run["schedule"]),
+    "pair": Page("replay_page", "pair", "../page.html.template", ["../base.css", "../page.css", "pair.css"], "RUN",
+                 lambda pair: pair["name"] + ", " + pair["schedule"]),
     "play": Page("schedule_page", "play", "play.html.template", ["../base.css", "play.css"], "GRAPH",
                  lambda graph: graph["name"] + ", you are the scheduler"),
 }

@@ -49,43 +49,49 @@ def constant(text):
     return name + ("\n    " if is_long else " ") + value + "\n"
 
 
-def module(page, source, before):
-    """The module of a file's text, or of the next part of it."""
+def module(page, source, text, made):
+    """The module of a file's text, or of a part of it; of two pages that have the same text it is the same."""
+    place = (page.folder / source).resolve().relative_to(HERE.parent)
+    held = f"//! A text of the page: {place}. Made by page/embed.py.\n\n" + constant(text)
     name, _, kind = pathlib.Path(source).name.partition(".")
+    name = f"{name}_{'style' if kind == 'css' else 'script'}"
     if source == page.template:
-        return f"template_{sum(other.startswith('template') for other in before) + 1}"
-    return f"{name}_{'style' if kind == 'css' else 'script'}"
+        parts = [other for other in made if other.startswith("template")]
+        name = next((other for other in parts if made[other] == held), f"template_{len(parts) + 1}")
+    if made.setdefault(name, held) != held:
+        raise ValueError(f"two files would be the module {name}")
+    return name
 
 
-def section(place, names):
-    """The function that adds the texts of a section."""
+def section(kind, place, names):
+    """The function that adds the texts of a section of a page."""
     adds = "?;\n".join(f"    page.push_str({name}::TEXT)" for name in names)
+    which = f"{kind}_{place}" if kind == "pair" else place
+    said = f"{SECTIONS[place]}, on a page of two runs" if kind == "pair" else SECTIONS[place]
     return (
-        f"\n/// Adds what stands {SECTIONS[place]}.\n"
-        + f"pub(crate) fn push_{place}(page: &mut String) -> Result<(), AllocError> {{\n{adds}\n}}\n"
+        f"\n/// Adds what stands {said}.\n"
+        + f"pub(crate) fn push_{which}(page: &mut String) -> Result<(), AllocError> {{\n{adds}\n}}\n"
     )
 
 
-def files(page):
-    """Each file of constants of a page with its text."""
-    made, modules, sections = {}, [], [[]]
-    for source, text in texts(page):
-        if source is None:
-            sections.append([])
-            continue
-        name = module(page, source, modules)
-        modules.append(name)
-        sections[-1].append(name)
-        place = (page.folder / source).resolve().relative_to(HERE.parent)
-        about = f"//! A text of the page: {place}. Made by page/embed.py.\n\n"
-        made[f"parts/{name}.rt"] = about + constant(text)
-    made["parts.rt"] = (
+def files(pages):
+    """Each file of constants of a crate's pages with its text."""
+    made, functions = {}, ""
+    for kind, page in pages.items():
+        sections = [[]]
+        for source, text in texts(page):
+            if source is None:
+                sections.append([])
+            else:
+                sections[-1].append(module(page, source, text, made))
+        functions += "".join(section(kind, *both) for both in zip(SECTIONS, sections, strict=True))
+    parts = (
         "//! The texts of a page. Made by page/embed.py of the files in page/.\n\n"
-        + "".join(f"mod {name};\n" for name in sorted(modules))
+        + "".join(f"mod {name};\n" for name in sorted(made))
         + "\nuse std::alloc::AllocError;\n"
-        + "".join(section(*both) for both in zip(SECTIONS, sections, strict=True))
+        + functions
     )
-    return made
+    return {"parts.rt": parts} | {f"parts/{name}.rt": text for name, text in made.items()}
 
 
 def stale_files(made, source):
@@ -99,11 +105,14 @@ def stale_files(made, source):
 
 
 def main(words):
-    for page in PAGES.values():
-        made, source = files(page), CRATES / page.crate / "src"
+    crates = {}
+    for kind, page in PAGES.items():
+        crates.setdefault(page.crate, {})[kind] = page
+    for crate, pages in crates.items():
+        made, source = files(pages), CRATES / crate / "src"
         for path in stale_files(made, source):
             if words == ["--check"]:
-                print(f"crates/{page.crate}/src/{path}: not what page/embed.py makes")
+                print(f"crates/{crate}/src/{path}: not what page/embed.py makes")
             elif path in made:
                 (source / path).parent.mkdir(exist_ok=True)
                 (source / path).write_text(made[path], encoding="utf-8")

@@ -36,8 +36,14 @@ function waitsTitle() {
   return isDeadlock() ? `Deadlock: ${waits} for ever` : `${waits}, and nobody who has begun can go on`;
 }
 
-/** The end in a line: its sign, and why the run ended so. */
+/** The end in a line: its sign, and why the run ended so. An end that is as expected has no sign of a fault. */
 function endTitle() {
+  const [kind, title] = titleOfEnd();
+  if (run.expected === undefined) return [kind, title];
+  return [run.expected ? "finished" : kind === "deadlock" ? kind : "bad", title];
+}
+
+function titleOfEnd() {
   const { kind, stopped, quit } = run.end;
   const n = times(steps.length, "1 step", "steps");
   const found = foundText();
@@ -87,9 +93,18 @@ function waitItems(waiting) {
   });
 }
 
+/** Whether the end is as expected, where something was. */
+function judgedItems() {
+  if (run.expected === undefined) return [];
+  if (run.expected) return [["As expected."]];
+  return [[html("b", { class: "lost" }, "Not as expected"), run.missed ? `: ${run.missed}.` : "."]];
+}
+
 function endItems() {
   const { waiting, stopped } = run.end;
-  const items = run.findings.slice(0, FINDINGS_SHOWN).map((finding) => findingText(finding, false));
+  const items = judgedItems();
+  const found = run.findings.slice(0, FINDINGS_SHOWN).map((finding) => findingText(finding, false));
+  items.push(...found);
   const more = run.findings.length - FINDINGS_SHOWN;
   if (more > 0) items.push([`.. and ${times(more, "one more finding", "more findings")}.`]);
   const waits = waitItems(waiting);
@@ -109,13 +124,9 @@ function endPicture() {
   return rows.length <= ROWS_MOST ? [drawWaitRows(rows)] : [];
 }
 
-function showEnd() {
+/** The end's title, a heading of some kind, and the rest of it as a list. */
+function endWords(heading) {
   const [kind, title] = endTitle();
-  byId("end").replaceChildren(
-    html("div", { class: "words" },
-      html("p", { class: "name" }, html("b", {}, run.name), ` by ${run.schedule}`),
-      html("h1", { class: kind }, title),
-      html("ul", {}, ...endItems().map((item) => html("li", {}, ...item)))),
-    ...endPicture(),
-  );
+  const list = html("ul", {}, ...endItems().map((item) => html("li", {}, ...item)));
+  return [html(heading, { class: kind }, title), list];
 }

@@ -5,8 +5,8 @@
 const RULER = 24, LANE = 32, CELL = 22, WORD = 46, BAR = 18, ROW = 19, HEAD = 158;
 const SMALL_LETTER = 6; // pixels that a letter of the small texts takes
 const ROWS = 4; // of brackets below a word, at most
-const lanes = [];
-const laneOf = new Map(); // stream name or word address: its lane
+let lanes = [];
+let laneOf = new Map(); // stream name or word address: its lane
 
 const findingsAt = (word) => run.findings.filter((finding) => wordsOf(finding).includes(word));
 
@@ -33,6 +33,7 @@ function placedBrackets(word) {
 }
 
 function makeLanes() {
+  [lanes, laneOf] = [[], new Map()];
   let y = 0;
   const add = (key, lane) => {
     laneOf.set(key, { key, y, ...lane });
@@ -52,6 +53,7 @@ function makeLanes() {
 }
 
 let endRoom = 0; // pixels behind the last step
+let chartTop = 0; // pixels above the run's lanes on the chart
 
 /** The room that the texts behind the last step take. */
 function roomBehind() {
@@ -129,20 +131,22 @@ function tornLine(width) {
 // ---------------------------------------------------------------- texts of cells
 
 const LETTER = 6.4, TINY_LETTER = 5.2; // pixels that a letter in a cell takes
-const isWorthALetter = (step, name) => step.ref || /^(QUIT|CREATE)/.test(name);
 
 /** The room for letters in a step's cell: beside the bars where it was blocked. */
 const roomIn = (step, width) => width - cellGap(width) - (step.o === "blocked" ? 18 : 1);
 
-/** What a cell has room for: the operation's whole name, else its initial with its suffix: LOAD.N is never LOAD. */
+/**
+ * What a cell has room for: the operation's whole name, else its initial with its suffix: LOAD.N is never LOAD. A name
+ * without a suffix is cut to two letters, or to one.
+ */
 function cellTexts(step, width) {
   const name = mnemonic(step);
   const room = roomIn(step, width);
   if (name.length * LETTER <= room) return name ? [name] : [];
-  if (!isWorthALetter(step, name)) return [];
   const [, suffix] = name.split(".");
   if (suffix && LETTER * 3 <= room) return [`${name[0]}.${suffix}`];
   if (suffix) return TINY_LETTER * 2 <= room && step.o === "done" ? [name[0], `.${suffix}`] : [];
+  if (LETTER * 2 <= room) return [name.slice(0, 2)];
   return LETTER <= room ? [name[0]] : [];
 }
 

@@ -20,8 +20,9 @@ function show() {
 }
 
 function goTo(position) {
-  putInPlace(Math.min(steps.length, Math.max(0, position)));
-  history.replaceState(null, "", `#${view.position}${view.stream ? `.${view.stream}` : ""}`);
+  const aim = Math.min(steps.length, Math.max(0, position));
+  perRun(() => putInPlace(Math.min(steps.length, aim)));
+  history.replaceState(null, "", `${stepHash(view.position)}${view.stream ? `.${view.stream}` : ""}`);
   show();
 }
 
@@ -32,8 +33,9 @@ function choose(what) {
 
 /** Goes to the position of a link, #17, and keeps its stream, #17.2.0. */
 function followLink() {
-  const [, position, stream] = location.hash.match(/^#(\d+)(?:\.(\d+\.\d+))?$/) ?? [];
+  const [, mark, position, stream] = location.hash.match(/^#(\d-)?(\d+)(?:\.(\d+\.\d+))?$/) ?? [];
   if (position === undefined) return false;
+  takeMarked(mark);
   if (stream && allStreams.includes(stream)) view.stream = stream;
   goTo(Number(position));
   return true;
@@ -52,7 +54,16 @@ function tellingSteps() {
   const all = new Set([...ofWaits, ...inFinding, ...numbersOf((step) => /^(trapped|stopped)/.test(step.o))]);
   return [...all].filter(Boolean).sort((a, b) => a - b);
 }
-const telling = tellingSteps();
+let telling = [];
+
+/** The step that matters: the last in which something was found, or that from which on nobody who had begun goes on. */
+function stepThatMatters() {
+  const found = Math.max(0, ...run.findings.map(lastOfFinding));
+  if (found) return found;
+  const stuck = isHeldUp() ? stuckAtEnd().map((id) => atEnd.waiting.get(id)) : [];
+  // (one that has not tried would wait since the word was turned)
+  return Math.max(0, ...stuck.map(({ since, made }) => since || made)) || steps.length;
+}
 
 function seekMarked(by) {
   if (view.line) goTo(seek(numbersOf((step) => stepLine(step) === view.line), by));
@@ -135,7 +146,7 @@ function onKey(event) {
 function onChart(event) {
   const area = scroller.getBoundingClientRect();
   const column = columns[Math.floor((event.clientX - area.left + scroller.scrollLeft) / cellWidth)];
-  const y = event.clientY - area.top;
+  const y = event.currentTarget.id === "numbers" ? -1 : takeAt(event.clientY - area.top);
   const lane = y < 0 ? undefined : lanes.find((one) => y >= one.y && y < one.y + one.height);
   if (!column) return;
   if (column.to > column.from) openFold(column);
@@ -177,14 +188,21 @@ function listen() {
 
 // ---------------------------------------------------------------- the start
 
-byId("slider").max = steps.length;
-makeColumns();
-makeLanes();
-makeHeads();
-makeLegend();
-showLines(0);
-showEnd();
-showWaits();
-listen();
-fit();
-if (!followLink()) goTo(steps.length);
+/** Gathers what belongs to the run, and makes its columns and lanes. */
+function makeRun() {
+  gather();
+  [opened, wordKeys, telling] = [new Set(), listedWords(), tellingSteps()];
+  makeColumns();
+  makeLanes();
+}
+
+/** Shows what does not depend on the position. */
+function begin() {
+  byId("slider").max = steps.length;
+  makeLegend();
+  showLines(0);
+  showEnd();
+  showWaits();
+  listen();
+  fit();
+}

@@ -81,7 +81,7 @@ function listedWords() {
   const all = new Set([...named, ...wordStates.keys(), ...stepsAt.keys()]);
   return [...all].filter((address) => startWords[address / 8]).sort((a, b) => a - b);
 }
-const wordKeys = listedWords();
+let wordKeys = []; // the words that are listed
 
 /** Word to the streams that wait for it here. */
 function waitersHere() {

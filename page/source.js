@@ -2,7 +2,7 @@
 
 const LINES_SHOWN = 400;
 const LINE_SHOWN = 300; // letters of a line
-const linesWithWords = new Set(run.program.map(([line]) => line));
+const linesWithWords = new Set(head.program.map(([line]) => line));
 let lineRows = []; // of the lines in the window
 let lineFrom = 0; // how many lines stand before the window
 
@@ -26,10 +26,10 @@ const moreLines = (first, last, by) =>
 
 /** Shows the lines from some line on: as many as the window has. */
 function showLines(from) {
-  const all = run.source.length;
+  const all = head.source.length;
   const least = Math.max(0, all - LINES_SHOWN);
   lineFrom = Math.max(0, Math.min(from, least));
-  const shown = run.source.slice(lineFrom, lineFrom + LINES_SHOWN);
+  const shown = head.source.slice(lineFrom, lineFrom + LINES_SHOWN);
   lineRows = shown.map(sourceRow);
   const nodes = lineRows.map((entry) => entry.node);
   const behind = lineFrom + shown.length;

@@ -19,20 +19,22 @@ function changeText([place, before, now]) {
   return /^(r|t)\d+$|^xr$/.test(what) ? `${what} ${number(before)} → ${number(now)}` : null;
 }
 
-function changesText(step) {
+/** The changes of a step in words, none of which is broken over lines. */
+function changesTexts(step) {
   // A stream that ends loses all it held: its registers are not listed.
   const isEnd = step.ch.some(([place, , now]) => place.endsWith(".status") && now === "idle");
   const own = isEnd ? step.ch.filter(([place]) => place[0] === "[") : step.ch;
-  return [readText(step), ...own.map(changeText), isEnd && "the stream ends"].filter(Boolean).join(", ");
+  const texts = [readText(step), ...own.map(changeText), isEnd && "the stream ends"].filter(Boolean);
+  return texts.flatMap((text, i) => [...(i ? [", "] : []), whole(text)]);
 }
 
 function stepRow(step, n) {
-  const link = html("a", { href: `#${n}` }, String(n));
+  const link = html("a", { href: stepHash(n) }, String(n));
   return html("tr", { id: `row-${n}` },
     html("th", { scope: "row" }, link),
     ...cells(step.who, stepPlace(step), cut(stepStatement(step), STATEMENT_SHOWN)),
     html("td", { class: `outcome ${sign(step)}` }, step.o),
-    ...cells(changesText(step)));
+    html("td", {}, ...changesTexts(step)));
 }
 
 /** Shows the rows from some step on: as many as the table has. */

@@ -1,7 +1,7 @@
 // ---------------------------------------------------------------- what is told in words: waits, outcomes, findings
 
 const changed = (before, now) =>
-  html("span", { class: "change" }, number(before), " → ", html("b", {}, number(now)));
+  html("span", { class: "change" }, whole(number(before)), " → ", html("b", {}, number(now)));
 
 /** What a wait is for, and who made it wait, as it stands after step n; `since` names its first try. */
 function waitText(wait, n, since) {

@@ -1,7 +1,7 @@
 // ---------------------------------------------------------------- the world at a position
 
-const world = new Map(Object.entries(run.start.places));
-const startWords = run.start.memory.flatMap(([count, value, tags]) => Array(count).fill([value, tags]));
+let world; // place: what stands there, of all that isn't 0
+const startWords = head.start.memory.flatMap(([count, value, tags]) => Array(count).fill([value, tags]));
 const get = (place, absent = "0") => world.get(place) ?? absent;
 
 function wordAt(address) {
@@ -25,11 +25,14 @@ const changesHere = () =>
 
 // ---------------------------------------------------------------- what the lanes need, gathered once
 
-const stepsOf = new Map(); // stream: its steps
-const stepsAt = new Map(); // word: the steps that refer to it
-const waitsOf = new Map(); // stream: its waits
-const lives = new Map(); // stream: [from, to] where it is not idle
-const wordStates = new Map(); // word: [step, value, tags], the first of step 0
+let stepsOf; // stream: its steps
+let stepsAt; // word: the steps that refer to it
+let waitsOf; // stream: its waits
+let lives; // stream: [from, to] where it is not idle
+let wordStates; // word: [step, value, tags], the first of step 0
+let inFinding; // the steps of findings
+let allStreams; // their names, in order
+let atEnd; // who waits, was stopped, has quit or could go on at the end
 
 /** The states of a word, in the order of the steps that made them. */
 function statesOf(address) {
@@ -50,6 +53,8 @@ function gatherChange(n, [place, before, now]) {
 }
 
 function gather() {
+  world = new Map(Object.entries(head.start.places));
+  [stepsOf, stepsAt, waitsOf, lives, wordStates] = Array.from({ length: 5 }, () => new Map());
   for (const place of world.keys()) {
     if (place.endsWith(".status")) lives.set(place.slice(0, -".status".length), [[0, Infinity]]);
   }
@@ -65,6 +70,10 @@ function gather() {
   }
   for (const { word } of run.end.waiting) statesOf(word);
   for (const finding of run.findings) for (const word of wordsOf(finding)) statesOf(word);
+  inFinding = new Set(run.findings.flatMap(stepsOfFinding));
+  allStreams = inOrder([...new Set([...lives.keys(), ...stepsOf.keys()])]);
+  const { waiting, stopped, quit, able } = run.end;
+  atEnd = { waiting: byStream(waiting), stopped: byStream(stopped), quit: new Set(quit), able: new Set(able) };
 }
 
 const wordsOf = (finding) => (finding.kind === "torn" ? [finding.stale, finding.fresh] : [finding.word]);
@@ -77,9 +86,6 @@ function stepsOfFinding(finding) {
 
 /** The step in which what was found is done: the store, or the second of the torn reads. */
 const lastOfFinding = (finding) => (finding.kind === "torn" ? Math.max(...finding.reads) : finding.stored);
-
-gather();
-const inFinding = new Set(run.findings.flatMap(stepsOfFinding));
 
 /** In a list in the order of steps: the index of the last entry that is not behind step n, -1 where there is none. */
 function lastUpTo(list, n, stepOf) {
@@ -112,15 +118,7 @@ function turnedIn(address, n) {
   return states[i][0];
 }
 
-const allStreams = inOrder([...new Set([...lives.keys(), ...stepsOf.keys()])]);
-
 const byStream = (list) => new Map(list.map((one) => [one.stream, one]));
-
-/** Who waits, was stopped, has quit or could go on at the end. */
-const atEnd = {
-  waiting: byStream(run.end.waiting), stopped: byStream(run.end.stopped),
-  quit: new Set(run.end.quit), able: new Set(run.end.able),
-};
 
 /** The stream that is told at the right: the one that was chosen, else that of the step. */
 const shownStream = () => view.stream ?? steps[view.position - 1]?.who ?? allStreams[0];

@@ -8,10 +8,10 @@ _mta_lab_options() {
     view) echo '--fair --seed --steps --from --to --only --word --columns --hex --json' ;;
     compare) echo '--seeds --steps --hex --json' ;;
     survey) echo '--seeds --from --steps --expect --explore --states --seconds --memory --hex --json' ;;
-    explore) echo '--expect --from --states --seconds --memory --plain --keep --dot --hex --json' ;;
+    explore) echo '--expect --from --states --seconds --memory --plain --keep --pages --dot --hex --json' ;;
     grade) echo '--expect --cases --given --seeds --steps --all --explore --states --seconds --memory --jobs --no-links --format --hex --json' ;;
     debug) echo '--fair --seed --steps' ;;
-    page) echo '--fair --rounds --seed --steps --title --out' ;;
+    page) echo '--seeds --fair --rounds --seed --steps --title --out' ;;
     picture) echo '--fair --rounds --seed --steps --from --to --title --out' ;;
     play) echo '--expect --from --states --title --goal --out' ;;
     asm) echo '--out' ;;

@@ -68,6 +68,7 @@ def writers(source, path):
     return [
         (["asm", source, "--out", path], b""),
         (["page", source, "--out", path], b""),
+        (["page", source, "--seeds", "0", "1", "--out", path], b""),
         (["picture", source, "--steps", "50", "--out", path], b""),
         (["debug", source], b"save " + os.fsencode(path) + b"\nquit\n"),
     ]
@@ -208,34 +209,45 @@ def edited(tally, folder):
     tally.check("debug leaves an edited source", read(path) == b"; edited\n" + read(LOCK))
 
 
+# the options of `explore` that write a file for each end into a folder, each with the name of the first
+FOLDERS = (("--keep", "1.schedule"), ("--pages", "1_finished.html"))
+
+
 def kept_over_inputs(tally, folder):
-    """`explore --keep` leaves the schedule, the program and the expectations that it has read, and prints the ends."""
+    """`explore --keep` and `--pages` leave the schedule, the program and the expectations that they have read, and print
+    the ends."""
+    for option, first in FOLDERS:
+        kept_over(tally, folder, option, first)
+
+
+def kept_over(tally, folder, option, first):
+    """The same of one of these options."""
     for name, words in (
-        ("1.schedule", ["--from", "1.schedule"]), ("from", ["--from", "from"]), ("wanted", ["--expect", "wanted"]),
+        (first, ["--from", first]), ("from", ["--from", "from"]), ("wanted", ["--expect", "wanted"]),
         ("one.asm", []),
     ):
         at = room(folder, "kept")
         write(at, "one.asm", ONE)
-        write(at, "1.schedule", b"0 0\n")
+        write(at, first, b"0 0\n")
         write(at, "from", b"0 0\n")
         write(at, "wanted", b"finished\n")
-        if name != "1.schedule":
-            os.unlink(os.path.join(at, "1.schedule"))
-            os.link(os.path.join(at, name), os.path.join(at, "1.schedule"))
+        if name != first:
+            os.unlink(os.path.join(at, first))
+            os.link(os.path.join(at, name), os.path.join(at, first))
         before = seen(at)
         printed = within(at, ["explore", "one.asm", *words]).out
-        ended = within(at, ["explore", "one.asm", *words, "--keep", "."])
+        ended = within(at, ["explore", "one.asm", *words, option, "."])
         tally.runs += 1
-        named = b"1.schedule: not written: " in ended.err and name.encode() in ended.err
-        tally.check(f"explore over {name}: {ended}", (ended.status, ended.out) == (1, printed) and named)
+        named = first.encode() + b": not written: " in ended.err and name.encode() in ended.err
+        tally.check(f"explore {option} over {name}: {ended}", (ended.status, ended.out) == (1, printed) and named)
         tally.check(f"explore leaves {name}", seen(at) == before)
     at = room(folder, "kept")
     one = write(folder, "one.asm", ONE)
-    with open(os.path.join(at, "1.schedule"), "wb") as printed:
-        ended = lab(["explore", one, "--keep", at], output=printed)
+    with open(os.path.join(at, first), "wb") as printed:
+        ended = lab(["explore", one, option, at], output=printed)
     tally.runs += 1
     tally.check(f"explore over its output: {ended}", b": not written: " in ended.err and b"standard output" in ended.err)
-    tally.check("explore leaves its output", read(os.path.join(at, "1.schedule")) == lab(["explore", one]).out)
+    tally.check("explore leaves its output", read(os.path.join(at, first)) == lab(["explore", one]).out)
 
 
 def drawn_over_inputs(tally, folder):
@@ -388,29 +400,37 @@ def protected(tally, folder):
 
 
 def kept(tally, folder):
-    """`explore --keep` makes its folder once the search is done, and prints the ends whatever becomes of the files."""
+    """`explore --keep` and `--pages` make their folder, and print the ends whatever becomes of the files."""
+    for option, first in FOLDERS:
+        kept_by(tally, folder, option, first)
+
+
+def kept_by(tally, folder, option, first):
+    """The same of one of these options."""
     one = write(folder, "one.asm", ONE)
     printed = lab(["explore", one]).out
     at = room(folder, "kept")
     new = os.path.join(at, "new")
-    ended = lab(["explore", one, "--keep", new])
+    ended = lab(["explore", one, option, new])
     tally.check(f"explore into a new folder: {ended}", (ended.status, ended.out, ended.err) == (0, printed, b""))
-    tally.check("the schedule is there", os.path.isdir(new) and read(os.path.join(new, "1.schedule")) == b"0 0 3\n")
+    tally.check(f"{first} is there", os.path.isdir(new) and os.listdir(new) == [first])
+    is_right = first != "1.schedule" or read(os.path.join(new, first)) == b"0 0 3\n"
+    tally.check(f"{first} has the schedule", is_right)
     shutil.rmtree(new, ignore_errors=True)
-    ended = lab(["explore", write(folder, "faulty.asm", b"nothing\n"), "--keep", new])
+    ended = lab(["explore", write(folder, "faulty.asm", b"nothing\n"), option, new])
     tally.check(f"explore of a faulty program: {ended}", ended.status == 1 and os.listdir(at) == [])
     write(at, "file", b"before")
     os.mkdir(os.path.join(at, "closed"))
     os.chmod(os.path.join(at, "closed"), 0o555)
     os.mkdir(os.path.join(at, "taken"))
-    os.mkdir(os.path.join(at, "taken/1.schedule"))
+    os.mkdir(os.path.join(at, "taken", first))
     before = seen(at)
     for name in ("file", "none/new", "closed", "closed/new", "taken", "file/new"):
         for how in ([], ["--json"]):
-            ended = lab(["explore", one, *how, "--keep", os.path.join(at, name)], setup=as_nobody)
+            ended = lab(["explore", one, *how, option, os.path.join(at, name)], setup=as_nobody)
             tally.runs += 1
             whole = ended.out == lab(["explore", one, *how]).out
-            tally.check(f"explore into {name}: {ended}", ended.status == 1 and whole and ended.err.startswith(b"mta_lab: "))
+            tally.check(f"explore {option} into {name}: {ended}", ended.status == 1 and whole and ended.err.startswith(b"mta_lab: "))
             tally.check(f"explore says {name}", name.encode() in ended.err and seen(at) == before)
 
 

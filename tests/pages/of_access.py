@@ -62,7 +62,7 @@ def by_keyboard(page):
 
 
 def by_reader(page):
-    page.open("reader", runs.example(page.folder, "philosophers.deadlock"))
+    page.open("reader", runs.example(page.folder, "philosophers.deadlock"), "#27")
     page.painted()
     told = tree(page)
     roles = {role for role, _ in told}

@@ -12,7 +12,7 @@ LEFT, RIGHT, HOME, END, ESCAPE = Keys.ARROW_LEFT, Keys.ARROW_RIGHT, Keys.HOME, K
 
 def keys(page):
     page.open("keys", runs.example(page.folder, "lock.lost_update"))
-    tally.same("the page opens at the end", page.position(), 8)
+    tally.same("the page opens at the step that loses the update", page.position(), 7)
     for pressed, wanted in (((HOME,), 0), ((RIGHT,), 1), ((RIGHT, RIGHT), 3), ((LEFT,), 2), ((END,), 8), ((RIGHT,), 8),
                             ((HOME, LEFT), 0), ((Keys.SPACE, Keys.SPACE), 0)):
         page.press(*pressed)
@@ -82,7 +82,7 @@ def links(page):
     tally.same("a link to a position and a stream", (page.position(), page.text("#stream h2").split()[1]), (3, "2.0"))
     page.open("links", text, "#6")
     tally.same("a link to a position", (page.position(), page.text("#stream h2").split()[1]), (6, "3.0"))
-    for fragment, wanted in (("#999", 8), ("#0", 0), ("#nothing", 8), ("#4.99.99", 4)):
+    for fragment, wanted in (("#999", 8), ("#0", 0), ("#nothing", 7), ("#4.99.99", 4)):
         page.open("links", text, fragment)
         tally.same(f"a link {fragment}", page.position(), wanted)
     page.go("2")
@@ -177,6 +177,56 @@ def findings(page):
     page.quiet("findings")
 
 
+def opening(page):
+    """The step at which a page opens: the last with a finding, or that from which on nobody can go on, else the last."""
+    for name, wanted in (("readers_writer.torn_read", 6), ("philosophers.deadlock", 26), ("barrier.mixes_rounds", None),
+                         ("lock.ends", 13)):
+        page.open("opening", text := runs.example(page.folder, name))
+        run = runs.run_of(text)
+        if wanted is None:
+            wanted = max(wait["since"] for wait in run["end"]["waiting"])
+        tally.same(f"{name}: where it opens", page.position(), wanted)
+    ring = made_runs.ring(5)
+    page.open("opening", runs.page(ring))
+    tally.same("a circle: where it opens", page.position(), max(wait["since"] for wait in ring["end"]["waiting"]))
+
+
+def folded(page):
+    """Tries in vain, four or more in a row after the first, share a column; others don't."""
+    run = runs.sample("lock.ends")
+    tried = run["steps"][2]
+    assert tried["o"] == "blocked"
+    again = [{**tried, "ch": []} for _ in range(6)]
+    run["steps"][3:3] = again
+    for wait in run["waits"]:
+        wait["tries"] += 6
+        for key in ("from", "to", "met"):
+            wait[key] += 6 if (wait[key] or 0) > 3 else 0
+    page.open("folded", runs.page(run), "#5")
+    page.painted()
+    tally.same("six tries share a column", page.script("return [columns.length, columnOf[4], columnOf[9]]"),
+               [len(run["steps"]) - 5, 3, 3])
+    texts = [text.text for text in page.all("#picture .cell text.in")]
+    tally.check("the cell says how many", "×6" in texts, texts)
+    tally.same("the position stays a step's", page.position(), 5)
+    page.press(Keys.ENTER)
+    tally.same("Enter opens them", page.script("return columns.length"), len(run["steps"]))
+    page.press("f")
+    tally.same("f folds them", page.script("return columns.length"), len(run["steps"]) - 5)
+    page.quiet("folded tries")
+
+
+def judged(page):
+    """A page that says whether the end is as expected: then no sign of a fault."""
+    run = runs.sample("limited_wait")
+    for more, kind, words in (({}, "bad", "Stopped by a trap"), ({"expected": True}, "finished", "As expected."),
+                              ({"expected": False, "missed": "word 0 3"}, "bad", "Not as expected: word 0 3.")):
+        page.open("judged", runs.page({**run, **more}))
+        tally.same(f"{more}: the sign of the end", page.one("h1").get_attribute("class"), kind)
+        tally.check(f"{more}: the end in words", words in page.text("#end"), page.text("#end"))
+    page.quiet("a judged end")
+
+
 def skipped(page):
     """A step of a stream that does not run."""
     run = runs.sample("lock.lost_update")
@@ -218,5 +268,5 @@ def suffixes(page):
 
 
 def part(page):
-    for one in (keys, width_keys, buttons, links, clicks, waits, ends, findings, skipped, suffixes):
+    for one in (keys, width_keys, buttons, links, clicks, waits, ends, findings, opening, folded, judged, skipped, suffixes):
         one(page)

@@ -6,6 +6,7 @@ import of_controls
 import of_files
 import of_firefox
 import of_hostile
+import of_pairs
 import of_pictures
 import of_play
 import of_sizes
@@ -19,6 +20,7 @@ ALL = {
     "controls": of_controls.part,
     "access": of_access.part,
     "pictures": of_pictures.part,
+    "pairs": of_pairs.part,
     "play": of_play.part,
     "hostile": of_hostile.part,
     "sizes": of_sizes.part,

@@ -1,5 +1,5 @@
 """Pages and pictures of runs: the run in a page against what `view` tells of it, waits that are worked out anew from its
-steps, the policy, and texts of a program that look like markup."""
+steps, two runs in a page, the pages of the ends of `explore`, the policy, and texts of a program that look like markup."""
 
 import base64
 import glob
@@ -95,6 +95,75 @@ def waits_of(run):
     return waits
 
 
+# pairs of runs, by a program's name and two schedules, or two seeds
+PAIRS = (
+    ("lock", "lock.ends.schedule", "lock.lost_update.schedule"),
+    ("readers_writer", "readers_writer.ends.schedule", "readers_writer.torn_read.schedule"),
+    ("lock", "lock.ends.schedule", "lock.ends.schedule"),
+    ("lock", "3", "8", "--seeds"),
+    ("philosophers", "1", "2", "--seeds", "--steps", "30"),
+)
+
+
+@checks.others("pages/pairs")
+def pairs():
+    """Of two runs in a page each is as in a page of its own, and they differ where `compare` says it."""
+    for name, *words in PAIRS:
+        yield " ".join([name, *words]), lambda name=name, words=words: pair_as_compared(f"{name}.asm", *words)
+
+
+def pair_as_compared(source, one, other, *options):
+    page = written("page", source, one, other, *options)[1]
+    pair = run_in(page)
+    told = [json.loads(line) for line in lab("compare", source, one, other, *options, "--json").out.splitlines()]
+    difference = next((value for value in told if value["object"] == "difference"), None)
+    names = [f"the random schedule of seed {seed}" for seed in (one, other)] if options else [one, other]
+    ways = [["--seed", it, *options[1:]] if options else [it] for it in (one, other)]
+    alone = [run_in(written("page", source, *way)[1]) for way in ways]
+    parts = ("steps", "waits", "findings", "end")
+    wanted = {key: alone[0][key] for key in ("version", "name", "source", "program", "data", "start")}
+    wanted |= {"object": "pair", "schedule": " and ".join(names), "difference": difference, "runs": [
+        {"schedule": name, **{part: run[part] for part in parts}} for name, run in zip(names, alone)]}
+    return json.dumps(wanted, sort_keys=True), json.dumps(pair, sort_keys=True)
+
+
+# searches, each by the words behind `explore`, with the file of what is wished where it has one
+SEARCHES = {
+    "lock.asm": (("lock.asm",), None),
+    "race, judged": (("grading/submissions/racing.asm",), b"word 8 4\nnever word 8 is 3\n"),
+    "deadlock, judged": (("grading/submissions/never_given_back.asm",), b"word 8 4\n"),
+}
+
+
+@checks.others("pages/ends")
+def ends():
+    """The page of each end of a search: its name, its steps, and whether the end is as expected."""
+    for name, (words, wished) in SEARCHES.items():
+        yield name, lambda words=words, wished=wished: pages_of_ends(words, wished)
+
+
+def pages_of_ends(words, wished):
+    with tempfile.TemporaryDirectory(prefix="mta-case-") as folder, tool.made_files(wished=wished or b"") as paths:
+        made = os.path.join(folder, "new")
+        words = [*words, *(["--expect", paths["wished"]] if wished else [])]
+        _, *told = map(json.loads, lab("explore", *words, "--pages", made, "--json").out.splitlines())
+        got = {name: run_in(tool.read(os.path.join(made, name)).decode()) for name in sorted(os.listdir(made))}
+    ends = [end for end in told if end["object"] == "search_end"]
+    wanted = {f"{number}_{end['end']}.html": judged_as(end, wished) for number, end in enumerate(ends, start=1)}
+    return wanted, {name: (steps_in(run), run.get("expected"), run.get("missed")) for name, run in got.items()}
+
+
+def judged_as(end, wished):
+    """The steps to an end; whether it is as expected, and the line that says that it is not."""
+    steps = [f"{p}.{s}" for p, s, count in end["schedule"] for _ in range(count)]
+    line = end["missed"] or end["claim"]
+    return steps, end["expected"] if wished else None, line["text"] if line else None
+
+
+def steps_in(run):
+    return [f"{step['p']}.{step['s']}" for step in run["steps"]]
+
+
 @checks.others("pages/findings")
 def findings():
     """Runs of which it was worked out by hand what went wrong in them; steps count from 1."""
@@ -115,6 +184,8 @@ def safety():
     """A program whose texts look like markup and like the places of the page."""
     yield "hostile", hostile
     yield "one page for all", lambda: (frame(written("page", "lock.asm")[1]), frame(written("page", "future.asm")[1]))
+    said = "the random schedule of seed 0 and the random schedule of seed 1"
+    yield "hostile, two runs", lambda: hostile("0", "1", "--seeds", said=said)
 
 
 def frame(page):
@@ -122,17 +193,17 @@ def frame(page):
     return re.sub(r"<title>.*?</title>|(?<=id=\"run\">).*?(?=</script>)", "", page, flags=re.DOTALL)
 
 
-def hostile():
+def hostile(*words, said="a fair schedule"):
     title = "</title><script>'\"&@RUN@"
     with tool.made_files(source=HOSTILE.encode()) as paths:
-        ended, page, made = written("page", paths["source"], "--title", title)
+        ended, page, made = written("page", paths["source"], *words, "--title", title)
     if ended.status or ended.out or ended.err or made != ["made"]:
         return True, (ended.status, ended.out, ended.err, made)
     told = re.search(r"<title>(.*?)</title>", page).group(1)
     script = re.search(r"<script>(.*?)</script>", page, re.DOTALL).group(1)
     style = re.search(r"<style>(.*?)</style>", page, re.DOTALL).group(1)
     policy = re.search(r'Content-Security-Policy"\s+content="(.*?)"', page, re.DOTALL).group(1)
-    wanted = (f"{title}, a fair schedule", HOSTILE.splitlines(), 2, 1, True)
+    wanted = (f"{title}, {said}", HOSTILE.splitlines(), 2, 1, True)
     hashes = all(f"'sha256-{base64.b64encode(hashlib.sha256(text.encode()).digest()).decode()}'" in policy
                  for text in (script, style))
     run = run_in(page)

@@ -2,6 +2,7 @@
 #![tactic(auto)]
 
 mod answer;
+mod file_names;
 mod inputs;
 mod json_lines;
 mod lab_fault;
@@ -16,6 +17,7 @@ mod stars;
 
 pub use answer::Answer;
 pub use end_kinds::Status;
+pub use file_names::{file_name, stem_of};
 pub use inputs::Inputs;
 pub use json_lines::push_object;
 pub use lab_fault::LabFault;

@@ -94,6 +94,9 @@ word ADDRESS is|above|below VALUE, word ADDRESS full|empty, or at most N of P.S 
 above and below compare signed where VALUE has a sign (-1, +3), or signed stands behind it
 (below 0 signed); else a word is a number from 0 on, so that -1 is above 5 and none is below 0.
 
+With --keep FOLDER the schedule to each end is written as FOLDER/1.schedule and so on, and with
+--pages FOLDER the page of its run (mta_lab page --help), as FOLDER/1_deadlock.html and so on.
+
 With --dot FILE the worlds are also written as a graph for Graphviz, up to 2000 of them: each coloured
 by the ends that can still be reached from it, the schedules to the ends bold. It has the worlds that
 were looked at, so use --plain to see all.
@@ -130,8 +133,12 @@ Writes a page that shows a run, for a browser: the lanes of streams and words ov
 source, each step forwards and backwards, who waits for whom, what was lost. The page is one
 file, which needs no network. A run has up to 100000 steps there.
 
-Example:
-  mta_lab page lock.asm lock.lost_update.schedule --out lock.html";
+With OTHER the page shows two runs of the program, one above the other, up to 50000 steps each:
+it opens where they first differ. With --seeds both are random schedules of these seeds.
+
+Examples:
+  mta_lab page lock.asm lock.lost_update.schedule --out lock.html
+  mta_lab page lock.asm --seeds 3 8 --out both.html";
 
 pub(crate) const PICTURE: &str = "\
 Writes the lanes of a run as a picture, an SVG file: a lane a stream and a lane a word over
@@ -160,6 +167,9 @@ pub(crate) const FAIR: &str = "the processors step in turn, and within each its 
 
 pub(crate) const SCHEDULE_FILE: &str =
     "its schedule: lines of processor, stream and number of steps, or * until it is blocked";
+
+pub(crate) const PAGE_SCHEDULE: &str =
+    "its schedule: lines of processor, stream and number of steps, or * until it is blocked; with --seeds its seed";
 
 pub(crate) const STEPS: &str = "the most steps of a made schedule, 1 to 1000000 [10000]";
 

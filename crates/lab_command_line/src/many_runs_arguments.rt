@@ -46,7 +46,7 @@ pub(crate) const SURVEY_ARGUMENTS: [Argument; 11] = [
 ];
 
 /// Of `explore`.
-pub(crate) const EXPLORE_ARGUMENTS: [Argument; 11] = [
+pub(crate) const EXPLORE_ARGUMENTS: [Argument; 12] = [
     Argument("PROGRAM", help::PROGRAM, Form::Needed),
     Argument("expect", help::EXPECT, Form::Option("FILE")),
     Argument("from", help::BEGIN, Form::Option("SCHEDULE")),
@@ -61,6 +61,11 @@ pub(crate) const EXPLORE_ARGUMENTS: [Argument; 11] = [
     Argument(
         "keep",
         "writes the schedule to each end into this folder",
+        Form::Option("FOLDER"),
+    ),
+    Argument(
+        "pages",
+        "writes the page of the run to each end into this folder",
         Form::Option("FOLDER"),
     ),
     Argument(

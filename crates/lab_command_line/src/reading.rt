@@ -21,33 +21,45 @@ pub fn read_lab_command<'a, S: AsStr>(
     line: &'a [S],
 ) -> Result<LabCommand<'a>, Error> {
     let matches = lab_parser(alloc)?.try_get_matches_from(line)?;
-    if has_idle_seed(&matches) {
-        return Err(refused(alloc, "--seed goes with the rule random alone")?);
+    match misfit_of(&matches) {
+        Some(words) => Err(refused(alloc, words)?),
+        None => Ok(command_of(alloc, &matches)?),
     }
-    if has_no_seeds(&matches) {
-        let words = "with --seeds ONE and OTHER are numbers from 0 to 18446744073709551615";
-        return Err(refused(alloc, words)?);
+}
+
+/// What is said of words that do not go together; None where they do.
+fn misfit_of(matches: &ArgMatches) -> Option<&'static str> {
+    match matches.subcommand() {
+        Some(("schedule", found)) if has_idle_seed(found) => {
+            Some("--seed goes with the rule random alone")
+        }
+        Some(("compare", found)) if lacks_seeds(found, "ONE") => {
+            Some("with --seeds ONE and OTHER are numbers from 0 to 18446744073709551615")
+        }
+        Some(("page", found)) if lacks_seeds(found, "SCHEDULE") => {
+            Some("with --seeds SCHEDULE and OTHER are numbers from 0 to 18446744073709551615")
+        }
+        Some(("page", found)) if has_idle_steps(found) => {
+            Some("--steps is of schedules that are made, and SCHEDULE is a file")
+        }
+        _ => None,
     }
-    Ok(command_of(alloc, &matches)?)
 }
 
 /// Whether `schedule` has a seed that says nothing: its rule is not `random`.
-fn has_idle_seed(matches: &ArgMatches) -> bool {
-    match matches.subcommand_matches("schedule") {
-        Some(found) => word(found, "RULE") != "random" && found.contains_id("seed"),
-        None => false,
-    }
+fn has_idle_seed(found: &ArgMatches) -> bool {
+    word(found, "RULE") != "random" && found.contains_id("seed")
 }
 
-/// Whether `compare` is to take seeds, and a word is none.
-fn has_no_seeds(matches: &ArgMatches) -> bool {
-    match matches.subcommand_matches("compare") {
-        Some(found) => {
-            let is_seed = seed_in(found, "ONE").is_some() && seed_in(found, "OTHER").is_some();
-            found.get_flag("seeds") && !is_seed
-        }
-        None => false,
-    }
+/// Whether two seeds are to be taken, and a word is none.
+fn lacks_seeds(found: &ArgMatches, one: &str) -> bool {
+    let are_seeds = seed_in(found, one).is_some() && seed_in(found, "OTHER").is_some();
+    found.get_flag("seeds") && !are_seeds
+}
+
+/// Whether `page` has a number of steps that says nothing: its schedule is a file's.
+fn has_idle_steps(found: &ArgMatches) -> bool {
+    !found.get_flag("seeds") && found.contains_id("SCHEDULE") && found.contains_id("steps")
 }
 
 /// The seed that a word is; None where it is none.
@@ -108,7 +120,7 @@ fn command_of_runs<'a>(name: &str, found: &ArgMatches<'a>) -> LabCommand<'a> {
     }
 }
 
-/// One of the two schedules of `compare`.
+/// One of two schedules that are compared.
 fn compared_of<'a>(found: &ArgMatches<'a>, name: &str) -> RunChoice<'a> {
     if !found.get_flag("seeds") {
         return RunChoice::File(word(found, name));
@@ -184,6 +196,19 @@ fn run_of<'a>(found: &ArgMatches<'a>) -> RunChoice<'a> {
 
 /// What `page` is asked.
 fn page_of<'a>(found: &ArgMatches<'a>) -> PageRequest<'a> {
+    let shown = drawn_of(found);
+    if !found.contains_id("OTHER") {
+        return shown;
+    }
+    PageRequest {
+        run: compared_of(found, "SCHEDULE"),
+        other: Some(compared_of(found, "OTHER")),
+        ..shown
+    }
+}
+
+/// What `picture` is asked, and `page` of one run.
+fn drawn_of<'a>(found: &ArgMatches<'a>) -> PageRequest<'a> {
     let run = if found.get_flag("rounds") {
         RunChoice::Made {
             maker: Maker::Rounds,
@@ -195,6 +220,7 @@ fn page_of<'a>(found: &ArgMatches<'a>) -> PageRequest<'a> {
     PageRequest {
         program: word(found, "PROGRAM"),
         run,
+        other: None,
         from: 1,
         to: usize::MAX,
         title: text(found, "title"),
@@ -207,7 +233,7 @@ fn picture_of<'a>(found: &ArgMatches<'a>) -> PageRequest<'a> {
     PageRequest {
         from: count(found, "from", 1),
         to: count(found, "to", usize::MAX),
-        ..page_of(found)
+        ..drawn_of(found)
     }
 }
 
@@ -246,6 +272,7 @@ fn explore_of<'a>(found: &ArgMatches<'a>) -> ExploreRequest<'a> {
         bounds: bounds_of(found),
         is_plain: found.get_flag("plain"),
         keep: text(found, "keep"),
+        pages: text(found, "pages"),
         dot: text(found, "dot"),
         shown: shown_of(found),
     }

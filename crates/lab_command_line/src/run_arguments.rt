@@ -85,12 +85,22 @@ pub(crate) const COMPARE_ARGUMENTS: [Argument; 7] = [
 ];
 
 /// Of `page`.
-pub(crate) const PAGE_ARGUMENTS: [Argument; 8] = [
+pub(crate) const PAGE_ARGUMENTS: [Argument; 10] = [
     Argument("PROGRAM", help::PROGRAM, Form::Needed),
     Argument(
         "SCHEDULE",
-        help::SCHEDULE_FILE,
-        Form::Optional(&["fair", "seed", "rounds", "steps"]),
+        help::PAGE_SCHEDULE,
+        Form::Optional(&["fair", "seed", "rounds"]),
+    ),
+    Argument(
+        "OTHER",
+        "another one, whose run is shown beside the first",
+        Form::Optional(&[]),
+    ),
+    Argument(
+        "seeds",
+        "SCHEDULE and OTHER are seeds of random schedules",
+        Form::Flag(&[]),
     ),
     Argument("fair", help::FAIR, Form::Flag(&["seed", "rounds"])),
     Argument(

@@ -101,18 +101,22 @@ fn put_judgement(
     lines: ExpectedLines,
     end: &SpaceEnd,
 ) -> Result<(), AllocError> {
-    let is_broken = end.kind == SpaceEndKind::Broken;
-    // (nobody expects a deadlock, whatever else its words hold)
-    let is_bad = is_broken || end.kind == SpaceEndKind::End(EndKind::Deadlock);
-    let is_as_expected = end.missed.is_none() && !end.is_trapped && !is_bad;
-    put_flag(alloc, fields, "expected", is_as_expected)?;
+    put_flag(alloc, fields, "expected", is_as_expected(end))?;
     lines.put_missed(alloc, fields, end.missed)?;
-    let claim = if is_broken {
+    let claim = if end.kind == SpaceEndKind::Broken {
         lines.claim_value(alloc, &end.text)?
     } else {
         Value::Null
     };
     serde_json::put(fields, alloc, "claim", claim)
+}
+
+/// Whether an end is as expected. Nobody expects a deadlock, whatever else its words hold.
+pub(crate) fn is_as_expected(end: &SpaceEnd) -> bool {
+    match end.kind {
+        SpaceEndKind::Broken | SpaceEndKind::End(EndKind::Deadlock) => false,
+        SpaceEndKind::End(_) => end.missed.is_none() && !end.is_trapped,
+    }
 }
 
 /// Puts what is told of a set that spins alone: the steps of a way round, the streams that go on in it, and the words that

@@ -191,6 +191,9 @@ fn push_missed(
 }
 
 /// The first expectation that an end does not meet.
-fn missed_of<'e>(expected: &'e [Expectation], end: &SpaceEnd) -> Option<&'e Expectation> {
+pub(crate) fn missed_of<'e>(
+    expected: &'e [Expectation],
+    end: &SpaceEnd,
+) -> Option<&'e Expectation> {
     end.missed.and_then(|place| expected.get(place))
 }

@@ -8,6 +8,7 @@ ghost use Rattle.lab_ends.specs.ProgramWishes.{IsJudged};
 ghost use Rattle.schedule_verdicts.specs.NamedRegisters.{AreNamed};
 ghost use Rattle.schedule_verdicts.specs.RightSpaces.{IsFollowedForClaims, IsRightOnEachWay, IsRightThroughout};
 
+use crate::end_pages::FoundProgram;
 use crate::expected_lines::ExpectedLines;
 use crate::explored_words::answer_of;
 use crate::graphs::{graph_asked, write_graph};
@@ -123,7 +124,7 @@ pub fn show_every_end<C: Clock, F: Files, R: Read, E: Write>(
     let text = text_asked(alloc, inputs, request.expected)?;
     let wishes = wishes_asked(alloc, request.expected, &text, &program, &names)?;
     let begin = begin_asked(alloc, inputs, request, &program)?;
-    let made = make_folder(alloc, inputs, request.keep);
+    let made = make_folders(alloc, inputs, request);
     let mut watcher = Watcher::new(alloc, console, request.bounds)?;
     let found = found_by(
         alloc,
@@ -142,7 +143,13 @@ pub fn show_every_end<C: Clock, F: Files, R: Read, E: Write>(
     };
     let is_json = request.shown.json;
     let mut answer = answer_of(alloc, is_json, &program.image, lines, &wishes, &found)?;
-    let kept = keep_schedules(alloc, inputs, request.keep, made, &found.ends);
+    let told = FoundProgram {
+        path: request.program,
+        program: &program,
+        wishes: &wishes,
+        found: &found,
+    };
+    let kept = write_folders(alloc, inputs, request, made, told);
     let drawn = write_graph(alloc, inputs, request.dot, &found);
     answer.fault = kept.and(drawn).err();
     Ok(answer)
@@ -161,7 +168,17 @@ fn begin_asked<F: Files, R: Read>(
     }
 }
 
-/// Makes the folder for schedules, where one is asked for and nothing has its name.
+/// Makes the folders for schedules and for pages, where they are asked for and nothing has their names.
+fn make_folders<F: Files, R: Read>(
+    alloc: Global,
+    inputs: &Inputs<'_, F, R>,
+    request: &ExploreRequest,
+) -> Result<(), LabFault> {
+    make_folder(alloc, inputs, request.keep)?;
+    make_folder(alloc, inputs, request.pages)
+}
+
+/// Makes a folder, where one is asked for and nothing has its name.
 fn make_folder<F: Files, R: Read>(
     alloc: Global,
     inputs: &Inputs<'_, F, R>,
@@ -220,18 +237,31 @@ fn found_by<C: Clock, E: Write>(
     explore_program(alloc, program, names, &asked, watcher)
 }
 
-/// Writes the schedule to each end into the folder that was made, as `1.schedule` and so on.
+/// Writes the schedule to each end, and the page of its run, into the folders that are asked for and were made.
+fn write_folders<F: Files, R: Read>(
+    alloc: Global,
+    inputs: &Inputs<'_, F, R>,
+    request: &ExploreRequest,
+    made: Result<(), LabFault>,
+    told: FoundProgram<'_>,
+) -> Result<(), LabFault> {
+    made?;
+    if let Some(folder) = request.keep {
+        keep_schedules(alloc, inputs, folder, &told.found.ends)?;
+    }
+    match request.pages {
+        Some(folder) => told.write_pages(alloc, inputs, folder),
+        None => Ok(()),
+    }
+}
+
+/// Writes the schedule to each end into a folder, as `1.schedule` and so on.
 fn keep_schedules<F: Files, R: Read>(
     alloc: Global,
     inputs: &Inputs<'_, F, R>,
-    folder: Option<&str>,
-    made: Result<(), LabFault>,
+    folder: &str,
     ends: &[SpaceEnd],
 ) -> Result<(), LabFault> {
-    made?;
-    let Some(folder) = folder else {
-        return Ok(());
-    };
     for (index, end) in ends.iter().enumerate() {
         let number = index.saturating_add(1);
         let path = format!(in alloc; "{folder}/{number}.schedule")?;

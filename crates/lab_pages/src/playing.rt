@@ -1,8 +1,7 @@
 //! The command `play`.
 
 use crate::goals::{Judging, goal_place};
-use crate::paging::stem_of;
-use command_parts::{Answer, Inputs, LabFault, Program, read_program, read_steps};
+use command_parts::{Answer, Inputs, LabFault, Program, read_program, read_steps, stem_of};
 use lab_ends::{Wishes, are_rules_kept, space_ends};
 use lab_explorer::{Console, Watcher, push_expectation, wishes_of};
 use lab_requests::{Bounds, PlayRequest};

@@ -83,6 +83,8 @@ pub struct PageRequest<'a> {
     pub program: &'a str,
     /// Its schedule.
     pub run: RunChoice<'a>,
+    /// The schedule of a second run, which a page shows beside the first; None where it shows one run.
+    pub other: Option<RunChoice<'a>>,
     /// The first step that a picture shows, from 1.
     pub from: usize,
     /// The last step that a picture shows.
@@ -157,6 +159,8 @@ pub struct ExploreRequest<'a> {
     pub is_plain: bool,
     /// The folder for the shortest schedules.
     pub keep: Option<&'a str>,
+    /// The folder for the pages of their runs.
+    pub pages: Option<&'a str>,
     /// The file for the graph of the worlds.
     pub dot: Option<&'a str>,
     /// How it is printed.
@@ -250,7 +254,7 @@ pub enum LabCommand<'a> {
     Explore(ExploreRequest<'a>),
     /// Judges submissions.
     Grade(GradeRequest<'a>),
-    /// Writes a page that shows a run.
+    /// Writes a page that shows a run, or two.
     Page(PageRequest<'a>),
     /// Writes a picture of a run's lanes.
     Picture(PageRequest<'a>),

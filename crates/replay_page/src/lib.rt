@@ -1,24 +1,32 @@
-//! A page that shows a run: the run as JSON, and the page of it (docs/LAB.md, "Pages").
+//! A page that shows a run, or two of one program: the runs as JSON, and the page of them (docs/PAGE.md).
 #![tactic(auto)]
 
+mod end_words;
 mod lanes;
 mod marks;
 mod pages;
 mod parts;
 mod pictures;
+mod run_verdicts;
 mod runs;
 mod streams_drawn;
 mod waits;
+mod whole_pages;
 mod whole_run;
 mod words_drawn;
 
-pub use pages::{page_of, push_escaped, push_script_data};
+pub use pages::{push_escaped, push_script_data};
 pub use pictures::picture_of;
-pub use runs::{RunNames, run_json};
+pub use run_verdicts::RunVerdict;
+pub use runs::{PairNames, RunNames};
 pub use waits::{RunWait, run_waits};
+pub use whole_pages::{page_of_pair, page_of_run};
 
 /// The most steps of a run that a page shows.
 pub const MOST_STEPS: usize = 100_000;
+
+/// The most steps of each of two runs that a page shows.
+pub const MOST_STEPS_OF_TWO: usize = 50_000;
 
 /// The most steps of a run that a picture shows.
 pub const MOST_DRAWN_STEPS: usize = 500;

@@ -1,5 +1,6 @@
 //! A picture of a run: a lane a stream and a lane a word over time, as SVG. Colours and shapes are those of the page.
 
+use crate::end_words::{end_words, push_caption};
 use crate::lanes::Lanes;
 use crate::marks::{STYLE, push_legend};
 use crate::pages::push_escaped;
@@ -7,7 +8,7 @@ use crate::runs::RunNames;
 use crate::streams_drawn::push_streams;
 use crate::whole_run::WholeRun;
 use crate::words_drawn::push_words;
-use lab_texts::ProgramNames;
+use lab_texts::{FindingsOfRun, ProgramNames};
 use machine::Machine;
 use processor::Step;
 use std::alloc::{AllocError, Global};
@@ -24,22 +25,19 @@ pub fn picture_of<const S: usize>(
 ) -> Result<String, AllocError> {
     let places = ProgramNames::of(alloc, text)?;
     let run = WholeRun::of(alloc, start, schedule)?;
+    let found = FindingsOfRun::of(alloc, &run.actions)?;
     let lanes = Lanes::of(alloc, &run, before)?;
+    let ended = end_words(alloc, &places, &run, &found)?;
     let mut out = String::new(alloc);
     push_frame(&mut out, &lanes)?;
-    push_title(&mut out, names)?;
+    push_title(&mut out, names, &ended)?;
     push_paper(&mut out, &lanes)?;
     push_numbers(&mut out, &lanes)?;
-    push_words(
-        alloc,
-        &mut out,
-        &lanes,
-        &run,
-        &places,
-        start.image().cells(),
-    )?;
+    let cells = start.image().cells();
+    push_words(&mut out, &lanes, &run, &found.lost, &places, cells)?;
     push_streams(&mut out, &lanes, &run, &places)?;
     push_legend(&mut out, lanes.legend_y())?;
+    push_caption(&mut out, &lanes, names, &ended)?;
     out.push_str("</svg>\n")?;
     Ok(out)
 }
@@ -50,16 +48,18 @@ fn push_frame(out: &mut String, lanes: &Lanes) -> Result<(), AllocError> {
     let height = lanes.height();
     out.push_str("<svg xmlns=\"http://www.w3.org/2000/svg\"")?;
     write!(out, " width=\"{width}\" height=\"{height}\"")?;
-    write!(out, " viewBox=\"0 0 {width} {height}\">\n")
+    write!(out, " viewBox=\"0 0 {width} {height}\" role=\"img\">\n")
 }
 
-/// Adds what the picture is called.
-fn push_title(out: &mut String, names: RunNames) -> Result<(), AllocError> {
+/// Adds what the picture is called, and how the run ended, for those who can't see it.
+fn push_title(out: &mut String, names: RunNames, ended: &str) -> Result<(), AllocError> {
     out.push_str("<title>")?;
     push_escaped(out, names.program)?;
     out.push_str(", ")?;
     push_escaped(out, names.schedule)?;
-    out.push_str("</title>\n")
+    out.push_str("</title>\n<desc>")?;
+    push_escaped(out, ended)?;
+    out.push_str("</desc>\n")
 }
 
 /// Adds the style, and a sheet of paper behind all.

@@ -1,60 +1,163 @@
-//! A run as JSON.
+//! Runs as JSON.
 
+use crate::run_verdicts::RunVerdict;
 use crate::waits::RunWait;
 use crate::whole_run::WholeRun;
-use lab_json::{RunTitle, end_part, findings_value, head_value, step_part, stream_value};
+use image_file::Image;
+use lab_json::{
+    RunTitle, difference_value, end_part, findings_value, head_value, step_part, stream_value,
+};
 use lab_texts::ProgramNames;
-use machine::Machine;
+use machine::{LoadFault, Machine};
 use processor::Step;
 use serde_json::{Value, json};
 use std::alloc::{AllocError, Global};
 use step_views::StepView;
 use waiting::Wanted;
+use whole_runs::first_difference;
 
-/// What a run is called.
+/// What a run is called, and how its end was judged.
 #[derive(Clone, Copy, Debug)]
 pub struct RunNames<'a> {
     /// The program.
     pub program: &'a str,
     /// The schedule.
     pub schedule: &'a str,
+    /// How its end was judged.
+    pub verdict: RunVerdict<'a>,
+}
+
+/// What two runs of a program are called.
+#[derive(Clone, Copy, Debug)]
+pub struct PairNames<'a> {
+    /// The program.
+    pub program: &'a str,
+    /// The schedule of the one.
+    pub one: &'a str,
+    /// The schedule of the other.
+    pub other: &'a str,
 }
 
 /// A run as one JSON object: the program with this text, the world at the start, each step with its changes, the waits,
-/// the findings and the end (docs/LAB.md, "Pages"). The machine has taken no step.
-pub fn run_json<const S: usize>(
+/// the findings and the end (docs/PAGE.md, "The data"). The machine has taken no step.
+pub(crate) fn run_json<const S: usize>(
     alloc: Global,
     names: RunNames,
     text: &[u8],
     start: &Machine<'_, S>,
     schedule: &[Step],
 ) -> Result<String, AllocError> {
-    let places = ProgramNames::of(alloc, text)?;
-    let run = WholeRun::of(alloc, start, schedule)?;
     let title = RunTitle {
         object: "page",
         program: names.program,
         schedule: names.schedule,
     };
-    let head = head_value(alloc, title, text, &places, start)?;
-    let mut json = head.to_string(alloc)?;
-    // the head is an object, and here its other members follow
-    json.pop();
-    push_steps(alloc, &mut json, &run.views)?;
-    push_member(alloc, &mut json, "waits", &waits_value(alloc, &run.waits)?)?;
-    push_member(
-        alloc,
-        &mut json,
-        "findings",
-        &findings_value(alloc, &run.actions)?,
-    )?;
-    push_member(alloc, &mut json, "end", &end_part(alloc, &run.end)?)?;
+    let mut json = open_head(alloc, title, text, start)?;
+    push_run(alloc, &mut json, start, schedule)?;
+    names.verdict.push_members(alloc, &mut json)?;
     json.push_str("}\n")?;
     Ok(json)
 }
 
+/// Two runs of a program as one JSON object: what a run has of the program and the world at the start; the first position
+/// at which the worlds of the two differ, and in what; of each its schedule's name, and what a run has beside that
+/// (docs/PAGE.md, "Two runs"). The machine has taken no step.
+pub(crate) fn pair_json<const S: usize>(
+    alloc: Global,
+    names: PairNames,
+    text: &[u8],
+    start: &Machine<'_, S>,
+    one: &[Step],
+    other: &[Step],
+) -> Result<String, AllocError> {
+    let schedules = both_names(alloc, names)?;
+    let title = RunTitle {
+        object: "pair",
+        program: names.program,
+        schedule: &schedules,
+    };
+    let mut json = open_head(alloc, title, text, start)?;
+    let difference = pair_difference::<S>(alloc, start.image(), one, other)?;
+    push_member(alloc, &mut json, "difference", &difference)?;
+    json.push_str(",\n\"runs\":[")?;
+    push_named_run(alloc, &mut json, names.one, start, one)?;
+    json.push_str(",\n")?;
+    push_named_run(alloc, &mut json, names.other, start, other)?;
+    json.push_str("]}\n")?;
+    Ok(json)
+}
+
+/// The names of the schedules of two runs.
+pub(crate) fn both_names(alloc: Global, names: PairNames) -> Result<String, AllocError> {
+    let one = names.one;
+    let other = names.other;
+    format!(in alloc; "{one} and {other}")
+}
+
+/// The head of a run as an object that is not closed, so that its other members can follow.
+fn open_head<const S: usize>(
+    alloc: Global,
+    title: RunTitle,
+    text: &[u8],
+    start: &Machine<'_, S>,
+) -> Result<String, AllocError> {
+    let places = ProgramNames::of(alloc, text)?;
+    let head = head_value(alloc, title, text, &places, start)?;
+    let mut json = head.to_string(alloc)?;
+    json.pop();
+    Ok(json)
+}
+
+/// The first position at which the runs of an image by two schedules differ, and in what; null where there is none.
+fn pair_difference<const S: usize>(
+    alloc: Global,
+    image: &Image,
+    one: &[Step],
+    other: &[Step],
+) -> Result<Value, AllocError> {
+    match first_difference::<S>(alloc, image, one, other) {
+        Ok(Some(found)) => difference_value(alloc, found.position, &found.places),
+        Ok(None) => Ok(Value::Null),
+        Err(LoadFault::NoMemory | LoadFault::Streams) => Err(AllocError),
+    }
+}
+
+/// Adds a run of two, with the name of its schedule.
+fn push_named_run<const S: usize>(
+    alloc: Global,
+    json: &mut String,
+    schedule: &str,
+    start: &Machine<'_, S>,
+    steps: &[Step],
+) -> Result<(), AllocError> {
+    let name = Value::String(String::from_str(alloc, schedule)?);
+    json.push_str("{\"schedule\":")?;
+    json.push_str(&name.to_string(alloc)?)?;
+    push_run(alloc, json, start, steps)?;
+    json.push_str("}")
+}
+
+/// Adds the members of a run: its steps, waits, findings and end.
+fn push_run<const S: usize>(
+    alloc: Global,
+    json: &mut String,
+    start: &Machine<'_, S>,
+    schedule: &[Step],
+) -> Result<(), AllocError> {
+    let run = WholeRun::of(alloc, start, schedule)?;
+    push_steps(alloc, json, &run.views)?;
+    push_member(alloc, json, "waits", &waits_value(alloc, &run.waits)?)?;
+    push_member(
+        alloc,
+        json,
+        "findings",
+        &findings_value(alloc, &run.actions)?,
+    )?;
+    push_member(alloc, json, "end", &end_part(alloc, &run.end)?)
+}
+
 /// Adds a member behind others.
-fn push_member(
+pub(crate) fn push_member(
     alloc: Global,
     run: &mut String,
     name: &str,

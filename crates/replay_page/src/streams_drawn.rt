@@ -2,6 +2,7 @@
 
 use crate::lanes::Lanes;
 use crate::marks::push_outcome;
+use crate::pages::push_escaped;
 use crate::waits::RunWait;
 use crate::whole_run::WholeRun;
 use lab_texts::ProgramNames;
@@ -31,31 +32,38 @@ pub(crate) fn push_streams(
         let width = lanes.column().saturating_sub(4);
         push_outcome(out, x, y, width, view.outcome)?;
         if view.outcome == Outcome::Done {
-            let name = name_that_fits(places.statement(view.pc), width);
-            write!(
-                out,
-                "<text class=\"in\" x=\"{x}\" y=\"{y}\" dy=\"4\">{name}</text>\n"
-            )?;
+            write!(out, "<text class=\"in\" x=\"{x}\" y=\"{y}\" dy=\"4\">")?;
+            push_name(out, places.statement(view.pc), width)?;
+            out.push_str("</text>\n")?;
         }
     }
     Ok(())
 }
 
-/// An instruction's name where it has room, else its first letter, else nothing.
-fn name_that_fits(statement: &str, width: usize) -> &str {
-    let name = statement.split_whitespace().next().unwrap_or("");
-    if !name
-        .bytes()
-        .all(|byte| byte.is_ascii_alphanumeric() || byte == b'.')
-    {
-        return "";
+/// How many pixels a letter in a step's sign takes.
+const LETTER: usize = 7;
+
+/// Adds an instruction's name if it has room; else its initial and its suffix (`L.N`), or two letters of a name without
+/// one; else nothing.
+fn push_name(out: &mut String, statement: &str, width: usize) -> Result<(), AllocError> {
+    let name = match statement.split_whitespace().next() {
+        Some(word) if word.starts_with('@') => "@",
+        Some(word) => word,
+        None => "",
+    };
+    if name.len().saturating_mul(LETTER) <= width {
+        return push_escaped(out, name);
     }
-    if name.len().saturating_mul(7) <= width {
-        name
-    } else if width >= 20 {
-        name.get(..1).unwrap_or("")
-    } else {
-        ""
+    if width < LETTER * 3 {
+        return Ok(());
+    }
+    match name.split_once('.') {
+        Some((stem, suffix)) => {
+            push_escaped(out, stem.get(..1).unwrap_or(""))?;
+            out.push_str(".")?;
+            push_escaped(out, suffix.get(..1).unwrap_or(""))
+        }
+        None => push_escaped(out, name.get(..2).unwrap_or("")),
     }
 }
 

@@ -2,12 +2,12 @@
 
 use crate::lanes::Lanes;
 use crate::marks::{push_bars, push_meeting};
-use crate::pages::push_escaped;
+use crate::pages::push_cut;
 use crate::whole_run::WholeRun;
 use bitflags::Flags;
 use lab_texts::ProgramNames;
-use run_findings::{LostUpdate, lost_updates};
-use std::alloc::{AllocError, Global};
+use run_findings::LostUpdate;
+use std::alloc::AllocError;
 use step_views::{Content, Place, StepView};
 use stream_core::Outcome;
 use tag_memory::{Tags, Word};
@@ -23,12 +23,12 @@ struct WordState {
     is_full: bool,
 }
 
-/// Adds the lanes of all words.
+/// Adds the lanes of all words, and these lost updates.
 pub(crate) fn push_words(
-    alloc: Global,
     out: &mut String,
     lanes: &Lanes,
     run: &WholeRun,
+    lost: &[LostUpdate],
     places: &ProgramNames,
     cells: &[Word],
 ) -> Result<(), AllocError> {
@@ -42,30 +42,17 @@ pub(crate) fn push_words(
             "<text class=\"name\" x=\"4\" y=\"{name}\">[{address}]</text>"
         )?;
         write!(out, "<text class=\"note\" x=\"72\" y=\"{name}\">")?;
-        push_cut(out, places.comment(*address))?;
+        push_cut(out, places.comment(*address), ROOM)?;
         out.push_str("</text>\n")?;
         if let Some(cell) = cells.get((*address / 8) as usize) {
             push_bar(out, lanes, &run.views, y, *address, *cell)?;
         }
     }
     push_meetings(out, lanes, &run.views)?;
-    for lost in &lost_updates(alloc, &run.actions)? {
-        push_lost(out, lanes, lost)?;
+    for update in lost {
+        push_lost(out, lanes, update)?;
     }
     Ok(())
-}
-
-/// Adds a comment, cut to the room that it has.
-fn push_cut(out: &mut String, comment: &str) -> Result<(), AllocError> {
-    let mut cut = String::new(*out.allocator());
-    for (place, letter) in comment.chars().enumerate() {
-        if place == ROOM {
-            cut.push('…')?;
-            break;
-        }
-        cut.push(letter)?;
-    }
-    push_escaped(out, &cut)
 }
 
 /// Adds a word's bar: high where it is full, thin where it is empty, with a tick where its value changed.

@@ -10,20 +10,27 @@ let frame = 0;
 
 /** All steps at once where their signs can still be read, else steps of a comfortable width. */
 function fit() {
-  const room = Math.floor((scroller.clientWidth - endRoom) / Math.max(1, columns.length));
+  const count = Math.max(1, ...perRun(() => columns.length));
+  const behind = Math.max(...perRun(() => endRoom));
+  const room = Math.floor((scroller.clientWidth - behind) / count);
   const fitting = room >= LEAST_ROOM ? Math.min(76, room) : columns.length < steps.length ? 34 : 26;
   cellWidth = Math.round(Math.min(140, Math.max(6, fitting * 1.35 ** view.zoom)));
-  byId("span").setAttribute("width", columns.length * cellWidth + endRoom);
+  byId("span").setAttribute("width", count * cellWidth + behind);
+}
+
+/** The lanes of the run, as far as they are in sight. */
+function drawChart(left, width) {
+  const picture = drawLanes(left, width, cellWidth, true);
+  picture.setAttribute("role", "img");
+  const what = `${times(steps.length, "1 step", "steps")} of ${times(stepsOf.size, "1 stream", "streams")} over time`;
+  picture.setAttribute("aria-label", `${what}. The tables below say the same in words.`);
+  return picture;
 }
 
 function paint() {
   frame = 0;
   const [left, width] = [scroller.scrollLeft, scroller.clientWidth];
-  const picture = drawLanes(left, width, cellWidth, true);
-  picture.setAttribute("role", "img");
-  const what = `${times(steps.length, "1 step", "steps")} of ${times(stepsOf.size, "1 stream", "streams")} over time`;
-  picture.setAttribute("aria-label", `${what}. The tables below say the same in words.`);
-  byId("picture").replaceChildren(picture);
+  byId("picture").replaceChildren(...drawCharts(left, width));
   byId("numbers").replaceChildren(drawRuler(left, width, cellWidth, true));
 }
 
@@ -36,15 +43,19 @@ function repaint() {
 /** A name's height is that of an empty picture in it: the page has no styles of its own for single elements. */
 const strut = (height) => svg("svg", { class: "strut", width: 1, height, "aria-hidden": "true" });
 
-function makeHeads() {
+/** The lanes' names; a click on one does something first. */
+function makeHeads(first = () => {}) {
   for (const lane of lanes) {
     lane.name = html("b", {});
     lane.note = html("span", {});
     lane.head = html("button", { class: "head", "aria-pressed": "false" }, strut(lane.height), lane.name, lane.note);
     const kind = lane.stream ? "stream" : "word";
-    lane.head.addEventListener("click", () => choose({ [kind]: view[kind] === lane[kind] ? null : lane[kind] }));
+    lane.head.addEventListener("click", () => {
+      first();
+      choose({ [kind]: view[kind] === lane[kind] ? null : lane[kind] });
+    });
   }
-  byId("heads").replaceChildren(...lanes.map((lane) => lane.head));
+  return lanes.map((lane) => lane.head);
 }
 
 function markStream(lane) {
@@ -74,14 +85,23 @@ function markWord(lane) {
 }
 
 function markHeads() {
-  for (const lane of lanes) (lane.stream ? markStream : markWord)(lane);
+  perRun(() => lanes.forEach((lane) => (lane.stream ? markStream : markWord)(lane)));
 }
+
+/** The first of the steps that belong to what is found in this step; 0 where nothing is. */
+const foundFrom = () =>
+  Math.min(...run.findings.filter((one) => lastOfFinding(one) === view.position).flatMap(stepsOfFinding), Infinity);
 
 function keepInSight() {
   const x = columnOf[view.position] * cellWidth;
   const right = scroller.scrollLeft + scroller.clientWidth;
+  const from = foundFrom();
+  const start = from < Infinity ? Math.max(0, columnOf[from] * cellWidth - cellWidth) : x;
+  const isWhole = x + 2 * cellWidth - start < scroller.clientWidth;
   if (!view.position) scroller.scrollLeft = 0;
-  else if (x < scroller.scrollLeft || x + cellWidth > right - 40) {
+  else if (start < x && isWhole && (start < scroller.scrollLeft || x + 2 * cellWidth > right)) {
+    scroller.scrollLeft = start;
+  } else if (x < scroller.scrollLeft || x + cellWidth > right - 40) {
     scroller.scrollLeft = view.position === steps.length ? x + endRoom : x - scroller.clientWidth / 2;
   }
 }
@@ -91,8 +111,9 @@ function keepLaneInSight() {
   const chart = byId("chart");
   const lane = laneOf.get(steps[view.position - 1]?.who);
   if (!lane || chart.scrollHeight <= chart.clientHeight) return;
+  const y = chartTop + lane.y;
   const bottom = chart.scrollTop + chart.clientHeight;
-  if (lane.y < chart.scrollTop || lane.y + lane.height > bottom) chart.scrollTop = lane.y - chart.clientHeight / 3;
+  if (y < chart.scrollTop || y + lane.height > bottom) chart.scrollTop = y - chart.clientHeight / 3;
 }
 
 // ---------------------------------------------------------------- the legend
@@ -128,7 +149,8 @@ function legendItems() {
 
 function makeLegend() {
   const sized = { class: "pic", width: 24, height: 24, viewBox: "-12 -12 24 24", "aria-hidden": "true" };
+  const items = new Map(perRun(legendItems).flat().map(([node, name]) => [name, node]));
   byId("legend").replaceChildren(
-    ...legendItems().map(([node, name]) => html("span", {}, svg("svg", sized, node), name)));
+    ...[...items].map(([name, node]) => html("span", {}, svg("svg", sized, node), name)));
 }
 "#;

@@ -11,7 +11,7 @@ const wordNode = (x, y, text) => node("word", x, y, text, 10 + 8 * text.length, 
 const edgeHead = (x, y, degrees) =>
   svg("path", { class: "edge-head", d: "M0 0l-10 -5v10z", transform: `translate(${x} ${y}) rotate(${degrees})` });
 
-const waitWords = (wait) => `${wait.stream} waits for ${wordName(wait.word)} of ${wait.by ?? "nobody"}`;
+const waitWords = (wait) => `${wait.stream} waits for ${fullName(wait.word)} of ${wait.by ?? "nobody"}`;
 
 /** A picture of waits, which a screen reader reads as words. */
 const waitPicture = (width, height, waits) =>
@@ -48,18 +48,19 @@ function ringOf(count) {
     const by = count > ROOMY ? WITHIN / Math.hypot(right, down) : 0;
     return [x - right * by, y - down * by];
   };
-  return { width, height, rx, ry, spot, within };
+  const head = 0.06 * Math.min(1, count / ROOMY); // of the way to the next node
+  return { width, height, rx, ry, spot, within, head };
 }
 
 /** The arc from node i of a ring to the next one's box, and where the word stands on it. */
-function arcOf({ spot, within, rx, ry }, i) {
+function arcOf({ spot, within, rx, ry, head }, i) {
   const [nextX, nextY] = spot(i + 1);
   const isInBox = ([x, y]) => Math.abs(x - nextX) < 30 && Math.abs(y - nextY) < 18;
   let end = i + 1;
   while (end > i && isInBox(spot(end))) end -= 0.01;
   const [x, y] = spot(i);
   const [tipX, tipY] = spot(end);
-  const [nearX, nearY] = spot(end - 0.06);
+  const [nearX, nearY] = spot(end - head);
   const degrees = (Math.atan2(tipY - nearY, tipX - nearX) * 180) / Math.PI;
   return {
     line: svg("path", { class: "edge", d: `M${x} ${y}A${rx} ${ry} 0 0 1 ${nearX} ${nearY}` }),
@@ -77,7 +78,9 @@ function drawCircle(circle, waiting) {
   waits.forEach((wait, i) => {
     const arc = arcOf(ring, i);
     picture.append(arc.line, arc.head);
-    nodes.push(wordNode(...arc.middle, wordName(wait.word)), streamNode(...ring.spot(i), wait.stream));
+    const word = wordNode(...arc.middle, wordName(wait.word));
+    word.append(svg("title", {}, fullName(wait.word)));
+    nodes.push(word, streamNode(...ring.spot(i), wait.stream));
   });
   const told = ["each arrow: waits for", "this word, which the next took"];
   const [x, y] = [ring.width / 2, ring.height / 2];

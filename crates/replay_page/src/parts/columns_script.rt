@@ -5,7 +5,7 @@ pub(crate) const TEXT: &str =
 
 const FOLD_ABOVE = 2000;
 const FOLD_LEAST = 4;
-const opened = new Set(); // the first steps of the folds that the reader has opened
+let opened = new Set(); // the first steps of the folds that the reader has opened
 let columns = [];
 let columnOf = new Int32Array(0); // of each step
 let hasManyArrows = false;
@@ -23,12 +23,27 @@ function foldEnd(n) {
   return n - 1;
 }
 
+/** Whether a step is one more try of a wait that has begun. */
+function isTriedAgain(n) {
+  const { o, who } = steps[n - 1];
+  return o === "blocked" && !inFinding.has(n) && (waitAt(who, n)?.from ?? n) < n;
+}
+
+/** The last of the steps from n on that may share a column: alike steps of long runs, of others tries in vain. */
+function lastAlike(n) {
+  if (!FOLDS) return n;
+  if (steps.length > FOLD_ABOVE) return Math.max(n, foldEnd(n));
+  let last = n;
+  while (isTriedAgain(n) && last < steps.length && isTriedAgain(last + 1)) last++;
+  return last;
+}
+
 function makeColumns() {
   columns = [];
   columnOf = new Int32Array(steps.length + 1);
   for (let n = 1; n <= steps.length; ) {
     const first = n;
-    const last = steps.length > FOLD_ABOVE ? Math.max(n, foldEnd(n)) : n;
+    const last = lastAlike(n);
     const isFold = last - n + 1 >= FOLD_LEAST && !opened.has(n);
     while (n <= last) {
       const to = isFold ? last : n;

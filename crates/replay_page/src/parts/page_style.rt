@@ -9,12 +9,13 @@ pub(crate) const TEXT: &str = r#"/* The page of a run. */
 #end .name { color: var(--muted); font-size: 13px; } #end .name b { color: var(--ink); }
 #end h1 { font-size: 20px; line-height: 1.3; font-weight: 650; margin: 2px 0 6px; padding-left: 30px;
   position: relative; text-wrap: balance; }
-#end h1::before { position: absolute; left: 0; top: 2px; width: 22px; height: 22px; border-radius: 11px;
+#end :is(h1, h2)::before { position: absolute; left: 0; top: 2px; width: 22px; height: 22px; border-radius: 11px;
   background: var(--full-ink); color: var(--paper); font: 700 14px/22px var(--prose); text-align: center;
   content: "✓"; }
-#end h1.steps::before { background: var(--muted); content: "…"; line-height: 17px; }
-#end h1.deadlock::before { background: var(--blocked); color: #1a2027; content: "∞"; border-radius: 4px; }
-#end h1.bad::before { background: var(--lost); content: "!"; border-radius: 4px; }
+#end :is(h1, h2).steps::before { background: var(--muted); content: "…"; line-height: 17px; }
+#end :is(h1, h2).deadlock::before { background: var(--blocked); color: #1a2027; content: "∞"; border-radius: 4px; }
+#end :is(h1, h2).bad::before { background: var(--lost); content: "!"; border-radius: 4px; }
+body.expected { --lost: var(--muted); --stopped: var(--trapped); }
 #end ul { list-style: none; padding-left: 30px; max-width: 118ch; }
 #end .ring { flex: none; max-width: 100%; height: auto; }
 
@@ -49,8 +50,8 @@ section h2 { padding: 9px 12px; }
 .outcome.trapped { color: var(--trapped); }
 .outcome.stopped { color: var(--stopped); }
 .outcome.skipped { color: var(--muted); }
-.change { background: var(--here); border-radius: 3px; padding: 0 4px; font-family: var(--mono); font-size: .93em;
-  white-space: nowrap; }
+.change { background: var(--here); border-radius: 3px; padding: 0 4px; font-family: var(--mono); font-size: .93em; }
+.change b, .whole { white-space: nowrap; }
 
 /* The chart. */
 #chart { display: flex; align-items: flex-start; flex: 0 1 auto; overflow-y: auto; position: relative; }
@@ -151,9 +152,9 @@ table { border-collapse: collapse; width: 100%; font-size: 13px; }
 #state th, #state td { text-align: left; font-weight: 400; padding: 3px 12px; vertical-align: top;
   border-top: 1px solid var(--faint); overflow-wrap: anywhere; }
 #state th { color: var(--muted); white-space: nowrap; padding-right: 0; width: 1%; }
-#state td { font-family: var(--mono); font-size: 12.5px; }
+#state td { font-family: var(--mono); font-size: 12.5px; overflow-wrap: normal; }
 #state td:nth-child(3):not(.note) { white-space: nowrap; }
-#state td.note { font: 12.5px var(--prose); color: var(--muted); }
+#state td.note { overflow-wrap: anywhere; font: 12.5px var(--prose); color: var(--muted); }
 #state tr.changed { box-shadow: inset 3px 0 var(--blocked); }
 #state tr[aria-selected] { background: var(--faint); } #state p { padding: 0 12px 8px; }
 .waiting { color: var(--blocked-ink); }

@@ -32,7 +32,9 @@ function pictureStyle() {
   const rules = [...document.styleSheets[0].cssRules];
   const light = rules.find((rule) => rule.selectorText === ":root").style;
   const own = rules.filter((rule) => rule.selectorText?.startsWith(".pic"));
-  const colour = (_, name) => light.getPropertyValue(name).trim();
+  // (as page.css has it where the end is as expected)
+  const calm = run.expected === true ? { "--lost": "--muted", "--stopped": "--trapped" } : {};
+  const colour = (_, name) => light.getPropertyValue(calm[name] ?? name).trim();
   return own.map((rule) => rule.cssText).join("\n").replace(/var\((--[\w-]+)\)/g, colour);
 }
 
@@ -77,8 +79,8 @@ function save() {
   setTimeout(() => URL.revokeObjectURL(url), 1000);
 }
 
-/** The lanes in strips, as music is printed; the last one keeps room for how each stream ended. */
-function fillPaper() {
+/** The lanes of the run in strips, as music is printed; the last one keeps room for how each stream ended. */
+function paperStrips() {
   const room = PAPER_WIDTH - HEAD;
   const width = Math.min(60, Math.max(26, Math.floor((room - endRoom) / Math.max(1, columns.length))));
   const strips = [];
@@ -91,6 +93,8 @@ function fillPaper() {
   }
   const legend = drawLegend(PAPER_WIDTH);
   const sized = { class: "pic", width: PAPER_WIDTH, height: legend.height };
-  byId("paper").replaceChildren(...strips, svg("svg", sized, legend.group));
+  return [...paperHead(), ...strips, svg("svg", sized, legend.group)];
 }
+
+const fillPaper = () => byId("paper").replaceChildren(...perRun(paperStrips).flat());
 "#;

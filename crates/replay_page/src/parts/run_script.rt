@@ -1,20 +1,27 @@
 //! A text of the page: page/run.js. Made by page/embed.py.
 
 pub(crate) const TEXT: &str =
-    r#"// Shows one run, which stands as JSON in #run (docs/PAGE.md has its form). The script computes nothing of the machine:
-// a position is reached by putting recorded values in place, forwards or backwards.
+    r#"// Shows a run, or two, which stand as JSON in #run (docs/PAGE.md has its form). The script computes nothing of the
+// machine: a position is reached by putting recorded values in place, forwards or backwards.
 
-const run = JSON.parse(byId("run").textContent);
-const steps = run.steps;
-const head = run; // the program, its source and data, for what all pages name by it
+const data = JSON.parse(byId("run").textContent);
+const head = data; // the program, its source and data, for what all pages name by it
+
+// The run that is shown. What is gathered of it stands in variables too: a page of two runs takes the one or the other.
+let run = data;
+let steps = data.steps;
+let runMark = ""; // what links to its steps begin with
 
 // What the reader has chosen. `stream` null follows the step; `word` and `line` mark their steps.
 const view = { position: 0, stream: null, word: null, line: null, hex: false, timer: 0, zoom: 0 };
 
 // ---------------------------------------------------------------- lists and links
 
-const stepLink = (n) => html("a", { href: `#${n}` }, `step ${n}`);
+const stepHash = (n) => `#${runMark}${n}`;
+const stepLink = (n) => html("a", { href: stepHash(n) }, `step ${n}`);
 const listIn = (map, key) => map.get(key) ?? (map.set(key, []), map.get(key));
+
+const whole = (text) => html("span", { class: "whole" }, text); // is not broken over lines
 
 // ---------------------------------------------------------------- steps in words
 

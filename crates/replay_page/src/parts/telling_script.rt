@@ -4,7 +4,7 @@ pub(crate) const TEXT: &str =
     r#"// ---------------------------------------------------------------- what is told in words: waits, outcomes, findings
 
 const changed = (before, now) =>
-  html("span", { class: "change" }, number(before), " → ", html("b", {}, number(now)));
+  html("span", { class: "change" }, whole(number(before)), " → ", html("b", {}, number(now)));
 
 /** What a wait is for, and who made it wait, as it stands after step n; `since` names its first try. */
 function waitText(wait, n, since) {

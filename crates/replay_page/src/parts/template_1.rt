@@ -5,7 +5,7 @@ pub(crate) const TEXT: &str = r#"<!doctype html>
 <head>
 <meta charset="utf-8">
 <meta http-equiv="Content-Security-Policy"
- content="default-src 'none'; script-src 'sha256-ttiDzXdVKZuuyo6SEbbFqyhI4o3re6/vO9KKYQsHA58='; style-src 'sha256-YAq7EGmhigaPDz6SOSxnHNm78D0nEo/E8eheHn//pgg=';
+ content="default-src 'none'; script-src 'sha256-8FypKsiJV2Sro8SyQMkpXrfOB9XdPNbekvLDBP7c/Pk='; style-src 'sha256-mXLUbEQuaRDZ5QSuLLulkKukGR0txfy0nvCkEg+aqRo=';
  base-uri 'none'; form-action 'none'">
 <meta name="viewport" content="width=device-width, initial-scale=1">
 <meta name="color-scheme" content="light dark">

@@ -1,0 +1,122 @@
+//! The pages of the runs that lead to ends.
+
+use crate::expectation_texts::push_expectation;
+use crate::explored_objects::is_as_expected;
+use crate::explored_words::missed_of;
+use crate::exploring::Explored;
+use command_parts::{Inputs, LabFault, Program, stem_of};
+use lab_ends::{SpaceEnd, SpaceEndKind, Wishes};
+use replay_page::{MOST_STEPS, RunNames, RunVerdict, page_of_run};
+use std::alloc::{AllocError, Global};
+use std::io::Read;
+use std::rt::Files;
+
+/// A program whose ends were found.
+#[derive(Clone, Copy)]
+pub(crate) struct FoundProgram<'a> {
+    /// Its path.
+    pub path: &'a str,
+    /// The program.
+    pub program: &'a Program,
+    /// What is wished of it.
+    pub wishes: &'a Wishes,
+    /// What the search among its schedules came to.
+    pub found: &'a Explored,
+}
+
+impl FoundProgram<'_> {
+    /// Writes the page of the schedule to each end into a folder, as `1_deadlock.html` and so on: by the number of the end,
+    /// and its kind. A fault at the first that has more steps than a page.
+    pub(crate) fn write_pages<F: Files, R: Read>(
+        self,
+        alloc: Global,
+        inputs: &Inputs<'_, F, R>,
+        folder: &str,
+    ) -> Result<(), LabFault> {
+        for (index, end) in self.found.ends.iter().enumerate() {
+            let number = index.saturating_add(1);
+            let kind = end.kind.json_name();
+            let path = format!(in alloc; "{folder}/{number}_{kind}.html")?;
+            let steps = end.schedule.len();
+            if steps > MOST_STEPS {
+                return Err(LabFault::Words(format!(in alloc;
+                    "{path}: not written: a run of {steps} steps, and no more than {MOST_STEPS} are shown"
+                )?));
+            }
+            let page = self.page_of_end(alloc, number, end)?;
+            inputs.write(alloc, &path, page.as_bytes())?;
+        }
+        Ok(())
+    }
+
+    /// The page of the schedule to the end of this number.
+    fn page_of_end(
+        self,
+        alloc: Global,
+        number: usize,
+        end: &SpaceEnd,
+    ) -> Result<String, AllocError> {
+        let schedule = self.schedule_words(alloc, number, end)?;
+        let missed = self.missed_words(alloc, end)?;
+        let names = RunNames {
+            program: stem_of(self.path),
+            schedule: &schedule,
+            verdict: self.verdict_of(end, &missed),
+        };
+        page_of_run(
+            alloc,
+            names,
+            &self.program.text,
+            &self.program.image,
+            &end.schedule,
+        )
+    }
+
+    /// What the schedule to the end of this number is called.
+    fn schedule_words(
+        self,
+        alloc: Global,
+        number: usize,
+        end: &SpaceEnd,
+    ) -> Result<String, AllocError> {
+        let kind = end.kind.name();
+        let article = if self.found.is_shortest(end) {
+            "a shortest schedule"
+        } else {
+            "a schedule"
+        };
+        format!(in alloc; "{article} to end {number} ({kind})")
+    }
+
+    /// How an end was judged, which does not meet this line; nothing where that is empty.
+    fn verdict_of<'m>(self, end: &SpaceEnd, missed: &'m str) -> RunVerdict<'m> {
+        let wishes = self.wishes;
+        if wishes.ends.is_empty() && wishes.claims.is_empty() && wishes.rules.is_empty() {
+            RunVerdict::NotJudged
+        } else if is_as_expected(end) && self.found.broken_rule.is_none() {
+            RunVerdict::Expected
+        } else if missed.is_empty() {
+            RunVerdict::NotExpected { missed: None }
+        } else {
+            RunVerdict::NotExpected {
+                missed: Some(missed),
+            }
+        }
+    }
+
+    /// The line that an end does not meet: a claim that is broken, an expectation, or a rule of programs; empty where none is.
+    fn missed_words(self, alloc: Global, end: &SpaceEnd) -> Result<String, AllocError> {
+        if end.kind == SpaceEndKind::Broken {
+            return String::from_str(alloc, &end.text);
+        }
+        let mut words = String::new(alloc);
+        if let Some(expectation) = missed_of(&self.wishes.ends, end) {
+            push_expectation(&mut words, expectation)?;
+        } else if let Some(place) = self.found.broken_rule
+            && let Some(said) = self.wishes.rules.get(place)
+        {
+            words.push_str(&said.text)?;
+        }
+        Ok(words)
+    }
+}

@@ -1,0 +1,37 @@
+//! How the end of a run was judged.
+
+use crate::runs::push_member;
+use serde_json::Value;
+use std::alloc::{AllocError, Global};
+
+/// How the end of a run was judged.
+#[derive(Clone, Copy, Debug, PartialEq, Eq)]
+pub enum RunVerdict<'a> {
+    /// Nothing was expected of it.
+    NotJudged,
+    /// It is as expected.
+    Expected,
+    /// It is not: a deadlock, a trap, or a line that it does not meet.
+    NotExpected {
+        /// That line; None where no line says it.
+        missed: Option<&'a str>,
+    },
+}
+
+impl RunVerdict<'_> {
+    /// Adds it behind other members of a run's object; nothing where nothing was expected.
+    pub(crate) fn push_members(self, alloc: Global, json: &mut String) -> Result<(), AllocError> {
+        match self {
+            RunVerdict::NotJudged => Ok(()),
+            RunVerdict::Expected => push_member(alloc, json, "expected", &Value::Bool(true)),
+            RunVerdict::NotExpected { missed } => {
+                push_member(alloc, json, "expected", &Value::Bool(false))?;
+                let line = match missed {
+                    Some(words) => Value::String(String::from_str(alloc, words)?),
+                    None => Value::Null,
+                };
+                push_member(alloc, json, "missed", &line)
+            }
+        }
+    }
+}
