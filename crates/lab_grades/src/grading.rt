@@ -2,11 +2,10 @@
 
 use crate::cases::{Case, read_cases};
 use crate::judged::Grading;
-use crate::reports::report_of;
 use crate::side_by_side::{jobs_of, judge_all};
 use crate::submissions::read_submission;
-use crate::verdicts::Verdict;
 use command_parts::{Answer, Inputs, LabFault, Program, Status};
+use grade_reports::{Verdict, report_of};
 use lab_explorer::Console;
 use lab_requests::GradeRequest;
 use lab_texts::NumberStyle;
@@ -36,7 +35,14 @@ pub fn grade<X: Threads + Sync + Clock, F: Files, R: Read, E: Write>(
     for verdict in verdicts.iter() {
         status = status.worse(verdict.status);
     }
-    let output = report_of(alloc, request, &cases, &verdicts)?;
+    let count = cases.iter().filter(|case| case.name.is_some()).count();
+    let output = report_of(
+        alloc,
+        request.format,
+        &request.submissions,
+        &verdicts,
+        count,
+    )?;
     Ok(Answer::printed(alloc, output, status))
 }
 

@@ -4,10 +4,10 @@ use crate::cases::Case;
 use crate::explored_grades::explored_verdict;
 use crate::judged::{Grading, Judged, wishes_for};
 use crate::seed_grades::sampled_verdict;
-use crate::verdicts::{Known, Verdict, VerdictKind, WishLine};
 use crate::wish_lines::WishLines;
 use case_cells::with_cells_of;
 use command_parts::{LabFault, Program};
+use grade_reports::{Known, Verdict, VerdictKind, WishLine};
 use image_file::Image;
 use lab_ends::{Wishes, first_broken_rule};
 use lab_explorer::Console;
@@ -52,7 +52,7 @@ fn add_right(right: &mut Verdict, verdict: Verdict) -> Result<(), AllocError> {
     right.known = Known {
         worlds: sum_of(right.known.worlds, known.worlds),
         is_every: known.is_every,
-        bound: None,
+        ended: "",
         seeds: known.seeds,
     };
     right.status = right.status.worse(verdict.status);

@@ -2,8 +2,8 @@
 
 use crate::judged::Grading;
 use crate::judging::verdict_on;
-use crate::verdicts::Verdict;
 use command_parts::{LabFault, Program};
+use grade_reports::Verdict;
 use lab_explorer::Console;
 use lab_requests::GradeRequest;
 use rayon::current_num_threads;

@@ -4,8 +4,9 @@ use crate::reports::Judgement;
 use crate::text_report::why_of;
 use crate::verdicts::VerdictKind;
 use command_parts::push_object;
+use lab_json::{Fields, put_number, put_text};
 use plain_text::plain;
-use serde_json::{Value, json};
+use serde_json::{Map, Value};
 use std::alloc::{AllocError, Global};
 
 /// The results of all submissions: a test with one point for each, in one object.
@@ -15,24 +16,35 @@ pub(crate) fn gradescope_report(
 ) -> Result<String, AllocError> {
     let mut tests = Vec::new(alloc);
     for judgement in judgements {
-        tests.push(test_of(alloc, judgement)?)?;
+        tests.push(Value::Object(test_of(alloc, judgement)?))?;
     }
-    let tests = Value::Array(tests);
-    let value = json!(in alloc; {"tests": tests})?;
+    let mut fields = Map::new(alloc);
+    serde_json::put(&mut fields, alloc, "tests", Value::Array(tests))?;
     let mut out = String::new(alloc);
-    push_object(alloc, &mut out, &value)?;
+    push_object(alloc, &mut out, &Value::Object(fields))?;
     Ok(out)
 }
 
 /// The test that a submission is.
-fn test_of(alloc: Global, judgement: &Judgement<'_>) -> Result<Value, AllocError> {
+fn test_of(alloc: Global, judgement: &Judgement<'_>) -> Result<Fields, AllocError> {
     let kind = judgement.verdict.kind;
-    let name = plain(alloc, judgement.submission)?;
-    let name = name.as_str();
     let score: u64 = if kind == VerdictKind::Right { 1 } else { 0 };
     let word = kind.word();
     let why = plain(alloc, &why_of(alloc, judgement)?)?;
-    let output = format!(in alloc; "{word}: {why}")?;
-    let output = output.as_str();
-    json!(in alloc; {"name": name, "score": score, "max_score": 1, "output": output})
+    let mut fields = Map::new(alloc);
+    put_text(
+        alloc,
+        &mut fields,
+        "name",
+        &plain(alloc, judgement.submission)?,
+    )?;
+    put_number(alloc, &mut fields, "score", score)?;
+    put_number(alloc, &mut fields, "max_score", 1)?;
+    put_text(
+        alloc,
+        &mut fields,
+        "output",
+        &format!(in alloc; "{word}: {why}")?,
+    )?;
+    Ok(fields)
 }
