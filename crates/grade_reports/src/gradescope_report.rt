@@ -1,9 +1,9 @@
 //! Verdicts as the results that Gradescope reads.
 
+use crate::json_report::push_object;
 use crate::reports::Judgement;
 use crate::text_report::why_of;
 use crate::verdicts::VerdictKind;
-use command_parts::push_object;
 use lab_json::{Fields, put_number, put_text};
 use plain_text::plain;
 use serde_json::{Map, Value};
@@ -21,7 +21,7 @@ pub(crate) fn gradescope_report(
     let mut fields = Map::new(alloc);
     serde_json::put(&mut fields, alloc, "tests", Value::Array(tests))?;
     let mut out = String::new(alloc);
-    push_object(alloc, &mut out, &Value::Object(fields))?;
+    push_object(alloc, &mut out, fields)?;
     Ok(out)
 }
 

@@ -2,7 +2,6 @@
 
 use crate::reports::Judgement;
 use crate::verdicts::{CountedEnd, Known, Verdict, WishLine, Witness};
-use command_parts::push_object;
 use lab_json::{Fields, digits, line_value, object_of, put_number, put_text, put_turns};
 use serde_json::{Map, Value};
 use std::alloc::{AllocError, Global};
@@ -24,7 +23,18 @@ pub(crate) fn push_json(
     serde_json::put(&mut fields, alloc, "place", place_value(alloc, verdict)?)?;
     let ends = ends_value(alloc, &verdict.ends)?;
     serde_json::put(&mut fields, alloc, "ends", ends)?;
-    push_object(alloc, out, &Value::Object(fields))
+    push_object(alloc, out, fields)
+}
+
+/// Adds an object and the end of its line.
+pub(crate) fn push_object(
+    alloc: Global,
+    out: &mut String,
+    fields: Fields,
+) -> Result<(), AllocError> {
+    let text = Value::Object(fields).to_string(alloc)?;
+    out.push_str(&text)?;
+    out.push_str("\n")
 }
 
 /// Puts a text that may be missing.

@@ -7,7 +7,7 @@ use processor::Step;
 use std::alloc::{AllocError, Global};
 
 /// What a submission is.
-#[derive(Clone, Copy, Debug, PartialEq, Eq)]
+#[derive(Clone, Copy, PartialEq, Eq)]
 pub enum VerdictKind {
     /// It can't be read.
     NotRead,
@@ -74,7 +74,7 @@ impl VerdictKind {
 }
 
 /// What was looked at to come to a verdict.
-#[derive(Clone, Copy, Debug)]
+#[derive(Clone, Copy)]
 pub struct Known {
     /// How many worlds a search found; None where there was none.
     pub worlds: Option<usize>,

@@ -131,7 +131,7 @@ fn known_of(found: &Explored) -> Known {
 }
 
 /// What an end of a submission can show against it.
-#[derive(Clone, Copy, Debug)]
+#[derive(Clone, Copy)]
 enum EndFlaw {
     /// A trap that nobody expected stopped a stream.
     Trap,

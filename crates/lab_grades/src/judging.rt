@@ -8,7 +8,6 @@ use crate::wish_lines::WishLines;
 use case_cells::with_cells_of;
 use command_parts::{LabFault, Program};
 use grade_reports::{Known, Verdict, VerdictKind, WishLine};
-use image_file::Image;
 use lab_ends::{Wishes, first_broken_rule};
 use lab_explorer::Console;
 use lab_texts::ProgramNames;
@@ -28,7 +27,9 @@ pub(crate) fn verdict_on<X: Threads + Sync, C: Clock, E: Write>(
 ) -> Result<Verdict, LabFault> {
     let mut right = Verdict::plain(alloc, VerdictKind::Right, Known::NOTHING);
     for case in grading.cases.iter() {
-        let verdict = verdict_by(rt, alloc, grading, case, program, console)?;
+        let given = given_by(alloc, case, program)?;
+        let program = given.as_ref().unwrap_or(program);
+        let verdict = verdict_of(rt, alloc, grading, case, program, console)?;
         if verdict.kind != VerdictKind::Right {
             return Ok(with_name(alloc, verdict, case)?);
         }
@@ -70,30 +71,15 @@ fn sum_of(one: Option<usize>, other: Option<usize>) -> Option<usize> {
     }
 }
 
-/// What is said of a submission by a case.
-fn verdict_by<X: Threads + Sync, C: Clock, E: Write>(
-    rt: &X,
-    alloc: Global,
-    grading: &Grading<'_, '_>,
-    case: &Case,
-    program: &Program,
-    console: &mut Console<'_, C, E>,
-) -> Result<Verdict, LabFault> {
+/// The program with a case's cells in place of its own; None where the case has none.
+fn given_by(alloc: Global, case: &Case, program: &Program) -> Result<Option<Program>, AllocError> {
     match &case.cells {
-        Some(cells) => {
-            let given = with_cells(alloc, program, cells)?;
-            verdict_of(rt, alloc, grading, case, &given, console)
-        }
-        None => verdict_of(rt, alloc, grading, case, program, console),
+        Some(cells) => Ok(Some(Program {
+            text: Vec::from_slice(alloc, &program.text)?,
+            image: with_cells_of(alloc, &program.image, cells)?,
+        })),
+        None => Ok(None),
     }
-}
-
-/// The program with the cells of an image in place of its own.
-fn with_cells(alloc: Global, program: &Program, cells: &Image) -> Result<Program, AllocError> {
-    Ok(Program {
-        text: Vec::from_slice(alloc, &program.text)?,
-        image: with_cells_of(alloc, &program.image, cells)?,
-    })
 }
 
 /// What is said of a program that breaks a rule of programs; None where it keeps all.

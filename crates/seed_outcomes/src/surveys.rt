@@ -19,7 +19,7 @@ use std::thread::Threads;
 const AT_ONCE: usize = 1024;
 
 /// Which seeds are run, for how many steps at most, and how their ends are told.
-#[derive(Clone, Copy, Debug)]
+#[derive(Clone, Copy)]
 pub struct SurveySeeds {
     /// The first seed.
     pub first: u64,
