@@ -23,6 +23,7 @@ pub(crate) fn push_json(
     serde_json::put(&mut fields, alloc, "place", place_value(alloc, verdict)?)?;
     let ends = ends_value(alloc, &verdict.ends)?;
     serde_json::put(&mut fields, alloc, "ends", ends)?;
+    put_some_text(alloc, &mut fields, "page", verdict.page.as_ref())?;
     push_object(alloc, out, fields)
 }
 

@@ -161,6 +161,8 @@ pub struct Verdict {
     pub finding: String,
     /// All ends, where they are asked for.
     pub ends: Vec<CountedEnd>,
+    /// The page that shows it, as a link; None if none was written.
+    pub page: Option<String>,
     /// What it means for the exit status.
     pub status: Status,
 }
@@ -179,6 +181,7 @@ impl Verdict {
             words: String::new(alloc),
             finding: String::new(alloc),
             ends: Vec::new(alloc),
+            page: None,
             status: kind.status(),
         }
     }

@@ -73,7 +73,7 @@ pub(crate) const EXPLORE_ARGUMENTS: [Argument; 11] = [
 ];
 
 /// Of `grade`.
-pub(crate) const GRADE_ARGUMENTS: [Argument; 16] = [
+pub(crate) const GRADE_ARGUMENTS: [Argument; 17] = [
     Argument("expect", help::EXPECT, Form::NeededWithout("FILE", "cases")),
     Argument(
         "cases",
@@ -125,6 +125,11 @@ pub(crate) const GRADE_ARGUMENTS: [Argument; 16] = [
         "no-links",
         "a submission that is a symbolic link is not read",
         Form::Flag(&[]),
+    ),
+    Argument(
+        "pages",
+        "writes the page of each submission that is not right into this folder",
+        Form::Option("FOLDER"),
     ),
     Argument(
         "format",

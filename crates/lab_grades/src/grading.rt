@@ -2,6 +2,7 @@
 
 use crate::cases::{Case, read_cases};
 use crate::judged::Grading;
+use crate::page_folder::PageFolder;
 use crate::side_by_side::{jobs_of, judge_all};
 use crate::submissions::read_submission;
 use command_parts::{Answer, Inputs, LabFault, Program, Status};
@@ -30,7 +31,8 @@ pub fn grade<X: Threads + Sync + Clock, F: Files, R: Read, E: Write>(
     console: &mut Console<'_, X, E>,
 ) -> Result<Answer, LabFault> {
     let cases = read_cases(alloc, inputs, request.cases)?;
-    let verdicts = verdicts_on(rt, alloc, inputs, &*request, &cases, console)?;
+    let mut pages = PageFolder::open(alloc, inputs, request)?;
+    let verdicts = verdicts_on(rt, alloc, inputs, &*request, &cases, &mut pages, console)?;
     let mut status = Status::Done;
     for verdict in verdicts.iter() {
         status = status.worse(verdict.status);
@@ -43,7 +45,9 @@ pub fn grade<X: Threads + Sync + Clock, F: Files, R: Read, E: Write>(
         &verdicts,
         count,
     )?;
-    Ok(Answer::printed(alloc, output, status))
+    let mut answer = Answer::printed(alloc, output, status);
+    answer.fault = pages.fault;
+    Ok(answer)
 }
 
 /// What is said of each submission, in their order. Some are read, judged and let go before the next are read.
@@ -53,6 +57,7 @@ fn verdicts_on<'a, 'r, X: Threads + Sync + Clock, F: Files, R: Read, E: Write>(
     inputs: &mut Inputs<'_, F, R>,
     request: &'a GradeRequest<'r>,
     cases: &'a [Case],
+    pages: &mut PageFolder<'_>,
     console: &mut Console<'_, X, E>,
 ) -> Result<Vec<Verdict>, LabFault> {
     let jobs = jobs_of(rt, request);
@@ -69,9 +74,9 @@ fn verdicts_on<'a, 'r, X: Threads + Sync + Clock, F: Files, R: Read, E: Write>(
         if read.is_empty() {
             return Ok(verdicts);
         }
-        place = place.saturating_add(read.len());
-        for verdict in judge_all(rt, alloc, &grading, jobs, read, console)? {
-            verdicts.push(verdict)?;
+        for graded in judge_all(rt, alloc, &grading, jobs, read, console)? {
+            verdicts.push(pages.verdict_of(alloc, inputs, &grading, place, graded, console)?)?;
+            place = place.saturating_add(1);
         }
     }
     Ok(verdicts)

@@ -72,7 +72,11 @@ fn sum_of(one: Option<usize>, other: Option<usize>) -> Option<usize> {
 }
 
 /// The program with a case's cells in place of its own; None where the case has none.
-fn given_by(alloc: Global, case: &Case, program: &Program) -> Result<Option<Program>, AllocError> {
+pub(crate) fn given_by(
+    alloc: Global,
+    case: &Case,
+    program: &Program,
+) -> Result<Option<Program>, AllocError> {
     match &case.cells {
         Some(cells) => Ok(Some(Program {
             text: Vec::from_slice(alloc, &program.text)?,

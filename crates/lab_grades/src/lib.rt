@@ -6,10 +6,13 @@ mod explored_grades;
 mod grading;
 mod judged;
 mod judging;
+mod page_folder;
+mod page_names;
 mod seed_ends;
 mod seed_grades;
 mod side_by_side;
 mod submissions;
+mod verdict_pages;
 mod wish_lines;
 
 pub use grading::grade;

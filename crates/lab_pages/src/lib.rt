@@ -5,7 +5,9 @@ mod goals;
 mod paging;
 mod picturing;
 mod playing;
+mod program_pages;
 
 pub use paging::write_page;
 pub use picturing::write_picture;
 pub use playing::write_play_page;
+pub use program_pages::{play_page, replay_page};
