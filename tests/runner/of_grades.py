@@ -115,9 +115,9 @@ def shown(path):
                                     re.DOTALL)[1])
 
 
-def mark_of(schedule):
-    """What stands behind the name of a page in a link that opens it after a schedule."""
-    return "#" + ",".join(f"{p}.{s}x{n}" if n > 1 else f"{p}.{s}" for p, s, n in schedule)
+def way_of(schedule):
+    """The way on which a page of all schedules opens, for a schedule."""
+    return ",".join(f"{p}.{s}x{n}" if n > 1 else f"{p}.{s}" for p, s, n in schedule)
 
 
 def is_end_after(graph, schedule):
@@ -173,8 +173,7 @@ def pages():
                 if name not in wanted:
                     yield f"{kind} {name}", None, link
                     continue
-                mark = mark_of(one["schedule"]) if kind == "graph" else ""
-                yield f"{kind} {name}: link", f"{kind}/{wanted[name]}.html{mark}", link
+                yield f"{kind} {name}: path", f"{kind}/{wanted[name]}.html", link
                 data = shown(os.path.join(folder, kind, wanted[name] + ".html"))
                 yield f"{kind} {name}: object", "page" if kind == "run" else "graph", data["object"]
                 if kind == "run":
@@ -183,6 +182,7 @@ def pages():
                         rows = [[int(word) for word in line.split()] for line in file]
                     yield f"{kind} {name}: steps", rows, turns_of(data["steps"])
                 else:
+                    yield f"{kind} {name}: opened", way_of(one["schedule"]), data["opened"]
                     yield f"{kind} {name}: the schedule leads to an end", True, is_end_after(data, one["schedule"])
 
 
@@ -197,8 +197,7 @@ def pages_by_cases():
         for words in ((), ("--explore",)):
             ended = lab("grade", "--cases", "cases", *words, "--pages", "out/", "--json", "answer.asm", folder=folder)
             one = json.loads(ended.out)
-            mark = mark_of(one["schedule"]) if words else ""
-            yield f"{words}", (3, b"", "b", f"out/answer.html{mark}"), (
+            yield f"{words}", (3, b"", "b", "out/answer.html"), (
                 ended.status, ended.err, one["case"], one["page"])
             data = shown(os.path.join(folder, "out", "answer.html"))
             yield f"{words}: words", "7", str(data["start"]["memory"][0][1])

@@ -161,7 +161,7 @@ pub struct Verdict {
     pub finding: String,
     /// All ends, where they are asked for.
     pub ends: Vec<CountedEnd>,
-    /// The page that shows it, as a link; None if none was written.
+    /// The path of the page that shows it; None if none was written.
     pub page: Option<String>,
     /// What it means for the exit status.
     pub status: Status,

@@ -3,7 +3,7 @@
 use crate::judged::Grading;
 use crate::page_names::{page_names, stem_of};
 use crate::side_by_side::Graded;
-use crate::verdict_pages::{VerdictPage, page_of_verdict};
+use crate::verdict_pages::page_of_verdict;
 use command_parts::{Inputs, LabFault};
 use grade_reports::Verdict;
 use lab_explorer::Console;
@@ -79,23 +79,22 @@ impl<'a> PageFolder<'a> {
         Ok(verdict)
     }
 
-    /// The link to a page that is written for the submission of this place; None where it can't be.
+    /// The path of a page that is written for the submission of this place; None where it can't be.
     fn written<F: Files, R: Read>(
         &mut self,
         alloc: Global,
         inputs: &Inputs<'_, F, R>,
         folder: &str,
         place: usize,
-        page: VerdictPage,
+        page: String,
     ) -> Result<Option<String>, LabFault> {
         let slash = if folder.ends_with('/') { "" } else { "/" };
         let name = self.names.get(place).map_or("", |name| name.as_str());
-        let mut path = format!(in alloc; "{folder}{slash}{name}.html")?;
-        self.take(inputs.write(alloc, &path, page.text.as_bytes()));
+        let path = format!(in alloc; "{folder}{slash}{name}.html")?;
+        self.take(inputs.write(alloc, &path, page.as_bytes()));
         if self.fault.is_some() {
             return Ok(None);
         }
-        path.push_str(&page.mark)?;
         Ok(Some(path))
     }
 }

@@ -2,6 +2,7 @@
 #![tactic(auto)]
 
 mod goals;
+mod opened_pages;
 mod paging;
 mod picturing;
 mod playing;
@@ -10,4 +11,4 @@ mod program_pages;
 pub use paging::write_page;
 pub use picturing::write_picture;
 pub use playing::write_play_page;
-pub use program_pages::{play_page, replay_page};
+pub use program_pages::{PlayedProgram, play_page, replay_page};

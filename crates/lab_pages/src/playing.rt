@@ -1,6 +1,7 @@
 //! The command `play`.
 
 use crate::goals::{Judging, goal_place};
+use crate::opened_pages::opened_after;
 use crate::paging::stem_of;
 use command_parts::{Answer, Inputs, LabFault, Program, read_program, read_steps};
 use lab_ends::{Wishes, are_rules_kept, space_ends};
@@ -41,6 +42,7 @@ pub fn write_play_page<C: Clock, F: Files, R: Read, E: Write>(
         names: &names,
         wishes: &wishes,
         begin: &begin,
+        opened: &[],
     };
     match page_text(alloc, request, &played, console)? {
         Some(page) => inputs.write(alloc, request.out, page.as_bytes())?,
@@ -56,6 +58,8 @@ pub(crate) struct Played<'a, 't> {
     pub names: &'a ProgramNames<'t>,
     pub wishes: &'a Wishes,
     pub begin: &'a [Step],
+    /// The steps after which the page opens.
+    pub opened: &'a [Step],
 }
 
 /// The page of a program; None if it has more states than are asked for.
@@ -81,6 +85,7 @@ pub(crate) fn page_text<C: Clock, E: Write>(
     let Some(graph) = graph? else {
         return Ok(None);
     };
+    let graph = opened_after(alloc, graph, played.opened)?;
     let name = program_name(request);
     let title = format!(in alloc; "{name}, you are the scheduler")?;
     Ok(Some(page_of_graph(alloc, &title, &graph)?))

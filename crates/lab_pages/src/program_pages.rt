@@ -45,31 +45,43 @@ fn json_on<const S: usize>(
     run_json(alloc, names, &program.text, &machine, steps)
 }
 
-/// The page on which the reader is the scheduler of a program that is called so, judged by what is wished; None if the
-/// program has more states than a page.
-pub fn play_page<'a, 't, C: Clock, E: Write>(
+/// A program, and what its page of all schedules shows.
+#[derive(Clone, Copy)]
+pub struct PlayedProgram<'a, 't> {
+    /// What it is called.
+    pub called: &'a str,
+    /// The program.
+    pub program: &'a Program,
+    /// The names of its places.
+    pub names: &'a ProgramNames<'t>,
+    /// What is wished of it.
+    pub wishes: &'a Wishes,
+    /// The steps after which the page opens.
+    pub opened: &'a [Step],
+}
+
+/// The page on which the reader is the scheduler of a program; None if the program has more states than a page.
+pub fn play_page<C: Clock, E: Write>(
     alloc: Global,
-    called: &'a str,
-    program: &'a Program,
-    names: &'a ProgramNames<'t>,
-    wishes: &'a Wishes,
+    asked: &PlayedProgram<'_, '_>,
     console: &mut Console<'_, C, E>,
 ) -> Result<Option<String>, LabFault> {
-    let begin = Vec::new(alloc);
     let request = PlayRequest {
-        program: called,
+        program: asked.called,
         expected: None,
         from: None,
         states: MOST_STATES,
-        title: Some(called),
+        title: Some(asked.called),
         goal: None,
-        out: called,
+        out: asked.called,
     };
+    let begin = Vec::new(alloc);
     let played = Played {
-        program,
-        names,
-        wishes,
+        program: asked.program,
+        names: asked.names,
+        wishes: asked.wishes,
         begin: &begin,
+        opened: asked.opened,
     };
     page_text(alloc, &request, &played, console)
 }
