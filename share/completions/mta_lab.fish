@@ -44,6 +44,7 @@ complete -c mta_lab -n '__fish_seen_subcommand_from grade' -l given -r -k -a '(_
 complete -c mta_lab -n '__fish_seen_subcommand_from grade' -l all -f -d 'count all ends'
 complete -c mta_lab -n '__fish_seen_subcommand_from grade' -l jobs -x -d 'how many side by side'
 complete -c mta_lab -n '__fish_seen_subcommand_from grade' -l no-links -f -d 'read no links'
+complete -c mta_lab -n '__fish_seen_subcommand_from grade' -l pages -x -a '(__fish_complete_directories)' -d 'write a page of each that is not right into this folder'
 complete -c mta_lab -n '__fish_seen_subcommand_from grade' -l format -x -a 'text tsv json junit gradescope' -d 'how it is written'
 complete -c mta_lab -n '__fish_seen_subcommand_from survey explore grade' -l states -x -d 'the most worlds that are looked for'
 complete -c mta_lab -n '__fish_seen_subcommand_from survey explore grade' -l seconds -x -d 'the most seconds'

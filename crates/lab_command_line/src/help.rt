@@ -117,6 +117,10 @@ a folder, in the order of their names: NAME.data takes the place of its cells, a
 says what the end has to be. All have to be right. Only regular files are read, and - is
 standard input.
 
+With --pages FOLDER the run that shows why a submission is not right is written as a page for a
+browser, FOLDER/NAME.html of NAME.asm; with --explore as a page of all schedules (mta_lab play),
+if the program has no more than 100000 states.
+
 Examples:
   mta_lab grade --expect wanted.expect submissions/*.asm
   mta_lab grade --cases cases --explore --seconds 10 --format junit submissions/*.asm";

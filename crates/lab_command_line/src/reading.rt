@@ -288,6 +288,7 @@ fn grade_of<'a>(alloc: Global, found: &ArgMatches<'a>) -> Result<GradeRequest<'a
         explored: explored_of(found),
         jobs: found.get_one::<usize>("jobs"),
         refuses_links: found.get_flag("no-links"),
+        pages: text(found, "pages"),
         submissions: words(alloc, found, "SUBMISSION")?,
         format: format_of(found),
         hexadecimal: found.get_flag("hex"),

@@ -213,6 +213,8 @@ pub struct GradeRequest<'a> {
     pub jobs: Option<usize>,
     /// Whether a submission that is a symbolic link is not read.
     pub refuses_links: bool,
+    /// The folder for the page of each submission that is not right.
+    pub pages: Option<&'a str>,
     /// The submissions, one at least: source texts or images.
     pub submissions: Vec<&'a str>,
     /// How the answer is written.

@@ -1,9 +1,7 @@
 //! Verdicts in words.
 
-use crate::explored_grades::words_of_bound;
 use crate::reports::Judgement;
 use crate::verdicts::{CountedEnd, Known, Verdict, VerdictKind, WishLine, Witness};
-use lab_explorer::digits_of;
 use plain_text::push_plain;
 use processor::Step;
 use std::alloc::{AllocError, Global};
@@ -21,12 +19,7 @@ pub(crate) fn push_row(
     write!(out, "\t{word}\t")?;
     push_plain(out, &why_of(alloc, judgement)?)?;
     out.push_str("\n")?;
-    let most = verdict.ends.iter().map(|end| end.count).max();
-    let width = digits_of(most.unwrap_or(0));
-    for end in verdict.ends.iter() {
-        push_end(alloc, out, width, end)?;
-    }
-    Ok(())
+    push_ends(alloc, out, &verdict.ends)
 }
 
 /// Why a submission is what it is said to be, in words, which may have control bytes of its comments.
@@ -38,7 +31,7 @@ pub(crate) fn why_of(alloc: Global, judgement: &Judgement<'_>) -> Result<String,
     }
     match verdict.kind {
         VerdictKind::Right | VerdictKind::NotDecided => {
-            push_known(alloc, &mut why, judgement)?;
+            push_known(&mut why, judgement)?;
         }
         VerdictKind::NotRead | VerdictKind::SourceFault => why.push_str(&verdict.words)?,
         VerdictKind::Trap
@@ -51,18 +44,14 @@ pub(crate) fn why_of(alloc: Global, judgement: &Judgement<'_>) -> Result<String,
 }
 
 /// Adds what was looked at: `every schedule, 36 worlds`, `200 seeds`, or both, and of how many cases.
-fn push_known(
-    alloc: Global,
-    why: &mut String,
-    judgement: &Judgement<'_>,
-) -> Result<(), AllocError> {
+fn push_known(why: &mut String, judgement: &Judgement<'_>) -> Result<(), AllocError> {
     let known = judgement.verdict.known;
     if judgement.cases > 0 && judgement.verdict.kind == VerdictKind::Right {
         let cases = judgement.cases;
         let some = if cases == 1 { "" } else { "s" };
         write!(why, "{cases} case{some}, ")?;
     }
-    push_worlds(alloc, why, known)?;
+    push_worlds(why, known)?;
     if let Some(seeds) = known.seeds {
         let behind = if known.worlds.is_some() { ", and " } else { "" };
         write!(why, "{behind}{seeds} seeds")?;
@@ -71,7 +60,7 @@ fn push_known(
 }
 
 /// Adds what a search found, where there was one.
-fn push_worlds(alloc: Global, why: &mut String, known: Known) -> Result<(), AllocError> {
+fn push_worlds(why: &mut String, known: Known) -> Result<(), AllocError> {
     let Some(worlds) = known.worlds else {
         return Ok(());
     };
@@ -80,8 +69,9 @@ fn push_worlds(alloc: Global, why: &mut String, known: Known) -> Result<(), Allo
     } else {
         "some schedules"
     };
-    let ended = words_of_bound(alloc, known.bound)?;
-    write!(why, "{which}, {worlds} worlds{ended}")
+    let comma = if known.ended.is_empty() { "" } else { ", " };
+    let ended = known.ended;
+    write!(why, "{which}, {worlds} worlds{comma}{ended}")
 }
 
 /// Adds the run that shows what is wrong, the line that it misses, its end, and the first finding on the way to it.
@@ -89,7 +79,7 @@ fn push_shown(alloc: Global, why: &mut String, verdict: &Verdict) -> Result<(), 
     if let Witness::Seed(_) = &verdict.witness
         && verdict.known.worlds.is_some()
     {
-        push_worlds(alloc, why, verdict.known)?;
+        push_worlds(why, verdict.known)?;
         why.push_str(", and ")?;
     }
     push_witness(alloc, why, &verdict.witness)?;
@@ -144,6 +134,16 @@ pub(crate) fn push_turns(
     for (index, line) in schedule.trim().split('\n').enumerate() {
         out.push_str(if index == 0 { "" } else { ", " })?;
         out.push_str(line)?;
+    }
+    Ok(())
+}
+
+/// Adds a line for each of the ends, their counts in one column.
+fn push_ends(alloc: Global, out: &mut String, ends: &[CountedEnd]) -> Result<(), AllocError> {
+    let most = ends.iter().map(|end| end.count).max().unwrap_or(0);
+    let width = format!(in alloc; "{most}")?.len();
+    for end in ends {
+        push_end(alloc, out, width, end)?;
     }
     Ok(())
 }

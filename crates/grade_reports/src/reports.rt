@@ -1,13 +1,12 @@
 //! The verdicts on all submissions, written as is asked for.
 
-use crate::cases::Case;
 use crate::gradescope_report::gradescope_report;
 use crate::json_report::push_json;
 use crate::junit_report::junit_report;
 use crate::text_report::push_row;
 use crate::tsv_report::push_tsv;
 use crate::verdicts::Verdict;
-use lab_requests::{GradeFormat, GradeRequest};
+use lab_requests::GradeFormat;
 use std::alloc::{AllocError, Global};
 
 /// A submission, what is said of it, and by how many cases it was judged.
@@ -21,27 +20,27 @@ pub(crate) struct Judgement<'a> {
     pub cases: usize,
 }
 
-/// The verdicts on all submissions.
-pub(crate) fn report_of(
+/// The verdicts on submissions, in their order, each judged by so many cases; 0 if no case has a name.
+pub fn report_of(
     alloc: Global,
-    request: &GradeRequest,
-    cases: &[Case],
+    format: GradeFormat,
+    submissions: &[&str],
     verdicts: &[Verdict],
+    cases: usize,
 ) -> Result<String, AllocError> {
     let mut judgements = Vec::new(alloc);
-    let count = cases.iter().filter(|case| case.name.is_some()).count();
-    for (path, verdict) in request.submissions.iter().zip(verdicts.iter()) {
+    for (path, verdict) in submissions.iter().zip(verdicts.iter()) {
         judgements.push(Judgement {
             submission: *path,
             verdict,
-            cases: count,
+            cases,
         })?;
     }
-    match request.format {
+    match format {
         GradeFormat::Junit => junit_report(alloc, &judgements),
         GradeFormat::Gradescope => gradescope_report(alloc, &judgements),
         GradeFormat::Text | GradeFormat::Tsv | GradeFormat::Json => {
-            lines_of(alloc, request.format, &judgements)
+            lines_of(alloc, format, &judgements)
         }
     }
 }

@@ -1,10 +1,9 @@
 //! The command `survey`.
 
-use crate::explored_grades::words_of_bound;
-use crate::outcomes::{Outcome, Seeds, outcomes_of, worst_status};
 use crate::survey_objects::{Surveyed, push_coverage, push_outcome_objects};
 use command_parts::{Answer, Inputs, LabFault, Program, read_program, style_of};
 use expectations::Expectation;
+use image_file::Image;
 use lab_ends::{SpaceEnd, SpaceEndKind, Wishes};
 use lab_explorer::{
     Console, ExpectedLines, Explored, Search, Watcher, digits_of, expectations_of, explore_program,
@@ -13,6 +12,7 @@ use lab_explorer::{
 use lab_requests::{Bounds, SurveyRequest};
 use lab_texts::{NumberStyle, ProgramNames};
 use plain_text::push_plain;
+use seed_outcomes::{Outcome, SurveySeeds, outcomes_of, worst_status};
 use std::alloc::{AllocError, Global};
 use std::io::{Read, Write};
 use std::rt::Files;
@@ -47,32 +47,34 @@ fn survey_of<X: Threads + Sync, C: Clock, E: Write>(
     expected: Vec<Expectation>,
     console: &mut Console<'_, C, E>,
 ) -> Result<Answer, LabFault> {
-    let seeds = Seeds {
+    let seeds = SurveySeeds {
         first: request.first,
         count: request.seeds,
         most: request.most,
         style: style_of(request.shown),
     };
-    let mut outcomes = outcomes_of(rt, alloc, program, &expected, seeds)?;
+    let names = ProgramNames::of(alloc, &program.text)?;
+    let mut outcomes = outcomes_of(rt, alloc, &program.image, &names, &expected, seeds)?;
     outcomes.sort_by_key(|outcome: &Outcome| usize::MAX - outcome.runs)?;
     let mut output = String::new(alloc);
     if request.shown.json {
         let most = request.most;
-        push_objects(
-            alloc,
-            &mut output,
-            program,
-            text,
-            &expected,
-            most,
-            &outcomes,
-        )?;
+        let image = &program.image;
+        push_objects(alloc, &mut output, image, text, &expected, most, &outcomes)?;
     } else {
         push_outcomes(&mut output, &expected, &outcomes)?;
     }
     let mut status = worst_status(&outcomes);
     if let Some(bounds) = request.explored {
-        let found = every_end(alloc, program, expected, seeds.style, bounds, console)?;
+        let found = every_end(
+            alloc,
+            program,
+            &names,
+            expected,
+            seeds.style,
+            bounds,
+            console,
+        )?;
         push_met(alloc, &mut output, request.shown.json, &found, &outcomes)?;
         status = status.worse(found.status());
     }
@@ -83,14 +85,14 @@ fn survey_of<X: Threads + Sync, C: Clock, E: Write>(
 fn push_objects<'a>(
     alloc: Global,
     out: &mut String,
-    program: &'a Program,
+    image: &'a Image,
     text: &'a [u8],
     expected: &'a [Expectation],
     most: usize,
     outcomes: &[Outcome],
 ) -> Result<(), AllocError> {
     let surveyed = Surveyed {
-        program,
+        image,
         lines: ExpectedLines { text, expected },
         most,
     };
@@ -115,12 +117,12 @@ fn push_outcomes(
 fn every_end<C: Clock, E: Write>(
     alloc: Global,
     program: &Program,
+    names: &ProgramNames<'_>,
     expected: Vec<Expectation>,
     style: NumberStyle,
     bounds: Bounds,
     console: &mut Console<'_, C, E>,
 ) -> Result<Explored, LabFault> {
-    let names = ProgramNames::of(alloc, &program.text)?;
     let mut wishes = Wishes::none(alloc);
     wishes.ends = expected;
     let begin = Vec::new(alloc);
@@ -133,7 +135,7 @@ fn every_end<C: Clock, E: Write>(
         style,
     };
     let mut watcher = Watcher::new(alloc, console, bounds)?;
-    let found = explore_program(alloc, program, &names, &asked, &mut watcher);
+    let found = explore_program(alloc, program, names, &asked, &mut watcher);
     watcher.finish();
     Ok(found?)
 }
@@ -161,10 +163,13 @@ fn push_met(
     } else {
         "some schedules"
     };
-    let ended = words_of_bound(alloc, found.bound)?;
+    let (comma, ended) = match found.bound {
+        Some(bound) => (", ", bound.words()),
+        None => ("", ""),
+    };
     write!(
         out,
-        "met {met} of the {ends} ends of {which} ({worlds} worlds{ended})\n"
+        "met {met} of the {ends} ends of {which} ({worlds} worlds{comma}{ended})\n"
     )
 }
 

@@ -1,11 +1,12 @@
 //! What is told of a survey as objects (docs/LAB.md, "JSON").
 
-use crate::outcomes::Outcome;
-use command_parts::{Program, made_by, push_object};
+use command_parts::{made_by, push_object};
 use end_kinds::EndKind;
+use image_file::Image;
 use lab_explorer::{ExpectedLines, Explored, put_bound};
 use lab_json::{Fields, digits, object_of, put_flag, put_number, put_run, put_text};
 use lab_requests::Maker;
+use seed_outcomes::Outcome;
 use serde_json::Value;
 use std::alloc::{AllocError, Global};
 
@@ -13,7 +14,7 @@ use std::alloc::{AllocError, Global};
 #[derive(Clone, Copy)]
 pub(crate) struct Surveyed<'a> {
     /// The program.
-    pub program: &'a Program,
+    pub image: &'a Image,
     /// What is expected of it.
     pub lines: ExpectedLines<'a>,
     /// The most steps of a schedule.
@@ -40,7 +41,7 @@ fn outcome_fields(
     surveyed: Surveyed,
     outcome: &Outcome,
 ) -> Result<Fields, AllocError> {
-    let image = &surveyed.program.image;
+    let image = surveyed.image;
     let maker = Maker::Random { seed: outcome.seed };
     let made = made_by(alloc, image, maker, surveyed.most)?;
     let mut fields = object_of(alloc, "outcome")?;

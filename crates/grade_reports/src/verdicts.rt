@@ -3,13 +3,12 @@
 ghost use Rattle.std.specs.Prelude.{◌≡◌};
 
 use end_kinds::{EndKind, Status};
-use lab_explorer::SearchBound;
 use processor::Step;
 use std::alloc::{AllocError, Global};
 
 /// What a submission is.
-#[derive(Clone, Copy, Debug, PartialEq, Eq)]
-pub(crate) enum VerdictKind {
+#[derive(Clone, Copy, PartialEq, Eq)]
+pub enum VerdictKind {
     /// It can't be read.
     NotRead,
     /// It is no program.
@@ -32,7 +31,7 @@ pub(crate) enum VerdictKind {
 
 impl VerdictKind {
     /// The word of the table.
-    pub(crate) fn word(self) -> &'static str {
+    pub fn word(self) -> &'static str {
         match self {
             VerdictKind::NotRead => "not read",
             VerdictKind::SourceFault => "source fault",
@@ -47,7 +46,7 @@ impl VerdictKind {
     }
 
     /// What it means for the exit status.
-    pub(crate) fn status(self) -> Status {
+    pub fn status(self) -> Status {
         match self {
             VerdictKind::NotRead | VerdictKind::SourceFault => Status::Fault,
             VerdictKind::Deadlock => Status::Deadlock,
@@ -60,7 +59,7 @@ impl VerdictKind {
     }
 
     /// Whether it is said of a submission that did not run.
-    pub(crate) fn is_of_no_program(self) -> bool {
+    pub fn is_of_no_program(self) -> bool {
         match self {
             VerdictKind::NotRead | VerdictKind::SourceFault => true,
             VerdictKind::Trap
@@ -75,31 +74,31 @@ impl VerdictKind {
 }
 
 /// What was looked at to come to a verdict.
-#[derive(Clone, Copy, Debug)]
-pub(crate) struct Known {
+#[derive(Clone, Copy)]
+pub struct Known {
     /// How many worlds a search found; None where there was none.
     pub worlds: Option<usize>,
     /// Whether they are those of every schedule.
     pub is_every: bool,
-    /// What ended the search before that.
-    pub bound: Option<SearchBound>,
+    /// What ended the search before that, in words; empty if nothing did.
+    pub ended: &'static str,
     /// How many seeds were tried, the one that decides the last of them; None where none was.
     pub seeds: Option<usize>,
 }
 
 impl Known {
     /// Nothing was looked at.
-    pub(crate) const NOTHING: Known = Known {
+    pub const NOTHING: Known = Known {
         worlds: None,
         is_every: false,
-        bound: None,
+        ended: "",
         seeds: None,
     };
 }
 
 /// What shows that a submission is not right.
 #[derive(Drop)]
-pub(crate) enum Witness {
+pub enum Witness {
     /// Nothing, or nothing that runs.
     None,
     /// The run of a seed.
@@ -110,7 +109,7 @@ pub(crate) enum Witness {
 
 /// A line of a file of expectations.
 #[derive(Drop)]
-pub(crate) struct WishLine {
+pub struct WishLine {
     /// Its number, from 1.
     pub number: usize,
     /// Its words, with a space between them, without its comment.
@@ -119,7 +118,7 @@ pub(crate) struct WishLine {
 
 impl WishLine {
     /// Another one of the same number and words.
-    pub(crate) fn copy(&self, alloc: Global) -> Result<WishLine, AllocError> {
+    pub fn copy(&self, alloc: Global) -> Result<WishLine, AllocError> {
         Ok(WishLine {
             number: self.number,
             text: String::from_str(alloc, &self.text)?,
@@ -129,7 +128,7 @@ impl WishLine {
 
 /// Ends that are counted as one.
 #[derive(Drop)]
-pub(crate) struct CountedEnd {
+pub struct CountedEnd {
     /// How they end; None where a claim is broken.
     pub kind: Option<EndKind>,
     /// How many runs of seeds come to them, or how many worlds they are.
@@ -144,7 +143,7 @@ pub(crate) struct CountedEnd {
 
 /// What is said of a submission.
 #[derive(Drop)]
-pub(crate) struct Verdict {
+pub struct Verdict {
     /// What it is.
     pub kind: VerdictKind,
     /// The name of the case that decides; None where there is none, and where each is right.
@@ -162,13 +161,15 @@ pub(crate) struct Verdict {
     pub finding: String,
     /// All ends, where they are asked for.
     pub ends: Vec<CountedEnd>,
+    /// The path of the page that shows it; None if none was written.
+    pub page: Option<String>,
     /// What it means for the exit status.
     pub status: Status,
 }
 
 impl Verdict {
     /// The verdict of this kind by what was looked at, with nothing else.
-    pub(crate) fn plain(alloc: Global, kind: VerdictKind, known: Known) -> Verdict
+    pub fn plain(alloc: Global, kind: VerdictKind, known: Known) -> Verdict
         ensures { result.kind ≡ kind }
     {
         Verdict {
@@ -180,12 +181,13 @@ impl Verdict {
             words: String::new(alloc),
             finding: String::new(alloc),
             ends: Vec::new(alloc),
+            page: None,
             status: kind.status(),
         }
     }
 
     /// That of a submission that did not run, for this reason.
-    pub(crate) fn of_no_program(alloc: Global, kind: VerdictKind, words: String) -> Verdict
+    pub fn of_no_program(alloc: Global, kind: VerdictKind, words: String) -> Verdict
         ensures { result.kind ≡ kind }
     {
         let mut verdict = Verdict::plain(alloc, kind, Known::NOTHING);
