@@ -1,10 +1,10 @@
 //! The folder into which the pages of submissions are written.
 
 use crate::judged::Grading;
-use crate::page_names::{page_names, stem_of};
+use crate::page_names::page_names;
 use crate::side_by_side::Graded;
 use crate::verdict_pages::page_of_verdict;
-use command_parts::{Inputs, LabFault};
+use command_parts::{Inputs, LabFault, stem_of};
 use grade_reports::Verdict;
 use lab_explorer::Console;
 use lab_requests::GradeRequest;

@@ -1,5 +1,6 @@
 //! What the pages of submissions are called.
 
+use command_parts::stem_of;
 use std::alloc::{AllocError, Global};
 
 /// The names of the pages of submissions, in their order, no two alike: that of the file without its ending. What a link
@@ -54,16 +55,4 @@ fn plain_stem(alloc: Global, path: &str) -> Result<String, AllocError> {
         }
     }
     Ok(out)
-}
-
-/// The name of a path's file without what stands behind its last point.
-pub(crate) fn stem_of(path: &str) -> &str {
-    let name = match path.rsplit_once('/') {
-        Some((_, name)) => name,
-        None => path,
-    };
-    match name.rsplit_once('.') {
-        Some((stem, _)) if !stem.is_empty() => stem,
-        _ => name,
-    }
 }
