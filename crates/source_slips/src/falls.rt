@@ -5,13 +5,9 @@ use crate::spots::Slips;
 use insn_word::{ControlOp, Insn, MemoryOp};
 use std::alloc::AllocError;
 
-/// Warns of each word from which a stream may run on past the end, or into another processor's code. None is told where a
-/// stream may come back from a trap.
+/// Warns of each word from which a stream may run on past the end, or into another processor's code.
 pub(crate) fn warn_of_falls(slips: &mut Slips, program: &Program) -> Result<(), AllocError> {
     let count = program.insns.len();
-    if program.goes_anywhere {
-        return Ok(());
-    }
     for place in 0..count {
         let next = place.saturating_add(1);
         if !program.is_reached(place) {

@@ -79,7 +79,7 @@ pub(crate) fn references_of(
             Some(insn) => {
                 if let Insn::Normal { m, .. } = insn {
                     if m.op != MemoryOp::Nop && program.is_reached(place) {
-                        found.push(reference(place, m, registers.value(m.base)))?;
+                        found.push(reference_at(place, m, registers.value(m.base)))?;
                     }
                 }
                 registers.take(&insn);
@@ -91,7 +91,7 @@ pub(crate) fn references_of(
 }
 
 /// The reference of a part, whose base holds this.
-fn reference(place: usize, part: MPart, base: Option<u64>) -> Reference {
+fn reference_at(place: usize, part: MPart, base: Option<u64>) -> Reference {
     let pointer = match base {
         Some(base) => {
             let bytes = i64::from(part.disp).wrapping_mul(8).cast_unsigned();

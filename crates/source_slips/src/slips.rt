@@ -28,10 +28,12 @@ pub fn source_slips(alloc: Global, text: &[u8]) -> Result<Vec<Slip>, AllocError>
     warn_of_codes(&mut slips, &program)?;
     warn_of_lost_results(&mut slips, &program)?;
     warn_of_rounds(&mut slips, &program)?;
-    // (a word that forwards or traps leads a reference elsewhere)
-    if is_plain {
+    // (a word that forwards or traps leads a reference elsewhere, and a handler mends what traps)
+    if is_plain && !program.goes_anywhere {
         warn_of_falls(&mut slips, &program)?;
         warn_of_addresses(&mut slips, &references, image.cells().len())?;
+    }
+    if is_plain {
         warn_of_full_bits(&mut slips, &image, &references)?;
     }
     Ok(slips.into_found())

@@ -6,7 +6,6 @@ The condition ALWAYS holds whatever the code is. Write 0 for the code.
 > .entry start
 > .data 0
 > start: SKIP ALWAYS, 0, end
->  NOP
 > end: QUIT
 
 = EQ NE

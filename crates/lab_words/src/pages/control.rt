@@ -7,7 +7,6 @@ JUMP c, k, t goes to the target register t if condition c holds on code k. Code 
 > .data 0
 > start: TLIT t1, over
 >  JUMP ALWAYS, 0, t1
->  NOP
 > over: QUIT
 
 It takes no label: TLIT t1, label comes first. To a label nearby, SKIP is shorter.
@@ -160,6 +159,5 @@ TLIT t, label sets a target register to the place of a label, for JUMP, CALL and
 > .data 0
 > start: TLIT t1, over
 >  JUMP ALWAYS, 0, t1
->  NOP
 > over: QUIT
 ";
