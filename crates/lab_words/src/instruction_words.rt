@@ -49,15 +49,19 @@ fn word_of(alloc: Global, text: &str) -> Result<Option<u64>, AllocError> {
     }
 }
 
+/// A line of a listing without its comment.
+fn without_comment(line: &str) -> &str {
+    match line.find(';') {
+        Some(place) => line.get(..place).unwrap_or(line).trim_end(),
+        None => line,
+    }
+}
+
 /// Adds a word as text, in hexadecimal, and by its fields.
 fn push_word(alloc: Global, out: &mut String, word: u64) -> Result<(), AllocError> {
     let mut listed = String::new(alloc);
     push_word_line(&mut listed, Profile::Two, 0, word)?;
-    let text = match listed.as_str().split_once(" ; ") {
-        Some((text, _)) => text,
-        None => listed.as_str(),
-    };
-    out.push_str(text)?;
+    out.push_str(without_comment(listed.as_str()))?;
     let line = format!(in alloc; "\nword        {word:016X}\n")?;
     out.push_str(line.as_str())?;
     match decode_as(Profile::Two, word) {
