@@ -21,7 +21,7 @@ _mta_lab_options() {
 _mta_lab() {
   local current=${COMP_WORDS[COMP_CWORD]} before=${COMP_WORDS[COMP_CWORD - 1]} command=${COMP_WORDS[1]} words
   if [ "$COMP_CWORD" -eq 1 ]; then
-    words='check schedule view compare survey explore grade page picture play debug dap asm --help --version'
+    words='check schedule view compare survey explore grade page picture play debug dap asm explain word new --help --version'
   elif [ "$before" = --as ]; then
     words='source image schedule'
   elif [ "$before" = --goal ]; then
