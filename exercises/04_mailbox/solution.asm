@@ -1,5 +1,5 @@
-; Two senders and one receiver. The mailbox is full while a letter lies in it: a sender waits until it is empty, the receiver
-; until it is full.
+; Two senders and one receiver. The mailbox is full while a letter lies in it: a sender waits until it is empty, the
+; receiver until it is full.
         .slim 1
         .entry first
         .entry second

@@ -1,4 +1,5 @@
-; A ring of two slots. FADD hands out tickets, so no two producers take the same turn; a slot is full while it holds a number.
+; A ring of two slots. FADD hands out tickets, so no two producers take the same turn; a slot is full while it holds a
+; number.
         .slim 1
         .entry first
         .entry second
