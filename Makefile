@@ -159,7 +159,7 @@ install:
 	install -d $(SHARE)/mta_sim/schema
 	install -m 644 share/schema/*.json $(SHARE)/mta_sim/schema
 	install -d $(SHARE)/doc/mta_sim/docs
-	cp -r examples editors $(SHARE)/doc/mta_sim
+	cp -r examples exercises editors $(SHARE)/doc/mta_sim
 	install -m 644 README.md CONTRIBUTING.md CHANGELOG.md $(SHARE)/doc/mta_sim
 	install -m 644 docs/*.md $(SHARE)/doc/mta_sim/docs
 	install -d $(SHARE)/doc/mta_sim/docs/images
