@@ -108,11 +108,11 @@ fn put_judgement(
     put_flag(alloc, fields, "expected", is_as_expected)?;
     lines.put_missed(alloc, fields, end.missed)?;
     let claim = if is_broken {
-        lines.claim_value(alloc, &end.text)?
+        Some(end.text.as_str())
     } else {
-        Value::Null
+        None
     };
-    serde_json::put(fields, alloc, "claim", claim)
+    lines.put_claim(alloc, fields, claim)
 }
 
 /// Puts what is told of a set that spins alone: the steps of a way round, the streams that go on in it, and the words that

@@ -1,14 +1,18 @@
 //! Ends of the schedules of seeds, and what they are counted by.
 
+use claims::Claim;
 use command_parts::{Program, Status, loaded};
 use end_kinds::{EndKind, end_kind_of, status_of};
-use expectations::{Expectation, FullEmpty, first_missed};
-use lab_ends::{end_words_of, first_finding, is_expected_trap};
-use lab_texts::{NumberStyle, ProgramNames, push_value};
+use expectations::first_missed;
+use image_file::Image;
+use lab_ends::{Wishes, end_words_of, first_finding, is_expected_trap};
+use lab_texts::{NumberStyle, ProgramNames};
 use machine::LoadFault;
+use processor::Step;
 use rayon::prelude::*;
 use schedule_makers::{fair_length, seeded};
-use schedule_survey::{SeedEnd, grouped, survey};
+use schedule_survey::{EndGroup, SeedEnd, grouped, survey};
+use seed_verdicts::first_broken;
 use std::alloc::{AllocError, Global};
 use std::thread::Threads;
 
@@ -39,8 +43,8 @@ struct Making {
     style: NumberStyle,
 }
 
-/// Ends that agree in their kind, in the words that changed, in who waits or was stopped, and in what is not as
-/// expected.
+/// Ends that agree in their kind, in the words that changed, in who waits or was stopped, in what is not as expected, and in
+/// what is broken on the way.
 #[derive(Drop)]
 pub(crate) struct Outcome {
     /// The kind.
@@ -49,6 +53,8 @@ pub(crate) struct Outcome {
     pub text: String,
     /// The place of the first expectation that is not met.
     pub missed: Option<usize>,
+    /// The place of the first claim that is broken on the way.
+    pub broken: Option<usize>,
     /// Whether a trap that nobody expected stopped a stream.
     pub is_trapped: bool,
     /// The first seed that leads there.
@@ -62,14 +68,19 @@ pub(crate) struct Outcome {
 }
 
 impl Outcome {
-    /// Whether all expectations are met, and nobody was stopped of whom that is not expected.
+    /// Whether all expectations are met, no claim is broken, and nobody was stopped of whom that is not expected.
     pub(crate) fn is_as_expected(&self) -> bool {
-        self.missed.is_none() && !self.is_trapped
+        !self.is_wrong() && !self.is_trapped
+    }
+
+    /// Whether an expectation is missed, or a claim is broken.
+    fn is_wrong(&self) -> bool {
+        self.missed.is_some() || self.broken.is_some()
     }
 
     /// What it means for the exit status.
     pub(crate) fn status(&self) -> Status {
-        status_of(self.kind, self.missed.is_some(), self.is_trapped)
+        status_of(self.kind, self.is_wrong(), self.is_trapped)
     }
 }
 
@@ -87,13 +98,13 @@ pub(crate) fn outcomes_of<X: Threads + Sync>(
     rt: &X,
     alloc: Global,
     program: &Program,
-    expected: &[Expectation],
+    wishes: &Wishes,
     seeds: Seeds,
 ) -> Result<Vec<Outcome>, AllocError> {
     if program.image.slim() <= 8 {
-        outcomes_on::<X, 8>(rt, alloc, program, expected, seeds)
+        outcomes_on::<X, 8>(rt, alloc, program, wishes, seeds)
     } else {
-        outcomes_on::<X, 128>(rt, alloc, program, expected, seeds)
+        outcomes_on::<X, 128>(rt, alloc, program, wishes, seeds)
     }
 }
 
@@ -102,7 +113,7 @@ fn outcomes_on<X: Threads + Sync, const S: usize>(
     rt: &X,
     alloc: Global,
     program: &Program,
-    expected: &[Expectation],
+    wishes: &Wishes,
     seeds: Seeds,
 ) -> Result<Vec<Outcome>, AllocError> {
     let names = ProgramNames::of(alloc, &program.text)?;
@@ -119,7 +130,7 @@ fn outcomes_on<X: Threads + Sync, const S: usize>(
             Ok(ends) => ends,
             Err(LoadFault::NoMemory | LoadFault::Streams) => return Err(AllocError),
         };
-        for outcome in told::<X, S>(rt, alloc, program, &names, expected, &ends, making)? {
+        for outcome in told::<X, S>(rt, alloc, program, &names, wishes, &ends, making)? {
             add_outcome(&mut outcomes, outcome)?;
         }
     }
@@ -127,25 +138,39 @@ fn outcomes_on<X: Threads + Sync, const S: usize>(
     Ok(outcomes)
 }
 
-/// The outcomes of ends, of those that are the same world one, over all cores.
+/// Ends that are told alike by their worlds; where something is claimed each by itself, since that is asked of the way.
+fn groups_of(
+    alloc: Global,
+    ends: &[SeedEnd],
+    wishes: &Wishes,
+) -> Result<Vec<EndGroup>, AllocError> {
+    if wishes.claims.is_empty() {
+        return grouped(alloc, ends);
+    }
+    let mut groups = Vec::with_capacity(alloc, ends.len())?;
+    for first in 0..ends.len() {
+        groups.push(EndGroup { first, runs: 1 })?;
+    }
+    Ok(groups)
+}
+
+/// The outcomes of ends, of those that are the same world one, unless something is claimed, over all cores.
 fn told<X: Threads + Sync, const S: usize>(
     rt: &X,
     alloc: Global,
     program: &Program,
     names: &ProgramNames,
-    expected: &[Expectation],
+    wishes: &Wishes,
     ends: &[SeedEnd],
     making: Making,
 ) -> Result<Vec<Outcome>, AllocError> {
-    let groups = grouped(alloc, ends)?;
+    let groups = groups_of(alloc, ends, wishes)?;
     let told = (0..groups.len())
         .into_par_iter()
         .map(|place: usize| -> Result<Outcome, AllocError> {
             let group = groups.get(place).ok_or(AllocError)?;
             let end = ends.get(group.first).ok_or(AllocError)?;
-            outcome_of::<S>(
-                alloc, program, names, expected, end.seed, group.runs, making,
-            )
+            outcome_of::<S>(alloc, program, names, wishes, end.seed, group.runs, making)
         })
         .with_min_len(1)
         .collect::<Result<Vec<Outcome>, AllocError>>(rt, alloc);
@@ -160,7 +185,7 @@ fn outcome_of<const S: usize>(
     alloc: Global,
     program: &Program,
     names: &ProgramNames,
-    expected: &[Expectation],
+    wishes: &Wishes,
     seed: u64,
     runs: usize,
     making: Making,
@@ -171,17 +196,34 @@ fn outcome_of<const S: usize>(
     let is_trapped = words
         .stopped
         .iter()
-        .any(|stream| !is_expected_trap(expected, stream));
+        .any(|stream| !is_expected_trap(&wishes.ends, stream));
     Ok(Outcome {
         kind: end_kind_of(&machine),
         text: words.text,
-        missed: first_missed(&machine, expected),
+        missed: first_missed(&machine, &wishes.ends),
+        broken: broken_by::<S>(alloc, &program.image, &made.steps, &wishes.claims)?,
         is_trapped,
         seed,
         steps: made.steps.len(),
         runs,
         finding: String::new(alloc),
     })
+}
+
+/// The place of the first claim that is broken on the way through these steps.
+fn broken_by<const S: usize>(
+    alloc: Global,
+    image: &Image,
+    steps: &[Step],
+    claims: &[Claim],
+) -> Result<Option<usize>, AllocError> {
+    if claims.is_empty() {
+        return Ok(None);
+    }
+    match first_broken::<S>(alloc, image, steps, claims) {
+        Ok(broken) => Ok(broken.map(|broken| broken.claim)),
+        Err(LoadFault::NoMemory | LoadFault::Streams) => Err(AllocError),
+    }
 }
 
 /// Adds the first finding of each outcome's run, over all cores.
@@ -227,5 +269,6 @@ fn add_outcome(outcomes: &mut Vec<Outcome>, outcome: Outcome) -> Result<(), Allo
 
 /// Whether two outcomes are told alike.
 fn is_same_outcome(one: &Outcome, other: &Outcome) -> bool {
-    one.kind == other.kind && one.missed == other.missed && one.text == other.text
+    let is_judged_alike = one.missed == other.missed && one.broken == other.broken;
+    one.kind == other.kind && is_judged_alike && one.text == other.text
 }
