@@ -62,6 +62,15 @@ impl Search<'_> {
             && wishes.rules.is_empty();
         !is_empty && are_rules_kept(image, &wishes.rules)
     }
+
+    /// Whether it is to be judged by what was found: that is complete, something is wished, the program keeps the rules, and
+    /// each claim that has to hold of one world at least does.
+    fn judges(&self, image: &Image, is_complete: bool, unshown: Option<usize>) -> bool
+        ensures { IsTrue result
+            ↔ (IsTrue is_complete × IsJudged image.now self.now.wishes.now × (unshown ≡ None)) }
+    {
+        is_complete && self.is_judged(image) && unshown.is_none()
+    }
 }
 
 /// What a search came to.
@@ -289,9 +298,8 @@ fn explore_on<const S: usize, C: Clock, E: Write>(
     let (space, is_complete) = space_of::<S, C, E>(alloc, &program.image, asked, watcher)?;
     let ends = space_ends::<S>(alloc, names, asked.style, asked.wishes, &space, is_complete)?;
     let graph = graph_asked(alloc, asked.is_drawn, &space, &ends)?;
-    let is_asked = asked.is_judged(&program.image);
     let unshown = unshown_in::<S>(alloc, asked.wishes, &space)?;
-    let is_judged = is_complete && is_asked && unshown.is_none();
+    let is_judged = asked.judges(&program.image, is_complete, unshown);
     let is_right = are_all_right::<S>(alloc, asked.wishes, &space, is_judged)?;
     Ok(Explored {
         worlds: space.len(),

@@ -26,6 +26,8 @@ pub fn first_unshown<const S: usize>(
         → AreShown space.now.image space.now.begin claims.now → told ≡ None) }
     ensures unshown { IfOk result (λ told. IfSome told (λ k. IsUnshownAt space.now claims.now k)) }
 {
+    // They say that it has a first world, and that what is live is all that may be read.
+    let (_worlds, _live) = (space.len(), space.live());
     for place in 0..claims.len() {
         if !is_shown::<S>(alloc, space, &claims[place])? {
             return Ok(Some(place));

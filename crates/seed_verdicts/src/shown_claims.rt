@@ -68,5 +68,6 @@ fn is_shown_by_seed<const S: usize>(
 {
     let mut machine: Machine<'_, S> = Machine::load(alloc, image)?;
     let made = seeded(alloc, &mut machine, seed, fair, most)?;
-    is_shown_on_the_way::<S>(alloc, image, &made.steps, claim)
+    let is_shown = is_shown_on_the_way::<S>(alloc, image, &made.steps, claim)?;
+    Ok(is_shown)
 }
