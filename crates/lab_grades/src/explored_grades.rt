@@ -63,13 +63,10 @@ fn undecided_verdict<X: Threads + Sync>(
 ) -> Result<Verdict, AllocError>
     ensures { IfOk result (λ v. ¬ (v.kind ≡ VerdictKind.Right)) }
 {
-    let mut verdict = sampled_verdict(rt, alloc, grading, judged)?;
+    let sampled = sampled_verdict(rt, alloc, grading, judged)?;
+    let mut verdict = as_shown(alloc, sampled, is_shown);
     if verdict.kind == VerdictKind::Right {
         verdict.kind = VerdictKind::NotDecided;
-    }
-    if verdict.kind == VerdictKind::NotDecided && is_shown {
-        verdict.missed = None;
-        verdict.words = String::new(alloc);
     }
     verdict.known = Known {
         seeds: verdict.known.seeds,
@@ -77,6 +74,17 @@ fn undecided_verdict<X: Threads + Sync>(
     };
     verdict.status = verdict.status.worse(searched.status);
     Ok(verdict)
+}
+
+/// The same verdict; where a search has shown each claim that has to hold of one world at least, without the one that no run
+/// shows.
+fn as_shown(alloc: Global, verdict: Verdict, is_shown: bool) -> Verdict {
+    let mut verdict = verdict;
+    if is_shown && verdict.kind == VerdictKind::NotDecided {
+        verdict.missed = None;
+        verdict.words = String::new(alloc);
+    }
+    verdict
 }
 
 /// What is said of a submission with these ends of all schedules.

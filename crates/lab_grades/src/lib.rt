@@ -19,6 +19,7 @@ mod survey_objects;
 mod surveying;
 mod text_report;
 mod tsv_report;
+mod unshown_claims;
 mod verdicts;
 mod wish_lines;
 

@@ -2,22 +2,19 @@
 
 ghost use Rattle.std.specs.Prelude.{◌≡◌, None, IfOk};
 ghost use Rattle.seed_verdicts.specs.Seeds.{AreJudged};
-ghost use Rattle.seed_verdicts.specs.ShownBySeeds.{AreShownBySeeds, IsToldOfClaims};
+ghost use Rattle.seed_verdicts.specs.ShownBySeeds.{AreShownBySeeds};
 
 use crate::judged::{Grading, Judged};
 use crate::seed_ends::counted_ends;
+use crate::unshown_claims::unshown_by_seeds;
 use crate::verdicts::{Known, Verdict, VerdictKind, Witness};
-use claims::Claim;
 use command_parts::loaded;
 use end_kinds::{EndKind, end_kind_of, status_of};
 use expectations::first_missed;
-use image_file::Image;
 use lab_ends::{end_words_of, first_finding};
 use machine::LoadFault;
 use schedule_makers::{fair_length, seeded};
-use seed_verdicts::{
-    RunFlaw, SeedFlaw, Seeds, first_flaw, first_flaw_alone, first_unshown_by_seeds,
-};
+use seed_verdicts::{RunFlaw, SeedFlaw, Seeds, first_flaw, first_flaw_alone};
 use std::alloc::{AllocError, Global};
 use std::thread::Threads;
 
@@ -70,26 +67,6 @@ fn verdict_of_right(
     verdict.missed = judged.lines.claim_at(alloc, Some(place))?;
     verdict.words = String::from_str(alloc, "no run has such a state")?;
     Ok(verdict)
-}
-
-/// The place of the first claim that has to hold of one world at least, and that the run of no seed shows.
-pub(crate) fn unshown_by_seeds(
-    alloc: Global,
-    image: &Image,
-    claims: &[Claim],
-    seeds: Seeds,
-) -> Result<Option<usize>, AllocError>
-    ensures { IfOk result (λ told. IsToldOfClaims image.now claims.now seeds told) }
-{
-    let told = if image.slim() <= 8 {
-        first_unshown_by_seeds::<8>(alloc, image, claims, seeds)
-    } else {
-        first_unshown_by_seeds::<128>(alloc, image, claims, seeds)
-    };
-    match told {
-        Ok(told) => Ok(told),
-        Err(LoadFault::NoMemory | LoadFault::Streams) => Err(AllocError),
-    }
 }
 
 /// The same verdict with the ends of all seeds.

@@ -2,8 +2,8 @@
 
 use crate::explored_grades::words_of_bound;
 use crate::outcomes::{Outcome, Seeds, outcomes_of, worst_status};
-use crate::seed_grades::unshown_by_seeds;
 use crate::survey_objects::{Surveyed, push_coverage, push_outcome_objects};
+use crate::unshown_claims::unshown_by_seeds;
 use command_parts::{Answer, Inputs, LabFault, Program, Status, read_program, style_of};
 use lab_ends::{SpaceEnd, SpaceEndKind, Wishes, first_broken_rule};
 use lab_explorer::{
