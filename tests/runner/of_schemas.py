@@ -55,7 +55,8 @@ def objects_of(line):
     with tempfile.TemporaryDirectory(prefix="mta-case-") as folder:
         for path in glob.glob(os.path.join(EXAMPLES, "*")):
             os.symlink(path, os.path.join(folder, os.path.basename(path)))
-        for name, text in (("wishes", CLAIMS), ("claimless", b"word 8 4\n"), ("unshown", b"some word 8 is 77\n"), ("spins.asm", SPINS)):
+        for name, text in (("wishes", CLAIMS), ("claimless", b"word 8 4\n"), ("unshown", b"some word 8 is 77\n"),
+                           ("spins.asm", SPINS)):
             tool.write(os.path.join(folder, name), text)
         return [json.loads(text) for text in lab(*line.split(), folder=folder).out.splitlines()]
 
