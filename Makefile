@@ -9,10 +9,12 @@ SOURCE ?= examples/lock.asm
 SCHEDULE ?= examples/lock.lost_update.schedule
 # the crates whose edits make edits tries, all of them without any; those that make prove and make affected are asked of
 CRATES ?=
+# on how many processors make fits reckons the gate
+PROCESSORS ?= 2
 # how many crates' edits are tried side by side
 JOBS ?= $(shell nproc)
 
-.PHONY: help run run-lab try test prove cases checks trust minutes affected edits refuse hostile spaces pages editors documents bench build dist check-dist install uninstall clean
+.PHONY: help run run-lab try test prove cases checks trust minutes affected fits edits refuse hostile spaces pages editors documents bench build dist check-dist install uninstall clean
 
 # the targets, each with what it does and how long it takes
 help:
@@ -27,6 +29,7 @@ help:
 	@echo "make documents  runs the commands of the documents and compares what they print (seconds)"
 	@echo "make minutes    writes the table of what a check costs into docs/ARCHITECTURE.md, of what make test left in out/ (a second)"
 	@echo "make affected   which crates a change of the CRATES proves again, and their minutes (a second)"
+	@echo "make fits       how long make test takes from nothing on PROCESSORS processors, 2 where none are named: reckoned, not measured (a second)"
 	@echo "make edits      tries the edits of the CRATES that the prover has to refuse, of all crates where none is named (half a minute an edit, and as much as half a crate's proof for its first)"
 	@echo "make dist       packs the built programs as an archive and a Debian package, in out/dist (seconds)"
 	@echo "make check-dist unpacks them where nothing but the C library is, and runs the examples there (seconds)"
@@ -82,6 +85,10 @@ minutes:
 # which crates a change of the CRATES proves again, and how long that takes
 affected:
 	@python3 tests/minutes.py affected $(CRATES)
+
+# how long the gate takes on so many processors, reckoned from the table of what a check costs
+fits:
+	@python3 tests/minutes.py fits $(PROCESSORS)
 
 # proves and builds the programs, where one is not built yet
 build:
@@ -152,7 +159,7 @@ install:
 	install -d $(SHARE)/mta_sim/schema
 	install -m 644 share/schema/*.json $(SHARE)/mta_sim/schema
 	install -d $(SHARE)/doc/mta_sim/docs
-	cp -r examples editors $(SHARE)/doc/mta_sim
+	cp -r examples exercises editors $(SHARE)/doc/mta_sim
 	install -m 644 README.md CONTRIBUTING.md CHANGELOG.md $(SHARE)/doc/mta_sim
 	install -m 644 docs/*.md $(SHARE)/doc/mta_sim/docs
 	install -d $(SHARE)/doc/mta_sim/docs/images

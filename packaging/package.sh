@@ -76,7 +76,7 @@ pages() {
 lay_out_archive() {
   local name
   mkdir -p "$1/bin"
-  git archive HEAD README.md CONTRIBUTING.md CHANGELOG.md docs examples editors share | tar -x -C "$1"
+  git archive HEAD README.md CONTRIBUTING.md CHANGELOG.md docs examples exercises editors share | tar -x -C "$1"
   for name in $programs; do
     strip_symbols "$(built "$name")" "$1/bin/$name"
   done
@@ -101,7 +101,7 @@ lay_out_debian() {
   done
   # Debian has the changes packed, under a name of its own
   sed 's/CHANGELOG\.md/changelog.gz/' "$from/README.md" >"$doc/README.md"
-  cp -r "$from/CONTRIBUTING.md" "$from/docs" "$from/examples" "$from/pages" "$from/editors" "$from/BUILD" "$doc"
+  cp -r "$from/CONTRIBUTING.md" "$from/docs" "$from/examples" "$from/exercises" "$from/pages" "$from/editors" "$from/BUILD" "$doc"
   cp "$from/COPYRIGHT" "$doc/copyright"
   gzip -9nc "$from/CHANGELOG.md" >"$doc/changelog.gz"
   debian_changelog | gzip -9nc >"$doc/changelog.Debian.gz"

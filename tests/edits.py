@@ -11,6 +11,9 @@ Over a crate that is proved as it stands it is enough to prove the function that
 so does the crate's. Where it is still proved, its module is tried, and then the whole crate. An edit that shows only in
 another function names that by a line `only: MODULE::FUNCTION`.
 
+Edits of one crate share a process: each function that has no file of its own proof stands beside itself once more, under
+another name, with the wrong meaning, so that its callers call the right one. One edit of another function goes with these.
+
 It prints for each crate how many edits were refused, and each that was not. The last line is 'N passed, M failed'."""
 
 import argparse
@@ -36,6 +39,8 @@ NAME = re.compile(r"[A-Za-z0-9_-][A-Za-z0-9_.-]*\.edit")
 ANSWER = re.compile(r"(?m)^only=(\d+) proved=(\d+)$")
 NOT_PROVED = re.compile(r"(?m)^logic=not-proved")
 NO_SUCH = re.compile("has no function|several functions are named")
+# of one function; where another one in it is not proved, that says nothing of its own
+REFUSED = re.compile(r"(?m)^fn (\S+): (?:not proved|no proof)\b(?!.*it calls `)")
 FUNCTION = re.compile(r"( *)(?:pub(?:\([a-z]+\))? )?(?:const )?fn (\w+)")
 IMPL = re.compile(r"impl(?:<.*?>)? (?:\S+ for )?(\w+)")
 
@@ -88,6 +93,7 @@ class Edit:
 
     def __init__(self, path, folder):
         self.name, self.texts, self.asked, self.places = os.path.basename(path), {}, None, []
+        self.folder = folder
         file = old = None
         for line in read(path).splitlines():
             if line.startswith("file: ") and old is None:
@@ -119,10 +125,43 @@ class Edit:
         if self.asked:
             return [self.asked, None]
         file, line = self.places[0]
-        module = "::".join(it for it in file.removesuffix(".rt").split("/")[1:] if it not in ("lib", "main"))
         found = function_at(self.texts[file].splitlines(), line)
-        own = "::".join(it for it in (module, found) if it)
-        return [it for it in dict.fromkeys((own, module)) if it] + [None]
+        own = "::".join(it for it in (self.home_of(found, file), found) if it)
+        return [it for it in dict.fromkeys((own, module_of(file))) if it] + [None]
+
+    def home_of(self, found, file):
+        """The module whose function it is: a method is of its type's, wherever it is written."""
+        of = (found or "").rpartition("::")[0]
+        declared = re.compile(rf"(?m)^(?:pub(?:\([a-z]+\))? )?(?:struct|enum) {of}\b")
+        files = sorted(f"{at}/{name}" for at, _, names in os.walk(f"{self.folder}/src") for name in names) if of else []
+        homes = [it for it in files if declared.search(read(it))]
+        return module_of(os.path.relpath(homes[0], self.folder) if len(homes) == 1 else file)
+
+    def function(self):
+        """The one function that the edit changes, as its file and the extent of it there; none where it changes anything
+        else, or a function of a trait's impl, or is to be proved elsewhere."""
+        (file, text), *others = self.texts.items()
+        lines, before = text.splitlines(), read(f"{self.folder}/{file}").splitlines()
+        found = None if self.asked or others or len(lines) != len(before) else extent_of(lines, self.places[0][1])
+        changed = [at for at, (line, was) in enumerate(zip(lines, before)) if line != was]
+        return (file, found) if found and changed and {*changed} <= {*found} else None
+
+    def copy(self, number):
+        """The changed function under a name with this number, as its file, the line behind its end and its lines; None
+        where it has a file of its own proof."""
+        own = self.parts()[0]
+        if not self.function() or os.path.isdir(f"{self.folder}/proofs/{own.replace('::', '/')}"):
+            return None
+        file, extent = self.function()
+        copied = self.texts[file].splitlines()[extent.start:extent.stop]
+        head = next(at for at, line in enumerate(copied) if FUNCTION.match(line))
+        copied[head] = re.sub(r"\bfn (\w+)", rf"fn \1_edited_{number}", copied[head], count=1)
+        return file, extent.stop, ["", *copied]
+
+
+def module_of(file):
+    """The module that a file below src/ is."""
+    return "::".join(it for it in file.removesuffix(".rt").split("/")[1:] if it not in ("lib", "main"))
 
 
 def function_at(lines, number):
@@ -139,6 +178,22 @@ def function_at(lines, number):
         if name and not indent:
             return name
     return name
+
+
+def extent_of(lines, number):
+    """The lines of the function in which a line stands, with what is written above its head; None where it stands in no
+    function, or in one of a trait's impl."""
+    head = next((at for at in range(number, -1, -1) if FUNCTION.match(lines[at]) or lines[at].startswith("}")), 0)
+    found = FUNCTION.match(lines[head])
+    if not found:
+        return None
+    impl = next((it for it in reversed(lines[:head]) if it.startswith(("impl", "trait", "pub trait"))), "")
+    begin, end = head, next((at for at in range(head, len(lines)) if lines[at] == f"{found[1]}}}"), head)
+    while begin and lines[begin - 1].strip() and not lines[begin - 1].endswith("{"):
+        begin -= 1
+    is_own = not found[1] or impl.startswith("impl") and " for " not in impl
+    is_whole = number <= end and not any(map(FUNCTION.match, lines[head + 1:end]))
+    return range(begin, end + 1) if is_own and is_whole else None
 
 
 class Proved:
@@ -166,7 +221,41 @@ class Proved:
             for part in SOURCES:
                 if os.path.isdir(f"{self.folder}/crates/{crate}/{part}"):
                     shutil.copytree(f"{self.folder}/crates/{crate}/{part}", f"{room}/{part}")
-            return {path: self.fault_of(room, crate, Edit(f"{ROOT}/{path}", room)) for path in edits}
+            made = {path: Edit(f"{ROOT}/{path}", room) for path in edits}
+            refused = self.refused_together(room, crate, made)
+            return {path: None if path in refused else self.fault_of(room, crate, made[path]) for path in edits}
+
+    def refused_together(self, room, crate, edits):
+        """Those of the crate's edits that are refused in one process, of each function with a file of its own proof one
+        edit. Where one stands on another that is refused too, that says nothing of it. The others are to be tried alone."""
+        asked, texts, behind = {}, {}, []
+        for number, (path, edit) in enumerate(edits.items()):
+            own, copy = edit.parts()[0], edit.copy(number)
+            if copy:
+                behind.append(copy)
+                asked[f"{own}_edited_{number}"] = path
+            elif edit.function() and own not in asked and not {*edit.texts} & {*texts}:
+                texts.update(edit.texts)
+                asked[own] = path
+        if len(asked) < 2:
+            return set()
+        for file, end, lines in sorted(behind, key=lambda it: -it[1]):
+            text = texts.get(file, read(f"{room}/{file}")).splitlines()
+            texts[file] = "\n".join([*text[:end], *lines, *text[end:], ""])
+        kept = {file: read(f"{room}/{file}") for file in texts}
+        write(room, texts)
+        try:
+            said = self.asked_of(room, crate, asked)[1]
+        finally:
+            write(room, kept)
+        refused = REFUSED.findall(said) if ANSWER.search(said) else []
+        return {path for part, path in asked.items() if f"{crate}::{part}" in refused}
+
+    def asked_of(self, room, crate, parts):
+        """The status of the prover that looks at these parts of the crate in a folder, all of it without any, and what it
+        says."""
+        only = [f"--only={part}" for part in parts]
+        return run(room, *self.words(crate), "--incremental", f"{room}/kept", *only)
 
     def fault_of(self, room, crate, edit):
         """Why the edit is not refused in this copy of the crate, if it is not."""
@@ -174,8 +263,7 @@ class Proved:
         write(room, edit.texts)
         try:
             for part in edit.parts():
-                only = [f"--only={part}"] if part else []
-                ended, said = run(room, *self.words(crate), "--incremental", f"{room}/kept", *only)
+                ended, said = self.asked_of(room, crate, [part] if part else [])
                 answer = ANSWER.search(said)
                 if answer and int(answer[2]) < int(answer[1]) or not part and NOT_PROVED.search(said):
                     return None

@@ -137,8 +137,10 @@ verdict "wrong bodies without a name" < <(wrong_bodies)
 verdict "the operation table, in docs/MACHINE.md (<) and in Row.antt (>)" < <(operation_table)
 verdict "what to trust" < <(python3 tests/trust --check 2>&1)
 verdict "counts" < <(counts)
+verdict "words and sentences that are not plain" < <(python3 tests/plain_words.py 2>&1)
 verdict "names that editors don't know" < <(tests/editors.sh | grep -v '^the syntax files')
 verdict "constants of the page" < <(python3 page/embed.py --check 2>&1)
+verdict "the cheat sheet and the pages of explain" < <(python3 docs/words/make.py --check 2>&1)
 verdict "edits that can't be applied" < <(python3 tests/edits.py --apply 2>&1)
 echo "$passed passed, $failed failed"
 [ "$failed" -eq 0 ]

@@ -4,6 +4,7 @@
   minutes.py watch COMMAND..   runs a command that proves crates, and writes to out/minutes.tsv what it took of each crate
   minutes.py table             writes the table of docs/ARCHITECTURE.md ("What a check costs") from out/minutes.tsv
   minutes.py affected CRATE..  says which crates a change of these proves again, and their minutes by that table
+  minutes.py fits PROCESSORS   says how long the gate takes on so many processors: reckoned from that table, not measured
 
 `watch` looks at the kit's provers below the command twice a second: each names its crate, and whether it proves the crate,
 its tests or one of its edits. Of what a run took from earlier ones the seconds stay that stood there. It needs Linux."""
@@ -178,16 +179,20 @@ def write_table():
         file.write(page[:begin] + table().rstrip("\n") + page[end:])
 
 
+def costs():
+    """By crate the seconds that its proof, its tests and its edits take, by the table of the document."""
+    with open(PAGE, encoding="utf-8") as file:
+        rows = re.findall(r"(?m)^\| `(\w+)` \| (\d+) \| (\d*) \| (\d*)[^|]*\| \d+ \|$", file.read())
+    return {crate: [int(it or 0) for it in cells] for crate, *cells in rows}
+
+
 def affected(names):
     """Says which crates are proved again where these change, and what that takes by the table of the document."""
     below = crates()
     unknown = [it for it in names if it not in below]
     if unknown or not names:
         sys.exit(f"no crate {', '.join(unknown)}" if unknown else "which crates? make affected CRATES=\"machine waiting\"")
-    with open(PAGE, encoding="utf-8") as file:
-        rows = re.findall(r"(?m)^\| `(\w+)` \| (\d+) \| (\d*) \| (\d*)[^|]*\| \d+ \|$", file.read())
-    cost = {crate: [int(it or 0) for it in cells] for crate, *cells in rows}
-    again = {*names}
+    cost, again = costs(), {*names}
     for crate, stands_on in below.items():
         if again & {*stands_on}:
             again.add(crate)
@@ -195,6 +200,51 @@ def affected(names):
         taken = cost.get(crate)
         print(f"{crate:20} {'not measured' if taken is None else f'{sum(taken) / 60:6.1f} minutes'}")
     print(f"{len(again)} crates, {sum(sum(cost.get(it, [])) for it in again) / 60:.0f} processor minutes")
+
+
+def behind(jobs):
+    """By job the seconds of the longest chain that begins with it. A job is its name, its seconds, and the jobs that it
+    waits for, which stand before it."""
+    longest = {name: seconds for name, (seconds, _) in jobs.items()}
+    for name in reversed(jobs):
+        for it in jobs[name][1]:
+            longest[it] = max(longest[it], jobs[it][0] + longest[name])
+    return longest
+
+
+def length_of(jobs, processors):
+    """The seconds from the first job's begin to the last one's end, where each processor that is free takes of the jobs
+    that wait for none the one with the longest chain behind it."""
+    chains, now, at_work, done, left = behind(jobs), 0, [], set(), {*jobs}
+    while left or at_work:
+        ready = sorted((it for it in left if done.issuperset(jobs[it][1])), key=lambda it: (-chains[it], it))
+        for name in ready[: processors - len(at_work)]:
+            left.remove(name)
+            at_work.append((now + jobs[name][0], name))
+        now, name = min(at_work)
+        at_work.remove((now, name))
+        done.add(name)
+    return now
+
+
+def fits(processors):
+    """Says how long the gate takes on so many processors, by list scheduling: proofs and tests in Rattle, then edits."""
+    cost, first, second = costs(), {}, {}
+    for crate, below in crates().items():
+        proof, tests, edits = cost.get(crate, (0, 0, 0))
+        first[crate] = proof, below
+        if tests:
+            first[f"{crate}, tests"] = tests, [crate]
+        second[crate] = edits, []
+    proofs, edits = length_of(first, processors), length_of(second, processors)
+    work = sum(seconds for jobs in (first, second) for seconds, _ in jobs.values())
+    print(f"on {processors} processor{'s' if processors > 1 else ''} alone: {minutes(proofs + edits)} minutes, "
+          f"{minutes(proofs)} for proofs and tests in Rattle, then {minutes(edits)} for edits\n"
+          f'Reckoned, not measured: from the {minutes(work)} processor minutes of "What a check costs" and the crates that '
+          "each\ncrate stands on, where each processor that is free takes what has the longest chain of crates behind it.\n"
+          "What LLVM takes for the programs, the cases and the documents, some minutes, are not in it.")
+    if missing := [it for it in crates() if it not in cost]:
+        print(f"Not measured yet, and so not in it either: {', '.join(missing)}.")
 
 
 def main():
@@ -205,6 +255,8 @@ def main():
             write_table()
         case ["affected", *names]:
             affected(names)
+        case ["fits", number] if number.isdigit() and int(number):
+            fits(int(number))
         case _:
             sys.exit(__doc__)
 

@@ -9,7 +9,7 @@ _mta_lab_options() {
     compare) echo '--seeds --steps --hex --json' ;;
     survey) echo '--seeds --from --steps --expect --explore --states --seconds --memory --hex --json' ;;
     explore) echo '--expect --from --states --seconds --memory --plain --keep --pages --dot --hex --json' ;;
-    grade) echo '--expect --cases --given --seeds --steps --all --explore --states --seconds --memory --jobs --no-links --format --hex --json' ;;
+    grade) echo '--expect --cases --given --seeds --steps --all --explore --states --seconds --memory --jobs --no-links --pages --format --hex --json' ;;
     debug) echo '--fair --seed --steps' ;;
     page) echo '--seeds --fair --rounds --seed --steps --title --out' ;;
     picture) echo '--fair --rounds --seed --steps --from --to --title --out' ;;
@@ -21,7 +21,7 @@ _mta_lab_options() {
 _mta_lab() {
   local current=${COMP_WORDS[COMP_CWORD]} before=${COMP_WORDS[COMP_CWORD - 1]} command=${COMP_WORDS[1]} words
   if [ "$COMP_CWORD" -eq 1 ]; then
-    words='check schedule view compare survey explore grade page picture play debug dap asm --help --version'
+    words='check schedule view compare survey explore grade page picture play debug dap asm explain word new --help --version'
   elif [ "$before" = --as ]; then
     words='source image schedule'
   elif [ "$before" = --goal ]; then

@@ -2,6 +2,8 @@
 
 import json
 import os
+import re
+import string
 import tempfile
 import xml.etree.ElementTree
 
@@ -11,6 +13,19 @@ from table import unescaped
 
 RIGHT = b" .entry 0\n QUIT\n .data 1\n"
 WRONG = b" .entry 0\n QUIT\n .data 2\n"
+# the digits of a column of a graph
+DIGITS = string.digits + string.ascii_uppercase + string.ascii_lowercase + "-_"
+RACING = b"""        .slim   1
+        .entry  go
+        .entry  go
+        .data   0
+go:     LOAD.N  r2, r0, 0
+        ADD     r2, r2, 1
+        STORE.N r2, r0, 0
+        QUIT
+"""
+# four streams, each in any of 20 places: 160,000 states, of which the search for ends needs few
+WIDE = b" .slim 1\n" + b" .entry 0\n" * 4 + b" LIT r1, 1\n" * 18 + b" QUIT\n .data 0\n"
 
 
 def lab(*words, folder):
@@ -85,3 +100,124 @@ def side_by_side():
                 yield f"{words} {jobs}", (1, alone.out), (lambda e: (e.status, e.out))(
                     lab(*call, "--jobs", jobs, *names, folder=folder))
             yield f"{words} rows", 40, alone.out.count(b"\n")
+
+
+def paged(folder, *words):
+    """A command line of grade with --pages and --json: its status, what is said, and its objects."""
+    ended = lab("grade", "--expect", "w.expect", "--json", *words, folder=folder)
+    return ended.status, ended.err, [json.loads(line) for line in ended.out.splitlines()]
+
+
+def shown(path):
+    """What a page has as data: a run, or a graph."""
+    with open(path, encoding="utf-8") as file:
+        return json.loads(re.search(r'<script type="application/json" id="\w+(?:-data)?">(.*?)</script>', file.read(),
+                                    re.DOTALL)[1])
+
+
+def way_of(schedule):
+    """The way on which a page of all schedules opens, for a schedule."""
+    return ",".join(f"{p}.{s}x{n}" if n > 1 else f"{p}.{s}" for p, s, n in schedule)
+
+
+def is_end_after(graph, schedule):
+    """Whether a schedule leads to a state of the graph from which no step leads to another one."""
+    width = {name: column[0] for name, column in zip(graph["streams"], graph["states"]["to"])}
+    digits = dict(zip(graph["streams"], (column[1] for column in graph["states"]["to"])))
+
+    def after(name, state):
+        number = 0
+        for digit in digits[name][state * width[name]:(state + 1) * width[name]]:
+            number = number * 64 + DIGITS.index(digit)
+        return number
+
+    state = 0
+    for p, s, many in schedule:
+        for _ in range(many):
+            state = after(f"{p}.{s}", state)
+    return all(after(name, state) == state for name in graph["streams"])
+
+
+def turns_of(steps):
+    """The steps of a page as turns: processor, stream, how many in a row."""
+    turns = []
+    for step in steps:
+        if turns and turns[-1][:2] == [step["p"], step["s"]]:
+            turns[-1][2] += 1
+        else:
+            turns.append([step["p"], step["s"], 1])
+    return turns
+
+
+@checks.others("grade/pages")
+def pages():
+    """The page of each submission that is not right: which there are, what they are called, and what they show."""
+    with tempfile.TemporaryDirectory(prefix="mta-case-") as folder:
+        made(folder, "w.expect", b"word 0 2\n")
+        sources = {"a/racing.asm": RACING, "b/racing.asm": RIGHT, "b/racing-2.asm": RACING, "c/racing.s": RACING,
+                   "right.asm": WRONG, "bad.asm": b"QUITE\n", "odd #1.asm": RACING}
+        for name, text in sources.items():
+            made(folder, name, text)
+        names = [*sources, "none.asm"]
+        # by the names of all submissions, in their order; of right.asm and those that did not run there is no page
+        wanted = {"a/racing.asm": "racing", "b/racing.asm": "racing-2", "b/racing-2.asm": "racing-2-2",
+                  "c/racing.s": "racing-3", "odd #1.asm": "odd__1"}
+        for kind, words in (("run", ("--seeds", "4")), ("graph", ("--explore",))):
+            plain = paged(folder, *words, *names)
+            status, err, objects = paged(folder, *words, "--pages", kind, *names)
+            yield f"{kind}: verdicts", plain, (status, err, [{**one, "page": None} for one in objects])
+            yield f"{kind}: files", sorted(f"{name}.html" for name in wanted.values()), sorted(os.listdir(
+                os.path.join(folder, kind)))
+            for one in objects:
+                name, link = one["submission"], one["page"]
+                if name not in wanted:
+                    yield f"{kind} {name}", None, link
+                    continue
+                yield f"{kind} {name}: path", f"{kind}/{wanted[name]}.html", link
+                data = shown(os.path.join(folder, kind, wanted[name] + ".html"))
+                yield f"{kind} {name}: object", "page" if kind == "run" else "graph", data["object"]
+                if kind == "run":
+                    made(folder, "one.schedule", lab("schedule", "random", name, "--seed", one["seed"], folder=folder).out)
+                    with open(os.path.join(folder, "one.schedule"), encoding="ascii") as file:
+                        rows = [[int(word) for word in line.split()] for line in file]
+                    yield f"{kind} {name}: steps", rows, turns_of(data["steps"])
+                else:
+                    yield f"{kind} {name}: opened", way_of(one["schedule"]), data["opened"]
+                    yield f"{kind} {name}: the schedule leads to an end", True, is_end_after(data, one["schedule"])
+
+
+@checks.others("grade/pages_by_cases")
+def pages_by_cases():
+    """A page shows the program with the words of the case that decides."""
+    with tempfile.TemporaryDirectory(prefix="mta-case-") as folder:
+        made(folder, "answer.asm", b" .entry 0\n QUIT\n .data 3\n .data 6\n")
+        for name, given, answer in (("a", 3, 6), ("b", 7, 14)):
+            made(folder, f"cases/{name}.data", f" .data {given}\n .data {6 if name == 'a' else 0}\n".encode())
+            made(folder, f"cases/{name}.expect", f"word 8 {answer}\n".encode())
+        for words in ((), ("--explore",)):
+            ended = lab("grade", "--cases", "cases", *words, "--pages", "out/", "--json", "answer.asm", folder=folder)
+            one = json.loads(ended.out)
+            yield f"{words}", (3, b"", "b", "out/answer.html"), (
+                ended.status, ended.err, one["case"], one["page"])
+            data = shown(os.path.join(folder, "out", "answer.html"))
+            yield f"{words}: words", "7", str(data["start"]["memory"][0][1])
+
+
+@checks.others("grade/pages_refused")
+def pages_refused():
+    """Graphs that are too large for a page, folders that can't be made, and pages that would replace a submission."""
+    with tempfile.TemporaryDirectory(prefix="mta-case-") as folder:
+        made(folder, "w.expect", b"word 0 2\n")
+        made(folder, "wide.asm", WIDE)
+        made(folder, "racing.html", RACING)
+        status, err, objects = paged(folder, "--explore", "--pages", "out", "wide.asm")
+        yield "too many states", (3, b"", ["out/wide.html"]), (status, err, [one["page"] for one in objects])
+        yield "its run", "page", shown(os.path.join(folder, "out", "wide.html"))["object"]
+        plain = paged(folder, "wide.asm")
+        found = paged(folder, "--pages", "none/out", "wide.asm")
+        fault = b"mta_lab: none/out: the folder cannot be made: No such file or directory (os error 2)\n"
+        yield "no folder", (1, fault, plain[2]), found
+        found = paged(folder, "--pages", ".", "racing.html")
+        fault = b"mta_lab: ./racing.html: not written: it is the same file as racing.html, which this command uses\n"
+        yield "a submission", (1, fault, [None], RACING), (
+            *found[:2], [one["page"] for one in found[2]], tool.read(os.path.join(folder, "racing.html")))

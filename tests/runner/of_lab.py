@@ -184,7 +184,7 @@ def said_of(wanted):
 @checks.others("lab/help")
 def helps():
     """The help of each command is no fault."""
-    for command in ("check", "schedule", "view", "compare", "survey", "explore", "grade", "debug", "page", "picture", "asm", ""):
+    for command in ("check", "schedule", "view", "compare", "survey", "explore", "grade", "debug", "page", "picture", "asm", "explain", "word", "new", ""):
         ended = lab(*command.split(), "--help")
         yield f"help {command}", (0, b"", True), (ended.status, ended.err, b"Exit status:" in ended.out)
 

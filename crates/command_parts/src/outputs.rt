@@ -17,6 +17,15 @@ impl<F: Files, R: Read> Inputs<'_, F, R> {
         }
     }
 
+    /// Remembers the file of a path, if there is one, as a file that the command reads, before it does: it is not written
+    /// over.
+    pub fn reserve(&mut self, alloc: Global, path: &str) -> Result<(), AllocError> {
+        match self.files.metadata(path) {
+            Ok(metadata) => self.used.remember(alloc, path, &metadata),
+            Err(_) => Ok(()),
+        }
+    }
+
     /// Makes a folder where there is none, or says in words why not.
     pub fn make_folder(&self, alloc: Global, path: &str) -> Result<(), LabFault> {
         match make_folder(self.files, path) {

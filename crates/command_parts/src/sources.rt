@@ -50,7 +50,7 @@ impl SourceText {
     }
 
     /// The text as the assembler reads it, with its comments in ASCII.
-    pub(crate) fn ascii(&self) -> &[u8] {
+    pub fn ascii(&self) -> &[u8] {
         match &self.ascii {
             Some(ascii) => ascii,
             None => &self.written,

@@ -1,6 +1,7 @@
 //! The command `check`.
 
 use crate::messages::push_message_object;
+use crate::slips::add_slips;
 use command_parts::{
     Answer, Inputs, LabFault, SourceText, Status, check_loose_schedule, is_image, read_program,
 };
@@ -136,7 +137,8 @@ fn judge(
     match kind {
         FileKind::Source => {
             let source = SourceText::of(alloc, bytes)?;
-            let messages = source.messages(alloc)?;
+            let mut messages = source.messages(alloc)?;
+            add_slips(alloc, source.ascii(), &mut messages)?;
             let text = source.into_written();
             Ok(Judged { text, messages })
         }

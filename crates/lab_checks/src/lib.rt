@@ -1,11 +1,17 @@
-//! The commands `check`, `schedule` and `asm`: they judge files, make schedules and images.
+//! The commands `check`, `schedule`, `asm`, `explain`, `word` and `new`: they judge files, make schedules and images, say what
+//! words mean, and begin programs.
 #![tactic(auto)]
 
 mod assembling;
 mod checking;
 mod messages;
+mod new_programs;
 mod scheduling;
+mod slips;
+mod words;
 
 pub use assembling::assemble_file;
 pub use checking::check;
+pub use new_programs::start_program;
 pub use scheduling::make_schedule;
+pub use words::{explain, show_word};

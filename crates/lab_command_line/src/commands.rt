@@ -1,7 +1,9 @@
 //! The commands, as data: their names, what help says of them, and which arguments they take.
 
 use crate::arguments::Argument;
-use crate::file_arguments::{ASM_ARGUMENTS, CHECK_ARGUMENTS};
+use crate::file_arguments::{
+    ASM_ARGUMENTS, CHECK_ARGUMENTS, EXPLAIN_ARGUMENTS, NEW_ARGUMENTS, WORD_ARGUMENTS,
+};
 use crate::help;
 use crate::many_runs_arguments::{
     EXPLORE_ARGUMENTS, GRADE_ARGUMENTS, PLAY_ARGUMENTS, SURVEY_ARGUMENTS,
@@ -25,7 +27,7 @@ pub(crate) struct CommandWords {
 }
 
 /// The commands, in the order of the help.
-pub(crate) const COMMANDS: [CommandWords; 13] = [
+pub(crate) const COMMANDS: [CommandWords; 16] = [
     CommandWords {
         name: "check",
         about: "Judges source texts, images and schedules, in words",
@@ -103,5 +105,23 @@ pub(crate) const COMMANDS: [CommandWords; 13] = [
         about: "Assembles a source text, and writes the image",
         long: help::ASM,
         arguments: &ASM_ARGUMENTS,
+    },
+    CommandWords {
+        name: "explain",
+        about: "Says what a word of a program, a run or a message means",
+        long: help::EXPLAIN,
+        arguments: &EXPLAIN_ARGUMENTS,
+    },
+    CommandWords {
+        name: "word",
+        about: "Says what an instruction word says, field by field",
+        long: help::WORD,
+        arguments: &WORD_ARGUMENTS,
+    },
+    CommandWords {
+        name: "new",
+        about: "Writes a program to begin with, and what its ends have to be",
+        long: help::NEW,
+        arguments: &NEW_ARGUMENTS,
     },
 ];

@@ -20,6 +20,27 @@ pub(crate) const CHECK_ARGUMENTS: [Argument; 5] = [
     Argument("json", help::JSON, Form::Flag(&[])),
 ];
 
+/// Of `explain`.
+pub(crate) const EXPLAIN_ARGUMENTS: [Argument; 1] = [Argument(
+    "WORD",
+    "the word [all words are listed]",
+    Form::Optional(&[]),
+)];
+
+/// Of `word`.
+pub(crate) const WORD_ARGUMENTS: [Argument; 1] = [Argument(
+    "WORD",
+    "hexadecimal digits, as 0x28000, or an instruction, as ADD r1, r1, 1",
+    Form::Files,
+)];
+
+/// Of `new`.
+pub(crate) const NEW_ARGUMENTS: [Argument; 1] = [Argument(
+    "NAME",
+    "the program's name: NAME.asm and NAME.expect are written",
+    Form::Needed,
+)];
+
 /// Of `asm`.
 pub(crate) const ASM_ARGUMENTS: [Argument; 2] = [
     Argument("SOURCE", "the source text", Form::Needed),

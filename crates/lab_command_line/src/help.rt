@@ -117,6 +117,10 @@ a folder, in the order of their names: NAME.data takes the place of its cells, a
 says what the end has to be. All have to be right. Only regular files are read, and - is
 standard input.
 
+With --pages FOLDER the run that shows why a submission is not right is written as a page for a
+browser, FOLDER/NAME.html of NAME.asm; with --explore as a page of all schedules (mta_lab play),
+if the program has no more than 100000 states.
+
 Examples:
   mta_lab grade --expect wanted.expect submissions/*.asm
   mta_lab grade --cases cases --explore --seconds 10 --format junit submissions/*.asm";
@@ -127,6 +131,30 @@ renamed to there, so a fault leaves what was there as it was.
 
 Example:
   mta_lab asm lock.asm --out lock.image";
+
+pub(crate) const EXPLAIN: &str = "\
+Says what a word means: an operation, an access as .S, a condition, a directive, a trap by its
+number, a value of the trap register as 0x806, the letters of a code, a fault as E2 or a warning as
+101. Each page has the meaning, an example that runs, and what to do. Without WORD all words that
+have a page are listed.
+
+Example:
+  mta_lab explain LOAD.S";
+
+pub(crate) const WORD: &str = "\
+Says what an instruction word says: its text, its hexadecimal digits and its fields. Digits begin
+with 0x or are sixteen; all else is the text of an instruction.
+
+Examples:
+  mta_lab word 0x28000
+  mta_lab word ADD r1, r1, 1";
+
+pub(crate) const NEW: &str = "\
+Writes NAME.asm, a program of two processors to begin with, and NAME.expect, which says what each
+of its ends has to be. A file that is there is never written over.
+
+Example:
+  mta_lab new count";
 
 pub(crate) const PAGE: &str = "\
 Writes a page that shows a run, for a browser: the lanes of streams and words over time, the

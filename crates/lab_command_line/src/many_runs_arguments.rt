@@ -78,7 +78,7 @@ pub(crate) const EXPLORE_ARGUMENTS: [Argument; 12] = [
 ];
 
 /// Of `grade`.
-pub(crate) const GRADE_ARGUMENTS: [Argument; 16] = [
+pub(crate) const GRADE_ARGUMENTS: [Argument; 17] = [
     Argument("expect", help::EXPECT, Form::NeededWithout("FILE", "cases")),
     Argument(
         "cases",
@@ -130,6 +130,11 @@ pub(crate) const GRADE_ARGUMENTS: [Argument; 16] = [
         "no-links",
         "a submission that is a symbolic link is not read",
         Form::Flag(&[]),
+    ),
+    Argument(
+        "pages",
+        "writes the page of each submission that is not right into this folder",
+        Form::Option("FOLDER"),
     ),
     Argument(
         "format",

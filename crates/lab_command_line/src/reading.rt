@@ -20,6 +20,10 @@ pub fn read_lab_command<'a, S: AsStr>(
     alloc: Global,
     line: &'a [S],
 ) -> Result<LabCommand<'a>, Error> {
+    if let Some(program) = mistyped_program(line) {
+        let words = format!(in alloc; "to run a program, type: mta_lab view {program}")?;
+        return Err(refused(alloc, words.as_str())?);
+    }
     let matches = lab_parser(alloc)?.try_get_matches_from(line)?;
     match misfit_of(&matches) {
         Some(words) => Err(refused(alloc, words)?),
@@ -43,6 +47,22 @@ fn misfit_of(matches: &ArgMatches) -> Option<&'static str> {
             Some("--steps is of schedules that are made, and SCHEDULE is a file")
         }
         _ => None,
+    }
+}
+
+/// The program of a line that names one where its command stands, or that runs one as `mta_sim` does.
+fn mistyped_program<S: AsStr>(line: &[S]) -> Option<&str> {
+    let first = line.get(1)?.as_str();
+    if first == "run" {
+        return match line.get(2) {
+            Some(program) => Some(program.as_str()),
+            None => Some("PROGRAM"),
+        };
+    }
+    if first.ends_with(".asm") || first.ends_with(".image") {
+        Some(first)
+    } else {
+        None
     }
 }
 
@@ -85,6 +105,9 @@ fn command_of<'a>(alloc: Global, matches: &ArgMatches<'a>) -> Result<LabCommand<
         Some(("grade", found)) => Ok(LabCommand::Grade(grade_of(alloc, found)?)),
         Some(("survey", found)) => Ok(LabCommand::Survey(survey_of(found))),
         Some(("explore", found)) => Ok(LabCommand::Explore(explore_of(found))),
+        Some(("word", found)) => Ok(LabCommand::Word {
+            words: words(alloc, found, "WORD")?,
+        }),
         Some((name, found)) => Ok(command_of_runs(name, found)),
         None => Ok(LabCommand::Adapt),
     }
@@ -112,6 +135,12 @@ fn command_of_runs<'a>(name: &str, found: &ArgMatches<'a>) -> LabCommand<'a> {
         "page" => LabCommand::Page(page_of(found)),
         "picture" => LabCommand::Picture(picture_of(found)),
         "play" => LabCommand::Play(play_of(found)),
+        "explain" => LabCommand::Explain {
+            word: text(found, "WORD"),
+        },
+        "new" => LabCommand::New {
+            name: word(found, "NAME"),
+        },
         "asm" => LabCommand::Assemble {
             source: word(found, "SOURCE"),
             image: text(found, "out"),
@@ -288,6 +317,7 @@ fn grade_of<'a>(alloc: Global, found: &ArgMatches<'a>) -> Result<GradeRequest<'a
         explored: explored_of(found),
         jobs: found.get_one::<usize>("jobs"),
         refuses_links: found.get_flag("no-links"),
+        pages: text(found, "pages"),
         submissions: words(alloc, found, "SUBMISSION")?,
         format: format_of(found),
         hexadecimal: found.get_flag("hex"),

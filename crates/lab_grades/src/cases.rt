@@ -46,7 +46,7 @@ pub(crate) fn read_cases<F: Files, R: Read>(
                 path: String::from_str(alloc, expected)?,
                 wishes: inputs.read(alloc, expected)?,
                 cells: match given {
-                    Some(path) => Some(cells_of(alloc, inputs, path)?),
+                    Some(path) => Some(cells_of(alloc, path, &inputs.read(alloc, path)?)?),
                     None => None,
                 },
             })?;
@@ -61,7 +61,8 @@ fn cases_of_folder<F: Files, R: Read>(
     inputs: &mut Inputs<'_, F, R>,
     folder: &str,
 ) -> Result<Vec<Case>, LabFault> {
-    let names = names_of_cases(alloc, inputs.files, folder)?;
+    let bytes = bytes_of_folder(alloc, inputs.files, folder)?;
+    let names = names_of_cases(alloc, folder, &bytes)?;
     let mut cases = Vec::new(alloc);
     for name in &names {
         cases.push(case_of(alloc, inputs, folder, name)?)?;
@@ -83,17 +84,13 @@ fn case_of<F: Files, R: Read>(
         name: Some(String::from_str(alloc, name)?),
         wishes: inputs.read(alloc, &path)?,
         path,
-        cells: Some(cells_of(alloc, inputs, &data)?),
+        cells: Some(cells_of(alloc, &data, &inputs.read(alloc, &data)?)?),
     })
 }
 
-/// The names of a folder's cases, in their order: of each file NAME.data or NAME.expect the part before the point.
-fn names_of_cases<F: Files>(
-    alloc: Global,
-    files: &F,
-    folder: &str,
-) -> Result<Vec<String>, LabFault> {
-    let bytes = bytes_of_folder(alloc, files, folder)?;
+/// The names of a folder's cases, in their order: of each file NAME.data or NAME.expect the part before the point. These
+/// are the names of its files, each with a zero behind it.
+fn names_of_cases(alloc: Global, folder: &str, bytes: &[u8]) -> Result<Vec<String>, LabFault> {
     let mut names: Vec<String> = Vec::new(alloc);
     for entry in bytes.split(|byte| *byte == 0) {
         if let Some(name) = name_of_case(entry)
@@ -151,16 +148,11 @@ fn not_read(alloc: Global, folder: &str, error: &Error) -> Result<LabFault, Allo
     Ok(LabFault::Words(format!(in alloc; "{folder}: read failed: {error}")?))
 }
 
-/// An image with the cells of a file.
-fn cells_of<F: Files, R: Read>(
-    alloc: Global,
-    inputs: &mut Inputs<'_, F, R>,
-    path: &str,
-) -> Result<Image, LabFault> {
-    let text = inputs.read(alloc, path)?;
-    match read_cells(alloc, &text) {
+/// An image with the cells of the text of a file.
+fn cells_of(alloc: Global, path: &str, text: &[u8]) -> Result<Image, LabFault> {
+    match read_cells(alloc, text) {
         Ok(image) => Ok(image),
-        Err(fault) => Err(cells_fault(alloc, path, &text, fault)?),
+        Err(fault) => Err(cells_fault(alloc, path, text, fault)?),
     }
 }
 

@@ -5,11 +5,11 @@ ghost use Rattle.schedule_verdicts.specs.RightSpaces.{IsRightThroughout};
 
 use crate::judged::{Grading, Judged};
 use crate::seed_grades::sampled_verdict;
-use crate::verdicts::{CountedEnd, Known, Verdict, VerdictKind, WishLine, Witness};
 use command_parts::LabFault;
 use end_kinds::EndKind;
+use grade_reports::{CountedEnd, Known, Verdict, VerdictKind, WishLine, Witness};
 use lab_ends::{SpaceEnd, SpaceEndKind};
-use lab_explorer::{Console, Explored, Search, SearchBound, Watcher, explore_program};
+use lab_explorer::{Console, Explored, Search, Watcher, explore_program};
 use lab_requests::Bounds;
 use std::alloc::{AllocError, Global};
 use std::io::Write;
@@ -122,27 +122,16 @@ fn known_of(found: &Explored) -> Known {
     Known {
         worlds: Some(found.worlds),
         is_every: found.is_complete,
-        bound: found.bound,
+        ended: match found.bound {
+            Some(bound) => bound.words(),
+            None => "",
+        },
         seeds: None,
     }
 }
 
-/// What ended a search, as words that stand behind others; none where nothing did.
-pub(crate) fn words_of_bound(
-    alloc: Global,
-    bound: Option<SearchBound>,
-) -> Result<String, AllocError> {
-    match bound {
-        Some(bound) => {
-            let words = bound.words();
-            format!(in alloc; ", {words}")
-        }
-        None => Ok(String::new(alloc)),
-    }
-}
-
 /// What an end of a submission can show against it.
-#[derive(Clone, Copy, Debug)]
+#[derive(Clone, Copy)]
 enum EndFlaw {
     /// A trap that nobody expected stopped a stream.
     Trap,

@@ -2,11 +2,11 @@
 
 use crate::cases::{Case, read_cases};
 use crate::judged::Grading;
-use crate::reports::report_of;
+use crate::page_folder::PageFolder;
 use crate::side_by_side::{jobs_of, judge_all};
 use crate::submissions::read_submission;
-use crate::verdicts::Verdict;
 use command_parts::{Answer, Inputs, LabFault, Program, Status};
+use grade_reports::{Verdict, report_of};
 use lab_explorer::Console;
 use lab_requests::GradeRequest;
 use lab_texts::NumberStyle;
@@ -31,13 +31,23 @@ pub fn grade<X: Threads + Sync + Clock, F: Files, R: Read, E: Write>(
     console: &mut Console<'_, X, E>,
 ) -> Result<Answer, LabFault> {
     let cases = read_cases(alloc, inputs, request.cases)?;
-    let verdicts = verdicts_on(rt, alloc, inputs, &*request, &cases, console)?;
+    let mut pages = PageFolder::open(alloc, inputs, request)?;
+    let verdicts = verdicts_on(rt, alloc, inputs, &*request, &cases, &mut pages, console)?;
     let mut status = Status::Done;
     for verdict in verdicts.iter() {
         status = status.worse(verdict.status);
     }
-    let output = report_of(alloc, request, &cases, &verdicts)?;
-    Ok(Answer::printed(alloc, output, status))
+    let count = cases.iter().filter(|case| case.name.is_some()).count();
+    let output = report_of(
+        alloc,
+        request.format,
+        &request.submissions,
+        &verdicts,
+        count,
+    )?;
+    let mut answer = Answer::printed(alloc, output, status);
+    answer.fault = pages.fault;
+    Ok(answer)
 }
 
 /// What is said of each submission, in their order. Some are read, judged and let go before the next are read.
@@ -47,6 +57,7 @@ fn verdicts_on<'a, 'r, X: Threads + Sync + Clock, F: Files, R: Read, E: Write>(
     inputs: &mut Inputs<'_, F, R>,
     request: &'a GradeRequest<'r>,
     cases: &'a [Case],
+    pages: &mut PageFolder<'_>,
     console: &mut Console<'_, X, E>,
 ) -> Result<Vec<Verdict>, LabFault> {
     let jobs = jobs_of(rt, request);
@@ -63,9 +74,9 @@ fn verdicts_on<'a, 'r, X: Threads + Sync + Clock, F: Files, R: Read, E: Write>(
         if read.is_empty() {
             return Ok(verdicts);
         }
-        place = place.saturating_add(read.len());
-        for verdict in judge_all(rt, alloc, &grading, jobs, read, console)? {
-            verdicts.push(verdict)?;
+        for graded in judge_all(rt, alloc, &grading, jobs, read, console)? {
+            verdicts.push(pages.verdict_of(alloc, inputs, &grading, place, graded, console)?)?;
+            place = place.saturating_add(1);
         }
     }
     Ok(verdicts)

@@ -1,9 +1,9 @@
 //! What a submission is judged by, and how.
 
 use crate::cases::Case;
-use crate::verdicts::{Verdict, VerdictKind, WishLine};
 use crate::wish_lines::WishLines;
 use command_parts::{LabFault, Program};
+use grade_reports::{Verdict, VerdictKind, WishLine};
 use lab_ends::{ClaimFault, WishFault, Wishes};
 use lab_explorer::{claim_words, wish_fault};
 use lab_requests::GradeRequest;

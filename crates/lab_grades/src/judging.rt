@@ -4,11 +4,10 @@ use crate::cases::Case;
 use crate::explored_grades::explored_verdict;
 use crate::judged::{Grading, Judged, wishes_for};
 use crate::seed_grades::sampled_verdict;
-use crate::verdicts::{Known, Verdict, VerdictKind, WishLine};
 use crate::wish_lines::WishLines;
 use case_cells::with_cells_of;
 use command_parts::{LabFault, Program};
-use image_file::Image;
+use grade_reports::{Known, Verdict, VerdictKind, WishLine};
 use lab_ends::{Wishes, first_broken_rule};
 use lab_explorer::Console;
 use lab_texts::ProgramNames;
@@ -28,7 +27,9 @@ pub(crate) fn verdict_on<X: Threads + Sync, C: Clock, E: Write>(
 ) -> Result<Verdict, LabFault> {
     let mut right = Verdict::plain(alloc, VerdictKind::Right, Known::NOTHING);
     for case in grading.cases.iter() {
-        let verdict = verdict_by(rt, alloc, grading, case, program, console)?;
+        let given = given_by(alloc, case, program)?;
+        let program = given.as_ref().unwrap_or(program);
+        let verdict = verdict_of(rt, alloc, grading, case, program, console)?;
         if verdict.kind != VerdictKind::Right {
             return Ok(with_name(alloc, verdict, case)?);
         }
@@ -52,7 +53,7 @@ fn add_right(right: &mut Verdict, verdict: Verdict) -> Result<(), AllocError> {
     right.known = Known {
         worlds: sum_of(right.known.worlds, known.worlds),
         is_every: known.is_every,
-        bound: None,
+        ended: "",
         seeds: known.seeds,
     };
     right.status = right.status.worse(verdict.status);
@@ -70,30 +71,19 @@ fn sum_of(one: Option<usize>, other: Option<usize>) -> Option<usize> {
     }
 }
 
-/// What is said of a submission by a case.
-fn verdict_by<X: Threads + Sync, C: Clock, E: Write>(
-    rt: &X,
+/// The program with a case's cells in place of its own; None where the case has none.
+pub(crate) fn given_by(
     alloc: Global,
-    grading: &Grading<'_, '_>,
     case: &Case,
     program: &Program,
-    console: &mut Console<'_, C, E>,
-) -> Result<Verdict, LabFault> {
+) -> Result<Option<Program>, AllocError> {
     match &case.cells {
-        Some(cells) => {
-            let given = with_cells(alloc, program, cells)?;
-            verdict_of(rt, alloc, grading, case, &given, console)
-        }
-        None => verdict_of(rt, alloc, grading, case, program, console),
+        Some(cells) => Ok(Some(Program {
+            text: Vec::from_slice(alloc, &program.text)?,
+            image: with_cells_of(alloc, &program.image, cells)?,
+        })),
+        None => Ok(None),
     }
-}
-
-/// The program with the cells of an image in place of its own.
-fn with_cells(alloc: Global, program: &Program, cells: &Image) -> Result<Program, AllocError> {
-    Ok(Program {
-        text: Vec::from_slice(alloc, &program.text)?,
-        image: with_cells_of(alloc, &program.image, cells)?,
-    })
 }
 
 /// What is said of a program that breaks a rule of programs; None where it keeps all.

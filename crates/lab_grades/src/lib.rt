@@ -1,26 +1,18 @@
-//! The commands `survey` and `grade`: many runs of a program, counted and judged.
+//! The command `grade`: submissions, judged by the same cases.
 #![tactic(auto)]
 
 mod cases;
 mod explored_grades;
-mod gradescope_report;
 mod grading;
-mod json_report;
 mod judged;
 mod judging;
-mod junit_report;
-mod outcomes;
-mod reports;
+mod page_folder;
+mod page_names;
 mod seed_ends;
 mod seed_grades;
 mod side_by_side;
 mod submissions;
-mod survey_objects;
-mod surveying;
-mod text_report;
-mod tsv_report;
-mod verdicts;
+mod verdict_pages;
 mod wish_lines;
 
 pub use grading::grade;
-pub use surveying::survey;

@@ -1,9 +1,9 @@
 //! The ends of all seeds of a submission, counted.
 
 use crate::judged::{Grading, Judged};
-use crate::outcomes::{Outcome, Seeds, outcomes_of, worst_status};
-use crate::verdicts::{CountedEnd, Witness};
 use end_kinds::Status;
+use grade_reports::{CountedEnd, Witness};
+use seed_outcomes::{Outcome, SurveySeeds, outcomes_of, worst_status};
 use std::alloc::{AllocError, Global};
 use std::thread::Threads;
 
@@ -14,14 +14,15 @@ pub(crate) fn counted_ends<X: Threads + Sync>(
     grading: &Grading<'_, '_>,
     judged: &Judged<'_, '_>,
 ) -> Result<(Vec<CountedEnd>, Status), AllocError> {
-    let seeds = Seeds {
+    let seeds = SurveySeeds {
         first: 0,
         count: grading.request.seeds,
         most: grading.request.most,
         style: grading.style,
     };
+    let image = &judged.program.image;
     let wishes = judged.wishes;
-    let mut outcomes = outcomes_of(rt, alloc, judged.program, &wishes.ends, seeds)?;
+    let mut outcomes = outcomes_of(rt, alloc, image, judged.names, &wishes.ends, seeds)?;
     outcomes.sort_by_key(|outcome: &Outcome| usize::MAX - outcome.runs)?;
     let mut ends = Vec::new(alloc);
     for outcome in outcomes.iter() {

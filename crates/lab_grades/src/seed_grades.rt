@@ -5,10 +5,10 @@ ghost use Rattle.seed_verdicts.specs.Seeds.{AreJudged};
 
 use crate::judged::{Grading, Judged};
 use crate::seed_ends::counted_ends;
-use crate::verdicts::{Known, Verdict, VerdictKind, Witness};
 use command_parts::loaded;
 use end_kinds::{EndKind, end_kind_of, status_of};
 use expectations::first_missed;
+use grade_reports::{Known, Verdict, VerdictKind, Witness};
 use lab_ends::{end_words_of, first_finding};
 use machine::LoadFault;
 use schedule_makers::{fair_length, seeded};

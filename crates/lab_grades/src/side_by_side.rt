@@ -2,8 +2,8 @@
 
 use crate::judged::Grading;
 use crate::judging::verdict_on;
-use crate::verdicts::Verdict;
 use command_parts::{LabFault, Program};
+use grade_reports::Verdict;
 use lab_explorer::Console;
 use lab_requests::GradeRequest;
 use rayon::current_num_threads;
@@ -23,6 +23,15 @@ pub(crate) fn jobs_of<X: Threads>(rt: &X, request: &GradeRequest) -> usize {
     jobs.min(request.submissions.len())
 }
 
+/// A submission that is judged.
+#[derive(Drop)]
+pub(crate) struct Graded {
+    /// Its program; None if it is none.
+    pub program: Option<Program>,
+    /// What is said of it.
+    pub verdict: Verdict,
+}
+
 /// What is said of some submissions, in their order. The answer is that of one thread.
 pub(crate) fn judge_all<X: Threads + Sync + Clock, E: Write>(
     rt: &X,
@@ -31,7 +40,7 @@ pub(crate) fn judge_all<X: Threads + Sync + Clock, E: Write>(
     jobs: usize,
     submissions: Vec<Result<Program, Verdict>>,
     console: &mut Console<'_, X, E>,
-) -> Result<Vec<Verdict>, LabFault> {
+) -> Result<Vec<Graded>, LabFault> {
     let judged = if jobs <= 1 {
         judge_each(rt, alloc, grading, &submissions, console)?
     } else {
@@ -131,24 +140,30 @@ fn interleaved(
     Ok(judged)
 }
 
-/// The verdicts on all submissions, in their order: those on programs, and what was said of the others already.
+/// All submissions with their verdicts, in their order: those on programs, and what was said of the others already.
 fn in_order(
     alloc: Global,
     submissions: Vec<Result<Program, Verdict>>,
     judged: Judgements,
-) -> Result<Vec<Verdict>, LabFault> {
+) -> Result<Vec<Graded>, LabFault> {
     let mut judged = judged;
     judged.reverse();
-    let mut verdicts = Vec::new(alloc);
+    let mut all = Vec::new(alloc);
     for submission in submissions {
         match submission {
-            Err(verdict) => verdicts.push(verdict)?,
-            Ok(_) => {
+            Err(verdict) => all.push(Graded {
+                program: None,
+                verdict,
+            })?,
+            Ok(program) => {
                 if let Some(verdict) = judged.pop() {
-                    verdicts.push(verdict?)?;
+                    all.push(Graded {
+                        program: Some(program),
+                        verdict: verdict?,
+                    })?;
                 }
             }
         }
     }
-    Ok(verdicts)
+    Ok(all)
 }

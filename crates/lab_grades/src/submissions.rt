@@ -1,7 +1,7 @@
 //! Submissions, read.
 
-use crate::verdicts::{Verdict, VerdictKind};
 use command_parts::{Inputs, LabFault, Program, program_of};
+use grade_reports::{Verdict, VerdictKind};
 use plain_text::plain;
 use std::alloc::{AllocError, Global};
 use std::io::Read;

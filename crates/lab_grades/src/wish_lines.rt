@@ -1,6 +1,6 @@
 //! The lines of a file of expectations.
 
-use crate::verdicts::WishLine;
+use grade_reports::WishLine;
 use lab_ends::is_rule_word;
 use std::alloc::{AllocError, Global};
 use std::str;

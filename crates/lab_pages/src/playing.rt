@@ -1,6 +1,7 @@
 //! The command `play`.
 
 use crate::goals::{Judging, goal_place};
+use crate::opened_pages::opened_after;
 use command_parts::{Answer, Inputs, LabFault, Program, read_program, read_steps, stem_of};
 use lab_ends::{Wishes, are_rules_kept, space_ends};
 use lab_explorer::{Console, Watcher, push_expectation, wishes_of};
@@ -40,28 +41,33 @@ pub fn write_play_page<C: Clock, F: Files, R: Read, E: Write>(
         names: &names,
         wishes: &wishes,
         begin: &begin,
+        opened: &[],
     };
-    let page = page_text(alloc, request, &played, console)?;
-    inputs.write(alloc, request.out, page.as_bytes())?;
+    match page_text(alloc, request, &played, console)? {
+        Some(page) => inputs.write(alloc, request.out, page.as_bytes())?,
+        None => return Err(too_many(alloc, request)?),
+    }
     Ok(Answer::silent(alloc))
 }
 
 /// What a page is made of.
 #[derive(Drop)]
-struct Played<'a, 't> {
-    program: &'a Program,
-    names: &'a ProgramNames<'t>,
-    wishes: &'a Wishes,
-    begin: &'a [Step],
+pub(crate) struct Played<'a, 't> {
+    pub program: &'a Program,
+    pub names: &'a ProgramNames<'t>,
+    pub wishes: &'a Wishes,
+    pub begin: &'a [Step],
+    /// The steps after which the page opens.
+    pub opened: &'a [Step],
 }
 
-/// The page of a program.
-fn page_text<C: Clock, E: Write>(
+/// The page of a program; None if it has more states than are asked for.
+pub(crate) fn page_text<C: Clock, E: Write>(
     alloc: Global,
     request: &PlayRequest,
     played: &Played<'_, '_>,
     console: &mut Console<'_, C, E>,
-) -> Result<String, LabFault> {
+) -> Result<Option<String>, LabFault> {
     let bounds = Bounds {
         worlds: request.states,
         seconds: None,
@@ -75,24 +81,27 @@ fn page_text<C: Clock, E: Write>(
         _ => graph_on::<128, C, E>(alloc, request, played, &mut watcher),
     };
     watcher.finish();
-    let graph = graph?;
+    let Some(graph) = graph? else {
+        return Ok(None);
+    };
+    let graph = opened_after(alloc, graph, played.opened)?;
     let name = program_name(request);
     let title = format!(in alloc; "{name}, you are the scheduler")?;
-    Ok(page_of_graph(alloc, &title, &graph)?)
+    Ok(Some(page_of_graph(alloc, &title, &graph)?))
 }
 
-/// The data of the page, on machines with room for `S` streams a processor; a fault if there are too many states.
+/// The data of the page, on machines with room for `S` streams a processor; None if there are too many states.
 fn graph_on<const S: usize, C: Clock, E: Write>(
     alloc: Global,
     request: &PlayRequest,
     played: &Played<'_, '_>,
     watcher: &mut Watcher<'_, '_, C, E>,
-) -> Result<String, LabFault> {
+) -> Result<Option<String>, LabFault> {
     let image = &played.program.image;
     let most = request.states.max(1);
     let space = match explore::<S, _>(alloc, image, played.begin, most, watcher) {
         Ok(Exploration::Complete(space)) => space,
-        Ok(Exploration::Bounded(_, Bound::Worlds)) => return Err(too_many(alloc, request)?),
+        Ok(Exploration::Bounded(_, Bound::Worlds)) => return Ok(None),
         Ok(Exploration::Bounded(_, _)) => return Err(LabFault::NoMemory),
         Err(LoadFault::NoMemory | LoadFault::Streams) => return Err(LabFault::NoMemory),
     };
@@ -113,7 +122,8 @@ fn graph_on<const S: usize, C: Clock, E: Write>(
         goal: goal_place(alloc, request, &ends, judging)?,
     };
     let text = &played.program.text;
-    Ok(graph_json::<S>(alloc, asked, text, played.names, &space, &ends)?)
+    let graph = graph_json::<S>(alloc, asked, text, played.names, &space, &ends)?;
+    Ok(Some(graph))
 }
 
 /// What is said of a program of too many states.

@@ -213,6 +213,8 @@ pub struct GradeRequest<'a> {
     pub jobs: Option<usize>,
     /// Whether a submission that is a symbolic link is not read.
     pub refuses_links: bool,
+    /// The folder for the page of each submission that is not right.
+    pub pages: Option<&'a str>,
     /// The submissions, one at least: source texts or images.
     pub submissions: Vec<&'a str>,
     /// How the answer is written.
@@ -260,6 +262,18 @@ pub enum LabCommand<'a> {
     Picture(PageRequest<'a>),
     /// Writes a page on which the reader is the scheduler.
     Play(PlayRequest<'a>),
+    /// Says what a word means; without one, which words have a page.
+    Explain {
+        word: Option<&'a str>,
+    },
+    /// Says what an instruction word says, by its digits or its text, whose words these are.
+    Word {
+        words: Vec<&'a str>,
+    },
+    /// Writes a program to begin with, of this name.
+    New {
+        name: &'a str,
+    },
     /// Assembles a source text, beside its place, and renames it to there.
     Assemble {
         source: &'a str,

@@ -2,13 +2,14 @@
 
 use command_parts::{Answer, Inputs, LabFault, Status};
 use lab_adapter::adapt;
-use lab_checks::{assemble_file, check, make_schedule};
+use lab_checks::{assemble_file, check, explain, make_schedule, show_word, start_program};
 use lab_command_line::read_lab_command;
 use lab_debugger::{Screen, debug};
 use lab_explorer::{Console, show_every_end};
-use lab_grades::{grade, survey};
+use lab_grades::grade;
 use lab_pages::{write_page, write_picture, write_play_page};
 use lab_requests::LabCommand;
+use lab_surveys::survey;
 use lab_views::{compare, view};
 use plain_text::{plain, push_plain};
 use std::alloc::{AllocError, Global};
@@ -161,6 +162,9 @@ fn answer_to<X: Threads + Sync + Clock, F: Files, R: Read, E: Write>(
         LabCommand::Page(request) => write_page(alloc, inputs, request),
         LabCommand::Picture(request) => write_picture(alloc, inputs, request),
         LabCommand::Play(request) => write_play_page(alloc, inputs, request, &mut console),
+        LabCommand::Explain { word } => explain(alloc, *word),
+        LabCommand::Word { words } => show_word(alloc, words),
+        LabCommand::New { name } => start_program(alloc, inputs, name),
         LabCommand::Assemble { source, image } => assemble_file(alloc, inputs, source, *image),
     }
 }

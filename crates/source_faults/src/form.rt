@@ -137,6 +137,7 @@ impl Form {
             Form::Condition =>
                 "ALWAYS, EQ, NE, LT, GE, LE, GT, LTU, GEU, LEU, GTU, NEG, POS, OV or NOV",
             Form::Code => "0 is the newest code, 3 the oldest",
+            Form::Tags => "0 is an empty word, 1 a full one",
             Form::Value
             | Form::Pc
             | Form::Distance
@@ -147,7 +148,6 @@ impl Form {
             | Form::Retry
             | Form::Entry
             | Form::Word
-            | Form::Tags
             | Form::Count
             | Form::Lookahead => "numbers are decimal, or 0x and hexadecimal digits",
         }

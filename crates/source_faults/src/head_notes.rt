@@ -1,7 +1,9 @@
 //! What is wrong with the head of a statement.
 
+use crate::foreign_names::{foreign_directive, foreign_operation};
 use crate::label_notes::is_name;
 use crate::notes::Notes;
+use crate::operand_words::COMMENTS;
 use crate::operations::{
     Named, directive_named, nearest_directive, nearest_operation, operation_named,
 };
@@ -98,8 +100,8 @@ fn help_for_operation(
     head: Token,
     operands: Token,
 ) -> Result<Option<String>, AllocError> {
-    if head.begins(b'#') || head.begins(b'/') {
-        return said(alloc, "a comment begins with ;");
+    if head.begins(b'#') || head.begins(b'/') || head.begins(b'*') || head.begins(b'!') {
+        return said(alloc, COMMENTS);
     }
     if head.begins(b'.') {
         return said(alloc, "a directive stands on a line of its own");
@@ -110,12 +112,35 @@ fn help_for_operation(
         return Ok(Some(format!(in alloc; "a label has a colon: {text}:")?));
     }
     let name = head.cut(b'.').0;
+    if let Some(help) = foreign_operation(name.bytes) {
+        return said(alloc, help);
+    }
+    if let Some(meant) = with_dot(alloc, reader, name.bytes)? {
+        return Ok(Some(format!(in alloc; "did you mean {meant}?")?));
+    }
     let Some(nearest) = nearest_operation(name.bytes) else {
-        return Ok(None);
+        return said(alloc, "CHEAT_SHEET.md has all operations");
     };
     let suffix = head.behind(name.bytes.len());
     let meant = with_suffix(alloc, reader, nearest, suffix)?;
     Ok(Some(format!(in alloc; "did you mean {meant}?")?))
+}
+
+/// The operation with its suffix, where a name is both without the dot between.
+fn with_dot(alloc: Global, reader: &Reader, name: &[u8]) -> Result<Option<String>, AllocError> {
+    let [front @ .., letter] = name else {
+        return Ok(None);
+    };
+    let Some(operation) = operation_named(front) else {
+        return Ok(None);
+    };
+    for suffix in SUFFIXES.iter() {
+        let is_it = suffix.as_bytes().get(1) == Some(letter);
+        if is_it && reader.knows_suffix(alloc, operation.name(), suffix)? {
+            return Ok(Some(format!(in alloc; "{}{suffix}", operation.name())?));
+        }
+    }
+    Ok(None)
 }
 
 /// The name with a suffix in capitals, or the name alone where it has no such suffix.
@@ -154,8 +179,11 @@ pub(crate) fn note_unknown_directive(
 
 /// Which directive may be meant by a name that none has.
 fn directive_help(alloc: Global, name: &[u8]) -> Result<Option<String>, AllocError> {
+    if let Some(help) = foreign_directive(name) {
+        return said(alloc, help);
+    }
     let Some(nearest) = nearest_directive(name) else {
-        return Ok(None);
+        return said(alloc, "CHEAT_SHEET.md has all directives");
     };
     let nearest = shown(alloc, nearest)?;
     Ok(Some(format!(in alloc; "did you mean {nearest}?")?))

@@ -1,6 +1,7 @@
 //! What is wrong with a label.
 
 use crate::notes::Notes;
+use crate::operations::directive_named;
 use crate::phrases::shown;
 use crate::reader::Reader;
 use crate::token::Token;
@@ -18,6 +19,14 @@ pub(crate) fn note_label(notes: &mut Notes, reader: &Reader) -> Result<bool, All
     if let (second, Some(_)) = reader.line().statement().cut(b':') {
         let help = "take the second label to a line of its own";
         notes.say(reader.spot(second), "a line has at most one label", help)?;
+        return Ok(false);
+    }
+    if directive_named(label.trim().bytes).is_some() {
+        notes.say(
+            reader.spot(label),
+            "a directive has no colon",
+            "take the colon away",
+        )?;
         return Ok(false);
     }
     match reader.item(Some(label.bytes), b"") {

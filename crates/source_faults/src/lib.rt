@@ -2,7 +2,11 @@
 //! (docs/FORMATS.md).
 #![tactic(auto)]
 
+mod count_notes;
 mod data_lines;
+mod data_words;
+mod examples;
+mod foreign_names;
 mod form;
 mod head_notes;
 mod images;
@@ -11,6 +15,7 @@ mod lines;
 mod message;
 mod nearest;
 mod notes;
+mod number_words;
 mod operand_notes;
 mod operand_words;
 mod operations;

@@ -1,9 +1,11 @@
 //! What is wrong with operands.
 
+use crate::count_notes::note_count;
+use crate::data_words::data_help;
 use crate::form::Form;
 use crate::notes::Notes;
 use crate::operand_words::{form_help, missing_label_help, range_help, range_words};
-use crate::phrases::{operands_counted, operands_listed, shown};
+use crate::phrases::shown;
 use crate::reader::Reader;
 use crate::token::Token;
 use asm_line::Fault;
@@ -41,39 +43,12 @@ pub(crate) fn note_operands(
         pieces = operands.pieces(notes.alloc(), b',')?;
     }
     if pieces.len() < taking.least || pieces.len() > taking.forms.len() {
-        let marked = if operands.bytes.is_empty() {
-            head
-        } else {
-            operands
-        };
-        return note_count(notes, reader, taking, marked, &pieces);
+        return note_count(notes, reader, taking, head, operands, &pieces);
     }
     for (place, (piece, form)) in pieces.iter().zip(taking.forms).enumerate() {
         note_operand(notes, reader, taking, place, *form, *piece)?;
     }
     Ok(())
-}
-
-/// Tells that there are too many operands, or too few.
-fn note_count(
-    notes: &mut Notes,
-    reader: &Reader,
-    taking: Taking,
-    marked: Token,
-    pieces: &[Token],
-) -> Result<(), AllocError> {
-    let alloc = notes.alloc();
-    let name = taking.name;
-    let list = operands_listed(alloc, taking.forms, taking.least)?;
-    let count = operands_counted(alloc, pieces.len())?;
-    let words = format!(in alloc; "{name} takes {list}, and has {count} here")?;
-    let is_apart = pieces.iter().any(|piece| piece.split_head().0.bytes.len() < piece.bytes.len());
-    let help = if is_apart && pieces.len() < taking.least {
-        Some(String::from_str(alloc, "commas stand between operands")?)
-    } else {
-        None
-    };
-    notes.add(reader.spot(marked), words, help)
 }
 
 /// Tells what is wrong with one operand.
@@ -151,7 +126,10 @@ fn note_form(
     operand: Token,
 ) -> Result<(), AllocError> {
     let alloc = notes.alloc();
-    let help = form_help(alloc, reader, form, operand.bytes)?;
+    let help = match data_help(notes, reader, form, operand.bytes)? {
+        Some(help) => help,
+        None => form_help(alloc, reader, form, operand)?,
+    };
     let text = shown(alloc, operand.bytes)?;
     let noun = form.noun();
     let words = format!(in alloc; "{name} is {noun}, and {text} is none")?;

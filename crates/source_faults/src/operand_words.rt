@@ -1,12 +1,18 @@
 //! The words for an operand that has a fault.
 
+use crate::foreign_names::foreign_condition;
 use crate::form::Form;
 use crate::nearest::Nearest;
 use crate::notes::Notes;
-use crate::operations::nearest_condition;
+use crate::number_words::{are_capital_digits, number_help};
+use crate::operations::{nearest_condition, operation_named};
 use crate::phrases::{said, shown};
 use crate::reader::Reader;
+use crate::token::Token;
 use std::alloc::{AllocError, Global};
+
+/// What begins a comment.
+pub(crate) const COMMENTS: &str = "a comment begins with ;";
 
 /// That an operand, which has this name, is out of its limits.
 pub(crate) fn range_words(
@@ -59,7 +65,7 @@ pub(crate) fn range_help(
 ) -> Result<Option<String>, AllocError> {
     match form {
         Form::Source => said(alloc, "LIT puts a greater number into a register"),
-        Form::Displacement => said(alloc, "words are counted, and not bytes"),
+        Form::Displacement => displacement_help(alloc, operand),
         Form::Value => said(alloc, "LITH sets the 32 high bits of a register"),
         Form::Entry => said(alloc, "a processor begins at an instruction line"),
         Form::Distance if reader.place_of(operand).is_some() => {
@@ -73,41 +79,121 @@ pub(crate) fn range_help(
     }
 }
 
+/// What to write for a displacement that counts bytes.
+fn displacement_help(alloc: Global, operand: &[u8]) -> Result<Option<String>, AllocError> {
+    match String::from_utf8_lossy(alloc, operand)?
+        .as_str()
+        .parse::<u64>()
+    {
+        Ok(bytes) if bytes % 8 == 0 && bytes <= 248 => {
+            let words = bytes / 8;
+            let help = format!(in alloc;
+                "words are counted, and not bytes: {bytes} bytes are {words} words"
+            )?;
+            Ok(Some(help))
+        }
+        _ => said(alloc, "words are counted, and not bytes"),
+    }
+}
+
 /// What to write for an operand that is none of this form.
 pub(crate) fn form_help(
     alloc: Global,
     reader: &Reader,
     form: Form,
-    operand: &[u8],
+    operand: Token,
 ) -> Result<String, AllocError> {
-    match form {
-        Form::Condition => condition_help(alloc, operand),
-        _ if reader.place_of(operand).is_some() => String::from_str(alloc, label_advice(form)),
-        _ => String::from_str(alloc, advice(form, operand)),
+    if operand.has_comment() {
+        return String::from_str(alloc, COMMENTS);
+    }
+    if let Some(help) = joined_help(operand) {
+        return String::from_str(alloc, help);
+    }
+    if reader.place_of(operand.bytes).is_some() {
+        return label_help(alloc, form, operand.bytes);
+    }
+    if let Some(help) = written_help(alloc, form, operand.bytes)? {
+        return Ok(help);
+    }
+    String::from_str(alloc, advice(form, operand.bytes))
+}
+
+/// What to write where an operand has the next operation in it, or a suffix.
+fn joined_help(operand: Token) -> Option<&'static str> {
+    let behind = operand.split_head().1;
+    if operand.bytes.contains(&b'&') {
+        return Some("a bar | stands between two operations of a word");
+    }
+    if operation_named(behind.cut(b'.').0.bytes).is_some() {
+        return Some("the next operation stands on a line of its own, or after a bar |");
+    }
+    match operand.bytes {
+        [b'.', _, b' ', ..] => Some("no blank stands before a suffix"),
+        _ => None,
     }
 }
 
 /// What to write where a label stands that may not.
-fn label_advice(form: Form) -> &'static str {
+fn label_help(alloc: Global, form: Form, label: &[u8]) -> Result<String, AllocError> {
     match form {
         Form::Register | Form::Base | Form::Source => {
-            "LIT puts the value of a label into a register"
+            String::from_str(alloc, "LIT puts the value of a label into a register")
         }
-        _ => form.advice(),
+        Form::Target => {
+            let label = shown(alloc, label)?;
+            format!(in alloc;
+                "TLIT t1, {label} comes first, and then t1; SKIP takes a label itself"
+            )
+        }
+        _ => String::from_str(alloc, form.advice()),
     }
+}
+
+/// What to write for an operand of this form that is written as on other machines; None where it is not.
+fn written_help(alloc: Global, form: Form, operand: &[u8]) -> Result<Option<String>, AllocError> {
+    match form {
+        Form::Condition => Ok(Some(condition_help(alloc, operand)?)),
+        Form::Base => base_help(alloc, operand),
+        Form::Register | Form::Target => Ok(None),
+        _ => number_help(alloc, form, operand),
+    }
+}
+
+/// What to write for an address where a register belongs; None where the operand is none.
+fn base_help(alloc: Global, operand: &[u8]) -> Result<Option<String>, AllocError> {
+    let address = match String::from_utf8_lossy(alloc, operand)?
+        .as_str()
+        .parse::<u64>()
+    {
+        Ok(address) => address,
+        Err(_) => return Ok(None),
+    };
+    if address % 8 == 0 && address <= 248 {
+        let words = address / 8;
+        return Ok(Some(format!(in alloc; "write r0, {words} for the word [{address}]")?));
+    }
+    Ok(Some(format!(in alloc; "LIT r2, {address} and then r2, 0 for the word [{address}]")?))
 }
 
 /// What to write in place of a text that is no label.
 fn advice(form: Form, operand: &[u8]) -> &'static str {
     match (form, operand) {
         (Form::Register | Form::Base | Form::Source, [b'R', ..]) => "registers have a small r",
-        (Form::Register | Form::Base, [b't', ..]) => "TGET moves a target register to a register",
+        (Form::Register | Form::Base, [b't', ..]) => {
+            "TGET moves a target register to a register; TLIT sets one"
+        }
         (Form::Register | Form::Base | Form::Source, [b'r', b'0', _, ..]) => {
             "registers have no zeros in front"
         }
-        (Form::Target, [b'r', ..]) => "TSET moves a register to a target register",
+        (Form::Register, [b'0'..=b'9', ..]) => {
+            "LIT puts a number into a register; r0 is always 0"
+        }
+        (Form::Target, [b'r', ..]) => {
+            "TSET moves a register to a target register; LIT sets a register"
+        }
         (Form::Target, [b'T', ..]) => "target registers have a small t",
-        (Form::Source | Form::Value | Form::Word, [b'-', ..]) => "no sign may stand here",
+        (Form::Tags, b"empty") => "write 0 for an empty word",
+        (Form::Tags, b"full") => "write 1 for a full word",
         (Form::Value | Form::Pc | Form::Entry | Form::Distance, [b'A'..=b'Z' | b'a'..=b'z', ..]) =>
             { "a label has letters, digits and _, at most 32 of them" }
         _ => form.advice(),
@@ -115,6 +201,9 @@ fn advice(form: Form, operand: &[u8]) -> &'static str {
 }
 
 fn condition_help(alloc: Global, operand: &[u8]) -> Result<String, AllocError> {
+    if let Some(name) = foreign_condition(operand) {
+        return format!(in alloc; "did you mean {name}?");
+    }
     match nearest_condition(operand) {
         Some(name) => {
             let name = shown(alloc, name)?;
@@ -131,24 +220,34 @@ pub(crate) fn missing_label_help(
     name: &[u8],
 ) -> Result<Option<String>, AllocError> {
     let alloc = notes.alloc();
-    if let [b'r', b'0'..=b'9', ..] = name {
-        return said(alloc, "ADD with 0 copies a register");
+    let text = shown(alloc, name)?;
+    match name {
+        [b'r', b'0'..=b'9', ..] => {
+            return Ok(Some(format!(in alloc; "ADD with 0 copies a register: ADD r1, {text}, 0")?));
+        }
+        [b't', b'0'..=b'7'] => {
+            return Ok(Some(format!(in alloc; "JUMP ALWAYS, 0, {text} goes where {text} says")?));
+        }
+        _ => {}
     }
-    if let [b't', b'0'..=b'7'] = name {
-        return said(alloc, "TGET and TSET move target registers");
+    if let Some(label) = nearest_label(notes, reader, name) {
+        let label = shown(alloc, label)?;
+        return Ok(Some(format!(in alloc; "did you mean {label}?")?));
     }
+    if are_capital_digits(name) {
+        return Ok(Some(format!(in alloc; "hexadecimal begins with 0x: write 0x{text}")?));
+    }
+    Ok(Some(format!(in alloc; "write {text}: before the instruction that it names")?))
+}
+
+/// The label that is nearest to a name, if one is near enough and few were looked for.
+fn nearest_label<'t>(notes: &mut Notes, reader: &Reader<'_, 't>, name: &[u8]) -> Option<&'t [u8]> {
     if !notes.may_suggest() {
-        return Ok(None);
+        return None;
     }
     let mut nearest = Nearest::to(name);
     for label in reader.names() {
         nearest.see(*label);
     }
-    match nearest.name() {
-        Some(label) => {
-            let label = shown(alloc, label)?;
-            Ok(Some(format!(in alloc; "did you mean {label}?")?))
-        }
-        None => Ok(None),
-    }
+    nearest.name()
 }

@@ -1,5 +1,6 @@
 //! Pieces of a statement, each judged by what a line of its own with it would be answered.
 
+use crate::data_lines::DataLines;
 use crate::form::Form;
 use crate::label_notes::is_name;
 use crate::lines::{Line, Lines};
@@ -13,6 +14,7 @@ use std::alloc::{AllocError, Global};
 /// What is known of a text before its lines are read.
 #[derive(Drop)]
 pub(crate) struct Source<'t> {
+    text: &'t [u8],
     outline: Outline<'t>,
     names: Vec<&'t [u8]>,
 }
@@ -28,6 +30,7 @@ impl<'t> Source<'t> {
             }
         }
         Ok(Source {
+            text,
             outline: outline_of(alloc, text)?,
             names,
         })
@@ -36,6 +39,19 @@ impl<'t> Source<'t> {
     /// How many program words it has.
     pub(crate) fn words(&self) -> usize {
         self.outline.words
+    }
+
+    /// The last label whose value is 0: that of the first instruction, where it has one.
+    pub(crate) fn first_label(&self) -> Option<&'t [u8]> {
+        let mut first = None;
+        for name in &self.names {
+            if let Some(place) = self.outline.labels.find(*name) {
+                if place.value == 0 {
+                    first = Some(*name);
+                }
+            }
+        }
+        first
     }
 }
 
@@ -80,6 +96,11 @@ impl<'s, 't> Reader<'s, 't> {
     /// The text's profile.
     pub(crate) fn profile(&self) -> Profile {
         self.source.outline.profile
+    }
+
+    /// Where the data words of the text stand in memory.
+    pub(crate) fn data_lines(&self, alloc: Global) -> Result<DataLines, AllocError> {
+        DataLines::of(alloc, self.source, self.source.text)
     }
 
     /// Where a label stands first.

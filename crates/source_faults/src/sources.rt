@@ -106,7 +106,7 @@ fn note_faults<'t>(
             Err(kind) => note_line(notes, &reader, kind)?,
         }
     }
-    totals.note_missing(notes, source.words(), last_line(text))
+    totals.note_missing(notes, source, last_line(text))
 }
 
 /// Tells what is wrong with a line whose least fault is of this kind.

@@ -5,6 +5,7 @@ use crate::message::Spot;
 use crate::notes::Notes;
 use crate::operations::directive_named;
 use crate::phrases::shown;
+use crate::reader::Source;
 use crate::token::Token;
 use asm_line::{Directive, Item};
 use std::alloc::AllocError;
@@ -28,6 +29,7 @@ pub(crate) struct Totals {
     cells: usize,
     has_entry: bool,
     has_data: bool,
+    has_word: bool,
 }
 
 impl Totals {
@@ -41,15 +43,20 @@ impl Totals {
         cells: 0,
         has_entry: false,
         has_data: false,
+        has_word: false,
     };
 
     /// Takes a line by its form, whatever fault it has.
     pub(crate) fn see(&mut self, line: &Line) {
-        let statement = line.statement();
-        if statement.begins(b'.') {
-            match directive_named(statement.split_head().0.bytes) {
+        let head = match line.label() {
+            Some(label) if label.begins(b'.') => label.trim(),
+            _ => line.statement().split_head().0,
+        };
+        if head.begins(b'.') {
+            match directive_named(head.bytes) {
                 Some(Directive::Entry) => self.has_entry = true,
                 Some(Directive::Data | Directive::Fill) => self.has_data = true,
+                Some(Directive::Word) => self.has_word = true,
                 _ => {}
             }
         }
@@ -99,18 +106,17 @@ impl Totals {
         Ok(())
     }
 
-    /// Tells what a text lacks that has so many program words and ends at this place.
+    /// Tells what a text lacks, which ends at this place: at its first line that it has no entry, else at its end.
     pub(crate) fn note_missing(
         &self,
         notes: &mut Notes,
-        words: usize,
+        source: &Source,
         end: Spot,
     ) -> Result<(), AllocError> {
         if !self.has_entry {
-            let help = ".entry and a label say where a processor begins";
-            notes.say(end, "the text has no .entry", help)?;
+            note_no_entry(notes, source)?;
         }
-        if words == 0 {
+        if source.words() == 0 {
             notes.say(
                 end,
                 "the text has no instruction",
@@ -118,10 +124,29 @@ impl Totals {
             )?;
         }
         if !self.has_data {
-            notes.say(end, "the text has no data word", ".data 0 adds one")?;
+            let help = if self.has_word {
+                ".word adds an instruction, and no data: write .data"
+            } else {
+                ".data 0 adds one"
+            };
+            notes.say(end, "the text has no data word", help)?;
         }
         Ok(())
     }
+}
+
+/// Tells that the text has no entry.
+fn note_no_entry(notes: &mut Notes, source: &Source) -> Result<(), AllocError> {
+    let alloc = notes.alloc();
+    let entry = match source.first_label() {
+        Some(label) => shown(alloc, label)?,
+        None => String::from_str(alloc, "0")?,
+    };
+    let words = String::from_str(alloc, "the text has no .entry")?;
+    let help = format!(in alloc;
+        "write .entry {entry} on a line of its own: a processor begins there"
+    )?;
+    notes.add(Spot::FIRST, words, Some(help))
 }
 
 /// Where the last line of a text begins; what follows its last line feed is a line where it has a byte.

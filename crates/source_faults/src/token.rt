@@ -79,6 +79,19 @@ impl<'t> Token<'t> {
         Ok(pieces)
     }
 
+    /// Whether the piece has what begins a comment on other machines: `//`, `/*`, or `#` with no digit behind it.
+    pub(crate) fn has_comment(self) -> bool {
+        for (place, byte) in self.bytes.iter().enumerate() {
+            let next = self.bytes.get(place.saturating_add(1)).copied();
+            match (*byte, next.unwrap_or(b' ')) {
+                (b'/', b'/' | b'*') => return true,
+                (b'#', next) if !next.is_ascii_digit() => return true,
+                _ => {}
+            }
+        }
+        false
+    }
+
     /// Whether the piece begins with a byte.
     pub(crate) fn begins(self, byte: u8) -> bool {
         self.bytes.first() == Some(&byte)

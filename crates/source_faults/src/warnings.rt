@@ -27,7 +27,7 @@ pub(crate) fn warnings_of<'t>(
     let mut spots = Vec::new(alloc);
     note_lines(&mut notes, &mut spots, source, &data_lines, text)?;
     if let Some(image) = image {
-        note_unreached(&mut notes, image, &spots)?;
+        note_unreached(&mut notes, image, text, &spots)?;
     }
     Ok(notes)
 }

@@ -1,0 +1,100 @@
+//! The folder into which the pages of submissions are written.
+
+use crate::judged::Grading;
+use crate::page_names::page_names;
+use crate::side_by_side::Graded;
+use crate::verdict_pages::page_of_verdict;
+use command_parts::{Inputs, LabFault, stem_of};
+use grade_reports::Verdict;
+use lab_explorer::Console;
+use lab_requests::GradeRequest;
+use std::alloc::Global;
+use std::io::{Read, Write};
+use std::rt::Files;
+use std::time::Clock;
+
+/// The folder for pages, where one is asked for.
+#[derive(Drop)]
+pub(crate) struct PageFolder<'a> {
+    /// Its path, as long as pages are written.
+    folder: Option<&'a str>,
+    /// What the page of each submission is called, in their order.
+    names: Vec<String>,
+    /// Why no more pages are written.
+    pub fault: Option<LabFault>,
+}
+
+impl<'a> PageFolder<'a> {
+    /// The folder that is asked for, which is made where nothing has its name. No page is written over a submission.
+    pub(crate) fn open<F: Files, R: Read>(
+        alloc: Global,
+        inputs: &mut Inputs<'_, F, R>,
+        request: &GradeRequest<'a>,
+    ) -> Result<PageFolder<'a>, LabFault> {
+        let mut pages = PageFolder {
+            folder: request.pages,
+            names: Vec::new(alloc),
+            fault: None,
+        };
+        if let Some(folder) = request.pages {
+            pages.names = page_names(alloc, &request.submissions)?;
+            for path in request.submissions.iter() {
+                inputs.reserve(alloc, path)?;
+            }
+            pages.take(inputs.make_folder(alloc, folder));
+        }
+        Ok(pages)
+    }
+
+    /// Writes no more pages where one can't be written.
+    fn take(&mut self, done: Result<(), LabFault>) {
+        if let Err(fault) = done {
+            self.folder = None;
+            self.fault = Some(fault);
+        }
+    }
+
+    /// The verdict on the submission of this place, with its page, which is written.
+    pub(crate) fn verdict_of<F: Files, R: Read, C: Clock, E: Write>(
+        &mut self,
+        alloc: Global,
+        inputs: &Inputs<'_, F, R>,
+        grading: &Grading<'_, '_>,
+        place: usize,
+        graded: Graded,
+        console: &mut Console<'_, C, E>,
+    ) -> Result<Verdict, LabFault> {
+        let Graded { program, verdict } = graded;
+        let mut verdict = verdict;
+        if let Some(folder) = self.folder
+            && let Some(program) = &program
+        {
+            let path = grading.request.submissions.get(place).copied();
+            let called = stem_of(path.unwrap_or(""));
+            let page = page_of_verdict(alloc, grading, called, program, &verdict, console)?;
+            if let Some(page) = page {
+                verdict.page = self.written(alloc, inputs, folder, place, page)?;
+            }
+        }
+        Ok(verdict)
+    }
+
+    /// The path of a page that is written for the submission of this place; None where it can't be.
+    fn written<F: Files, R: Read>(
+        &mut self,
+        alloc: Global,
+        inputs: &Inputs<'_, F, R>,
+        folder: &str,
+        place: usize,
+        page: String,
+    ) -> Result<Option<String>, LabFault> {
+        let slash = if folder.ends_with('/') { "" } else { "/" };
+        let name = self.names.get(place).map_or("", |name| name.as_str());
+        let path = format!(in alloc; "{folder}{slash}{name}.html")?;
+        self.take(inputs.write(alloc, &path, page.as_bytes()));
+        if self.fault.is_some() {
+            return Ok(None);
+        }
+        Ok(Some(path))
+    }
+}

@@ -1,0 +1,118 @@
+//! The pages of verdicts: runs that show that submissions are not right.
+
+use crate::cases::Case;
+use crate::judged::{Grading, wishes_for};
+use crate::judging::given_by;
+use command_parts::{LabFault, Program, made_by};
+use grade_reports::{Verdict, Witness};
+use lab_ends::Wishes;
+use lab_explorer::Console;
+use lab_pages::{PlayedProgram, play_page, replay_page};
+use lab_requests::Maker;
+use lab_texts::ProgramNames;
+use processor::Step;
+use replay_page::RunNames;
+use std::alloc::Global;
+use std::io::Write;
+use std::time::Clock;
+
+/// The page of the run that shows a verdict on a program that is called so; None if no run does, or if it has more steps than
+/// a page. Of a schedule it is the page of all schedules, which opens at its end, if they have no more states than a page.
+pub(crate) fn page_of_verdict<C: Clock, E: Write>(
+    alloc: Global,
+    grading: &Grading<'_, '_>,
+    called: &str,
+    program: &Program,
+    verdict: &Verdict,
+    console: &mut Console<'_, C, E>,
+) -> Result<Option<String>, LabFault> {
+    if matches!(&verdict.witness, Witness::None) {
+        return Ok(None);
+    }
+    let Some(case) = case_of(grading, verdict) else {
+        return Ok(None);
+    };
+    let given = given_by(alloc, case, program)?;
+    let program = given.as_ref().unwrap_or(program);
+    let witness = &verdict.witness;
+    page_by_case(alloc, grading, called, program, case, witness, console)
+}
+
+/// The case that decides a verdict.
+fn case_of<'a>(grading: &Grading<'a, '_>, verdict: &Verdict) -> Option<&'a Case> {
+    grading.cases.iter().find(|case| case.name == verdict.case)
+}
+
+/// The page of a program that has a case's cells already.
+fn page_by_case<C: Clock, E: Write>(
+    alloc: Global,
+    grading: &Grading<'_, '_>,
+    called: &str,
+    program: &Program,
+    case: &Case,
+    witness: &Witness,
+    console: &mut Console<'_, C, E>,
+) -> Result<Option<String>, LabFault> {
+    match witness {
+        Witness::None => Ok(None),
+        Witness::Seed(seed) => {
+            let maker = Maker::Random { seed: *seed };
+            let made = made_by(alloc, &program.image, maker, grading.request.most)?;
+            let schedule = format!(in alloc; "the random schedule of seed {seed}")?;
+            let names = RunNames {
+                program: called,
+                schedule: &schedule,
+            };
+            Ok(replay_page(alloc, names, program, &made.steps)?)
+        }
+        Witness::Schedule(steps) => {
+            let played = page_of_all(alloc, called, program, case, steps, console)?;
+            match played {
+                Some(page) => Ok(Some(page)),
+                None => {
+                    let names = RunNames {
+                        program: called,
+                        schedule: "the schedule that decides",
+                    };
+                    Ok(replay_page(alloc, names, program, steps)?)
+                }
+            }
+        }
+    }
+}
+
+/// The page of all schedules of a program, which opens after these steps; None if it has too many states.
+fn page_of_all<C: Clock, E: Write>(
+    alloc: Global,
+    called: &str,
+    program: &Program,
+    case: &Case,
+    steps: &[Step],
+    console: &mut Console<'_, C, E>,
+) -> Result<Option<String>, LabFault> {
+    let names = ProgramNames::of(alloc, &program.text)?;
+    match wishes_for(alloc, case, program, &names)? {
+        Ok(wishes) => play_page_of(alloc, called, program, &names, &wishes, steps, console),
+        Err(_) => Ok(None),
+    }
+}
+
+/// The same with what is wished.
+fn play_page_of<'a, 't, C: Clock, E: Write>(
+    alloc: Global,
+    called: &'a str,
+    program: &'a Program,
+    names: &'a ProgramNames<'t>,
+    wishes: &'a Wishes,
+    opened: &'a [Step],
+    console: &mut Console<'_, C, E>,
+) -> Result<Option<String>, LabFault> {
+    let played = PlayedProgram {
+        called,
+        program,
+        names,
+        wishes,
+        opened,
+    };
+    play_page(alloc, &played, console)
+}

@@ -1,0 +1,87 @@
+//! The pages of programs that are at hand, as submissions are.
+
+use crate::playing::{Played, page_text};
+use command_parts::{LabFault, Program, loaded};
+use lab_ends::Wishes;
+use lab_explorer::Console;
+use lab_requests::PlayRequest;
+use lab_texts::ProgramNames;
+use processor::Step;
+use replay_page::{MOST_STEPS, RunNames, page_of, run_json};
+use schedule_page::MOST_STATES;
+use std::alloc::{AllocError, Global};
+use std::io::Write;
+use std::time::Clock;
+
+/// The page of a program's run by these steps; None if they are more than a page shows.
+pub fn replay_page(
+    alloc: Global,
+    names: RunNames,
+    program: &Program,
+    steps: &[Step],
+) -> Result<Option<String>, AllocError> {
+    if steps.len() > MOST_STEPS {
+        return Ok(None);
+    }
+    let json = if program.image.slim() <= 8 {
+        json_on::<8>(alloc, names, program, steps)?
+    } else {
+        json_on::<128>(alloc, names, program, steps)?
+    };
+    let called = names.program;
+    let schedule = names.schedule;
+    let title = format!(in alloc; "{called}, {schedule}")?;
+    Ok(Some(page_of(alloc, &title, &json)?))
+}
+
+/// The run as JSON, on a machine with room for `S` streams a processor.
+fn json_on<const S: usize>(
+    alloc: Global,
+    names: RunNames,
+    program: &Program,
+    steps: &[Step],
+) -> Result<String, AllocError> {
+    let machine = loaded::<S>(alloc, &program.image)?;
+    run_json(alloc, names, &program.text, &machine, steps)
+}
+
+/// A program, and what its page of all schedules shows.
+#[derive(Clone, Copy)]
+pub struct PlayedProgram<'a, 't> {
+    /// What it is called.
+    pub called: &'a str,
+    /// The program.
+    pub program: &'a Program,
+    /// The names of its places.
+    pub names: &'a ProgramNames<'t>,
+    /// What is wished of it.
+    pub wishes: &'a Wishes,
+    /// The steps after which the page opens.
+    pub opened: &'a [Step],
+}
+
+/// The page on which the reader is the scheduler of a program; None if the program has more states than a page.
+pub fn play_page<C: Clock, E: Write>(
+    alloc: Global,
+    asked: &PlayedProgram<'_, '_>,
+    console: &mut Console<'_, C, E>,
+) -> Result<Option<String>, LabFault> {
+    let request = PlayRequest {
+        program: asked.called,
+        expected: None,
+        from: None,
+        states: MOST_STATES,
+        title: Some(asked.called),
+        goal: None,
+        out: asked.called,
+    };
+    let begin = Vec::new(alloc);
+    let played = Played {
+        program: asked.program,
+        names: asked.names,
+        wishes: asked.wishes,
+        begin: &begin,
+        opened: asked.opened,
+    };
+    page_text(alloc, &request, &played, console)
+}

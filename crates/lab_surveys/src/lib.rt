@@ -1,0 +1,7 @@
+//! The command `survey`: many runs of a program by random schedules, and their ends, counted.
+#![tactic(auto)]
+
+mod survey_objects;
+mod surveying;
+
+pub use surveying::survey;

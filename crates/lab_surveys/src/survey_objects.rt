@@ -1,0 +1,81 @@
+//! What is told of a survey as objects (docs/LAB.md, "JSON").
+
+use command_parts::{made_by, push_object};
+use end_kinds::EndKind;
+use image_file::Image;
+use lab_explorer::{ExpectedLines, Explored, put_bound};
+use lab_json::{Fields, digits, object_of, put_flag, put_number, put_run, put_text};
+use lab_requests::Maker;
+use seed_outcomes::Outcome;
+use serde_json::Value;
+use std::alloc::{AllocError, Global};
+
+/// Of what the outcomes of a survey are.
+#[derive(Clone, Copy)]
+pub(crate) struct Surveyed<'a> {
+    /// The program.
+    pub image: &'a Image,
+    /// What is expected of it.
+    pub lines: ExpectedLines<'a>,
+    /// The most steps of a schedule.
+    pub most: usize,
+}
+
+/// Adds the objects of outcomes. What an outcome's words, streams and findings are is told of the run of its seed.
+pub(crate) fn push_outcome_objects(
+    alloc: Global,
+    out: &mut String,
+    surveyed: Surveyed,
+    outcomes: &[Outcome],
+) -> Result<(), AllocError> {
+    for outcome in outcomes {
+        let fields = outcome_fields(alloc, surveyed, outcome)?;
+        push_object(alloc, out, &Value::Object(fields))?;
+    }
+    Ok(())
+}
+
+/// The object of an outcome.
+fn outcome_fields(
+    alloc: Global,
+    surveyed: Surveyed,
+    outcome: &Outcome,
+) -> Result<Fields, AllocError> {
+    let image = surveyed.image;
+    let maker = Maker::Random { seed: outcome.seed };
+    let made = made_by(alloc, image, maker, surveyed.most)?;
+    let mut fields = object_of(alloc, "outcome")?;
+    put_counts(alloc, &mut fields, outcome)?;
+    // (nobody expects a deadlock)
+    let is_as_expected = outcome.is_as_expected() && outcome.kind != EndKind::Deadlock;
+    put_flag(alloc, &mut fields, "expected", is_as_expected)?;
+    surveyed
+        .lines
+        .put_missed(alloc, &mut fields, outcome.missed)?;
+    put_run(alloc, &mut fields, image, &made.steps)?;
+    Ok(fields)
+}
+
+/// Puts the kind of an outcome, how many seeds lead there, and the first of them with the steps of its schedule.
+fn put_counts(alloc: Global, fields: &mut Fields, outcome: &Outcome) -> Result<(), AllocError> {
+    put_text(alloc, fields, "end", outcome.kind.json_name())?;
+    put_number(alloc, fields, "runs", outcome.runs as u64)?;
+    serde_json::put(fields, alloc, "seed", digits(alloc, outcome.seed)?)?;
+    put_number(alloc, fields, "steps", outcome.steps as u64)
+}
+
+/// Adds the object that says how many of the ends of every schedule the seeds met.
+pub(crate) fn push_coverage(
+    alloc: Global,
+    out: &mut String,
+    found: &Explored,
+    met: usize,
+) -> Result<(), AllocError> {
+    let mut fields = object_of(alloc, "coverage")?;
+    put_number(alloc, &mut fields, "ends", found.ends.len() as u64)?;
+    put_number(alloc, &mut fields, "met", met as u64)?;
+    put_number(alloc, &mut fields, "worlds", found.worlds as u64)?;
+    put_flag(alloc, &mut fields, "complete", found.is_complete)?;
+    put_bound(alloc, &mut fields, found.bound)?;
+    push_object(alloc, out, &Value::Object(fields))
+}

@@ -1,0 +1,72 @@
+//! Pages of `explain`: docs/words/outcomes.txt. Made by docs/words/make.py.
+
+pub(crate) const TEXT: &str = r"= 1 PROGRAM
+Trap 1, PROGRAM: the stream went past the end of the program.
+
+What to do: end the stream by QUIT, or look which SKIP or JUMP goes too far.
+
+= 2 ILLEGAL
+Trap 2, ILLEGAL: the word spells no instruction.
+
+What to do: .word adds an instruction; for data write .data.
+
+= 3 TRAP3 CREATE
+Trap 3, CREATE: no reserved stream is free.
+
+What to do: RESERVE first, and CREATE at most as many streams as it granted. .slim bounds them.
+
+= 4 TRAP4 POINTER
+Trap 4, POINTER: no reference may use this pointer. A bit of 48 to 58 is set, or its control is 1.
+
+What to do: look at what the base register holds. A large or negative number is no address.
+
+= 5 ALIGN
+Trap 5, ALIGN: the address is not a multiple of 8.
+
+What to do: an address counts bytes. SHL r2, r1, 3 makes the address of word number r1.
+
+= 6 RANGE
+Trap 6, RANGE: there is no word at this address.
+
+What to do: a displacement counts words (LOAD.N r1, r0, 8 reads [64]). Add data lines, or mend the address.
+
+= 7 TRAP0
+Trap 7, TRAP0: the trap0 bit of the word is set. Mask bit 0 and bit 62 of the pointer disable it.
+
+= 8 TRAP1
+Trap 8, TRAP1: the trap1 bit of the word is set. Mask bit 1 and bit 63 of the pointer disable it.
+
+= 9 FORWARD
+Trap 9, FORWARD: too many words forward this reference, one to the next.
+
+What to do: look for a circle of forwarding words. Tag 2 in .data says that a word forwards.
+
+= 10 TRAP10
+Trap 10, BLOCKED: the reference was blocked more often than .retry allows. Mask bit 2 disables it.
+
+= DONE
+Outcome DONE: the step did all that its word says.
+
+= BLOCKED
+Outcome BLOCKED: the reference waits for the full bit of its word, and the next step of the stream tries it again.
+
+view and explore say who waits for which word, and since when.
+
+= TRAPPED STOPPED
+Outcome TRAPPED: the step trapped, and the stream goes on at its handler. STOPPED: there is no handler, and it stops.
+
+explain XR, with XR as 0x806, says why.
+
+= SKIPPED
+Outcome SKIPPED: the schedule names a stream that does not run, and nothing changes.
+
+= deadlock
+Deadlock: every running stream is blocked forever. No schedule goes on from there.
+
+What to do: view names who waits for whom. Take locks in one order, or give back what is held before you wait.
+
+= spinning
+Spinning: streams go on forever and nothing new happens, as a loop that polls a word that nobody changes.
+
+What to do: wait by LOAD.F or LOAD.S in place of a loop.
+";

@@ -1,0 +1,61 @@
+//! Outcomes: ends that are told alike.
+
+use end_kinds::{EndKind, Status, status_of};
+use std::alloc::AllocError;
+
+/// Ends that agree in their kind, in the words that changed, in who waits or was stopped, and in what is not as
+/// expected.
+#[derive(Drop)]
+pub struct Outcome {
+    /// The kind.
+    pub kind: EndKind,
+    /// Who was stopped, who waits, and the words that changed.
+    pub text: String,
+    /// The place of the first expectation that is not met.
+    pub missed: Option<usize>,
+    /// Whether a trap that nobody expected stopped a stream.
+    pub is_trapped: bool,
+    /// The first seed that leads there.
+    pub seed: u64,
+    /// How many steps its schedule has.
+    pub steps: usize,
+    /// How many seeds lead there.
+    pub runs: usize,
+    /// The first finding of that run, and how many more there are; empty where there is none.
+    pub finding: String,
+}
+
+impl Outcome {
+    /// Whether all expectations are met, and nobody was stopped of whom that is not expected.
+    pub fn is_as_expected(&self) -> bool {
+        self.missed.is_none() && !self.is_trapped
+    }
+
+    /// What it means for the exit status.
+    pub fn status(&self) -> Status {
+        status_of(self.kind, self.missed.is_some(), self.is_trapped)
+    }
+
+    /// Whether another one is told alike.
+    fn is_same(&self, other: &Outcome) -> bool {
+        self.kind == other.kind && self.missed == other.missed && self.text == other.text
+    }
+}
+
+/// The exit status of outcomes: the worst over all of them.
+pub fn worst_status(outcomes: &[Outcome]) -> Status {
+    let mut status = Status::Done;
+    for outcome in outcomes {
+        status = status.worse(outcome.status());
+    }
+    status
+}
+
+/// Adds an outcome to those that are known.
+pub(crate) fn add_outcome(outcomes: &mut Vec<Outcome>, outcome: Outcome) -> Result<(), AllocError> {
+    match outcomes.iter_mut().find(|known| known.is_same(&outcome)) {
+        Some(known) => known.runs = known.runs.saturating_add(outcome.runs),
+        None => outcomes.push(outcome)?,
+    }
+    Ok(())
+}

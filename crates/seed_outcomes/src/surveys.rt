@@ -1,0 +1,168 @@
+//! The outcomes of seeds.
+
+use crate::findings::add_findings;
+use crate::outcomes::{Outcome, add_outcome};
+use command_parts::loaded;
+use end_kinds::end_kind_of;
+use expectations::{Expectation, FullEmpty, first_missed};
+use image_file::Image;
+use lab_ends::{end_words_of, is_expected_trap};
+use lab_texts::{NumberStyle, ProgramNames};
+use machine::LoadFault;
+use rayon::prelude::*;
+use schedule_makers::{fair_length, seeded};
+use schedule_survey::{EndGroup, SeedEnd, grouped, survey};
+use std::alloc::{AllocError, Global};
+use std::thread::Threads;
+
+/// How many seeds are run before their ends are counted: so the memory of a survey is bounded.
+const AT_ONCE: usize = 1024;
+
+/// Which seeds are run, for how many steps at most, and how their ends are told.
+#[derive(Clone, Copy)]
+pub struct SurveySeeds {
+    /// The first seed.
+    pub first: u64,
+    /// How many there are.
+    pub count: usize,
+    /// The most steps of each schedule.
+    pub most: usize,
+    /// How the numbers of their ends are told.
+    pub style: NumberStyle,
+}
+
+/// A program, how the schedule of a seed is made of it, and how its end is told.
+#[derive(Drop)]
+pub(crate) struct Surveyed<'a, 't> {
+    /// The program.
+    pub image: &'a Image,
+    /// The names of its places.
+    pub names: &'a ProgramNames<'t>,
+    /// What is expected of ends.
+    pub expected: &'a [Expectation],
+    /// How many steps the program's fair run has.
+    pub fair_steps: usize,
+    /// The most steps of a schedule.
+    pub most: usize,
+    /// How the numbers of ends are told.
+    pub style: NumberStyle,
+}
+
+/// The outcomes of the schedules of these seeds, in the order of their first seeds.
+pub fn outcomes_of<X: Threads + Sync>(
+    rt: &X,
+    alloc: Global,
+    image: &Image,
+    names: &ProgramNames<'_>,
+    expected: &[Expectation],
+    seeds: SurveySeeds,
+) -> Result<Vec<Outcome>, AllocError> {
+    if image.slim() <= 8 {
+        outcomes_on::<X, 8>(rt, alloc, image, names, expected, seeds)
+    } else {
+        outcomes_on::<X, 128>(rt, alloc, image, names, expected, seeds)
+    }
+}
+
+/// The same on machines with room for `S` streams a processor.
+fn outcomes_on<'a, 't, X: Threads + Sync, const S: usize>(
+    rt: &X,
+    alloc: Global,
+    image: &'a Image,
+    names: &'a ProgramNames<'t>,
+    expected: &'a [Expectation],
+    seeds: SurveySeeds,
+) -> Result<Vec<Outcome>, AllocError> {
+    let fair_steps = fair_length(alloc, &loaded::<S>(alloc, image)?)?;
+    let surveyed = Surveyed {
+        image,
+        names,
+        expected,
+        fair_steps,
+        most: seeds.most,
+        style: seeds.style,
+    };
+    let mut outcomes = Vec::new(alloc);
+    for begin in (0..seeds.count).step_by(AT_ONCE) {
+        let first = seeds.first.wrapping_add(begin as u64);
+        let count = AT_ONCE.min(seeds.count.saturating_sub(begin));
+        add_some::<X, S>(rt, alloc, &surveyed, first, count, &mut outcomes)?;
+    }
+    add_findings::<X, S>(rt, alloc, &surveyed, &mut outcomes)?;
+    Ok(outcomes)
+}
+
+/// Adds the outcomes of so many seeds from one on.
+fn add_some<X: Threads + Sync, const S: usize>(
+    rt: &X,
+    alloc: Global,
+    surveyed: &Surveyed<'_, '_>,
+    first: u64,
+    count: usize,
+    outcomes: &mut Vec<Outcome>,
+) -> Result<(), AllocError> {
+    let ends = match survey::<X, S>(rt, alloc, surveyed.image, first, count, surveyed.most) {
+        Ok(ends) => ends,
+        Err(LoadFault::NoMemory | LoadFault::Streams) => return Err(AllocError),
+    };
+    let groups = grouped(alloc, &ends)?;
+    for outcome in told::<X, S>(rt, alloc, surveyed, &ends, &groups)? {
+        add_outcome(outcomes, outcome)?;
+    }
+    Ok(())
+}
+
+/// The outcomes of groups of ends that are the same world, over all cores.
+fn told<X: Threads + Sync, const S: usize>(
+    rt: &X,
+    alloc: Global,
+    surveyed: &Surveyed<'_, '_>,
+    ends: &[SeedEnd],
+    groups: &[EndGroup],
+) -> Result<Vec<Outcome>, AllocError> {
+    let told = (0..groups.len())
+        .into_par_iter()
+        .map(|place: usize| -> Result<Outcome, AllocError> {
+            let group = groups.get(place).ok_or(AllocError)?;
+            let end = ends.get(group.first).ok_or(AllocError)?;
+            outcome_of::<S>(alloc, surveyed, end.seed, group.runs)
+        })
+        .with_min_len(1)
+        .collect::<Result<Vec<Outcome>, AllocError>>(rt, alloc);
+    match told {
+        Ok(Ok(told)) => Ok(told),
+        Ok(Err(_)) | Err(_) => Err(AllocError),
+    }
+}
+
+/// The outcome of so many ends that are the same world: the schedule of a seed that leads there is run again.
+fn outcome_of<const S: usize>(
+    alloc: Global,
+    surveyed: &Surveyed<'_, '_>,
+    seed: u64,
+    runs: usize,
+) -> Result<Outcome, AllocError> {
+    let mut machine = loaded::<S>(alloc, surveyed.image)?;
+    let made = seeded(
+        alloc,
+        &mut machine,
+        seed,
+        surveyed.fair_steps,
+        surveyed.most,
+    )?;
+    let words = end_words_of(alloc, &machine, surveyed.names, surveyed.style)?;
+    let is_trapped = words
+        .stopped
+        .iter()
+        .any(|stream| !is_expected_trap(surveyed.expected, stream));
+    Ok(Outcome {
+        kind: end_kind_of(&machine),
+        text: words.text,
+        missed: first_missed(&machine, surveyed.expected),
+        is_trapped,
+        seed,
+        steps: made.steps.len(),
+        runs,
+        finding: String::new(alloc),
+    })
+}

@@ -1,0 +1,123 @@
+//! Where the words of a program stand in its text, and what is said there.
+
+use source_places::SourcePlaces;
+use std::alloc::{AllocError, Global};
+
+/// The most slips of a text that are told.
+const MOST_SLIPS: usize = 1000;
+
+/// What is likely not meant at a place of a text.
+#[derive(Debug, Drop)]
+pub struct Slip {
+    /// The line, from 1.
+    pub line: usize,
+    /// The first byte of the place on its line, from 1.
+    pub column: usize,
+    /// How many bytes the place has, at least 1.
+    pub width: usize,
+    /// What is likely wrong, without a full stop.
+    pub words: String,
+    /// How it may be mended.
+    pub help: String,
+    /// How many bytes of the text stand before the line.
+    pub start: usize,
+}
+
+/// The slips of a text so far.
+#[derive(Drop)]
+pub(crate) struct Slips<'t> {
+    alloc: Global,
+    places: SourcePlaces<'t>,
+    starts: Vec<usize>,
+    found: Vec<Slip>,
+}
+
+impl<'t> Slips<'t> {
+    /// None yet, of a text.
+    pub(crate) fn of(alloc: Global, text: &'t [u8]) -> Result<Slips<'t>, AllocError> {
+        let mut starts = Vec::new(alloc);
+        starts.push(0)?;
+        for (place, byte) in text.iter().enumerate() {
+            if *byte == b'\n' {
+                starts.push(place.saturating_add(1))?;
+            }
+        }
+        Ok(Slips {
+            alloc,
+            places: SourcePlaces::of(alloc, text)?,
+            starts,
+            found: Vec::new(alloc),
+        })
+    }
+
+    /// The allocator of what is told.
+    pub(crate) fn alloc(&self) -> Global {
+        self.alloc
+    }
+
+    /// The number of the line, from 1, of a word of the program.
+    pub(crate) fn line(&self, word: usize) -> Option<usize> {
+        Some(self.places.line(word)?.number.saturating_add(1))
+    }
+
+    /// The number of the line, from 1, that adds a data word.
+    pub(crate) fn data_line(&self, cell: usize) -> Option<usize> {
+        for line in self.places.data_lines() {
+            if line.first <= cell && cell - line.first < line.count {
+                return Some(line.number.saturating_add(1));
+            }
+        }
+        None
+    }
+
+    /// Warns of a word of the program.
+    pub(crate) fn warn(
+        &mut self,
+        word: usize,
+        words: String,
+        help: String,
+    ) -> Result<(), AllocError> {
+        let Some(line) = self.places.line(word) else {
+            return Ok(());
+        };
+        if self.found.len() >= MOST_SLIPS {
+            return Ok(());
+        }
+        let (first, width) = statement_of(line.bytes);
+        self.found.push(Slip {
+            line: line.number.saturating_add(1),
+            column: first.saturating_add(1),
+            width,
+            words,
+            help,
+            start: self.starts.get(line.number).copied().unwrap_or(0),
+        })?;
+        Ok(())
+    }
+
+    /// All of them, in the order in which they were found.
+    pub(crate) fn into_found(self) -> Vec<Slip> {
+        self.found
+    }
+}
+
+/// How many bytes stand before the statement of a line, and how many it has.
+fn statement_of(line: &[u8]) -> (usize, usize) {
+    let mut first = 0usize;
+    let mut last = 0usize;
+    let mut is_begun = false;
+    for (place, byte) in line.iter().enumerate() {
+        match byte {
+            b';' => break,
+            b':' => is_begun = false,
+            b' ' | b'\t' | b'\r' => {}
+            _ if is_begun => last = place,
+            _ => {
+                is_begun = true;
+                first = place;
+                last = place;
+            }
+        }
+    }
+    (first, last.saturating_sub(first).saturating_add(1))
+}

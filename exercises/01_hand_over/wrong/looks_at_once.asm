@@ -1,0 +1,15 @@
+; Processor 1 doesn't wait: a normal load reads the box as it is.
+        .slim 1
+        .entry give
+        .entry take
+        .data 0, 0              ; the box
+        .data 7                 ; the number
+        .data 0                 ; where it goes
+
+give:   LOAD.N r1, r0, 1
+        STORE.S r1, r0, 0
+        QUIT
+
+take:   LOAD.N r1, r0, 0
+        STORE.N r1, r0, 2
+        QUIT

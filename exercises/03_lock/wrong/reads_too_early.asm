@@ -1,0 +1,14 @@
+; Reads the number before it has the lock.
+        .slim 1
+        .entry change
+        .entry change
+        .data 0                 ; the lock
+        .data 0                 ; the number
+
+change: LOAD.N r1, r0, 1
+        LOAD.S r0, r0, 0
+        MUL r1, r1, 3
+        ADD r1, r1, 1
+        STORE.N r1, r0, 1
+        STORE.S r0, r0, 0
+        QUIT

@@ -1,0 +1,19 @@
+; Never gives the place back.
+        .slim 1
+        .entry enter
+        .entry enter
+        .entry enter
+        .data 2                 ; the free places
+        .data 0                 ; the visits
+
+enter:  LOAD.S r1, r0, 0
+        SUB.T r0, r1, 0
+        SKIP NE, 0, free
+        STORE.S r1, r0, 0 | SKIP ALWAYS, 0, enter
+free:   SUB r1, r1, 1
+        STORE.S r1, r0, 0
+
+inside: LIT r3, 1               ; in the room
+counted: FADD.N r3, r0, 1
+
+leave:  QUIT

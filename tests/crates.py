@@ -1,0 +1,80 @@
+#!/usr/bin/env python3
+"""The table "Crates, lowest first" of docs/ARCHITECTURE.md, made of crates.txt and of what the crates' own documents say.
+
+  crates.py table   writes it
+  crates.py check   says where the document has another one
+
+crates.txt has headings, lines "# == HEADING"; each becomes a part of the table. What a crate does is the first sentence
+of its README.md. A crate that `mta_sim` needs is marked so."""
+
+import os
+import re
+import sys
+
+ROOT = os.path.dirname(os.path.dirname(os.path.abspath(__file__)))
+DOCUMENT = f"{ROOT}/docs/ARCHITECTURE.md"
+TABLE = re.compile(r"(?s)(## Crates, lowest first\n\n).*?(?=\n\n## )")
+
+
+def read(path):
+    with open(path, encoding="utf-8") as file:
+        return file.read()
+
+
+def parts():
+    """The headings of crates.txt, each with its crates and the libraries that these use."""
+    found = []
+    for line in read(f"{ROOT}/crates.txt").splitlines():
+        if line.startswith("# == "):
+            found.append((line.removeprefix("# == "), []))
+        elif line[:1].isalpha():
+            name, _, uses = line.partition(":")
+            found[-1][1].append((name.split()[0], uses.split()))
+    return found
+
+
+def needed_by(program, uses):
+    """The crates that a program stands on, and it."""
+    found = {program}
+    for name in reversed(list(uses)):
+        if name in found:
+            found |= {*uses[name]}
+    return found
+
+
+def about(crate):
+    """The first sentence of the crate's document, as a cell of the table."""
+    paragraph = read(f"{ROOT}/crates/{crate}/README.md").split("\n\n")[1]
+    sentence = re.match(r"(?s).*?[.:](?=\s|$)", paragraph)[0]
+    sentence = " ".join(sentence.split()).rstrip(".:").replace("|", "\\|")
+    return sentence[0].lower() + sentence[1:] if sentence[1].islower() or sentence[1] == " " else sentence
+
+
+def table():
+    uses = {name: used for _, crates in parts() for name, used in crates}
+    core, lines = needed_by("mta_sim", uses), []
+    lines.append("What is marked * is part of `mta_sim`; `make crates` writes this table, of crates.txt and the crates' README.md.")
+    for heading, crates in parts():
+        lines += ["", f"**{heading}**", "", "| crate | does | stands on |", "|---|---|---|"]
+        for name, used in crates:
+            mark = " *" if name in core else ""
+            on = ", ".join(f"`{it}`" for it in used) or "nothing"
+            lines.append(f"| `{name}`{mark} | {about(name)} | {on} |")
+    return "\n".join(lines)
+
+
+def main():
+    text = read(DOCUMENT)
+    made = TABLE.sub(lambda found: found[1] + table(), text)
+    if sys.argv[1:] == ["check"]:
+        if made != text:
+            print("docs/ARCHITECTURE.md has another table of crates: make crates writes it")
+    elif sys.argv[1:] == ["table"]:
+        with open(DOCUMENT, "w", encoding="utf-8") as file:
+            file.write(made)
+    else:
+        sys.exit(__doc__)
+
+
+if __name__ == "__main__":
+    main()

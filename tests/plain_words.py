@@ -1,0 +1,95 @@
+#!/usr/bin/env python3
+"""How plain documents for people are: words that the glossary of plain words replaces, the length of sentences, and the
+reading ease by Flesch.
+
+  plain_words.py            says what is not plain in the documents that are held to it
+  plain_words.py FILE..     says it of these files, and their reading ease
+
+A sentence is at most 30 words long, and a document's reading ease is at least 60: 206.835 - 1.015 * words a sentence
+- 84.6 * syllables a word. Code, tables and headings don't count; a name in backquotes counts as one short word."""
+
+import os
+import re
+import sys
+
+ROOT = os.path.dirname(os.path.dirname(os.path.abspath(__file__)))
+HELD = ("README.md", "docs/TUTORIAL.md", "docs/CHEAT_SHEET.md", "docs/COMMANDS.md", "docs/WRITING_PROGRAMS.md",
+        "docs/MANY_RUNS.md", "docs/PAGE.md", "docs/PLAY.md", "docs/EDITORS.md", "docs/RATTLE.md")
+EASE, LONGEST = 60, 30
+# a word that readers stumble over, and what to write
+PLAIN = (
+    (r"\bbehind\b", "after, next to"),
+    (r"\b(tells|told|telling) of\b", "reports, shows, says"),
+    (r"\b(is|are) told\b", "is shown, is reported"),
+    (r"\ba way leads\b|\bways lead\b", "can reach"),
+    (r"\b(goes|go|going) round\b", "loops"),
+    (r"\bstandstills?\b", "deadlock"),
+    (r"\blooked at\b", "explored"),
+    (r"\bhands? out\b|\bgives? back\b", "returns, releases"),
+    (r"\bnobody runs\b", "all streams have finished"),
+    (r"\bone behind the other\b", "one after the other"),
+    (r"\bwhere (it|they|there|this|that|no|a|an|the) (is|are|has|have|says?|can)\b", "if"),
+)
+
+
+def text_of(path):
+    """The sentences' lines of a document, without code, tables and headings."""
+    with open(path, encoding="utf-8") as file:
+        lines, kept, in_code = file.read().splitlines(), [], False
+        for line in lines:
+            if line.startswith("```"):
+                in_code = not in_code
+            kept.append("" if in_code or re.match(r"```|\||#|!\[", line) else line)
+        return kept
+
+
+def sentences_of(lines):
+    """The sentences of these lines: a paragraph or an item of a list has one at least."""
+    text = re.sub(r"`[^`]*`", "it", "\n".join(lines))
+    text = re.sub(r"\[([^]]*)\]\([^)]*\)|[*_]", r"\1", text)
+    for paragraph in re.split(r"\n\s*\n|\n(?=\s*(?:[-*]|\d+\.) )", text):
+        for sentence in re.split(r"(?<=[.!?:])\s+", paragraph.strip()):
+            words = re.findall(r"[A-Za-z][A-Za-z'-]*", sentence)
+            if words:
+                yield words
+
+
+def syllables(word):
+    """How many syllables a word has, nearly: its groups of vowels, but a silent e at its end."""
+    word = word.lower()
+    count = len(re.findall(r"[aeiouy]+", word))
+    if re.search(r"[^aeiouyl]e$|[^td]ed$", word) and count > 1:
+        count -= 1
+    return max(count, 1)
+
+
+def ease(sentences):
+    words = [word for sentence in sentences for word in sentence]
+    return 206.835 - 1.015 * len(words) / len(sentences) - 84.6 * sum(map(syllables, words)) / len(words)
+
+
+def faults_of(path):
+    """What is not plain in a document, a line each."""
+    lines = text_of(f"{ROOT}/{path}")
+    for number, line in enumerate(lines, 1):
+        for pattern, plain in PLAIN:
+            for found in re.finditer(pattern, re.sub(r"`[^`]*`", "", line)):
+                yield f"{path}:{number}: '{found[0]}': write {plain}"
+    sentences = list(sentences_of(lines))
+    for words in sentences:
+        if len(words) > LONGEST:
+            yield f"{path}: {len(words)} words: {' '.join(words[:12])} .."
+    if sentences and ease(sentences) < EASE:
+        yield f"{path}: a reading ease of {ease(sentences):.0f}, below {EASE}"
+
+
+def main():
+    for path in sys.argv[1:] or HELD:
+        for fault in faults_of(path):
+            print(fault)
+        if sys.argv[1:]:
+            print(f"{path}: a reading ease of {ease(list(sentences_of(text_of(f'{ROOT}/{path}')))):.0f}")
+
+
+if __name__ == "__main__":
+    main()

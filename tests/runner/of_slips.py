@@ -1,0 +1,100 @@
+"""Slips of one line, each with what `check` has to say of it and how to mend it; and that it says nothing of programs that
+are right, those on the pages of `explain` among them."""
+
+import glob
+import os
+import tempfile
+
+import checks
+import table
+import tool
+from of_lab import lab, unescaped
+
+# what the programs of the table are made of: the line of a number takes the place of the one here
+BASES = {
+    "count": [" .slim 1", " .entry start", " .data 0 ; the count", " .data 5 ; the limit", "start: LIT r1, 1",
+              "again: ADD r1, r1, 1", " SUB.T r0, r1, 10", " SKIP NE, 0, again", " STORE.N r1, r0, 0", " QUIT"],
+    "box": [" .slim 1", " .entry put", " .entry take", " .data 0, 0 ; the box, empty", " .data 0 ; what was taken",
+            "put: LIT r1, 7", " STORE.S r1, r0, 0", " QUIT", "take: LOAD.S r2, r0, 0", " STORE.N r2, r0, 1", " QUIT"],
+}
+
+
+def program(base, changes):
+    """The base's text, with each `NUMBER TEXT` of the changes, apart by ` / `, in place of a line."""
+    lines = dict(enumerate(BASES[base], 1))
+    for change in changes.split(" / ") if changes else []:
+        number, _, text = change.partition(" ")
+        lines[int(number)] = text
+    return unescaped("\n".join(lines.values()) + "\n")
+
+
+def said(text):
+    """Each message about a text: its line and column, words and help."""
+    with tempfile.TemporaryDirectory(prefix="mta-case-") as folder:
+        tool.write(os.path.join(folder, "s.asm"), text)
+        lines = lab("check", "s.asm", folder=folder).err.decode().splitlines()
+    found = []
+    for line in lines:
+        if line.startswith("s.asm:"):
+            found.append([line.removeprefix("s.asm:"), ""])
+        elif line.startswith("      | ") and found:
+            found[-1][1] = line[8:].lstrip(" \t^")
+    return found
+
+
+@checks.each("lab_check/slips.tsv")
+def slips(fields):
+    """The message that has to be among those about a program with the slip."""
+    _, base, changes, words, cure = fields
+    found = said(program(base, changes))
+    return [words, cure], next((it for it in found if it[0] == words), found)
+
+
+@checks.others("lab/no_slips")
+def no_slips():
+    """Nothing new is said of the examples, of right programs, and of those on the pages of explain."""
+    yield "slips are many", True, len(table.rows("lab_check/slips.tsv")) >= 75
+    for base in BASES:
+        yield f"base {base}", [], said(program(base, ""))
+    for path in sorted(glob.glob(os.path.join(table.ROOT, "examples/*.asm"))):
+        # (one half of count.asm is a slip, which its text says)
+        wanted = 1 if os.path.basename(path) == "count.asm" else 0
+        yield os.path.basename(path), wanted, len(said(tool.read(path)))
+    for path in right_submissions():
+        found = [words for words, _ in said(tool.read(path)) if "not ASCII" not in words]
+        yield os.path.relpath(path, table.ROOT), [], found
+
+
+def right_submissions():
+    """Those of the class that are right by every seed."""
+    for line in tool.read(os.path.join(table.ROOT, "tests/class/wanted.tsv")).decode().splitlines():
+        task, name, verdict = (line.split("\t") + ["", ""])[:3]
+        path = os.path.join(table.ROOT, "tests/class", task, "submissions", name)
+        if verdict == "right" and name.endswith(".asm") and os.path.isfile(path):
+            yield path
+
+
+def examples_of_pages():
+    """The name of each page that has an example, and that program."""
+    for path in sorted(glob.glob(os.path.join(table.ROOT, "docs/words/*.txt"))):
+        name, lines = None, []
+        for line in [*tool.read(path).decode().splitlines(), "= "]:
+            if line.startswith("= "):
+                if lines:
+                    yield name, "\n".join(lines) + "\n"
+                name, lines = line[2:].split(" ")[0], []
+            elif line.startswith(">"):
+                lines.append(line[1:])
+
+
+@checks.others("lab/pages_of_explain")
+def pages():
+    """Each page is printed with its example, which is right and comes to its end."""
+    for name, text in examples_of_pages():
+        printed = lab("explain", name)
+        shown = "".join(f"   {line}\n" for line in text.splitlines())
+        yield f"explain {name}", (0, True), (printed.status, shown in printed.out.decode())
+        yield f"check {name}", [], said(text.encode())
+        with tempfile.TemporaryDirectory(prefix="mta-case-") as folder:
+            tool.write(os.path.join(folder, "s.asm"), text.encode())
+            yield f"view {name}", True, lab("view", "s.asm", folder=folder).status in (0, 3)
