@@ -6,7 +6,7 @@ pub(crate) const TEXT: &str =
 // Pixels: the row of step numbers, a stream's lane, its cells, a word's lane, its bar, a row of brackets below it, the
 // room for the lanes' names.
 const RULER = 24, LANE = 32, CELL = 22, WORD = 46, BAR = 18, ROW = 19, HEAD = 158;
-const SMALL_LETTER = 6; // pixels that a letter of the small texts takes
+const SMALL_LETTER = 6.8; // pixels that a letter of the small texts takes
 const ROWS = 4; // of brackets below a word, at most
 let lanes = [];
 let laneOf = new Map(); // stream name or word address: its lane

@@ -154,7 +154,7 @@ table { border-collapse: collapse; width: 100%; font-size: 13px; }
 #state th { color: var(--muted); white-space: nowrap; padding-right: 0; width: 1%; }
 #state td { font-family: var(--mono); font-size: 12.5px; overflow-wrap: normal; }
 #state td:nth-child(3):not(.note) { white-space: nowrap; }
-#state td.note { overflow-wrap: anywhere; font: 12.5px var(--prose); color: var(--muted); }
+#state td.note { overflow-wrap: anywhere; min-width: 12ch; font: 12.5px var(--prose); color: var(--muted); }
 #state tr.changed { box-shadow: inset 3px 0 var(--blocked); }
 #state tr[aria-selected] { background: var(--faint); } #state p { padding: 0 12px 8px; }
 .waiting { color: var(--blocked-ink); }
