@@ -77,12 +77,12 @@ impl<'t> Slips<'t> {
         words: String,
         help: String,
     ) -> Result<(), AllocError> {
-        let Some(line) = self.places.line(word) else {
-            return Ok(());
-        };
         if self.is_full() {
             return Ok(());
         }
+        let Some(line) = self.places.line(word) else {
+            return Ok(());
+        };
         let (first, width) = statement_of(line.bytes);
         self.found.push(Slip {
             line: line.number.saturating_add(1),
