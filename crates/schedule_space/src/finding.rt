@@ -180,6 +180,9 @@ impl<'i> Found<'i> {
             machine,
             link.step,
         )?;
+        let Some(key) = key else {
+            return Ok(link.from);
+        };
         if let Some(place) = self.keys.find(&key) {
             return Ok(place as u32);
         }

@@ -10,7 +10,7 @@ use Rattle.schedule_space.proofs.Growing.{grown_to, count-link}
 use Rattle.schedule_space.proofs.Keys.{found_later}
 use Rattle.schedule_space.proofs.Placing.{known_at, key_of_at, live_at, told_at, steps_at, steps_back, machine_next, next_image, next_world}
 use Rattle.schedule_space.proofs.Placing.{has_key, found_at, placed, placed_view, placed_grown, placed_there, placed_stands}
-use Rattle.schedule_space.proofs.Placing.{placed_expanding, kept, kept_view, stays_expanding}
+use Rattle.schedule_space.proofs.Placing.{placed_expanding, kept, kept_view, stays_at, stays_expanding}
 use Rattle.schedule_space.proofs.finding.Found.place.Goals as goal
 
 pub key_after-requires : goal.key_after-requires
@@ -61,8 +61,21 @@ invariant_of-self g c =
           c.args.machine.now c.key_after.ensures.steps c.self.view_is c.requires.machine;
     }
 
-pub invariant_of-self-in-Some : goal.invariant_of-self-in-Some
-invariant_of-self-in-Some g c =
+pub invariant_of-self-in_default : goal.invariant_of-self-in_default
+invariant_of-self-in_default g c =
+    let w =
+    space_of c.self.inside.image.now c.self.inside.live c.self.inside.begin.items c.self.inside.links.items c.self.inside.edges.items in
+    record {
+      found =
+          found_later w c.self.inside.fates.items c.self.inside.contents c.key_after.new.contents c.self.inside.keys
+          c.key_after.ensures.grown c.self.invariant.found;
+      left =
+          steps_back w c.args.self.now c.key_after.new.contents c.key_after.new.steps c.args.link.from
+          c.args.machine.now c.key_after.ensures.steps c.self.view_is c.requires.machine;
+    }
+
+pub invariant_of-self-in-Some-find : goal.invariant_of-self-in-Some-find
+invariant_of-self-in-Some-find g c =
     let w =
     space_of c.self.inside.image.now c.self.inside.live c.self.inside.begin.items c.self.inside.links.items c.self.inside.edges.items in
     record {
@@ -124,18 +137,23 @@ invariant_of-self-2 g c =
     let u = c.args.link.step in
     let n = c.in_ok-next.next in
     let is : n ≡ machine_next m u = λ i. record { image = c.in_ok-next.ensures.image i; world = c.in_ok-next.ensures.world i } in
+    let x = machine_next m u in
+    let known : IsKnown c.key_after.new.contents x.image (cleared c.self.inside.live x.world) =
+    search rules in
+    let key_is : c.in-Some.key.items ≡ key_of c.key_after.new.contents x.image (cleared c.self.inside.live x.world) =
+    search rules in
     record {
       found =
           placed c.self.inside.image.now c.self.inside.live c.self.inside.begin.items c.self.inside.links.items c.push_world.new.links.items c.self.inside.edges.items
           v c.self.inside.fates.items c.push_world.new.fates.items c.self.inside.contents
-          c.key_after.new.contents c.self.inside.keys c.push_world.new.keys c.in_ok-key.key.items c.args.link
+          c.key_after.new.contents c.self.inside.keys c.push_world.new.keys c.in-Some.key.items c.args.link
           c.fate_of-fate.result n c.self.invariant.found c.self.view_is c.key_after.ensures.grown c.requires.expanding.there
           (next_image v c.args.link.from m n u c.requires.machine is)
           (next_world v c.args.link.from m n u c.requires.machine is) c.fate_of-fate.ensures
-          (subst (λ (x : MachineValue). IsKnown c.key_after.new.contents x.image (cleared c.self.inside.live x.world)) (sym is) c.in_ok-key.ensures.known)
-          (c.in_ok-key.ensures.is ∙ sym (ap (λ (x : MachineValue). key_of c.key_after.new.contents x.image (cleared c.self.inside.live x.world)) is))
+          (subst (λ (x : MachineValue). IsKnown c.key_after.new.contents x.image (cleared c.self.inside.live x.world)) (sym is) known)
+          (key_is ∙ sym (ap (λ (x : MachineValue). key_of c.key_after.new.contents x.image (cleared c.self.inside.live x.world)) is))
           (λ has.
-          let e = c.in_default.ensures.there.1 (subst (Has c.self.inside.keys) (sym c.deref.ensures.value) has) in absurd cc)
+          let e = c.in_default-find.ensures.there.1 (subst (Has c.self.inside.keys) (sym c.deref.ensures.value) has) in absurd cc)
           c.in_ok-push_world.ensures.link
           c.in_ok-push_world.ensures.fate c.in_ok-push_world.ensures.key;
       left =
@@ -147,13 +165,18 @@ pub overflow_cast-result : goal.overflow_cast-result
 overflow_cast-result g c =
     let w = space_of c.self.inside.image.now c.self.inside.live c.self.inside.begin.items c.self.inside.links.items c.self.inside.edges.items in
     let keys = c.self.inside.keys in
-    let key = c.in_ok-key.key.items in
-    let at : c.in-Some.place ≡ place_in keys key = search rules in
+    let key = c.in-Some.key.items in
+    let at : c.in-Some-find.place ≡ place_in keys key = search rules in
     let has : Has keys key = search rules in
+    let n = machine_next c.args.machine.now c.args.link.step in
+    let known : IsKnown c.key_after.new.contents n.image (cleared c.self.inside.live n.world) =
+    search rules in
+    let key_is : key ≡ key_of c.key_after.new.contents n.image (cleared c.self.inside.live n.world) =
+    search rules in
     let here =
     found_at w c.args.self.now c.self.inside.fates.items c.self.inside.contents c.key_after.new.contents keys key
-    (machine_next c.args.machine.now c.args.link.step) c.in-Some.place c.self.invariant.found c.self.view_is
-    c.key_after.ensures.grown c.in_ok-key.ensures.known c.in_ok-key.ensures.is
+    n c.in-Some-find.place c.self.invariant.found c.self.view_is
+    c.key_after.ensures.grown known key_is
     (ap (λ (x : MachineValue). x.image) c.requires.machine) at has in
     omega (arith, here.0, c.requires.expanding.within)
 
@@ -188,26 +211,47 @@ returns-then-place-most g c =
       stands = tt;
     }
 
-pub returns-in-Some : goal.returns-in-Some
-returns-in-Some g c =
+pub returns-in_default-clause-stands : goal.returns-in_default-clause-stands
+returns-in_default-clause-stands g c =
+    let v = c.args.self.now in
+    let n = machine_next c.args.machine.now c.args.link.step in
+    let w = space_of c.self.inside.image.now c.self.inside.live c.self.inside.begin.items c.self.inside.links.items c.self.inside.edges.items in
+    let key = c.unwrap-before.result.now in
+    let at : Some key ≡ slice_get c.self.inside.keys c.args.link.from =
+    sym (ap option_copied c.unwrap-before.ensures) ∙ c.list.ensures in
+    let known : IsKnown c.key_after.new.contents n.image (cleared c.self.inside.live n.world) =
+    search rules in
+    let key_is : key ≡ key_of c.key_after.new.contents n.image (cleared c.self.inside.live n.world) =
+    search rules in
+    subst (λ (x : SpaceValue). StandsFor x c.args.link.from n.world) (sym c.self.view_is)
+    (stays_at w v c.self.inside.fates.items c.self.inside.contents c.key_after.new.contents c.self.inside.keys key n
+    c.args.link.from c.self.invariant.found c.self.view_is c.key_after.ensures.grown known key_is
+    (ap (λ (x : MachineValue). x.image) c.requires.machine) c.requires.expanding.there at)
+
+pub returns-in-Some-find : goal.returns-in-Some-find
+returns-in-Some-find g c =
     let v = c.args.self.now in
     let n = machine_next c.args.machine.now c.args.link.step in
     let w = space_of c.self.inside.image.now c.self.inside.live c.self.inside.begin.items c.self.inside.links.items c.self.inside.edges.items in
     let keys = c.self.inside.keys in
-    let key = c.in_ok-key.key.items in
-    let at : c.in-Some.place ≡ place_in keys key = search rules in
+    let key = c.in-Some.key.items in
+    let at : c.in-Some-find.place ≡ place_in keys key = search rules in
     let has : Has keys key = search rules in
+    let known : IsKnown c.key_after.new.contents n.image (cleared c.self.inside.live n.world) =
+    search rules in
+    let key_is : key ≡ key_of c.key_after.new.contents n.image (cleared c.self.inside.live n.world) =
+    search rules in
     let here =
     found_at w v c.self.inside.fates.items c.self.inside.contents c.key_after.new.contents keys key n
-    c.in-Some.place c.self.invariant.found c.self.view_is c.key_after.ensures.grown c.in_ok-key.ensures.known
-    c.in_ok-key.ensures.is (ap (λ (x : MachineValue). x.image) c.requires.machine) at has in
+    c.in-Some-find.place c.self.invariant.found c.self.view_is c.key_after.ensures.grown known
+    key_is (ap (λ (x : MachineValue). x.image) c.requires.machine) at has in
     record {
       grown = grown_to v w c.self.view_is;
       expanding =
           stays_expanding v w c.args.frontier.now.items c.args.frontier.now.items c.args.link.from c.args.most
           c.self.view_is refl c.requires.expanding;
-      there = subst (λ (x : SpaceValue). c.in-Some.place < count x) (sym c.self.view_is) here.0;
-      stands = subst (λ (x : SpaceValue). StandsFor x c.in-Some.place n.world) (sym c.self.view_is) here.1;
+      there = subst (λ (x : SpaceValue). c.in-Some-find.place < count x) (sym c.self.view_is) here.0;
+      stands = subst (λ (x : SpaceValue). StandsFor x c.in-Some-find.place n.world) (sym c.self.view_is) here.1;
     }
 
 pub returns-in_err-push_world-clause-grown : goal.returns-in_err-push_world-clause-grown
