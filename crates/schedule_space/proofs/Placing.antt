@@ -80,6 +80,11 @@ pub steps_back : (v w : SpaceValue) (table : List (List ℕ)) (steps : StepsSeen
 steps_back v w table steps k m all view at =
     subst (λ (i : ImageValue). AreAllLeft i v.live table steps) (sym (image_at v w k m view at)) all
 
+-- what is lent of a place that has a machine is the machine
+pub lent_is : (o : Option (Bor MachineValue)) (b : Bor MachineValue) (s : Option MachineValue) (m : MachineValue)
+    → option_copied o ≡ s → o ≡ Some b → s ≡ Some m → b.now ≡ m
+lent_is o b s m copied is some = let e : Some b.now ≡ Some m = sym (ap option_copied is) ∙ copied ∙ some in cc
+
 -- The machine after a step of it.
 
 -- as contracts see it
