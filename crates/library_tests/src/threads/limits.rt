@@ -1,5 +1,5 @@
 //! How many requests a memory has room for, of which processors, and of which streams.
-use crate::runs::image_of;
+use super::runs::image_of;
 use image_file::Image;
 use memory_lock::{FreeGate, LockPort, Parts, Port, SharedMemory, run_threads};
 use processor::Entry;
@@ -9,7 +9,7 @@ use std::thread::Threads;
 use tag_memory::{Acc, MemOp, Pointer, Reply, Request, RequestMask};
 
 /// A processor that begins at 0 asks twice; one that begins at `q` ends at once.
-pub(crate) const ASKING: &str = "FADD.N r1, r0, 0\nFADD.N r1, r0, 0\nq: QUIT\n.data 0\n";
+pub(super) const ASKING: &str = "FADD.N r1, r0, 0\nFADD.N r1, r0, 0\nq: QUIT\n.data 0\n";
 
 /// In a processor that begins at 0, stream 0 starts all others, each of the 128 waits 400 steps, by when all are started,
 /// and adds once: 51,968 steps. One that begins at `q` ends at once.
@@ -18,7 +18,21 @@ const EACH_STREAM: &str =
     c: LIT r3, 200\nSUB.T r3, r3, 1\nSKIP NE, 0, -2\nFADD.N r1, r0, 0\nq: QUIT\n.data 0\n";
 
 fn has_asked(entries: &[Entry], p: u8, s: u8) -> bool {
-    entries.iter().any(|entry| entry.p == p && entry.s == s)
+    for entry in entries {
+        if entry.p == p && entry.s == s {
+            return true;
+        }
+    }
+    false
+}
+
+fn has_each_asked(entries: &[Entry]) -> bool {
+    for s in 0..128u8 {
+        if !has_asked(entries, 0, s) || !has_asked(entries, 1, s) {
+            return false;
+        }
+    }
+    true
 }
 
 /// How many requests there were, and whether each of the 128 streams of processors 0 and 1 asked.
@@ -30,11 +44,7 @@ fn asked_by_each<R: AllocGlobal + Threads + Wait + Sync>(
     let parts = Parts::<128>::new(rt.alloc(), &image, 51_968).ok()?;
     let parts = run_threads(rt, parts, &FreeGate);
     let history = parts.shared().entries();
-    let mut is_each = true;
-    for s in 0..128u8 {
-        is_each = is_each && has_asked(history, 0, s) && has_asked(history, 1, s);
-    }
-    Some((history.len(), is_each))
+    Some((history.len(), has_each_asked(history)))
 }
 
 #[test]
@@ -48,7 +58,7 @@ fn each_stream_may_ask(rt: HostRuntime) {
 }
 
 /// Adds 3 to word 0.
-pub(crate) fn request() -> Request {
+pub(super) fn request() -> Request {
     Request {
         pointer: Pointer::new(0),
         value: 3,
@@ -84,15 +94,16 @@ fn answers_so<R: AllocGlobal + Wait>(rt: &R, asks: &[(u8, Option<Reply>)]) -> Op
     answers(rt, &image, asks)
 }
 
+/// No processor 2: nothing is asked, and the room is left; then the one place is taken.
+const ASKS: [(u8, Option<Reply>); 5] = [
+    (2, None),
+    (255, None),
+    (1, Some(Reply::Done(0))),
+    (1, None),
+    (0, None),
+];
+
 #[test]
 fn a_port_through_a_lock_is_refused_at_its_limits(rt: HostRuntime) {
-    // no processor 2: nothing is asked, and the room is left; then the one place is taken
-    let asks = [
-        (2, None),
-        (255, None),
-        (1, Some(Reply::Done(0))),
-        (1, None),
-        (0, None),
-    ];
-    assert!(rt; answers_so(&rt, &asks) == Some(true));
+    assert!(rt; answers_so(&rt, &ASKS) == Some(true));
 }

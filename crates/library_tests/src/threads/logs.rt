@@ -1,11 +1,9 @@
 //! What a gate is told while a processor is driven.
 ghost use Rattle.std.specs.Prelude.{None};
 
-use crate::logs::Kind::{After, Ask, Before, Local};
-use crate::runs::image_of;
-use image_file::Image;
-use memory_lock::{Gate, NoRoom, Port, drive};
-use processor::Recorded;
+use super::logs::Kind::{After, Ask, Before, Local};
+use super::runs::{image_of, is_driven, record_of};
+use memory_lock::{Gate, NoRoom, Port};
 use std::alloc::Global;
 use std::sync::{Mutex, Wait};
 use tag_memory::{Reply, Request};
@@ -17,7 +15,7 @@ const OF_TWO_STREAMS: &str =
 
 /// What happened: a call of the gate, or of the port.
 #[derive(Clone, Copy, Debug, PartialEq, Eq)]
-pub(crate) enum Kind {
+pub(super) enum Kind {
     Local,
     Before,
     Ask,
@@ -26,24 +24,20 @@ pub(crate) enum Kind {
 
 /// For which processor and stream it was.
 #[derive(Clone, Copy, Debug, PartialEq, Eq)]
-pub(crate) struct Call {
-    kind: Kind,
-    p: u8,
-    s: u8,
-}
-
-pub(crate) fn told(kind: Kind, p: u8, s: u8) -> Call {
-    Call { kind, p, s }
+pub(super) struct Call {
+    pub(super) kind: Kind,
+    pub(super) p: u8,
+    pub(super) s: u8,
 }
 
 /// All that happened, in order.
 #[derive(Drop)]
-pub(crate) struct Log {
+pub(super) struct Log {
     calls: Mutex<Vec<Call>>,
 }
 
 impl Log {
-    pub(crate) fn new(alloc: Global) -> Log {
+    pub(super) fn new(alloc: Global) -> Log {
         Log {
             calls: Mutex::new(Vec::new(alloc)),
         }
@@ -52,7 +46,7 @@ impl Log {
     /// Writes a call down. Where there is no memory it is missing.
     fn note<R: Wait>(&self, rt: &R, kind: Kind, p: u8, s: u8) {
         let mut calls = self.calls.lock(rt);
-        let _ = calls.push(told(kind, p, s));
+        let _ = calls.push(Call { kind, p, s });
     }
 
     fn is(&self, rt: &impl Wait, wanted: &[Call]) -> bool {
@@ -61,7 +55,7 @@ impl Log {
     }
 
     /// Whether these are the calls for processor `p`, in order.
-    pub(crate) fn is_of(&self, rt: &impl Wait, p: u8, wanted: &[Call]) -> bool {
+    pub(super) fn is_of(&self, rt: &impl Wait, p: u8, wanted: &[Call]) -> bool {
         let calls = self.calls.lock(rt);
         calls.iter().filter(|call| call.p == p).eq(wanted)
     }
@@ -110,26 +104,10 @@ impl<'l> Port for LogPort<'l> {
     }
 }
 
-fn record_of(alloc: Global, image: &Image) -> Option<Recorded<2>> {
-    if image.slim() > 2 || image.processors() != 2 {
-        return None;
-    }
-    let mut record = Recorded::new(alloc, image, 1).ok()?;
-    record.reserve(20).ok()?;
-    Some(record)
-}
-
-fn is_driven<R: Wait>(rt: &R, record: &mut Recorded<2>, port: &mut LogPort, log: &Log) -> bool {
-    if record.spare() < 10 {
-        return false;
-    }
-    drive(rt, record, port, 10, log).is_ok()
-}
-
 /// Whether processor 1, driven until it is refused or ends, and then, if it is refused, once more, leaves this log.
 fn has_log<R: AllocGlobal + Wait>(rt: &R, refuses: usize, wanted: &[Call]) -> Option<bool> {
     let image = image_of(rt.alloc(), OF_TWO_STREAMS, "")?;
-    let mut record = record_of(rt.alloc(), &image)?;
+    let mut record = record_of(rt.alloc(), &image, 1, 20)?;
     let log = Log::new(rt.alloc());
     let mut port = LogPort {
         log: &log,
@@ -137,48 +115,153 @@ fn has_log<R: AllocGlobal + Wait>(rt: &R, refuses: usize, wanted: &[Call]) -> Op
         refuses,
         refused: false,
     };
-    let is_driven = is_driven(rt, &mut record, &mut port, &log)
-        || is_driven(rt, &mut record, &mut port, &log);
+    let is_driven = is_driven(rt, &mut record, &mut port, 10, &log)
+        || is_driven(rt, &mut record, &mut port, 10, &log);
     Some(is_driven && log.is(rt, wanted))
 }
 
-#[test]
-fn a_gate_is_told_of_each_step_and_request_in_order(rt: HostRuntime) {
-    let wanted = [
-        told(Local, 1, 0),
-        told(Local, 1, 0),
-        told(Local, 1, 0),
-        told(Local, 1, 0),
-        told(Before, 1, 1),
-        told(Ask, 1, 1),
-        told(After, 1, 1),
-        told(Before, 1, 0),
-        told(Ask, 1, 0),
-        told(After, 1, 0),
-        told(Local, 1, 1),
-        told(Local, 1, 0),
-    ];
-    assert!(rt; has_log(&rt, 0, &wanted) == Some(true));
-}
+/// What happens where nothing is refused.
+const TOLD: [Call; 12] = [
+    Call {
+        kind: Local,
+        p: 1,
+        s: 0,
+    },
+    Call {
+        kind: Local,
+        p: 1,
+        s: 0,
+    },
+    Call {
+        kind: Local,
+        p: 1,
+        s: 0,
+    },
+    Call {
+        kind: Local,
+        p: 1,
+        s: 0,
+    },
+    Call {
+        kind: Before,
+        p: 1,
+        s: 1,
+    },
+    Call {
+        kind: Ask,
+        p: 1,
+        s: 1,
+    },
+    Call {
+        kind: After,
+        p: 1,
+        s: 1,
+    },
+    Call {
+        kind: Before,
+        p: 1,
+        s: 0,
+    },
+    Call {
+        kind: Ask,
+        p: 1,
+        s: 0,
+    },
+    Call {
+        kind: After,
+        p: 1,
+        s: 0,
+    },
+    Call {
+        kind: Local,
+        p: 1,
+        s: 1,
+    },
+    Call {
+        kind: Local,
+        p: 1,
+        s: 0,
+    },
+];
+
+/// What happens where the second request is refused, and asked once more.
+const TOLD_ONCE_MORE: [Call; 14] = [
+    Call {
+        kind: Local,
+        p: 1,
+        s: 0,
+    },
+    Call {
+        kind: Local,
+        p: 1,
+        s: 0,
+    },
+    Call {
+        kind: Local,
+        p: 1,
+        s: 0,
+    },
+    Call {
+        kind: Local,
+        p: 1,
+        s: 0,
+    },
+    Call {
+        kind: Before,
+        p: 1,
+        s: 1,
+    },
+    Call {
+        kind: Ask,
+        p: 1,
+        s: 1,
+    },
+    Call {
+        kind: After,
+        p: 1,
+        s: 1,
+    },
+    Call {
+        kind: Before,
+        p: 1,
+        s: 0,
+    },
+    Call {
+        kind: Ask,
+        p: 1,
+        s: 0,
+    },
+    // refused, and driven once more
+    Call {
+        kind: Before,
+        p: 1,
+        s: 0,
+    },
+    Call {
+        kind: Ask,
+        p: 1,
+        s: 0,
+    },
+    Call {
+        kind: After,
+        p: 1,
+        s: 0,
+    },
+    Call {
+        kind: Local,
+        p: 1,
+        s: 1,
+    },
+    Call {
+        kind: Local,
+        p: 1,
+        s: 0,
+    },
+];
 
 #[test]
-fn a_refused_request_is_told_and_asked_once_more(rt: HostRuntime) {
-    let wanted = [
-        told(Local, 1, 0),
-        told(Local, 1, 0),
-        told(Local, 1, 0),
-        told(Local, 1, 0),
-        told(Before, 1, 1),
-        told(Ask, 1, 1),
-        told(After, 1, 1),
-        told(Before, 1, 0),
-        told(Ask, 1, 0),
-        // refused, and driven once more
-        told(Before, 1, 0),
-        told(Ask, 1, 0),
-        told(After, 1, 0),
-        told(Local, 1, 1),
-        told(Local, 1, 0),
-    ];
-    assert!(rt; has_log(&rt, 2, &wanted) == Some(true));
+fn a_gate_is_told_of_each_step_and_request_in_order(rt: HostRuntime) {
+    for (refuses, wanted) in [(0, TOLD.as_slice()), (2, TOLD_ONCE_MORE.as_slice())] {
+        assert!(rt; has_log(&rt, refuses, wanted) == Some(true));
+    }
 }

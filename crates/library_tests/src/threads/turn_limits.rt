@@ -2,8 +2,8 @@
 ghost use Rattle.std.specs.Prelude.{◌≡◌, ◌≤◌, []};
 ghost use Rattle.memory_lock.specs.Seats.{IsSeatOf, first_view};
 
-use crate::limits::{ASKING, request};
-use crate::runs::image_of;
+use super::limits::{ASKING, request};
+use super::runs::image_of;
 use memory_lock::{
     Port, SharedMemory, TableBrand, TurnMemory, TurnPort, TurnSeat, TwoSeats, open_table,
 };
@@ -17,18 +17,6 @@ struct Ask {
     port: u8,
     p: u8,
     wanted: Option<Reply>,
-}
-
-/// A request that is answered with this number.
-fn done(port: u8, p: u8, number: u64) -> Ask {
-    let wanted = Some(Reply::Done(number));
-    Ask { port, p, wanted }
-}
-
-/// A request that is refused.
-fn refused(port: u8, p: u8) -> Ask {
-    let wanted = None;
-    Ask { port, p, wanted }
 }
 
 /// Whether the port answers so, and shows from its first refusal on that it was refused.
@@ -74,31 +62,121 @@ fn answer_so<R: AllocGlobal + Wait>(rt: &R, room: usize, left: u32, asks: &[Ask]
     Some(answer_at::<Brand, R>(rt, table, seat, left, asks))
 }
 
+/// The memory has room for two entries, whoever makes them.
+const OF_ROOM: [Ask; 4] = [
+    Ask {
+        port: 1,
+        p: 1,
+        wanted: Some(Reply::Done(0)),
+    },
+    Ask {
+        port: 0,
+        p: 0,
+        wanted: Some(Reply::Done(3)),
+    },
+    Ask {
+        port: 0,
+        p: 0,
+        wanted: None,
+    },
+    Ask {
+        port: 1,
+        p: 1,
+        wanted: None,
+    },
+];
+
+/// Each port asks for its own processor alone, and what it refuses takes no place of its asks.
+const OF_PROCESSORS: [Ask; 6] = [
+    Ask {
+        port: 0,
+        p: 1,
+        wanted: None,
+    },
+    Ask {
+        port: 1,
+        p: 0,
+        wanted: None,
+    },
+    Ask {
+        port: 0,
+        p: 2,
+        wanted: None,
+    },
+    Ask {
+        port: 1,
+        p: 255,
+        wanted: None,
+    },
+    Ask {
+        port: 0,
+        p: 0,
+        wanted: Some(Reply::Done(0)),
+    },
+    Ask {
+        port: 1,
+        p: 1,
+        wanted: Some(Reply::Done(3)),
+    },
+];
+
+/// Each port may ask twice.
+const OF_ASKS: [Ask; 6] = [
+    Ask {
+        port: 0,
+        p: 0,
+        wanted: Some(Reply::Done(0)),
+    },
+    Ask {
+        port: 0,
+        p: 0,
+        wanted: Some(Reply::Done(3)),
+    },
+    Ask {
+        port: 0,
+        p: 0,
+        wanted: None,
+    },
+    Ask {
+        port: 1,
+        p: 1,
+        wanted: Some(Reply::Done(6)),
+    },
+    Ask {
+        port: 1,
+        p: 1,
+        wanted: Some(Reply::Done(9)),
+    },
+    Ask {
+        port: 1,
+        p: 1,
+        wanted: None,
+    },
+];
+
+/// A first request of processor 0, and of processor 1, that is refused.
+const OF_ZERO: [Ask; 1] = [Ask {
+    port: 0,
+    p: 0,
+    wanted: None,
+}];
+
+const OF_ONE: [Ask; 1] = [Ask {
+    port: 1,
+    p: 1,
+    wanted: None,
+}];
+
 #[test]
 fn a_port_in_turn_is_refused_at_its_limits(rt: HostRuntime) {
-    // the memory has room for two entries, whoever makes them
-    let of_room = [done(1, 1, 0), done(0, 0, 3), refused(0, 0), refused(1, 1)];
-    assert!(rt; answer_so(&rt, 2, 9, &of_room) == Some(true));
-    assert!(rt; answer_so(&rt, 0, 9, &[refused(0, 0)]) == Some(true));
-    // each port asks for its own processor alone, and what it refuses takes no place of its asks
-    let of_processors = [
-        refused(0, 1),
-        refused(1, 0),
-        refused(0, 2),
-        refused(1, 255),
-        done(0, 0, 0),
-        done(1, 1, 3),
-    ];
-    assert!(rt; answer_so(&rt, 2, 1, &of_processors) == Some(true));
-    // each port may ask twice
-    let of_asks = [
-        done(0, 0, 0),
-        done(0, 0, 3),
-        refused(0, 0),
-        done(1, 1, 6),
-        done(1, 1, 9),
-        refused(1, 1),
-    ];
-    assert!(rt; answer_so(&rt, 9, 2, &of_asks) == Some(true));
-    assert!(rt; answer_so(&rt, 9, 0, &[refused(1, 1)]) == Some(true));
+    // for how many entries there is room, how often each port may ask, and what is asked
+    for (room, left, asks) in [
+        (2, 9, OF_ROOM.as_slice()),
+        (0, 9, OF_ZERO.as_slice()),
+        (2, 1, OF_PROCESSORS.as_slice()),
+        (9, 2, OF_ASKS.as_slice()),
+        (9, 0, OF_ONE.as_slice()),
+    ] {
+        assert!(rt; answer_so(&rt, room, left, asks) == Some(true));
+    }
 }

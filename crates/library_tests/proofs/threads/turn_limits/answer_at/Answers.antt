@@ -2,8 +2,8 @@ use Rattle.std.proofs.Common.{arith, ap}
 use Rattle.atomic_table.specs.Table.{Me}
 use Rattle.memory_lock.specs.Seats.{Slot}
 use Rattle.memory_lock.specs.declared.turns.views.View.{View}
-use Rattle.thread_tests.proofs.FirstSeat.{first-splits}
-use Rattle.thread_tests.proofs.turn_limits.answer_at.Goals as goal
+use Rattle.library_tests.proofs.FirstSeat.{first-splits}
+use Rattle.library_tests.proofs.threads.turn_limits.answer_at.Goals as goal
 
 pub split_seat-other-requires : goal.split_seat-other-requires
 split_seat-other-requires g c =

@@ -1,11 +1,10 @@
 //! A processor driven through ports that no thread shares.
 ghost use Rattle.std.specs.Prelude.{None};
 
-use crate::runs::image_of;
+use super::runs::{image_of, is_driven, record_of};
 use image_file::Image;
-use memory_lock::{FreeGate, Gate, LockPort, NoRoom, Port, SharedMemory, drive};
+use memory_lock::{FreeGate, LockPort, NoRoom, Port, SharedMemory};
 use processor::Recorded;
-use std::alloc::Global;
 use std::sync::{Mutex, Wait};
 use tag_memory::{Reply, Request};
 
@@ -48,29 +47,6 @@ impl<'t> Port for TablePort<'t> {
     }
 }
 
-/// A record of the image's one processor, with room to be driven twice.
-fn record_of(alloc: Global, image: &Image) -> Option<Recorded<2>> {
-    if image.slim() > 2 || image.processors() != 1 {
-        return None;
-    }
-    let mut record = Recorded::new(alloc, image, 0).ok()?;
-    record.reserve(18).ok()?;
-    Some(record)
-}
-
-/// Whether the record is driven to its end, or to nine steps.
-fn is_driven<R: Wait, P: Port, G: Gate>(
-    rt: &R,
-    record: &mut Recorded<2>,
-    port: &mut P,
-    gate: &G,
-) -> bool {
-    if record.spare() < 9 {
-        return false;
-    }
-    drive(rt, record, port, 9, gate).is_ok()
-}
-
 /// How many steps and pairs there are, what register 1 of stream 0 holds, and whether a stream runs.
 fn seen(record: &Recorded<2>) -> (usize, usize, Option<u64>, bool) {
     let register = match record.stream(0) {
@@ -88,7 +64,7 @@ fn seen(record: &Recorded<2>) -> (usize, usize, Option<u64>, bool) {
 /// Whether a drive is refused behind the first two requests, and a later one through the same port asks again and goes
 /// on to the end.
 fn goes_on<R: AllocGlobal + Wait>(rt: &R, image: &Image) -> Option<bool> {
-    let mut record = record_of(rt.alloc(), image)?;
+    let mut record = record_of(rt.alloc(), image, 0, 18)?;
     let mut port = TablePort {
         replies: &[
             Some(Reply::Done(5)),
@@ -100,10 +76,10 @@ fn goes_on<R: AllocGlobal + Wait>(rt: &R, image: &Image) -> Option<bool> {
         refused: false,
     };
     // r1 is 5, and 5 + 1; then 7
-    let is_refused = !is_driven(rt, &mut record, &mut port, &FreeGate)
+    let is_refused = !is_driven(rt, &mut record, &mut port, 9, &FreeGate)
         && port.refused
         && seen(&record) == (4, 2, Some(7), true);
-    let is_ended = is_driven(rt, &mut record, &mut port, &FreeGate)
+    let is_ended = is_driven(rt, &mut record, &mut port, 9, &FreeGate)
         && port.replies.is_empty()
         && seen(&record) == (7, 4, Some(0), false);
     Some(is_refused && is_ended)
@@ -124,10 +100,10 @@ fn left_without_room<R: AllocGlobal + Wait>(
     rt: &R,
     image: &Image,
 ) -> Option<(usize, usize, Option<u64>, bool)> {
-    let mut record = record_of(rt.alloc(), image)?;
+    let mut record = record_of(rt.alloc(), image, 0, 18)?;
     let memory = Mutex::new(SharedMemory::new(rt.alloc(), image, 0).ok()?);
     let mut port = LockPort::new(&memory);
-    if is_driven(rt, &mut record, &mut port, &FreeGate) || !port.refused() {
+    if is_driven(rt, &mut record, &mut port, 9, &FreeGate) || !port.refused() {
         return None;
     }
     Some(seen(&record))

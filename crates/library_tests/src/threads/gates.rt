@@ -1,6 +1,6 @@
 //! Gates that pass only where processors step at once, and where local steps take no lock.
-use crate::runs::{Came, run_under};
-use crate::turns::Turns;
+use super::runs::{Came, run_under};
+use super::turns::Turns;
 use memory_lock::Gate;
 use std::sync::Wait;
 use std::sync::atomic::{AtomicUsize, Ordering};

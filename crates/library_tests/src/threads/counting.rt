@@ -1,5 +1,5 @@
 //! Sixteen processors that count one word up, all at once.
-use crate::runs::{Came, run_under};
+use super::runs::{Came, run_under};
 use memory_lock::FreeGate;
 use tag_memory::Word;
 

@@ -8,13 +8,13 @@ const MAX_TURNS: u32 = 10_000;
 
 /// Waits in turns of a clock's sleep.
 #[derive(Drop)]
-pub(crate) struct Turns<'c, C: Clock> {
+pub(super) struct Turns<'c, C: Clock> {
     clock: &'c C,
     ran_out: AtomicBool,
 }
 
 impl<'c, C: Clock> Turns<'c, C> {
-    pub(crate) fn new(clock: &'c C) -> Turns<'c, C> {
+    pub(super) fn new(clock: &'c C) -> Turns<'c, C> {
         Turns {
             clock,
             ran_out: AtomicBool::new(false),
@@ -22,7 +22,7 @@ impl<'c, C: Clock> Turns<'c, C> {
     }
 
     /// Takes turns until the count is so high. Where it runs out of turns it is marked, and no call waits any more.
-    pub(crate) fn until(&self, count: &AtomicUsize, wanted: usize) {
+    pub(super) fn until(&self, count: &AtomicUsize, wanted: usize) {
         for _ in 0..MAX_TURNS {
             if self.ran_out() || count.load(Ordering::SeqCst) >= wanted {
                 return;
@@ -33,7 +33,7 @@ impl<'c, C: Clock> Turns<'c, C> {
     }
 
     /// Whether a call ran out of turns.
-    pub(crate) fn ran_out(&self) -> bool {
+    pub(super) fn ran_out(&self) -> bool {
         self.ran_out.load(Ordering::SeqCst)
     }
 }
