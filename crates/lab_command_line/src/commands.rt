@@ -1,7 +1,7 @@
 //! The commands, as data: their names, what help says of them, and which arguments they take.
 
 use crate::arguments::Argument;
-use crate::file_arguments::{ASM_ARGUMENTS, CHECK_ARGUMENTS};
+use crate::file_arguments::{ASM_ARGUMENTS, CHECK_ARGUMENTS, EXERCISE_ARGUMENTS};
 use crate::help;
 use crate::many_runs_arguments::{
     EXPLORE_ARGUMENTS, GRADE_ARGUMENTS, PLAY_ARGUMENTS, SURVEY_ARGUMENTS,
@@ -25,7 +25,7 @@ pub(crate) struct CommandWords {
 }
 
 /// The commands, in the order of the help.
-pub(crate) const COMMANDS: [CommandWords; 13] = [
+pub(crate) const COMMANDS: [CommandWords; 14] = [
     CommandWords {
         name: "check",
         about: "Judges source texts, images and schedules, in words",
@@ -79,6 +79,12 @@ pub(crate) const COMMANDS: [CommandWords; 13] = [
         about: "Judges submissions by many random schedules each, or by every one",
         long: help::GRADE,
         arguments: &GRADE_ARGUMENTS,
+    },
+    CommandWords {
+        name: "exercise",
+        about: "Lists exercises, judges yours, and shows hints",
+        long: help::EXERCISE,
+        arguments: &EXERCISE_ARGUMENTS,
     },
     CommandWords {
         name: "page",

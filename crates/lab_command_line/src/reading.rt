@@ -1,14 +1,16 @@
 //! The command line, read.
 
 use crate::options::{
-    MOST_PLAYED, USUAL_SEEDS, USUAL_STEPS, USUAL_WORLDS, count, number, text, word, words,
+    EXERCISES, MOST_PLAYED, USUAL_SEEDS, USUAL_STEPS, USUAL_WORLDS, count, number, text, word,
+    words,
 };
 use crate::parsers::lab_parser;
 use clap::error::ErrorKind;
 use clap::{ArgMatches, Error};
 use lab_requests::{
-    Bounds, CheckRequest, ExploreRequest, FileKind, GradeCases, GradeFormat, GradeRequest,
-    LabCommand, Maker, PageRequest, PlayRequest, RunChoice, Shown, SurveyRequest, ViewRequest,
+    Bounds, CheckRequest, ExerciseRequest, ExploreRequest, FileKind, GradeCases, GradeFormat,
+    GradeRequest, LabCommand, Maker, PageRequest, PlayRequest, RunChoice, Shown, SurveyRequest,
+    ViewRequest,
 };
 use std::alloc::{AllocError, Global};
 use std::convert::AsStr;
@@ -73,6 +75,7 @@ fn command_of<'a>(alloc: Global, matches: &ArgMatches<'a>) -> Result<LabCommand<
         Some(("grade", found)) => Ok(LabCommand::Grade(grade_of(alloc, found)?)),
         Some(("survey", found)) => Ok(LabCommand::Survey(survey_of(found))),
         Some(("explore", found)) => Ok(LabCommand::Explore(explore_of(found))),
+        Some(("exercise", found)) => Ok(LabCommand::Exercise(exercise_of(found))),
         Some((name, found)) => Ok(command_of_runs(name, found)),
         None => Ok(LabCommand::Adapt),
     }
@@ -248,6 +251,15 @@ fn explore_of<'a>(found: &ArgMatches<'a>) -> ExploreRequest<'a> {
         keep: text(found, "keep"),
         dot: text(found, "dot"),
         shown: shown_of(found),
+    }
+}
+
+/// What `exercise` is asked.
+fn exercise_of<'a>(found: &ArgMatches<'a>) -> ExerciseRequest<'a> {
+    ExerciseRequest {
+        folder: text(found, "folder").unwrap_or(EXERCISES),
+        which: text(found, "NUMBER"),
+        hint: found.get_one::<usize>("hint"),
     }
 }
 
