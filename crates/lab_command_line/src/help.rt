@@ -125,6 +125,17 @@ Examples:
   mta_lab grade --expect wanted.expect submissions/*.asm
   mta_lab grade --cases cases --explore --seconds 10 --format junit submissions/*.asm";
 
+pub(crate) const EXERCISE: &str = "\
+Lists the exercises of a folder with what is done. With a number it judges yours: the file start.asm
+in the folder of that exercise, which you edit. It is tried with all cases, by every schedule; if it
+is not right, a schedule shows why, with the commands to look at that run. Each exercise has a task,
+task.md, and hints.
+
+Examples:
+  mta_lab exercise
+  mta_lab exercise 3
+  mta_lab exercise 3 --hint 1";
+
 pub(crate) const ASM: &str = "\
 Assembles a source text, and writes the image. The image is written beside its place and
 renamed to there, so a fault leaves what was there as it was.
