@@ -1,8 +1,8 @@
 -- Where no world of a space shows a claim, and these show whether claims hold, no schedule does: the opposite holds of each.
-use Rattle.std.proofs.Common.{◌≡◌, ℕ, zero, suc, ◌<◌, ◌⊎◌, inl, inr, refl, sym, ap, ◌∙◌, ◌++◌, subst}
-use Rattle.std.proofs.Common.{Bool, true, false, List, [], ◌∷◌, ◌&&◌, ◌||◌, Option, Some, slice_get}
+use Rattle.std.proofs.Common.{◌≡◌, ℕ, zero, suc, ◌<◌, inl, inr, refl, sym, ap, ◌∙◌, ◌++◌}
+use Rattle.std.proofs.Common.{Bool, true, false, List, [], ◌∷◌, ◌&&◌, ◌||◌, Some, slice_get}
 use Rattle.std.specs.Prelude.{IsTrue}
-use Rattle.std.proofs.lemmas.Bool.{or_cases, or_left, or_right}
+use Rattle.std.proofs.lemmas.Bool.{or_left, or_right}
 use Rattle.std.proofs.lemmas.Option.{same_Some}
 use Rattle.processor.specs.World.{World, run}
 use Rattle.processor.specs.declared.steps.Step.{Step}
@@ -13,7 +13,7 @@ use Rattle.claims.specs.declared.claim.Claim.{Claim}
 use Rattle.claims.specs.declared.claim.Scope.{Scope}
 use Rattle.claims.specs.declared.claim.Scope.TheVariants.{Always, Never, Once}
 use Rattle.schedule_space.specs.Spaces.{SpaceValue, count, world_of, IsComplete}
-use Rattle.schedule_verdicts.specs.KeptClaims.{all_hold, AreKept}
+use Rattle.schedule_verdicts.specs.KeptClaims.{AreKept}
 use Rattle.schedule_verdicts.specs.RightSpaces.{IsFollowedForClaims}
 use Rattle.schedule_verdicts.specs.ShownClaims.{IsShown, IsUnshownIn, TellsOfClaims}
 use Rattle.schedule_verdicts.proofs.Shown.{claims_hold}

@@ -1,5 +1,5 @@
 -- Claims that have to hold of one world at least.
-use Rattle.std.specs.Prelude.{◌≡◌, ℕ, ◌<◌, ◌≤◌, ◌++◌, ◌⊎◌, Bool, false, IsTrue, List, [], ◌∷◌, Some, length, take, slice_get}
+use Rattle.std.specs.Prelude.{◌≡◌, ℕ, ◌<◌, ◌≤◌, ◌++◌, ◌⊎◌, false, IsTrue, List, Some, length, take, slice_get}
 use Rattle.image_file.specs.ImageValue.{ImageValue}
 use Rattle.processor.specs.World.{run}
 use Rattle.processor.specs.declared.steps.Step.{Step}

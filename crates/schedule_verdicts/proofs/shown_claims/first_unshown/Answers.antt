@@ -1,4 +1,4 @@
-use Rattle.std.proofs.Common.{◌≡◌, ◌<◌, ◌∙◌, ℕ, Some, slice_get, rules, refl, sym, ap, subst, arith, length}
+use Rattle.std.proofs.Common.{◌≡◌, ◌∙◌, Some, slice_get, rules, refl, sym, subst, arith, length}
 use Rattle.std.proofs.lemmas.Option.{same_Some, slice_get_within, slice_get_read}
 use Rattle.claims.specs.declared.claim.Claim.{Claim}
 use Rattle.schedule_verdicts.specs.ShownClaims.{IsShown}
