@@ -84,6 +84,7 @@ pub(crate) fn judge<X: Threads + Sync + Clock, F: Files, R: Read, E: Write>(
         }),
         jobs: Some(1),
         refuses_links: false,
+        pages: None,
         submissions,
         format: GradeFormat::Text,
         hexadecimal: false,
