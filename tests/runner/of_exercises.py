@@ -106,7 +106,6 @@ TOLD = [
     ("03_lock", "wrong/keeps_the_lock.asm"), ("05_semaphore", "wrong/keeps_the_place.asm"), ("11_reduction", "start.asm"),
     ("13_trap_handler", "solution.asm"), ("03_lock", " .entry go\n .data 0\ngo: QUITE\n"), ("03_lock", None),
 ]
-STATUSES = {"right": 0, "not read": 1, "source fault": 1, "wrong": 3, "trap": 3, "deadlock": 4, "spins": 5}
 
 
 @contextlib.contextmanager
@@ -128,10 +127,10 @@ def put(folder, exercise, program):
 
 
 def row_of(folder, exercise, reach):
-    """The verdict of `grade` on an exercise's start, and what shows it."""
+    """The verdict of `grade` on an exercise's start, what shows it, and the status."""
     path = f"exercises/{exercise}"
     said = lab("grade", "--cases", f"{path}/cases", "--explore", *reach, f"{path}/start.asm", folder=folder)
-    return said.out.decode().rstrip("\n").split("\t")[1:]
+    return (*said.out.decode().rstrip("\n").split("\t")[1:], said.status)
 
 
 def title_of(exercise):
@@ -175,10 +174,10 @@ def told(exercise, verdict, why):
 def tells(exercise, program):
     with copied() as folder:
         put(folder, exercise, program)
-        verdict, why = row_of(folder, exercise, THOROUGH)
+        verdict, why, status = row_of(folder, exercise, THOROUGH)
         said = lab("exercise", exercise[:2], folder=folder)
     wanted = "".join(line + "\n" for line in told(exercise, verdict, why))
-    return (STATUSES[verdict], wanted.encode(), b""), (said.status, said.out, said.err)
+    return (status, wanted.encode(), b""), (said.status, said.out, said.err)
 
 
 def lists(solved):
