@@ -4,7 +4,7 @@ use Rattle.std.proofs.Common.{List, [], ◌∷◌, ◌++◌, length, get_or, set
 use Rattle.std.specs.Prelude.{slice_index_or}
 use Rattle.std.specs.List.{Contains}
 use Rattle.std.proofs.lemmas.Bool.{cases_eq}
-use Rattle.std.proofs.lemmas.List.{get_or-set_same, get_or-set_other, take_more}
+use Rattle.std.proofs.lemmas.List.{get_or-set_same, get_or-set_other, get_or_default, take_more}
 use Rattle.std.proofs.lemmas.List.Elements.{Contains-append_left, Contains-push, Contains-push_cases}
 use Rattle.processor.specs.World.{after, run}
 use Rattle.processor.specs.declared.steps.Step.{Step}
@@ -71,6 +71,14 @@ targets_more n i edges t old new e below read are many followed =
           target_more (take i edges) e t k (get_or old k 0) (get_or new k 0) (are.each k less)
           (followed k (omega (arith, less, are.many)));
     })
+
+-- the same of the edge at a place
+pub targets_next : (n i : ℕ) (edges : List Edge) (t : Step) (old new : List ℕ) (d : Edge) → i < length edges
+    → AreTargets n (take i edges) t old → length new ≡ length old
+    → ((k : ℕ) → k < length old → IsFollowed (get_or edges i d) t k (get_or old k 0) (get_or new k 0))
+    → AreTargets n (take (i + 1) edges) t new
+targets_next n i edges t old new d below =
+    targets_more n i edges t old new (get_or edges i d) below (get_or_default edges i d (get_or edges i d) below)
 
 -- before the first edge
 pub targets_none : (n : ℕ) (t : Step) (places : List ℕ) → ArePlaces n places → AreTargets n [] t places

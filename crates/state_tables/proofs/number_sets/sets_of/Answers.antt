@@ -12,9 +12,9 @@ loop-list-preserved c =
     let m = c.in_ok-number.number in
     let new = c.place.new.self in
     let below : n < length lists = search rules in
-    let at : m ≡ place_in new list.items =
-    c.in_ok-number.ensures.place ∙ ap (place_in new) c.in_ok-numbers.ensures in
-    let has : Has new list.items = subst (Has new) c.in_ok-numbers.ensures c.in_ok-number.ensures.there in
+    let same : c.deref-in-loop-list.result.now ≡ list.items = search rules in
+    let at : m ≡ place_in new list.items = c.in_ok-number.ensures.place ∙ ap (place_in new) same in
+    let has : Has new list.items = subst (Has new) same c.in_ok-number.ensures.there in
     let items : c.push.new.self.items ≡ c.loop-list.set_of.items ++ m ∷ [] = search rules in
     subst (AreSets lists (n + 1) new) (sym items)
     (sets_more lists n m c.loop-list.table new c.loop-list.set_of.items list c.loop-list.invariant

@@ -3,7 +3,7 @@ use Rattle.std.specs.Prelude.{Vec}
 use Rattle.std.specs.Global.{Global}
 use Rattle.dead_registers.specs.Clearing.{cleared}
 use Rattle.schedule_space.specs.Spaces.{count, world_of}
-use Rattle.state_tables.specs.Rows.{IsRow, AreRows}
+use Rattle.state_tables.specs.Rows.{AreRows}
 use Rattle.state_tables.proofs.RowsSoFar.{rows_more, rows_alone}
 use Rattle.state_tables.proofs.rows.rows_of.Goals as goal
 
