@@ -4,7 +4,7 @@ ghost use Rattle.std.specs.Prelude.{◌≡◌, ◌+◌, ◌<◌, ◌≤◌, ◌+
 ghost use Rattle.std.specs.String.{string_len, string_capacity};
 ghost use Rattle.arrayvec.specs.ArrayString.{array_string_len};
 ghost use Rattle.listing_line.specs.WordText.{lookahead_text, insn_text, bar_separated, memory_texts};
-ghost use Rattle.listing_line.specs.WordText.{arithmetic_texts, control_texts, raw_text, word_text, word_line};
+ghost use Rattle.listing_line.specs.WordText.{arithmetic_texts, control_texts, word_text, word_line};
 
 use crate::operations::{LINE, add_arithmetic, add_control, add_memory, add_wide};
 use arrayvec::ArrayString;
@@ -39,7 +39,7 @@ pub fn push_word_line(
     text.push_str(line.as_str())
 }
 
-#[tactic(auto, unfolding(crate::specs::WordText::word_text))]
+#[tactic(auto, unfolding(crate::specs::WordText::word_text, crate::specs::WordText::raw_text))]
 fn add_word(line: &mut ArrayString<LINE>, profile: Profile, word: u64)
     requires { array_string_len line.old ≡ 0 }
     ensures bytes { line.new.bytes ≡ line.old.bytes ++ word_text profile word }
@@ -47,20 +47,12 @@ fn add_word(line: &mut ArrayString<LINE>, profile: Profile, word: u64)
 {
     match decode_as(profile, word) {
         Some(insn) => add_insn(line, &insn),
-        None => add_raw(line, word),
+        None => {
+            line.push_str(names::directive(Directive::Word));
+            line.push_str(" 0x");
+            add_hexadecimal::<16, LINE>(line, word);
+        }
     }
-}
-
-/// Appends a word that spells no instruction.
-#[tactic(auto, unfolding(crate::specs::WordText::raw_text))]
-fn add_raw(line: &mut ArrayString<LINE>, word: u64)
-    requires { array_string_len line.old ≡ 0 }
-    ensures bytes { line.new.bytes ≡ line.old.bytes ++ raw_text word }
-    ensures len { array_string_len line.new ≤ 151 }
-{
-    line.push_str(names::directive(Directive::Word));
-    line.push_str(" 0x");
-    add_hexadecimal::<16, LINE>(line, word);
 }
 
 #[tactic(auto, unfolding(crate::specs::WordText::insn_text))]
