@@ -57,6 +57,9 @@ pub(crate) fn stepped<'i, const S: usize>(
 }
 
 /// A machine at the world behind a step: the machine itself, moved on, where it is let go, else a copy of it.
+///
+/// Not inlined: its caller would pay for the room of its machines at each step, also where no machine is made.
+#[inline(never)]
 pub(crate) fn moved_on<'i, const S: usize>(
     machine: &mut Option<Machine<'i, S>>,
     step: Step,
