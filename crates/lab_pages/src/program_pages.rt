@@ -1,13 +1,13 @@
 //! The pages of programs that are at hand, as submissions are.
 
 use crate::playing::{Played, page_text};
-use command_parts::{LabFault, Program, loaded};
+use command_parts::{LabFault, Program};
 use lab_ends::Wishes;
 use lab_explorer::Console;
 use lab_requests::PlayRequest;
 use lab_texts::ProgramNames;
 use processor::Step;
-use replay_page::{MOST_STEPS, RunNames, page_of, run_json};
+use replay_page::{MOST_STEPS, RunNames, RunVerdict, page_of_run};
 use schedule_page::MOST_STATES;
 use std::alloc::{AllocError, Global};
 use std::io::Write;
@@ -23,26 +23,9 @@ pub fn replay_page(
     if steps.len() > MOST_STEPS {
         return Ok(None);
     }
-    let json = if program.image.slim() <= 8 {
-        json_on::<8>(alloc, names, program, steps)?
-    } else {
-        json_on::<128>(alloc, names, program, steps)?
-    };
-    let called = names.program;
-    let schedule = names.schedule;
-    let title = format!(in alloc; "{called}, {schedule}")?;
-    Ok(Some(page_of(alloc, &title, &json)?))
-}
-
-/// The run as JSON, on a machine with room for `S` streams a processor.
-fn json_on<const S: usize>(
-    alloc: Global,
-    names: RunNames,
-    program: &Program,
-    steps: &[Step],
-) -> Result<String, AllocError> {
-    let machine = loaded::<S>(alloc, &program.image)?;
-    run_json(alloc, names, &program.text, &machine, steps)
+    let verdict = RunVerdict::NotJudged;
+    let page = page_of_run(alloc, names, verdict, &program.text, &program.image, steps)?;
+    Ok(Some(page))
 }
 
 /// A program, and what its page of all schedules shows.
