@@ -107,6 +107,16 @@ search() {
     "$(instructions "$lab" explore "$@" "$program")" "$steps" step "$(peak "$lab" explore "$@" "$program" || true)"
 }
 
+# play PROGRAM: a page with all states of a program; how large it gets
+play() {
+  local name out=$work/page.html states
+  name=$(basename "$1" .asm)
+  "$lab" play "$1" --out "$out"
+  states=$(sed -nE 's/.*"counted":\{"states":([0-9]+),.*/\1/p' "$out")
+  report "lab: play $name, $states states, $(stat -c %s "$out") bytes" "$(best 3 "$lab" play "$1" --out "$out")" \
+    "$(instructions "$lab" play "$1" --out "$out")" "$states" state "$(peak "$lab" play "$1" --out "$out")"
+}
+
 # searches: the examples, and programs of a homework's size
 searches() {
   local name
@@ -118,6 +128,7 @@ searches() {
     search "$work/longer_$name.asm"
   done
   for name in lock fetch_add readers_writer; do search "examples/$name.asm" --plain; done
+  for name in lock fetch_add; do play "examples/$name.asm"; done
 }
 
 # round KIND WHICH: the microseconds of one round, by the difference of 11 rounds and 1

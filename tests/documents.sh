@@ -2,8 +2,8 @@
 # documents.sh FILE..: runs the commands that stand in documents, and compares what they print. In a block between lines
 # of three backquotes a line that begins with "$ " is a command, lines behind it that begin with "> " are typed, and the
 # others, up to the next command, are what it prints. A block whose first line says more than the backquotes is left out.
-# The commands of a document are run by one shell in a copy of the examples, one after the other. The last line counts the
-# commands; where a document's print something else, one of them has failed.
+# The commands of a document are run by one shell in a copy of the examples, one after the other, with the exercises beside
+# them. The last line counts the commands; where a document's print something else, one of them has failed.
 set -u
 cd "$(dirname "$0")/.." || exit 1
 root=$PWD
@@ -42,7 +42,8 @@ wanted() {
 
 for file in "$@"; do
   rm -rf "$work/examples"
-  cp -r examples "$work/examples"
+  cp -r examples exercises "$work"
+  mv "$work/exercises" "$work/examples"
   script "$file" >"$work/script"
   wanted "$file" >"$work/wanted"
   commands=$(grep -c '^= end' "$work/wanted")

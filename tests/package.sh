@@ -72,6 +72,17 @@ try_debugger() {
   is "debug on lock" "$work/wanted" "$work/got"
 }
 
+# the pages on which the reader is the scheduler are there, with as many states and steps as a search by a machine of the
+# tests' own finds (counts.py)
+try_play_pages() {
+  local name
+  for name in count lock producer_consumer; do
+    grep -ohE '"counted":\{[^}]*\}' "$root${examples%examples}pages/$name.play.html" >"$work/got"
+    python3 tests/spaces/counts.py "examples/$name.asm" >"$work/wanted"
+    is "play page of $name" "$work/wanted" "$work/got"
+  done
+}
+
 # LIT r1, 5 and ADD r2, r1, 3; of each program the version that the package's name has; and those that BUILD is of
 try_the_rest() {
   local name
@@ -99,6 +110,7 @@ try_package() {
   try_examples
   try_threads
   try_debugger
+  try_play_pages
   try_the_rest
 }
 

@@ -10,6 +10,7 @@ _mta_lab_options() {
     survey) echo '--seeds --from --steps --expect --explore --states --seconds --memory --hex --json' ;;
     explore) echo '--expect --from --states --seconds --memory --plain --keep --pages --dot --hex --json' ;;
     grade) echo '--expect --cases --given --seeds --steps --all --explore --states --seconds --memory --jobs --no-links --pages --format --hex --json' ;;
+    exercise) echo '--hint --folder' ;;
     debug) echo '--fair --seed --steps' ;;
     page) echo '--seeds --fair --rounds --seed --steps --title --out' ;;
     picture) echo '--fair --rounds --seed --steps --from --to --title --out' ;;
@@ -21,7 +22,7 @@ _mta_lab_options() {
 _mta_lab() {
   local current=${COMP_WORDS[COMP_CWORD]} before=${COMP_WORDS[COMP_CWORD - 1]} command=${COMP_WORDS[1]} words
   if [ "$COMP_CWORD" -eq 1 ]; then
-    words='check schedule view compare survey explore grade page picture play debug dap asm explain word new --help --version'
+    words='check schedule view compare survey explore grade exercise page picture play debug dap asm explain word new --help --version'
   elif [ "$before" = --as ]; then
     words='source image schedule'
   elif [ "$before" = --goal ]; then
@@ -30,7 +31,7 @@ _mta_lab() {
     words='rounds fair random'
   elif [[ $current = -* ]]; then
     words="$(_mta_lab_options "$command") --help"
-  elif [[ $before = --@(seed|seeds|steps|states|seconds|memory|from|to|only|word|title) && $command$before != @(explore|play)--from ]]; then
+  elif [[ $before = --@(seed|seeds|steps|states|seconds|memory|from|to|only|word|title|hint) && $command$before != @(explore|play)--from ]]; then
     words=''
   else
     # a folder gets a slash and no blank, and a name with blanks is quoted

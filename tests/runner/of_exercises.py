@@ -1,11 +1,17 @@
 """The exercises: each solution is right by every schedule, each start is not, and each typical wrong program gets the
-sentence that belongs to it. The files are read here by a reader of the tests' own."""
+sentence that belongs to it. The files are read here by a reader of the tests' own. And what the command `exercise` says."""
 
+import contextlib
 import os
+import re
+import shutil
+import tempfile
 
 import checks
 import table
+import tool
 from of_lab import lab
+from table import unescaped
 
 EXERCISES = os.path.join(table.ROOT, "exercises")
 BY_EVERY = ("--explore", "--states", "8000", "--seeds", "20", "--steps", "2000")
@@ -88,3 +94,136 @@ def wrong(fields):
     verdict, why = judged(exercise, os.path.join("wrong", name + ".asm"))
     found, _ = advice_for(exercise, verdict, why)
     return head, found if found else f"no advice on {verdict}: {why}"
+
+
+# the command `exercise`, beside what `grade` says of the same program, put into words by the rules of docs/LAB.md
+
+THOROUGH = ("--states", "200000", "--seeds", "200", "--steps", "10000")
+QUICK = ("--states", "20000", "--seeds", "20", "--steps", "2000")
+# an exercise, and what takes the place of its start: a file of its own, or a text; None where it is gone
+TOLD = [
+    ("01_hand_over", "wrong/counts_bytes.asm"), ("03_lock", "start.asm"), ("03_lock", "solution.asm"),
+    ("03_lock", "wrong/keeps_the_lock.asm"), ("05_semaphore", "wrong/keeps_the_place.asm"), ("11_reduction", "start.asm"),
+    ("13_trap_handler", "solution.asm"), ("03_lock", " .entry go\n .data 0\ngo: QUITE\n"), ("03_lock", None),
+]
+
+
+@contextlib.contextmanager
+def copied():
+    """A folder with a copy of the exercises."""
+    with tempfile.TemporaryDirectory(prefix="mta-case-") as folder:
+        shutil.copytree(EXERCISES, os.path.join(folder, "exercises"))
+        yield folder
+
+
+def put(folder, exercise, program):
+    """Puts a program in the place of an exercise's start."""
+    start = os.path.join(folder, "exercises", exercise, "start.asm")
+    if program is None:
+        os.remove(start)
+    else:
+        text = text_of(exercise, program) if program.endswith(".asm") else program
+        tool.write(start, text.encode())
+
+
+def row_of(folder, exercise, reach):
+    """The verdict of `grade` on an exercise's start, what shows it, and the status."""
+    path = f"exercises/{exercise}"
+    said = lab("grade", "--cases", f"{path}/cases", "--explore", *reach, f"{path}/start.asm", folder=folder)
+    return (*said.out.decode().rstrip("\n").split("\t")[1:], said.status)
+
+
+def title_of(exercise):
+    return text_of(exercise, "task.md").splitlines()[0].removeprefix("# ")
+
+
+def next_after(exercise):
+    """What is said of the exercise that comes next."""
+    later = [name for name in exercises() if exercise is None or name > exercise]
+    return [f"Next: exercises/{name}/task.md says what to do in exercises/{name}/start.asm; "
+            f"then mta_lab exercise {int(name[:2])}" for name in later[:1]]
+
+
+def shown_run(path, why):
+    """The commands that show a run, and with which words it is."""
+    found = re.match(r"case (\w+): (?:schedule ([\d ,]+)|(?:.*, and )?seed (\d+))(?:: |$)", why)
+    if not found:
+        return []
+    case, turns, seed = found.groups()
+    view = f"  mta_lab view {path}/start.asm "
+    lines = [view + f"--seed {seed}"]
+    if turns:
+        lines = ["  printf '" + "".join(turn + "\\n" for turn in turns.split(", ")) + "' > found.schedule",
+                 view + "found.schedule"]
+    return ["To look at this run:", *lines,
+            f"It has the words of {path}/cases/{case}.data: where your .data lines say others, put these there."]
+
+
+def told(exercise, verdict, why):
+    """What `exercise N` prints."""
+    path, number = f"exercises/{exercise}", int(exercise[:2])
+    lines = [f"exercise {number}, {title_of(exercise)}: {verdict}", f"{path}/start.asm: {why}"]
+    if verdict == "right":
+        return [*lines, *next_after(exercise)]
+    _, sentence = advice_for(exercise, verdict, why)
+    lines += [sentence] if sentence else []
+    lines += [f"All that is to be said of it: mta_lab check {path}/start.asm"] if verdict == "source fault" else []
+    return [*lines, *shown_run(path, why), f"A hint: mta_lab exercise {number} --hint 1"]
+
+
+def tells(exercise, program):
+    with copied() as folder:
+        put(folder, exercise, program)
+        verdict, why, status = row_of(folder, exercise, THOROUGH)
+        said = lab("exercise", exercise[:2], folder=folder)
+    wanted = "".join(line + "\n" for line in told(exercise, verdict, why))
+    return (status, wanted.encode(), b""), (said.status, said.out, said.err)
+
+
+def lists(solved):
+    """All exercises, of which some are solved."""
+    with copied() as folder:
+        for exercise in solved:
+            put(folder, exercise, "solution.asm")
+        verdicts = {exercise: row_of(folder, exercise, QUICK)[0] for exercise in exercises()}
+        said = lab("exercise", folder=folder)
+    width = max(len(title_of(exercise)) for exercise in exercises())
+    lines = [f"{int(exercise[:2]):>3}  {title_of(exercise):<{width}}  "
+             + ("done" if verdict == "right" else f"not yet: {verdict}") for exercise, verdict in verdicts.items()]
+    todo = [exercise for exercise in exercises() if exercise not in solved]
+    before = max([name for name in exercises() if name < todo[0]], default=None) if todo else exercises()[-1]
+    lines += [f"{len(solved)} of {len(lines)} are done.", *next_after(before)]
+    return (0, "".join(line + "\n" for line in lines).encode(), b""), (said.status, said.out, said.err)
+
+
+def hints_of(exercise):
+    """The hints of an exercise, each with its title."""
+    return ["Hint " + hint for hint in text_of(exercise, "hints.md").split("## Hint ")[1:]]
+
+
+def shows_hint(exercise, number):
+    hints = hints_of(exercise)
+    more = f"The next hint: mta_lab exercise {int(exercise[:2])} --hint {number + 1}\n" if number < len(hints) else ""
+    said = lab("exercise", exercise, "--hint", str(number), folder=table.ROOT)
+    return (0, hints[number - 1] + more), (said.status, said.out.decode())
+
+
+@checks.others("exercises/command")
+def command():
+    for exercise, program in TOLD:
+        yield f"{exercise} {program!r}", lambda exercise=exercise, program=program: tells(exercise, program)
+    for solved in ([], exercises()[:2], exercises()):
+        yield f"{len(solved)} are solved", lambda solved=solved: lists(solved)
+    for exercise in exercises():
+        for number in range(1, len(hints_of(exercise)) + 1):
+            yield f"{exercise}, hint {number}", lambda exercise=exercise, number=number: shows_hint(exercise, number)
+
+
+@checks.each("exercises/refused.tsv")
+def refused(fields):
+    """A command line in a folder with the exercises, and with an empty folder."""
+    line, status, err = fields
+    with copied() as folder:
+        os.mkdir(os.path.join(folder, "empty"))
+        ended = lab(*line.split(), folder=folder)
+    return (int(status), b"", unescaped(err)), (ended.status, ended.out, ended.err if err else b"")

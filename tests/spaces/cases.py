@@ -103,16 +103,19 @@ class Case:
         yield from of_each_end(self.space, [], ends, self.ends_alone.told_as)
         yield differs("status", status, self.status([], []))
 
-    def of_wished(self, status, head, *ends):
+    def of_wished(self, status, head, *objects):
         """What is expected of ends, and claimed of worlds."""
-        alone = self.wished_alone
+        alone, ends = self.wished_alone, ends_of(objects)
+        yield of_unshown(self.space, self.claims, objects)
         yield from of_fewer(alone, head, ends)
         yield from of_each_end(self.space, self.expected, ends, alone.told_as)
         yield from of_claims(self.space, self.claims, ends, of_alone(alone, self.space.before))
         yield differs("status", status, self.status(self.expected, self.claims))
 
-    def of_wished_plainly(self, status, head, *ends):
+    def of_wished_plainly(self, status, head, *objects):
         """The same of all worlds."""
+        ends = ends_of(objects)
+        yield of_unshown(self.space, self.claims, objects)
         yield differs("head", (head["complete"], head["plain"], head["worlds"]), (True, True, len(self.space.distance)))
         yield from of_each_end(self.space, self.expected, ends)
         yield from of_claims(self.space, self.claims, ends, of_all(self.space))
@@ -123,19 +126,21 @@ class Case:
         yield differs("verdict", graded["verdict"], self.verdict())
         yield differs("status", status, self.status(self.expected, self.claims))
 
-    def of_begun(self, status, head, *ends):
+    def of_begun(self, status, head, *objects):
         """The schedules that begin so."""
         if not self.begun.is_whole:
             return
-        alone = self.begun_alone
+        alone, ends = self.begun_alone, ends_of(objects)
+        yield of_unshown(self.begun, self.begun_claims, objects)
         yield from of_fewer(alone, head, ends)
         yield from self.of_beginning(status, head, ends, alone.told_as, of_alone(alone, self.begun.before))
 
-    def of_begun_plainly(self, status, head, *ends):
+    def of_begun_plainly(self, status, head, *objects):
         """The same of all worlds."""
-        space = self.begun
+        space, ends = self.begun, ends_of(objects)
         if not space.is_whole:
             return
+        yield of_unshown(space, self.begun_claims, objects)
         yield differs("head", (head["complete"], head["worlds"]), (True, len(space.distance)))
         yield from self.of_beginning(status, head, ends, lambda world: world, of_all(space))
 
@@ -161,7 +166,9 @@ class Case:
             return "deadlock"
         if any(wishes.missed(self.expected, world) for world in ends) or broken(self.space, self.claims):
             return "wrong"
-        return SPINS if self.space.spinning() else RIGHT
+        if self.space.spinning():
+            return SPINS
+        return "wrong" if unshown(self.space, self.claims) else RIGHT
 
 
 def begin_of(chance, space):
@@ -190,8 +197,13 @@ def broken(space, claims):
     return [claim for claim in claims if any(not wishes.holds(claim, world) for world in [*space.before, *space.distance])]
 
 
+def unshown(space, claims):
+    """The claims that no world shows."""
+    return [claim for claim in claims if not any(wishes.shows(claim, world) for world in [*space.before, *space.distance])]
+
+
 def statuses(space, expected, claims):
-    """The status of each end, of what spins, and of claims that are broken."""
+    """The status of each end, of what spins, and of claims that are broken, or that no world shows."""
     for world, kind in space.ends().items():
         if kind == "deadlock":
             yield search.DEADLOCK
@@ -199,7 +211,7 @@ def statuses(space, expected, claims):
             yield search.UNEXPECTED
     if space.spinning():
         yield search.ENDLESS
-    if broken(space, claims):
+    if broken(space, claims) or unshown(space, claims):
         yield search.UNEXPECTED
 
 
@@ -290,6 +302,17 @@ def of_alone(alone, before):
         first = min(broken_at, default=None)
         return len(broken_at), first if broken_at and first <= len(before) else None
     return breaking
+
+
+def ends_of(objects):
+    """Those of ends and broken claims."""
+    return [told for told in objects if told["object"] == "search_end"]
+
+
+def of_unshown(space, claims, objects):
+    """In what the claim differs that is told as shown by no world: it is the first such one."""
+    told = [told["claim"]["text"] for told in objects if told["object"] == "unshown"]
+    return differs("what no world shows", told, [claim.text for claim in unshown(space, claims)][:1])
 
 
 def of_claims(space, claims, ends, breaking):

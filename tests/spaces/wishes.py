@@ -15,10 +15,10 @@ class Expectation(NamedTuple):
 
 
 class Claim(NamedTuple):
-    """A line about all worlds."""
+    """A line about the worlds on the way: `always`, `never` or `some`."""
 
     text: str
-    is_always: bool
+    scope: str
     form: str
     operands: tuple
 
@@ -26,6 +26,8 @@ class Claim(NamedTuple):
 NUMBERS = (0, 0, 1, 2, 8, 2**64 - 1, 2**63, 2**63 - 1)
 # below and above what no number is, without a sign and with one: such claims are refused
 BEYOND = {("below", 0, False), ("above", 2**64 - 1, False), ("below", -2**63, True), ("above", 2**63 - 1, True)}
+
+SCOPES = ("always", "never", "some", "some")
 
 
 def expectations(chance, made, space):
@@ -97,10 +99,10 @@ def claims(chance, made):
 
 def of_word(chance, made):
     """A claim about a word."""
-    scope, at = chance.choice(("always", "never")), chance.randrange(made.words)
+    scope, at = chance.choice(SCOPES), chance.randrange(made.words)
     form = chance.choice(("is", "above", "below", "above", "below", "full", "empty"))
     if form in ("full", "empty"):
-        return Claim(f"{scope} word {8 * at} {form}", scope == "always", form, (at, 0, False))
+        return Claim(f"{scope} word {8 * at} {form}", scope, form, (at, 0, False))
     value = chance.choice(NUMBERS)
     number, sign, is_signed = str(value), "", False
     if form != "is" and chance.random() < 0.6:
@@ -110,12 +112,12 @@ def of_word(chance, made):
         is_signed = True
     if (form, value, is_signed) in BEYOND:
         return of_word(chance, made)
-    return Claim(f"{scope} word {8 * at} {form} {number}{sign}", scope == "always", form, (at, value, is_signed))
+    return Claim(f"{scope} word {8 * at} {form} {number}{sign}", scope, form, (at, value, is_signed))
 
 
 def at_most(chance, made):
     """A claim about how many streams run at places of a range."""
-    scope = chance.choice(("always", "never"))
+    scope = chance.choice(SCOPES)
     program = made.program
     streams = [(p, s) for p in range(len(program.entries)) for s in range(program.slim)]
     chosen = chance.sample(streams, chance.randrange(1, len(streams) + 1))
@@ -124,7 +126,7 @@ def at_most(chance, made):
     most = chance.randrange(len(chosen) + 1)
     named = " ".join(f"{p}.{s}" for p, s in chosen)
     text = f"{scope} at most {most} of {named} in w{first}..w{last}"
-    return Claim(text, scope == "always", "at", (most, tuple(chosen), first, last))
+    return Claim(text, scope, "at", (most, tuple(chosen), first, last))
 
 
 def looked_at(claimed):
@@ -134,12 +136,17 @@ def looked_at(claimed):
 
 
 def holds(claim, world):
-    """Whether a claim holds of a world."""
-    return of_form(claim, world) == claim.is_always
+    """Whether a claim holds of a world: no world alone breaks one with `some`."""
+    return claim.scope == "some" or of_form(claim, world) == (claim.scope == "always")
+
+
+def shows(claim, world):
+    """Whether a world shows a claim: nothing has to be shown of one with `always` or `never`."""
+    return claim.scope != "some" or of_form(claim, world)
 
 
 def of_form(claim, world):
-    """The same without `always` or `never`."""
+    """The same without `always`, `never` or `some`."""
     if claim.form == "at":
         most, streams, first, last = claim.operands
         there = [world.processors[p].streams[s] for p, s in streams]

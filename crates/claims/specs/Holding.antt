@@ -1,5 +1,6 @@
 -- When a claim holds of a world.
-use Rattle.std.specs.Prelude.{ℕ, ◌==◌, nat_lt, nat_le, int_lt, Bool, false, not, ◌&&◌, List, Option, Some, None, slice_get}
+use Rattle.std.specs.Prelude.{ℕ, ◌==◌, nat_lt, nat_le, int_lt, Bool, true, false, not, ◌&&◌}
+use Rattle.std.specs.Prelude.{List, Option, Some, None, slice_get}
 use Rattle.std.specs.List.{count_by}
 use Rattle.std.specs.Option.{option_and_then}
 use Rattle.tag_memory.specs.Cell.{Cell}
@@ -16,7 +17,7 @@ use Rattle.claims.specs.declared.claim.ClaimForm.TheVariants as form
 use Rattle.claims.specs.declared.claim.NumberOrder.{NumberOrder}
 use Rattle.claims.specs.declared.claim.NumberOrder.TheVariants.{Unsigned, Signed}
 use Rattle.claims.specs.declared.claim.Scope.{Scope}
-use Rattle.claims.specs.declared.claim.Scope.TheVariants.{Always, Never}
+use Rattle.claims.specs.declared.claim.Scope.TheVariants.{Always, Never, Once}
 use Rattle.claims.specs.declared.claim.WordTest.{WordTest}
 use Rattle.claims.specs.declared.claim.WordTest.TheVariants as test
 
@@ -56,11 +57,22 @@ abbrev pub form_holds : World → ClaimForm → Bool
 form_holds w (form.Word a t) = word_holds t (cell_at w.memory a)
 form_holds w (form.AtMost most ts first last) = nat_le (count_at_places w first last ts.items) most
 
--- what has to hold of each world, or of none
+-- what has to hold of each world, or of none; no world alone breaks what has to hold of one at least
 abbrev pub holds_by : Scope → Bool → Bool
 holds_by Always so = so
 holds_by Never so = not so
+holds_by Once so = true
 
 -- whether a claim holds of a world
 abbrev pub holds : World → Claim → Bool
 holds w c = holds_by c.scope (form_holds w c.form)
+
+-- what has to hold of one world at least is shown by one where it is so; of the rest nothing has to be shown
+abbrev pub shown_by : Scope → Bool → Bool
+shown_by Always so = true
+shown_by Never so = true
+shown_by Once so = so
+
+-- whether a world shows a claim
+abbrev pub shows : World → Claim → Bool
+shows w c = shown_by c.scope (form_holds w c.form)

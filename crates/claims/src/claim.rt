@@ -1,8 +1,8 @@
-//! What can be claimed of every world that a program comes to.
+//! What can be claimed of the worlds that a program comes to.
 
 use processor::Step;
 
-/// A claim about every world that a program comes to.
+/// A claim about the worlds that a program comes to.
 #[derive(Drop)]
 pub struct Claim {
     /// Of how many of these worlds the form has to hold.
@@ -18,6 +18,8 @@ pub enum Scope {
     Always,
     /// Of none.
     Never,
+    /// Of one at least.
+    Once,
 }
 
 /// What holds of a world or not.

@@ -4,8 +4,8 @@ ghost use Rattle.std.specs.Prelude.{◌≡◌};
 ghost use Rattle.std.specs.List.{count_by};
 ghost use Rattle.std.specs.Option.{option_copied};
 ghost use Rattle.processor.specs.Records.{is_running_status};
-ghost use Rattle.claims.specs.Holding.{holds, form_holds, word_holds, is_so, is_less, stream_at};
-ghost use Rattle.claims.specs.Holding.{runs_at_places, count_at_places, holds_by};
+ghost use Rattle.claims.specs.Holding.{holds, shows, form_holds, word_holds, is_so, is_less, stream_at};
+ghost use Rattle.claims.specs.Holding.{runs_at_places, count_at_places, holds_by, shown_by};
 
 use crate::claim::{Claim, ClaimForm, NumberOrder, Scope, WordTest};
 use machine::Machine;
@@ -14,8 +14,9 @@ use stream_core::{Status, Stream};
 use tag_memory::Word;
 
 impl Claim {
-    /// Whether it holds of the world of a machine. Of a word that the machine does not have no test holds, and a stream
-    /// that it does not have runs nowhere: [`Claim::missing_in`] says of which programs that is so.
+    /// Whether it holds of the world of a machine: no world alone breaks one that has to hold of one at least. Of a word that
+    /// the machine does not have no test holds, and a stream that it does not have runs nowhere: [`Claim::missing_in`] says
+    /// of which programs that is so.
     pub fn holds<const S: usize>(&self, machine: &Machine<'_, S>) -> bool
         ensures { result ≡ holds machine.now.world self.now }
     {
@@ -23,6 +24,18 @@ impl Claim {
         match self.scope {
             Scope::Always => is_so,
             Scope::Never => !is_so,
+            Scope::Once => true,
+        }
+    }
+
+    /// Whether the world of a machine shows it: one that has to hold of one world at least is so there. Of the others nothing
+    /// has to be shown, so each world shows them.
+    pub fn is_shown<const S: usize>(&self, machine: &Machine<'_, S>) -> bool
+        ensures { result ≡ shows machine.now.world self.now }
+    {
+        match self.scope {
+            Scope::Always | Scope::Never => true,
+            Scope::Once => self.form.holds(machine),
         }
     }
 }

@@ -1,4 +1,4 @@
-//! Claims about every world that a program comes to, and whether they hold of one ("Claims", docs/LAB.md).
+//! Claims about the worlds that a program comes to, and whether they hold of one ("Claims", docs/LAB.md).
 #![tactic(auto)]
 
 mod breaks;

@@ -32,6 +32,7 @@ pub(crate) fn why_of(alloc: Global, judgement: &Judgement<'_>) -> Result<String,
     match verdict.kind {
         VerdictKind::Right | VerdictKind::NotDecided => {
             push_known(&mut why, judgement)?;
+            push_unshown(&mut why, verdict)?;
         }
         VerdictKind::NotRead | VerdictKind::SourceFault => why.push_str(&verdict.words)?,
         VerdictKind::Trap
@@ -82,6 +83,10 @@ fn push_shown(alloc: Global, why: &mut String, verdict: &Verdict) -> Result<(), 
         push_worlds(why, verdict.known)?;
         why.push_str(", and ")?;
     }
+    if verdict.known.is_every && matches!(&verdict.witness, Witness::None) {
+        push_worlds(why, verdict.known)?;
+        return push_unshown(why, verdict);
+    }
     push_witness(alloc, why, &verdict.witness)?;
     let mut between = if why.is_empty() || why.ends_with(": ") {
         ""
@@ -103,6 +108,16 @@ fn push_shown(alloc: Global, why: &mut String, verdict: &Verdict) -> Result<(), 
         why.push_str(&verdict.finding)?;
     }
     Ok(())
+}
+
+/// Adds the claim that nothing shows which was looked at, where there is one.
+fn push_unshown(why: &mut String, verdict: &Verdict) -> Result<(), AllocError> {
+    let Some(missed) = &verdict.missed else {
+        return Ok(());
+    };
+    push_missed(why, ": ", missed)?;
+    let words = verdict.words.as_str();
+    write!(why, ": {words}")
 }
 
 /// Adds the line that is missed.

@@ -2,7 +2,8 @@
 
 use crate::arguments::Argument;
 use crate::file_arguments::{
-    ASM_ARGUMENTS, CHECK_ARGUMENTS, EXPLAIN_ARGUMENTS, NEW_ARGUMENTS, WORD_ARGUMENTS,
+    ASM_ARGUMENTS, CHECK_ARGUMENTS, EXERCISE_ARGUMENTS, EXPLAIN_ARGUMENTS, NEW_ARGUMENTS,
+    WORD_ARGUMENTS,
 };
 use crate::help;
 use crate::many_runs_arguments::{
@@ -27,7 +28,7 @@ pub(crate) struct CommandWords {
 }
 
 /// The commands, in the order of the help.
-pub(crate) const COMMANDS: [CommandWords; 16] = [
+pub(crate) const COMMANDS: [CommandWords; 17] = [
     CommandWords {
         name: "check",
         about: "Judges source texts, images and schedules, in words",
@@ -81,6 +82,12 @@ pub(crate) const COMMANDS: [CommandWords; 16] = [
         about: "Judges submissions by many random schedules each, or by every one",
         long: help::GRADE,
         arguments: &GRADE_ARGUMENTS,
+    },
+    CommandWords {
+        name: "exercise",
+        about: "Lists exercises, judges yours, and shows hints",
+        long: help::EXERCISE,
+        arguments: &EXERCISE_ARGUMENTS,
     },
     CommandWords {
         name: "page",

@@ -2,6 +2,7 @@
 
 use crate::arguments::{Argument, Form};
 use crate::help;
+use crate::options::MOST_HINTS;
 
 /// Of `check`.
 pub(crate) const CHECK_ARGUMENTS: [Argument; 5] = [
@@ -48,5 +49,24 @@ pub(crate) const ASM_ARGUMENTS: [Argument; 2] = [
         "out",
         "the image file [the source's name, with .image]",
         Form::Option("IMAGE"),
+    ),
+];
+
+/// Of `exercise`.
+pub(crate) const EXERCISE_ARGUMENTS: [Argument; 3] = [
+    Argument(
+        "NUMBER",
+        "the exercise, by its number [lists all]",
+        Form::Optional(&[]),
+    ),
+    Argument(
+        "hint",
+        "shows this hint, from 1",
+        Form::NumberWith("K", 1, MOST_HINTS, "NUMBER"),
+    ),
+    Argument(
+        "folder",
+        "where the exercises are [exercises]",
+        Form::Option("FOLDER"),
     ),
 ];

@@ -89,7 +89,7 @@ own steps are still to be looked at, the others wait: so fewer worlds are looked
 claims something of streams at places, steps from these places and to them are no such steps. With
 --plain all worlds are looked at.
 
-Beside lines about ends the file of --expect may have claims: always or never, and behind it
+Beside lines about ends the file of --expect may have claims: always, never or some, and behind it
 word ADDRESS is|above|below VALUE, word ADDRESS full|empty, or at most N of P.S .. in FIRST..LAST.
 above and below compare signed where VALUE has a sign (-1, +3), or signed stands behind it
 (below 0 signed); else a word is a number from 0 on, so that -1 is above 5 and none is below 0.
@@ -111,8 +111,8 @@ a faulty source or not read, with what shows it. Each runs by many random schedu
 seed whose run is not right decides. With --explore every schedule is looked at; a submission of
 which that says nothing by its bounds runs by the random schedules too.
 
-A file of --expect has lines about the end of a run, and lines always .. and never .. about every
-state on the way (mta_lab explore --help). With --cases each submission is judged by each case of
+A file of --expect has lines about the end of a run, lines always .. and never .. about every state
+on the way, and lines some .. that one state has to show (mta_lab explore --help). With --cases each submission is judged by each case of
 a folder, in the order of their names: NAME.data takes the place of its cells, and NAME.expect
 says what the end has to be. All have to be right. Only regular files are read, and - is
 standard input.
@@ -124,6 +124,17 @@ if the program has no more than 100000 states.
 Examples:
   mta_lab grade --expect wanted.expect submissions/*.asm
   mta_lab grade --cases cases --explore --seconds 10 --format junit submissions/*.asm";
+
+pub(crate) const EXERCISE: &str = "\
+Lists the exercises of a folder with what is done. With a number it judges yours: the file start.asm
+in the folder of that exercise, which you edit. It is tried with all cases, by every schedule; if it
+is not right, a schedule shows why, with the commands to look at that run. Each exercise has a task,
+task.md, and hints.
+
+Examples:
+  mta_lab exercise
+  mta_lab exercise 3
+  mta_lab exercise 3 --hint 1";
 
 pub(crate) const ASM: &str = "\
 Assembles a source text, and writes the image. The image is written beside its place and

@@ -33,6 +33,12 @@ pub(crate) const MOST_PLAYED: u64 = 100_000;
 /// How many seeds `grade` tries, where none are said.
 pub(crate) const USUAL_SEEDS: usize = 200;
 
+/// The folder of the exercises, where none is said.
+pub(crate) const EXERCISES: &str = "exercises";
+
+/// The most hints that one may be asked for.
+pub(crate) const MOST_HINTS: u64 = 99;
+
 /// The text that an argument has, or none.
 pub(crate) fn text<'a>(matches: &ArgMatches<'a>, name: &str) -> Option<&'a str> {
     matches.get_str(name)

@@ -1,14 +1,16 @@
 //! The command line, read.
 
 use crate::options::{
-    MOST_PLAYED, USUAL_SEEDS, USUAL_STEPS, USUAL_WORLDS, count, number, text, word, words,
+    EXERCISES, MOST_PLAYED, USUAL_SEEDS, USUAL_STEPS, USUAL_WORLDS, count, number, text, word,
+    words,
 };
 use crate::parsers::lab_parser;
 use clap::error::ErrorKind;
 use clap::{ArgMatches, Error};
 use lab_requests::{
-    Bounds, CheckRequest, ExploreRequest, FileKind, GradeCases, GradeFormat, GradeRequest,
-    LabCommand, Maker, PageRequest, PlayRequest, RunChoice, Shown, SurveyRequest, ViewRequest,
+    Bounds, CheckRequest, ExerciseRequest, ExploreRequest, FileKind, GradeCases, GradeFormat,
+    GradeRequest, LabCommand, Maker, PageRequest, PlayRequest, RunChoice, Shown, SurveyRequest,
+    ViewRequest,
 };
 use std::alloc::{AllocError, Global};
 use std::convert::AsStr;
@@ -108,6 +110,7 @@ fn command_of<'a>(alloc: Global, matches: &ArgMatches<'a>) -> Result<LabCommand<
         Some(("word", found)) => Ok(LabCommand::Word {
             words: words(alloc, found, "WORD")?,
         }),
+        Some(("exercise", found)) => Ok(LabCommand::Exercise(exercise_of(found))),
         Some((name, found)) => Ok(command_of_runs(name, found)),
         None => Ok(LabCommand::Adapt),
     }
@@ -304,6 +307,15 @@ fn explore_of<'a>(found: &ArgMatches<'a>) -> ExploreRequest<'a> {
         pages: text(found, "pages"),
         dot: text(found, "dot"),
         shown: shown_of(found),
+    }
+}
+
+/// What `exercise` is asked.
+fn exercise_of<'a>(found: &ArgMatches<'a>) -> ExerciseRequest<'a> {
+    ExerciseRequest {
+        folder: text(found, "folder").unwrap_or(EXERCISES),
+        which: text(found, "NUMBER"),
+        hint: found.get_one::<usize>("hint"),
     }
 }
 

@@ -7,7 +7,7 @@ use image_file::Image;
 use lab_texts::ProgramNames;
 use std::alloc::{AllocError, Global};
 
-/// A claim about every world that a program comes to, and the words that say it.
+/// A claim about the worlds that a program comes to, and the words that say it.
 #[derive(Drop)]
 pub struct ClaimLine {
     /// The words, with a space between them.
@@ -35,6 +35,11 @@ impl ClaimLine {
     }
 }
 
+/// Whether a line that begins with this word is a claim.
+pub fn is_claim_word(word: &str) -> bool {
+    matches!(word, "always" | "never" | "some")
+}
+
 /// Words with a space between them.
 fn joined(alloc: Global, words: &[&str]) -> Result<String, AllocError> {
     let mut text = String::new(alloc);
@@ -50,6 +55,7 @@ fn claim_of(alloc: Global, words: &[&str], names: &ProgramNames<'_>) -> Result<C
     let scope = match words.first().copied() {
         Some("always") => Scope::Always,
         Some("never") => Scope::Never,
+        Some("some") => Scope::Once,
         _ => return Err(ClaimFault::Form),
     };
     let rest = words.get(2..).unwrap_or(&[]);

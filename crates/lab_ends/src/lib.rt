@@ -20,7 +20,7 @@ mod spinning;
 mod wishes;
 
 pub use claim_fault::ClaimFault;
-pub use claim_lines::ClaimLine;
+pub use claim_lines::{ClaimLine, is_claim_word};
 pub use end_words::{EndWords, StoppedBy, end_words_of};
 pub use every_end::{SpaceEnd, SpaceEndKind, space_ends};
 pub use expected_traps::is_expected_trap;

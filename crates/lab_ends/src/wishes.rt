@@ -1,7 +1,7 @@
-//! What is wished of a program: of its text, of its ends, and of all worlds on the way.
+//! What is wished of a program: of its text, of its ends, and of the worlds on the way.
 
 use crate::claim_fault::ClaimFault;
-use crate::claim_lines::ClaimLine;
+use crate::claim_lines::{ClaimLine, is_claim_word};
 use crate::rule_lines::{RuleFault, RuleLine, add_rules, is_rule_word};
 use claims::Claim;
 use expectations::{Expectation, ExpectationFault, read_expectations};
@@ -15,7 +15,7 @@ use std::str;
 pub struct Wishes {
     /// What each end has to be.
     pub ends: Vec<Expectation>,
-    /// What has to hold of each world.
+    /// What has to hold of each world, of none, or of one at least.
     pub claims: Vec<Claim>,
     /// The words that say each of them, in the same order.
     pub claim_texts: Vec<String>,
@@ -69,8 +69,8 @@ impl Wishes {
         }
     }
 
-    /// The wishes of a text of a program, by its names and its image: a line that begins with `always` or `never` is a
-    /// claim, one that begins with `entries`, `at`, `forbid` or `require` says rules of programs, the others are
+    /// The wishes of a text of a program, by its names and its image: a line that begins with `always`, `never` or `some`
+    /// is a claim, one that begins with `entries`, `at`, `forbid` or `require` says rules of programs, the others are
     /// expectations.
     ///
     /// `Claim` or `Rule` at the first line that begins as a claim and is none about the program, or begins as a rule and
@@ -87,7 +87,7 @@ impl Wishes {
             let words = line_words(alloc, line)?;
             let first = words.first().copied().unwrap_or("");
             let number = index.saturating_add(1);
-            if first == "always" || first == "never" {
+            if is_claim_word(first) {
                 wishes.add_claim(alloc, number, &words, names, image)?;
             } else if is_rule_word(first) {
                 wishes.add_rules(alloc, number, &words)?;

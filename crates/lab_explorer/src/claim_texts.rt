@@ -48,7 +48,7 @@ fn plain_words(fault: ClaimFault) -> &'static str {
         ClaimFault::Range => "the range ends before it begins",
         ClaimFault::NoMemory => "no memory",
         ClaimFault::Form | ClaimFault::Word | ClaimFault::Stream | ClaimFault::Place => {
-            "behind always or never stands word ADDRESS is VALUE, word ADDRESS above|below VALUE [signed], word ADDRESS full|empty, or at most N of P.S .. in FIRST..LAST"
+            "behind always, never or some stands word ADDRESS is VALUE, word ADDRESS above|below VALUE [signed], word ADDRESS full|empty, or at most N of P.S .. in FIRST..LAST"
         }
     }
 }

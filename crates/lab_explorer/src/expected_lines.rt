@@ -35,8 +35,27 @@ impl ExpectedLines<'_> {
         serde_json::put(fields, alloc, "missed", value)
     }
 
+    /// Puts the line of the claim with these words as `claim`; null where there is none.
+    pub fn put_claim(
+        &self,
+        alloc: Global,
+        fields: &mut Fields,
+        words: Option<&str>,
+    ) -> Result<(), AllocError> {
+        let claim = match words {
+            Some(words) => self.claim_value(alloc, words)?,
+            None => Value::Null,
+        };
+        serde_json::put(fields, alloc, "claim", claim)
+    }
+
     /// The line of the claim with these words.
     pub(crate) fn claim_value(&self, alloc: Global, words: &str) -> Result<Value, AllocError> {
+        line_value(alloc, self.line_of_claim(words), words)
+    }
+
+    /// The number, from 1, of the line of the claim with these words.
+    pub(crate) fn line_of_claim(&self, words: &str) -> usize {
         let mut number: usize = 0;
         for line in self.text.split(|byte| *byte == b'\n') {
             number = number.saturating_add(1);
@@ -44,7 +63,7 @@ impl ExpectedLines<'_> {
                 break;
             }
         }
-        line_value(alloc, number, words)
+        number
     }
 }
 

@@ -104,11 +104,11 @@ fn put_judgement(
     put_flag(alloc, fields, "expected", is_as_expected(end))?;
     lines.put_missed(alloc, fields, end.missed)?;
     let claim = if end.kind == SpaceEndKind::Broken {
-        lines.claim_value(alloc, &end.text)?
+        Some(end.text.as_str())
     } else {
-        Value::Null
+        None
     };
-    serde_json::put(fields, alloc, "claim", claim)
+    lines.put_claim(alloc, fields, claim)
 }
 
 /// Whether an end is as expected. Nobody expects a deadlock, whatever else its words hold.

@@ -4,15 +4,14 @@ use crate::expectation_texts::push_expectation;
 use crate::expected_lines::ExpectedLines;
 use crate::explored_objects::push_objects;
 use crate::exploring::Explored;
+use crate::unkept::{push_unkept, push_unkept_objects};
 use crate::widths::digits_of;
-use command_parts::{Answer, push_object};
+use command_parts::Answer;
 use end_kinds::EndKind;
 use expectations::Expectation;
 use image_file::Image;
 use lab_ends::{SpaceEnd, SpaceEndKind, Wishes};
-use lab_json::{line_value, object_of};
 use plain_text::push_plain;
-use serde_json::Value;
 use std::alloc::{AllocError, Global};
 
 /// What is told of a search among the schedules of an image, of which these lines say what is expected.
@@ -27,25 +26,25 @@ pub(crate) fn answer_of(
     let mut output = String::new(alloc);
     if is_json {
         push_objects(alloc, &mut output, image, lines, found)?;
-        push_broken_object(alloc, &mut output, wishes, found)?;
+        push_unkept_objects(alloc, &mut output, lines.text, wishes, found.unkept())?;
     } else {
-        push_lines(&mut output, lines.expected, wishes, found)?;
+        push_lines(&mut output, lines, wishes, found)?;
     }
     Ok(Answer::printed(alloc, output, found.status()))
 }
 
-/// Adds how much was found, the first rule that is broken, and the lines of the ends.
+/// Adds how much was found, what is not so of the program as a whole, and the lines of the ends.
 fn push_lines(
     out: &mut String,
-    expected: &[Expectation],
+    lines: ExpectedLines,
     wishes: &Wishes,
     found: &Explored,
 ) -> Result<(), AllocError> {
     push_head_line(out, found)?;
-    push_broken_rule(out, wishes, found)?;
+    push_unkept(out, lines.text, wishes, found.unkept(), true)?;
     let width = digits_of(widest(&found.ends));
     for end in found.ends.iter() {
-        push_end_line(out, width, expected, found, end)?;
+        push_end_line(out, width, lines.expected, found, end)?;
     }
     Ok(())
 }
@@ -53,32 +52,6 @@ fn push_lines(
 /// The greatest count of worlds of an end.
 fn widest(ends: &[SpaceEnd]) -> usize {
     ends.iter().map(|end| end.worlds()).max().unwrap_or(0)
-}
-
-/// Adds the first rule that the program breaks, if it breaks one.
-fn push_broken_rule(out: &mut String, wishes: &Wishes, found: &Explored) -> Result<(), AllocError> {
-    let Some(said) = found.broken_rule.and_then(|place| wishes.rules.get(place)) else {
-        return Ok(());
-    };
-    let line = said.line;
-    let words = said.text.as_str();
-    write!(out, "NOT as expected: {words} (line {line})\n")
-}
-
-/// Adds the object of the first rule that the program breaks, if it breaks one.
-fn push_broken_object(
-    alloc: Global,
-    out: &mut String,
-    wishes: &Wishes,
-    found: &Explored,
-) -> Result<(), AllocError> {
-    let Some(said) = found.broken_rule.and_then(|place| wishes.rules.get(place)) else {
-        return Ok(());
-    };
-    let mut fields = object_of(alloc, "rule")?;
-    let broken = line_value(alloc, said.line, &said.text)?;
-    serde_json::put(&mut fields, alloc, "broken", broken)?;
-    push_object(alloc, out, &Value::Object(fields))
 }
 
 /// Adds how much was found, in words.

@@ -1,18 +1,20 @@
 //! The command `explore`.
 
-ghost use Rattle.std.specs.Prelude.{◌⊎◌, ◌↔◌, IsTrue, IfOk};
+ghost use Rattle.std.specs.Prelude.{◌≡◌, ◌⊎◌, ◌↔◌, IsTrue, IfOk, None};
 ghost use Rattle.schedule_space.specs.Spaces.{IsComplete, HasAllEdges};
 ghost use Rattle.schedule_space.specs.Followed.{AllFollowed};
 ghost use Rattle.schedule_verdicts.specs.KeptClaims.{AreKeptOnTheWay};
 ghost use Rattle.lab_ends.specs.ProgramWishes.{IsJudged};
 ghost use Rattle.schedule_verdicts.specs.NamedRegisters.{AreNamed};
-ghost use Rattle.schedule_verdicts.specs.RightSpaces.{IsFollowedForClaims, IsRightOnEachWay, IsRightThroughout};
+ghost use Rattle.schedule_verdicts.specs.RightSpaces.{IsFollowedForClaims, IsRightOnEachWay};
+ghost use Rattle.schedule_verdicts.specs.ShownClaims.{AreShown, IsRightThroughout, TellsOfClaims};
 
 use crate::end_pages::FoundProgram;
 use crate::expected_lines::ExpectedLines;
 use crate::explored_words::answer_of;
 use crate::graphs::{graph_asked, write_graph};
 use crate::spaces::space_of;
+use crate::unkept::Unkept;
 use crate::watching::{Console, SearchBound, Watcher};
 use crate::wished::wishes_of;
 use command_parts::{
@@ -26,7 +28,7 @@ use lab_texts::{NumberStyle, ProgramNames};
 use machine::LoadFault;
 use processor::Step;
 use schedule_space::Space;
-use schedule_verdicts::{are_kept_on_the_way, is_right};
+use schedule_verdicts::{are_kept_on_the_way, first_unshown, is_right};
 use std::alloc::{AllocError, Global};
 use std::io::{Read, Write};
 use std::rt::Files;
@@ -61,6 +63,15 @@ impl Search<'_> {
             && wishes.rules.is_empty();
         !is_empty && are_rules_kept(image, &wishes.rules)
     }
+
+    /// Whether it is to be judged by what was found: that is complete, something is wished, the program keeps the rules, and
+    /// each claim that has to hold of one world at least does.
+    fn judges(&self, image: &Image, is_complete: bool, unshown: Option<usize>) -> bool
+        ensures { IsTrue result
+            ↔ (IsTrue is_complete × IsJudged image.now self.now.wishes.now × (unshown ≡ None)) }
+    {
+        is_complete && self.is_judged(image) && unshown.is_none()
+    }
 }
 
 /// What a search came to.
@@ -82,10 +93,12 @@ pub struct Explored {
     pub ends: Vec<SpaceEnd>,
     /// Which of the rules of programs that are wished is the first that the program breaks.
     pub broken_rule: Option<usize>,
+    /// Which of the claims that have to hold of one world at least is the first that none shows which was looked at.
+    pub unshown: Option<usize>,
     /// The graph of the worlds, where it is asked for, and they are no more than a graph has.
     pub graph: Option<String>,
-    /// Whether they are all, something is wished, the program keeps the rules, and every schedule is right: its end, and each world on its way
-    /// (PROMISES.md, "Every schedule is right").
+    /// Whether they are all, something is wished, the program keeps the rules, every schedule is right, its end and each
+    /// world on its way, and each claim that has to hold of one world at least does (PROMISES.md, "Every schedule is right").
     pub is_right: bool,
 }
 
@@ -102,10 +115,19 @@ impl Explored {
         self.is_of_all_worlds || is_known || end.schedule.is_empty()
     }
 
+    /// What is wished of the program as a whole, and is known not to be so: of what was not looked at nothing is known.
+    pub fn unkept(&self) -> Unkept {
+        Unkept {
+            rule: self.broken_rule,
+            unshown: if self.is_complete { self.unshown } else { None },
+        }
+    }
+
     /// The exit status: the worst over all ends, broken claims and rules, and over the bound, where the search came to it.
     pub fn status(&self) -> Status {
         let status = worst_of(self.is_complete, &self.ends);
-        if self.broken_rule.is_some() {
+        let unkept = self.unkept();
+        if unkept.rule.is_some() || unkept.unshown.is_some() {
             return status.worse(Status::Unexpected);
         }
         status
@@ -306,8 +328,9 @@ fn explore_on<const S: usize, C: Clock, E: Write>(
     let (space, is_complete) = space_of::<S, C, E>(alloc, &program.image, asked, watcher)?;
     let ends = space_ends::<S>(alloc, names, asked.style, asked.wishes, &space, is_complete)?;
     let graph = graph_asked(alloc, asked.is_drawn, &space, &ends)?;
-    let is_asked = asked.is_judged(&program.image);
-    let is_right = are_all_right::<S>(alloc, asked.wishes, &space, is_complete, is_asked)?;
+    let unshown = unshown_in::<S>(alloc, asked.wishes, &space)?;
+    let is_judged = asked.judges(&program.image, is_complete, unshown);
+    let is_right = are_all_right::<S>(alloc, asked.wishes, &space, is_judged)?;
     Ok(Explored {
         worlds: space.len(),
         steps: space.step_count(),
@@ -317,22 +340,39 @@ fn explore_on<const S: usize, C: Clock, E: Write>(
         begin: asked.begin.len(),
         ends,
         broken_rule: first_broken_rule(&program.image, &asked.wishes.rules),
+        unshown,
         graph,
         is_right,
     })
 }
 
-/// Whether all that is wished of a space that is complete is so, where it is asked: of its ends, of its worlds, and of
-/// those on the way through the steps that all its schedules begin with.
+/// The first of the claims, counted from 0, that have to hold of one world at least and that no world of a space shows, nor
+/// one on the way through its beginning.
+fn unshown_in<const S: usize>(
+    alloc: Global,
+    wishes: &Wishes,
+    space: &Space<'_>,
+) -> Result<Option<usize>, AllocError>
+    ensures shown { IfOk result (λ told. told ≡ None
+        → AreShown space.now.image space.now.begin wishes.now.claims.items) }
+    ensures only { IfOk result (λ told. TellsOfClaims space.now wishes.now.claims.items
+        → AreShown space.now.image space.now.begin wishes.now.claims.items → told ≡ None) }
+{
+    match first_unshown::<S>(alloc, space, &wishes.claims) {
+        Ok(unshown) => Ok(unshown),
+        Err(LoadFault::NoMemory | LoadFault::Streams) => Err(AllocError),
+    }
+}
+
+/// Whether all that is wished of a space is so, where it is judged: of its ends, of its worlds, and of those on the way
+/// through the steps that all its schedules begin with.
 fn are_all_right<const S: usize>(
     alloc: Global,
     wishes: &Wishes,
     space: &Space<'_>,
-    is_complete: bool,
-    is_asked: bool,
+    is_judged: bool,
 ) -> Result<bool, AllocError>
-    ensures complete { IfOk result (λ b. IsTrue b → IsTrue is_complete) }
-    ensures asked { IfOk result (λ b. IsTrue b → IsTrue is_asked) }
+    ensures judged { IfOk result (λ b. IsTrue b → IsTrue is_judged) }
     ensures before { IfOk result (λ b. IsTrue b
         → AreKeptOnTheWay space.now.image space.now.begin wishes.now.claims.items) }
     ensures shown { IfOk result (λ b. IsTrue b → AreNamed wishes.now.ends.items space.now.live.names
@@ -340,12 +380,12 @@ fn are_all_right<const S: usize>(
         → IsRightOnEachWay space.now.image space.now.begin wishes.now.ends.items wishes.now.claims.items) }
     ensures each_way { IfOk result (λ b. IsTrue b → IsComplete space.now
         → IsRightOnEachWay space.now.image space.now.begin wishes.now.ends.items wishes.now.claims.items) }
-    ensures only { IfOk result (λ b. IsTrue is_complete → IsTrue is_asked
+    ensures only { IfOk result (λ b. IsTrue is_judged
         → (IsComplete space.now × HasAllEdges space.now) ⊎ AllFollowed space.now
         → IsRightThroughout space.now.image space.now.begin wishes.now.ends.items wishes.now.claims.items
         → IsTrue b) }
 {
-    if !is_complete || !is_asked {
+    if !is_judged {
         return Ok(false);
     }
     if !are_kept_before::<S>(alloc, wishes, space)? {

@@ -81,7 +81,7 @@ fn expectation_fault(
     let words = match fault.kind {
         ExpectationFaultKind::NoMemory => return Ok(LabFault::NoMemory),
         ExpectationFaultKind::Form => {
-            "a line is word ADDRESS VALUE [full|empty], words FIRST..LAST VALUE [full|empty], sum FIRST..LAST VALUE, word ADDRESS is|above|below word ADDRESS [+ NUMBER] [signed], register P.S rN VALUE, finished, or stopped P.S TRAP; of every schedule also always .. or never .."
+            "a line is word ADDRESS VALUE [full|empty], words FIRST..LAST VALUE [full|empty], sum FIRST..LAST VALUE, word ADDRESS is|above|below word ADDRESS [+ NUMBER] [signed], register P.S rN VALUE, finished, or stopped P.S TRAP; of the states on the way always .., never .. or some .."
         }
         ExpectationFaultKind::Address =>
             "no memory has a word at this address: multiples of 8 below 2097152",

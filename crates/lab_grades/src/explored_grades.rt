@@ -1,7 +1,7 @@
 //! What every schedule says of a submission.
 
 ghost use Rattle.std.specs.Prelude.{◌≡◌, [], IsTrue, IfOk};
-ghost use Rattle.schedule_verdicts.specs.RightSpaces.{IsRightThroughout};
+ghost use Rattle.schedule_verdicts.specs.ShownClaims.{IsRightThroughout};
 
 use crate::judged::{Grading, Judged};
 use crate::seed_grades::sampled_verdict;
@@ -17,7 +17,7 @@ use std::thread::Threads;
 use std::time::Clock;
 
 /// What every schedule says of a submission: the first that holds of any of its ends of a trap, a deadlock, a wrong end, a
-/// broken claim, a set of worlds that spin. Where it has none of them and the search did not have all of them, what random
+/// broken claim, a set of worlds that spin; else that no schedule shows a claim that has to hold of one world at least. Where it has none of them and the search did not have all of them, what random
 /// schedules say of it, and that all is not decided if they say that it is right. The status is the worst over all.
 pub(crate) fn explored_verdict<X: Threads + Sync, C: Clock, E: Write>(
     rt: &X,
@@ -47,20 +47,24 @@ pub(crate) fn explored_verdict<X: Threads + Sync, C: Clock, E: Write>(
     if verdict.kind != VerdictKind::NotDecided {
         return Ok(verdict);
     }
-    Ok(undecided_verdict(rt, alloc, grading, judged, verdict)?)
+    let is_shown = found.unshown.is_none();
+    Ok(undecided_verdict(rt, alloc, grading, judged, verdict, is_shown)?)
 }
 
-/// What is said of a submission that a search said nothing of, for which this stands: what random schedules say.
+/// What is said of a submission that a search said nothing of, for which this stands: what random schedules say. Where
+/// `is_shown`, the search has shown each claim that has to hold of one world at least.
 fn undecided_verdict<X: Threads + Sync>(
     rt: &X,
     alloc: Global,
     grading: &Grading<'_, '_>,
     judged: &Judged<'_, '_>,
     searched: Verdict,
+    is_shown: bool,
 ) -> Result<Verdict, AllocError>
     ensures { IfOk result (λ v. ¬ (v.kind ≡ VerdictKind.Right)) }
 {
-    let mut verdict = sampled_verdict(rt, alloc, grading, judged)?;
+    let sampled = sampled_verdict(rt, alloc, grading, judged)?;
+    let mut verdict = as_shown(alloc, sampled, is_shown);
     if verdict.kind == VerdictKind::Right {
         verdict.kind = VerdictKind::NotDecided;
     }
@@ -70,6 +74,17 @@ fn undecided_verdict<X: Threads + Sync>(
     };
     verdict.status = verdict.status.worse(searched.status);
     Ok(verdict)
+}
+
+/// The same verdict; where a search has shown each claim that has to hold of one world at least, without the one that no run
+/// shows.
+fn as_shown(alloc: Global, verdict: Verdict, is_shown: bool) -> Verdict {
+    let mut verdict = verdict;
+    if is_shown && verdict.kind == VerdictKind::NotDecided {
+        verdict.missed = None;
+        verdict.words = String::new(alloc);
+    }
+    verdict
 }
 
 /// What is said of a submission with these ends of all schedules.
@@ -109,12 +124,30 @@ fn first_verdict(
             return verdict_of_end(alloc, judged, flaw.kind(), known, end);
         }
     }
+    if let Some(place) = found.unkept().unshown {
+        return verdict_of_unshown(alloc, judged, known, place);
+    }
     let kind = if found.is_right {
         VerdictKind::Right
     } else {
         VerdictKind::NotDecided
     };
     Ok(Verdict::plain(alloc, kind, known))
+}
+
+/// What is said of a submission of which no schedule shows the claim at this place.
+fn verdict_of_unshown(
+    alloc: Global,
+    judged: &Judged<'_, '_>,
+    known: Known,
+    place: usize,
+) -> Result<Verdict, AllocError>
+    ensures { IfOk result (λ v. ¬ (v.kind ≡ VerdictKind.Right)) }
+{
+    let mut verdict = Verdict::plain(alloc, VerdictKind::Wrong, known);
+    verdict.missed = judged.lines.claim_at(alloc, Some(place))?;
+    verdict.words = String::from_str(alloc, "no schedule has such a state")?;
+    Ok(verdict)
 }
 
 /// What a search found.

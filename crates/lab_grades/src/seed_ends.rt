@@ -22,7 +22,7 @@ pub(crate) fn counted_ends<X: Threads + Sync>(
     };
     let image = &judged.program.image;
     let wishes = judged.wishes;
-    let mut outcomes = outcomes_of(rt, alloc, image, judged.names, &wishes.ends, seeds)?;
+    let mut outcomes = outcomes_of(rt, alloc, image, judged.names, wishes, seeds)?;
     outcomes.sort_by_key(|outcome: &Outcome| usize::MAX - outcome.runs)?;
     let mut ends = Vec::new(alloc);
     for outcome in outcomes.iter() {
@@ -42,6 +42,9 @@ fn end_of(
         count: outcome.runs,
         witness: Witness::Seed(outcome.seed),
         text: String::from_str(alloc, &outcome.text)?,
-        missed: judged.lines.end_at(alloc, outcome.missed)?,
+        missed: match (outcome.missed, outcome.broken) {
+            (None, Some(claim)) => judged.lines.claim_at(alloc, Some(claim))?,
+            (missed, _) => judged.lines.end_at(alloc, missed)?,
+        },
     })
 }

@@ -2,6 +2,7 @@
 
 ghost use Rattle.std.specs.Prelude.{◌≡◌, None, IfOk};
 ghost use Rattle.seed_verdicts.specs.Seeds.{AreJudged};
+ghost use Rattle.seed_verdicts.specs.ShownBySeeds.{AreShownBySeeds};
 
 use crate::judged::{Grading, Judged};
 use crate::seed_ends::counted_ends;
@@ -12,11 +13,13 @@ use grade_reports::{Known, Verdict, VerdictKind, Witness};
 use lab_ends::{end_words_of, first_finding};
 use machine::LoadFault;
 use schedule_makers::{fair_length, seeded};
+use seed_outcomes::unshown_by_seeds;
 use seed_verdicts::{RunFlaw, SeedFlaw, Seeds, first_flaw, first_flaw_alone};
 use std::alloc::{AllocError, Global};
 use std::thread::Threads;
 
-/// What random schedules say of a submission: by the first seed whose run is not right, what is wrong with that run.
+/// What random schedules say of a submission: by the first seed whose run is not right, what is wrong with that run; where
+/// each is right, that it is right, or not decided, where none shows a claim that has to hold of one world at least.
 pub(crate) fn sampled_verdict<X: Threads + Sync>(
     rt: &X,
     alloc: Global,
@@ -26,6 +29,9 @@ pub(crate) fn sampled_verdict<X: Threads + Sync>(
     ensures right { let j = judged.now in IfOk result (λ v. v.kind ≡ VerdictKind.Right → AreJudged
         j.program.now.image j.wishes.now.ends.items j.wishes.now.claims.items
         (record { first = 0; count = grading.now.request.now.seeds; most = grading.now.request.now.most }) None) }
+    ensures shown { let j = judged.now in IfOk result (λ v. v.kind ≡ VerdictKind.Right → AreShownBySeeds
+        j.program.now.image j.wishes.now.claims.items
+        (record { first = 0; count = grading.now.request.now.seeds; most = grading.now.request.now.most })) }
 {
     let seeds = Seeds {
         first: 0,
@@ -35,12 +41,32 @@ pub(crate) fn sampled_verdict<X: Threads + Sync>(
     let found = flaw_of(rt, alloc, judged, seeds, grading.is_spread)?;
     let verdict = match found {
         Some(found) => verdict_of_flaw(alloc, grading, judged, found)?,
-        None => Verdict::plain(alloc, VerdictKind::Right, known_of(seeds.count)),
+        None => verdict_of_right(alloc, judged, seeds)?,
     };
     if !grading.request.counts_all {
         return Ok(verdict);
     }
     with_all_ends(rt, alloc, grading, judged, verdict)
+}
+
+/// What is said of a submission of which the run of each seed is right.
+fn verdict_of_right(
+    alloc: Global,
+    judged: &Judged<'_, '_>,
+    seeds: Seeds,
+) -> Result<Verdict, AllocError>
+    ensures { let j = judged.now in IfOk result (λ v. v.kind ≡ VerdictKind.Right
+        → AreShownBySeeds j.program.now.image j.wishes.now.claims.items seeds) }
+{
+    let known = known_of(seeds.count);
+    let claims = &judged.wishes.claims;
+    let Some(place) = unshown_by_seeds(alloc, &judged.program.image, claims, seeds)? else {
+        return Ok(Verdict::plain(alloc, VerdictKind::Right, known));
+    };
+    let mut verdict = Verdict::plain(alloc, VerdictKind::NotDecided, known);
+    verdict.missed = judged.lines.claim_at(alloc, Some(place))?;
+    verdict.words = String::from_str(alloc, "no run has such a state")?;
+    Ok(verdict)
 }
 
 /// The same verdict with the ends of all seeds.

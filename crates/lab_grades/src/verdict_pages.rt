@@ -11,7 +11,7 @@ use lab_pages::{PlayedProgram, play_page, replay_page};
 use lab_requests::Maker;
 use lab_texts::ProgramNames;
 use processor::Step;
-use replay_page::RunNames;
+use replay_page::{RunNames, RunVerdict};
 use std::alloc::Global;
 use std::io::Write;
 use std::time::Clock;
@@ -34,8 +34,7 @@ pub(crate) fn page_of_verdict<C: Clock, E: Write>(
     };
     let given = given_by(alloc, case, program)?;
     let program = given.as_ref().unwrap_or(program);
-    let witness = &verdict.witness;
-    page_by_case(alloc, grading, called, program, case, witness, console)
+    page_by_case(alloc, grading, called, program, case, verdict, console)
 }
 
 /// The case that decides a verdict.
@@ -50,10 +49,11 @@ fn page_by_case<C: Clock, E: Write>(
     called: &str,
     program: &Program,
     case: &Case,
-    witness: &Witness,
+    verdict: &Verdict,
     console: &mut Console<'_, C, E>,
 ) -> Result<Option<String>, LabFault> {
-    match witness {
+    let judged = judgement_of(verdict);
+    match &verdict.witness {
         Witness::None => Ok(None),
         Witness::Seed(seed) => {
             let maker = Maker::Random { seed: *seed };
@@ -63,7 +63,7 @@ fn page_by_case<C: Clock, E: Write>(
                 program: called,
                 schedule: &schedule,
             };
-            Ok(replay_page(alloc, names, program, &made.steps)?)
+            Ok(replay_page(alloc, names, judged, program, &made.steps)?)
         }
         Witness::Schedule(steps) => {
             let played = page_of_all(alloc, called, program, case, steps, console)?;
@@ -74,10 +74,17 @@ fn page_by_case<C: Clock, E: Write>(
                         program: called,
                         schedule: "the schedule that decides",
                     };
-                    Ok(replay_page(alloc, names, program, steps)?)
+                    Ok(replay_page(alloc, names, judged, program, steps)?)
                 }
             }
         }
+    }
+}
+
+/// How a page says that the run is not right: by the line that it misses, where one says it.
+fn judgement_of(verdict: &Verdict) -> RunVerdict<'_> {
+    RunVerdict::NotExpected {
+        missed: verdict.missed.as_ref().map(|line| line.text.as_str()),
     }
 }
 

@@ -1,7 +1,7 @@
 //! The lines of a file of expectations.
 
 use grade_reports::WishLine;
-use lab_ends::is_rule_word;
+use lab_ends::{is_claim_word, is_rule_word};
 use std::alloc::{AllocError, Global};
 use std::str;
 
@@ -10,7 +10,7 @@ use std::str;
 pub(crate) struct WishLines {
     /// Those about the end of a run, in their order.
     pub ends: Vec<WishLine>,
-    /// Those about every world, in their order.
+    /// Those about the worlds on the way, in their order.
     pub claims: Vec<WishLine>,
 }
 
@@ -34,7 +34,7 @@ impl WishLines {
             return Ok(());
         }
         let first = text.split(' ').next().unwrap_or("");
-        if first == "always" || first == "never" {
+        if is_claim_word(first) {
             self.claims.push(WishLine { number, text })?;
         } else if !is_rule_word(first) {
             self.ends.push(WishLine { number, text })?;

@@ -13,7 +13,8 @@ use std::alloc::Global;
 pub(crate) struct Judging {
     /// Whether something is expected of ends, or claimed.
     pub is_judged: bool,
-    /// Whether the program keeps the rules for programs: of one that does not no end is right.
+    /// Whether the program keeps the rules for programs, and shows each claim that has to hold of one state at least: of one
+    /// that does not no end is right.
     pub keeps_rules: bool,
 }
 

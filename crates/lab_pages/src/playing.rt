@@ -10,7 +10,8 @@ use lab_texts::{NumberStyle, ProgramNames};
 use machine::LoadFault;
 use processor::Step;
 use schedule_page::{GraphNames, graph_json, page_of_graph};
-use schedule_space::{Bound, Exploration, explore};
+use schedule_space::{Bound, Exploration, Space, explore};
+use schedule_verdicts::first_unshown;
 use std::alloc::{AllocError, Global};
 use std::io::{Read, Write};
 use std::rt::Files;
@@ -112,7 +113,8 @@ fn graph_on<const S: usize, C: Clock, E: Write>(
     let expected = expected_texts(alloc, played.wishes)?;
     let judging = Judging {
         is_judged: !expected.is_empty(),
-        keeps_rules: are_rules_kept(image, &played.wishes.rules),
+        keeps_rules: are_rules_kept(image, &played.wishes.rules)
+            && are_all_shown::<S>(alloc, &space, played.wishes)?,
     };
     let asked = GraphNames {
         program: program_name(request),
@@ -124,6 +126,18 @@ fn graph_on<const S: usize, C: Clock, E: Write>(
     let text = &played.program.text;
     let graph = graph_json::<S>(alloc, asked, text, played.names, &space, &ends)?;
     Ok(Some(graph))
+}
+
+/// Whether each claim that has to hold of one state at least does, of those of a space.
+fn are_all_shown<const S: usize>(
+    alloc: Global,
+    space: &Space<'_>,
+    wishes: &Wishes,
+) -> Result<bool, LabFault> {
+    match first_unshown::<S>(alloc, space, &wishes.claims) {
+        Ok(unshown) => Ok(unshown.is_none()),
+        Err(LoadFault::NoMemory | LoadFault::Streams) => Err(LabFault::NoMemory),
+    }
 }
 
 /// What is said of a program of too many states.

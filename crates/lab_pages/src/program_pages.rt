@@ -13,17 +13,17 @@ use std::alloc::{AllocError, Global};
 use std::io::Write;
 use std::time::Clock;
 
-/// The page of a program's run by these steps; None if they are more than a page shows.
+/// The page of a program's run by these steps, with how its end was judged; None if they are more than a page shows.
 pub fn replay_page(
     alloc: Global,
     names: RunNames,
+    verdict: RunVerdict<'_>,
     program: &Program,
     steps: &[Step],
 ) -> Result<Option<String>, AllocError> {
     if steps.len() > MOST_STEPS {
         return Ok(None);
     }
-    let verdict = RunVerdict::NotJudged;
     let page = page_of_run(alloc, names, verdict, &program.text, &program.image, steps)?;
     Ok(Some(page))
 }

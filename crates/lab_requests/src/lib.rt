@@ -4,6 +4,7 @@
 mod requests;
 
 pub use requests::{
-    Bounds, CheckRequest, ExploreRequest, FileKind, GradeCases, GradeFormat, GradeRequest,
-    LabCommand, Maker, PageRequest, PlayRequest, RunChoice, Shown, SurveyRequest, ViewRequest,
+    Bounds, CheckRequest, ExerciseRequest, ExploreRequest, FileKind, GradeCases, GradeFormat,
+    GradeRequest, LabCommand, Maker, PageRequest, PlayRequest, RunChoice, Shown, SurveyRequest,
+    ViewRequest,
 };

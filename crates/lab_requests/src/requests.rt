@@ -223,6 +223,17 @@ pub struct GradeRequest<'a> {
     pub hexadecimal: bool,
 }
 
+/// What `exercise` is asked.
+#[derive(Clone, Copy, Debug)]
+pub struct ExerciseRequest<'a> {
+    /// The folder of the exercises.
+    pub folder: &'a str,
+    /// The number of an exercise, or the name of its folder; None: all are listed.
+    pub which: Option<&'a str>,
+    /// The hint that is shown, from 1; None: its program is judged.
+    pub hint: Option<usize>,
+}
+
 /// What a command line asks for. Files are named by their paths, `-` being standard input.
 #[derive(Drop)]
 pub enum LabCommand<'a> {
@@ -256,6 +267,8 @@ pub enum LabCommand<'a> {
     Explore(ExploreRequest<'a>),
     /// Judges submissions.
     Grade(GradeRequest<'a>),
+    /// Lists exercises, judges the program of one, or shows a hint of it.
+    Exercise(ExerciseRequest<'a>),
     /// Writes a page that shows a run, or two.
     Page(PageRequest<'a>),
     /// Writes a picture of a run's lanes.

@@ -1,8 +1,8 @@
 //! What is told of a survey as objects (docs/LAB.md, "JSON").
 
-use command_parts::{made_by, push_object};
+use command_parts::{Program, made_by, push_object};
 use end_kinds::EndKind;
-use image_file::Image;
+use lab_ends::Wishes;
 use lab_explorer::{ExpectedLines, Explored, put_bound};
 use lab_json::{Fields, digits, object_of, put_flag, put_number, put_run, put_text};
 use lab_requests::Maker;
@@ -14,8 +14,10 @@ use std::alloc::{AllocError, Global};
 #[derive(Clone, Copy)]
 pub(crate) struct Surveyed<'a> {
     /// The program.
-    pub image: &'a Image,
-    /// What is expected of it.
+    pub program: &'a Program,
+    /// What is wished of it.
+    pub wishes: &'a Wishes,
+    /// The lines that say it.
     pub lines: ExpectedLines<'a>,
     /// The most steps of a schedule.
     pub most: usize,
@@ -41,7 +43,7 @@ fn outcome_fields(
     surveyed: Surveyed,
     outcome: &Outcome,
 ) -> Result<Fields, AllocError> {
-    let image = surveyed.image;
+    let image = &surveyed.program.image;
     let maker = Maker::Random { seed: outcome.seed };
     let made = made_by(alloc, image, maker, surveyed.most)?;
     let mut fields = object_of(alloc, "outcome")?;
@@ -52,6 +54,11 @@ fn outcome_fields(
     surveyed
         .lines
         .put_missed(alloc, &mut fields, outcome.missed)?;
+    let broken = outcome
+        .broken
+        .and_then(|place| surveyed.wishes.claim_texts.get(place));
+    let words = broken.map(|text| text.as_str());
+    surveyed.lines.put_claim(alloc, &mut fields, words)?;
     put_run(alloc, &mut fields, image, &made.steps)?;
     Ok(fields)
 }
@@ -64,15 +71,16 @@ fn put_counts(alloc: Global, fields: &mut Fields, outcome: &Outcome) -> Result<(
     put_number(alloc, fields, "steps", outcome.steps as u64)
 }
 
-/// Adds the object that says how many of the ends of every schedule the seeds met.
+/// Adds the object that says how many of so many ends of every schedule the seeds met.
 pub(crate) fn push_coverage(
     alloc: Global,
     out: &mut String,
     found: &Explored,
+    ends: usize,
     met: usize,
 ) -> Result<(), AllocError> {
     let mut fields = object_of(alloc, "coverage")?;
-    put_number(alloc, &mut fields, "ends", found.ends.len() as u64)?;
+    put_number(alloc, &mut fields, "ends", ends as u64)?;
     put_number(alloc, &mut fields, "met", met as u64)?;
     put_number(alloc, &mut fields, "worlds", found.worlds as u64)?;
     put_flag(alloc, &mut fields, "complete", found.is_complete)?;

@@ -1,18 +1,17 @@
 //! The command `survey`.
 
 use crate::survey_objects::{Surveyed, push_coverage, push_outcome_objects};
-use command_parts::{Answer, Inputs, LabFault, Program, read_program, style_of};
-use expectations::Expectation;
-use image_file::Image;
-use lab_ends::{SpaceEnd, SpaceEndKind, Wishes};
+use command_parts::{Answer, Inputs, LabFault, Program, Status, read_program, style_of};
+use lab_ends::{SpaceEnd, SpaceEndKind, Wishes, first_broken_rule};
 use lab_explorer::{
-    Console, ExpectedLines, Explored, Search, Watcher, digits_of, expectations_of, explore_program,
-    push_expectation,
+    Console, ExpectedLines, Explored, Search, Unkept, Watcher, digits_of, explore_program,
+    push_expectation, push_unkept, push_unkept_objects, wishes_of,
 };
 use lab_requests::{Bounds, SurveyRequest};
 use lab_texts::{NumberStyle, ProgramNames};
 use plain_text::push_plain;
-use seed_outcomes::{Outcome, SurveySeeds, outcomes_of, worst_status};
+use seed_outcomes::{Outcome, SurveySeeds, outcomes_of, unshown_by_seeds, worst_status};
+use seed_verdicts::Seeds;
 use std::alloc::{AllocError, Global};
 use std::io::{Read, Write};
 use std::rt::Files;
@@ -28,23 +27,34 @@ pub fn survey<X: Threads + Sync, C: Clock, F: Files, R: Read, E: Write>(
     console: &mut Console<'_, C, E>,
 ) -> Result<Answer, LabFault> {
     let mut text = Vec::new(alloc);
-    let mut expected = Vec::new(alloc);
     if let Some(path) = request.expected {
         text = inputs.read(alloc, path)?;
-        expected = expectations_of(alloc, path, &text)?;
     }
     let program = read_program(alloc, inputs, request.program)?;
-    survey_of(rt, alloc, request, &program, &text, expected, console)
+    let names = ProgramNames::of(alloc, &program.text)?;
+    let wishes = match request.expected {
+        Some(path) => wishes_of(alloc, path, &text, &names, &program.image)?,
+        None => Wishes::none(alloc),
+    };
+    let surveyed = Surveyed {
+        program: &program,
+        wishes: &wishes,
+        lines: ExpectedLines {
+            text: &text,
+            expected: &wishes.ends,
+        },
+        most: request.most,
+    };
+    survey_of(rt, alloc, request, surveyed, &names, console)
 }
 
-/// The survey of a program, of whose ends the lines of this text expect this.
+/// The survey of a program with these names.
 fn survey_of<X: Threads + Sync, C: Clock, E: Write>(
     rt: &X,
     alloc: Global,
     request: &SurveyRequest,
-    program: &Program,
-    text: &[u8],
-    expected: Vec<Expectation>,
+    surveyed: Surveyed,
+    names: &ProgramNames<'_>,
     console: &mut Console<'_, C, E>,
 ) -> Result<Answer, LabFault> {
     let seeds = SurveySeeds {
@@ -53,62 +63,87 @@ fn survey_of<X: Threads + Sync, C: Clock, E: Write>(
         most: request.most,
         style: style_of(request.shown),
     };
-    let names = ProgramNames::of(alloc, &program.text)?;
-    let mut outcomes = outcomes_of(rt, alloc, &program.image, &names, &expected, seeds)?;
+    let image = &surveyed.program.image;
+    let mut outcomes = outcomes_of(rt, alloc, image, names, surveyed.wishes, seeds)?;
     outcomes.sort_by_key(|outcome: &Outcome| usize::MAX - outcome.runs)?;
+    let is_json = request.shown.json;
     let mut output = String::new(alloc);
-    if request.shown.json {
-        let most = request.most;
-        let image = &program.image;
-        push_objects(alloc, &mut output, image, text, &expected, most, &outcomes)?;
+    if is_json {
+        push_outcome_objects(alloc, &mut output, surveyed, &outcomes)?;
     } else {
-        push_outcomes(&mut output, &expected, &outcomes)?;
+        push_outcomes(&mut output, surveyed.wishes, &outcomes)?;
     }
-    let mut status = worst_status(&outcomes);
-    if let Some(bounds) = request.explored {
-        let found = every_end(
-            alloc,
-            program,
-            &names,
-            expected,
-            seeds.style,
-            bounds,
-            console,
-        )?;
-        push_met(alloc, &mut output, request.shown.json, &found, &outcomes)?;
-        status = status.worse(found.status());
-    }
-    Ok(Answer::printed(alloc, output, status))
+    let status = worst_status(&outcomes);
+    let Some(bounds) = request.explored else {
+        let unkept = unkept_by_seeds(alloc, surveyed, seeds)?;
+        push_whole(alloc, &mut output, is_json, surveyed, unkept, false)?;
+        let status = status.worse(status_of_seeds(unkept));
+        return Ok(Answer::printed(alloc, output, status));
+    };
+    let found = every_end(alloc, surveyed, names, seeds.style, bounds, console)?;
+    push_whole(alloc, &mut output, is_json, surveyed, found.unkept(), true)?;
+    push_met(alloc, &mut output, is_json, &found, &outcomes)?;
+    Ok(Answer::printed(alloc, output, status.worse(found.status())))
 }
 
-/// Adds the objects of the outcomes of runs of at most so many steps.
-fn push_objects<'a>(
+/// What of the program as a whole is not so, by the runs of seeds.
+fn unkept_by_seeds(
+    alloc: Global,
+    surveyed: Surveyed,
+    seeds: SurveySeeds,
+) -> Result<Unkept, AllocError> {
+    let Surveyed {
+        program,
+        wishes,
+        ..
+    } = surveyed;
+    let tried = Seeds {
+        first: seeds.first,
+        count: seeds.count,
+        most: seeds.most,
+    };
+    Ok(Unkept {
+        rule: first_broken_rule(&program.image, &wishes.rules),
+        unshown: unshown_by_seeds(alloc, &program.image, &wishes.claims, tried)?,
+    })
+}
+
+/// What that means for the exit status. That no run shows a claim says nothing of other schedules.
+fn status_of_seeds(unkept: Unkept) -> Status {
+    match (unkept.rule, unkept.unshown) {
+        (Some(_), _) => Status::Unexpected,
+        (None, Some(_)) => Status::OutOfSteps,
+        (None, None) => Status::Done,
+    }
+}
+
+/// Adds what of the program as a whole is not so, by every schedule or by some runs.
+fn push_whole(
     alloc: Global,
     out: &mut String,
-    image: &'a Image,
-    text: &'a [u8],
-    expected: &'a [Expectation],
-    most: usize,
-    outcomes: &[Outcome],
+    is_json: bool,
+    surveyed: Surveyed,
+    unkept: Unkept,
+    is_of_every: bool,
 ) -> Result<(), AllocError> {
-    let surveyed = Surveyed {
-        image,
-        lines: ExpectedLines { text, expected },
-        most,
-    };
-    push_outcome_objects(alloc, out, surveyed, outcomes)
+    let text = surveyed.lines.text;
+    if is_json {
+        push_unkept_objects(alloc, out, text, surveyed.wishes, unkept)
+    } else {
+        push_unkept(out, text, surveyed.wishes, unkept, is_of_every)
+    }
 }
 
 /// Adds the lines of the outcomes.
 fn push_outcomes(
     out: &mut String,
-    expected: &[Expectation],
+    wishes: &Wishes,
     outcomes: &[Outcome],
 ) -> Result<(), AllocError> {
     let most_runs = outcomes.iter().map(|outcome| outcome.runs).max();
     let width = digits_of(most_runs.unwrap_or(0));
     for outcome in outcomes {
-        push_outcome(out, width, expected, outcome)?;
+        push_outcome(out, width, wishes, outcome)?;
     }
     Ok(())
 }
@@ -116,18 +151,15 @@ fn push_outcomes(
 /// The ends of every schedule of a program.
 fn every_end<C: Clock, E: Write>(
     alloc: Global,
-    program: &Program,
+    surveyed: Surveyed,
     names: &ProgramNames<'_>,
-    expected: Vec<Expectation>,
     style: NumberStyle,
     bounds: Bounds,
     console: &mut Console<'_, C, E>,
 ) -> Result<Explored, LabFault> {
-    let mut wishes = Wishes::none(alloc);
-    wishes.ends = expected;
     let begin = Vec::new(alloc);
     let asked = Search {
-        wishes: &wishes,
+        wishes: surveyed.wishes,
         begin: &begin,
         most: bounds.worlds,
         is_plain: false,
@@ -135,7 +167,7 @@ fn every_end<C: Clock, E: Write>(
         style,
     };
     let mut watcher = Watcher::new(alloc, console, bounds)?;
-    let found = explore_program(alloc, program, names, &asked, &mut watcher);
+    let found = explore_program(alloc, surveyed.program, names, &asked, &mut watcher);
     watcher.finish();
     Ok(found?)
 }
@@ -148,15 +180,15 @@ fn push_met(
     found: &Explored,
     outcomes: &[Outcome],
 ) -> Result<(), AllocError> {
+    let ends = found.ends.iter().filter(|end| is_end(end)).count();
     let met = found
         .ends
         .iter()
         .filter(|end| outcomes.iter().any(|outcome| is_met_by(end, outcome)))
         .count();
     if is_json {
-        return push_coverage(alloc, out, found, met);
+        return push_coverage(alloc, out, found, ends, met);
     }
-    let ends = found.ends.len();
     let worlds = found.worlds;
     let which = if found.is_complete {
         "every schedule"
@@ -173,6 +205,11 @@ fn push_met(
     )
 }
 
+/// Whether it is an end of schedules, and no broken claim.
+fn is_end(end: &SpaceEnd) -> bool {
+    end.kind != SpaceEndKind::Broken
+}
+
 /// Whether an outcome is an end of all schedules.
 fn is_met_by(end: &SpaceEnd, outcome: &Outcome) -> bool {
     let is_kind = end.kind == SpaceEndKind::End(outcome.kind);
@@ -183,7 +220,7 @@ fn is_met_by(end: &SpaceEnd, outcome: &Outcome) -> bool {
 fn push_outcome(
     out: &mut String,
     width: usize,
-    expected: &[Expectation],
+    wishes: &Wishes,
     outcome: &Outcome,
 ) -> Result<(), AllocError> {
     let runs = outcome.runs;
@@ -195,13 +232,7 @@ fn push_outcome(
         out.push_str("   ")?;
         push_plain(out, text)?;
     }
-    if !expected.is_empty() && !outcome.is_as_expected() {
-        out.push_str("   NOT as expected")?;
-    }
-    if let Some(expectation) = missed_of(expected, outcome) {
-        out.push_str(": ")?;
-        push_expectation(out, expectation)?;
-    }
+    push_judgement(out, wishes, outcome)?;
     out.push_str("\n")?;
     if outcome.finding.is_empty() {
         return Ok(());
@@ -210,7 +241,23 @@ fn push_outcome(
     write!(out, "{:>width$}  {finding}\n", "")
 }
 
-/// The first expectation that an outcome does not meet.
-fn missed_of<'e>(expected: &'e [Expectation], outcome: &Outcome) -> Option<&'e Expectation> {
-    outcome.missed.and_then(|place| expected.get(place))
+/// Adds that an outcome is not as expected, and the first line that it misses, or that is broken on the way.
+fn push_judgement(out: &mut String, wishes: &Wishes, outcome: &Outcome) -> Result<(), AllocError> {
+    let is_judged = !wishes.ends.is_empty() || !wishes.claims.is_empty();
+    if !is_judged || outcome.is_as_expected() {
+        return Ok(());
+    }
+    out.push_str("   NOT as expected")?;
+    if let Some(expectation) = outcome.missed.and_then(|place| wishes.ends.get(place)) {
+        out.push_str(": ")?;
+        return push_expectation(out, expectation);
+    }
+    if let Some(text) = outcome
+        .broken
+        .and_then(|place| wishes.claim_texts.get(place))
+    {
+        out.push_str(": ")?;
+        return out.push_str(text);
+    }
+    Ok(())
 }

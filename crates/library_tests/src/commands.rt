@@ -34,8 +34,11 @@ pub(crate) enum Command {
     DebugCommands,
 }
 
-/// Each command with an input and the number of bytes that it writes.
-pub(crate) const COMMANDS: [(Command, &[u8], usize); 10] = [
+/// A command with an input and the number of bytes that it writes.
+pub(crate) type Row = (Command, &'static [u8], usize);
+
+/// Each command.
+pub(crate) const COMMANDS: [Row; 10] = [
     (Command::Words, b"8010000000000005\n0000000A208C0000\n", 121),
     (Command::Asm, LISTING, BYTES.len()),
     (Command::List, &BYTES, LISTING.len()),

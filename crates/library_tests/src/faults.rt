@@ -1,5 +1,5 @@
 //! What a command does where a reader or a writer fails in mid-stream.
-use crate::commands::{COMMANDS, Command};
+use crate::commands::{COMMANDS, Command, Row};
 use crate::devices::{FailingReader, FailingWriter};
 use memory_lock::{GatherFault, PartsFault};
 use mta_engines::ToolFault;
@@ -55,21 +55,19 @@ fn length_read_by_bytes<X: AllocGlobal + Threads + Wait + Sync>(
     }
 }
 
+/// Whether each read of a command may fail, and all is written where none does.
+fn is_read_right<X: AllocGlobal + Threads + Wait + Sync>(rt: &X, row: &Row) -> bool {
+    let (command, text, bytes) = row;
+    may_each_read_fail(rt, *command, text, ErrorKind::Other)
+        && may_each_read_fail(rt, *command, text, ErrorKind::Interrupted)
+        && length_read_by_bytes(rt, *command, text) == Some(*bytes)
+}
+
 #[test]
 fn each_read_may_fail(rt: HostRuntime) {
-    for (command, text, bytes) in COMMANDS {
-        assert!(rt;
-            may_each_read_fail(&rt, command, text, ErrorKind::Other),
-            "{command:?}"
-        );
-        assert!(rt;
-            may_each_read_fail(&rt, command, text, ErrorKind::Interrupted),
-            "{command:?}"
-        );
-        assert!(rt;
-            length_read_by_bytes(&rt, command, text) == Some(bytes),
-            "{command:?}"
-        );
+    for row in &COMMANDS {
+        let command = row.0;
+        assert!(rt; is_read_right(&rt, row), "{command:?}");
     }
 }
 
@@ -123,17 +121,17 @@ fn may_each_write_be_interrupted<X: AllocGlobal + Threads + Wait + Sync>(
     true
 }
 
+fn is_written_right<X: AllocGlobal + Threads + Wait + Sync>(rt: &X, row: &Row) -> bool {
+    let (command, text, bytes) = row;
+    may_each_write_fail(rt, *command, text, *bytes)
+        && may_each_write_be_interrupted(rt, *command, text, *bytes)
+}
+
 #[test]
 fn each_write_may_fail(rt: HostRuntime) {
-    for (command, text, bytes) in COMMANDS {
-        assert!(rt;
-            may_each_write_fail(&rt, command, text, bytes),
-            "{command:?}"
-        );
-        assert!(rt;
-            may_each_write_be_interrupted(&rt, command, text, bytes),
-            "{command:?}"
-        );
+    for row in &COMMANDS {
+        let command = row.0;
+        assert!(rt; is_written_right(&rt, row), "{command:?}");
     }
 }
 

@@ -1,6 +1,7 @@
 //! Tests of the libraries, of what neither a clause says nor a command line shows: clones that go their own ways, parts
 //! that are made by hand, numbers that no command comes to, how many steps the debugger runs, readers and writers that
-//! fail. The expected values are worked out by hand from docs/MACHINE.md and docs/FORMATS.md.
+//! fail, threads that run an image's processors at once. The expected values are worked out by hand from docs/MACHINE.md
+//! and docs/FORMATS.md.
 //!
 //! A proof carries the clauses of all that a body calls, beside each value that the body holds at the time. So helpers
 //! without a clause make the calls, hold a value or two, and give plain ones back, and the tests only compare these.
@@ -8,8 +9,6 @@
 
 #[cfg(test)]
 mod clones;
-#[cfg(test)]
-mod codes;
 #[cfg(test)]
 mod commands;
 #[cfg(test)]
@@ -42,6 +41,8 @@ mod registers;
 mod replays;
 #[cfg(test)]
 mod sources;
+#[cfg(test)]
+mod threads;
 #[cfg(test)]
 mod views;
 #[cfg(test)]

@@ -46,6 +46,13 @@ fn a_run_of_steps_goes_on_past_32_bits(rt: HostRuntime) {
     assert!(rt; length_and_last(&steps) == (4_294_967_297, Some(5)));
 }
 
+fn is_text(text: Option<String>, wanted: &str) -> bool {
+    match text {
+        Some(text) => text.as_str() == wanted,
+        None => false,
+    }
+}
+
 /// The text of so many steps of stream 0 of processor 0.
 fn schedule_of(alloc: Global, count: usize) -> Option<String> {
     let steps = vec![in alloc; Step { p: 0, s: 0 }; count].ok()?;
@@ -58,8 +65,7 @@ fn more_than_a_million_steps_are_lines_of_a_million_and_a_rest(rt: HostRuntime) 
         (2_000_000, "0 0 1000000\n0 0 1000000\n"),
         (2_000_001, "0 0 1000000\n0 0 1000000\n0 0 1\n"),
     ] {
-        let text = schedule_of(rt.alloc(), count);
-        assert!(rt; text.is_some_and(|text| text.as_str() == lines), "{count}");
+        assert!(rt; is_text(schedule_of(rt.alloc(), count), lines), "{count}");
     }
 }
 
@@ -85,7 +91,9 @@ fn numbers_wider_than_their_columns(rt: HostRuntime) {
             "12345678 255 255 FFFFFFFF TRAPPED 01\n",
         ),
     ] {
-        let text = line_of(rt.alloc(), number, p, s, outcome);
-        assert!(rt; text.is_some_and(|text| text.as_str() == line), "{number}");
+        assert!(rt;
+            is_text(line_of(rt.alloc(), number, p, s, outcome), line),
+            "{number}"
+        );
     }
 }

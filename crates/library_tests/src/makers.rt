@@ -2,6 +2,7 @@
 //! splitmix64 and xoshiro256++ in another language, those of `seeded` by tests/runner/seed_rules.py.
 use crate::sources::image_of;
 use machine::Machine;
+use processor::Step;
 use schedule_makers::{MadeEnd, MadeSchedule, fair, fair_length, random, rounds, seeded};
 use std::alloc::Global;
 
@@ -38,149 +39,126 @@ use Rule::{Fair, OfSeed, Random, Rounds};
 fn made(alloc: Global, source: &str, rule: Rule, most: usize) -> Option<MadeSchedule> {
     let image = image_of(alloc, source)?;
     let mut machine: Machine<8> = Machine::load(alloc, &image).ok()?;
+    made_of(alloc, &mut machine, rule, most)
+}
+
+/// The schedule that the rule makes on a machine.
+fn made_of(
+    alloc: Global,
+    machine: &mut Machine<8>,
+    rule: Rule,
+    most: usize,
+) -> Option<MadeSchedule> {
     match rule {
-        Rounds => rounds(alloc, &mut machine, most).ok(),
-        Fair => fair(alloc, &mut machine, most).ok(),
-        Random(seed) => random(alloc, &mut machine, seed, most).ok(),
+        Rounds => rounds(alloc, machine, most).ok(),
+        Fair => fair(alloc, machine, most).ok(),
+        Random(seed) => random(alloc, machine, seed, most).ok(),
         OfSeed(seed) => {
-            let fair_steps = fair_length(alloc, &machine).ok()?;
-            seeded(alloc, &mut machine, seed, fair_steps, most).ok()
+            let fair_steps = fair_length(alloc, machine).ok()?;
+            seeded(alloc, machine, seed, fair_steps, most).ok()
         }
     }
 }
 
-/// Whether this is what is made: the streams that step, each by its processor and its number, and why no more do.
-fn makes(
-    alloc: Global,
-    source: &str,
-    rule: Rule,
-    most: usize,
-    steps: &[(u8, u8)],
-    end: MadeEnd,
-) -> bool {
-    let Some(made) = made(alloc, source, rule, most) else {
-        return false;
-    };
-    made.end == end
-        && made.steps.len() == steps.len()
-        && made
-            .steps
-            .iter()
-            .zip(steps)
-            .all(|(made, step)| made.p == step.0 && made.s == step.1)
-}
+/// The steps of a schedule: each the number of its processor, and 10 more where it is of stream 1.
+type Steps = &'static [u8];
 
-/// The same where each processor has one stream.
-fn makes_of_one(
-    alloc: Global,
-    source: &str,
-    rule: Rule,
-    most: usize,
-    processors: &[u8],
-    end: MadeEnd,
-) -> bool {
-    let Some(made) = made(alloc, source, rule, most) else {
-        return false;
-    };
-    made.end == end
-        && made.steps.len() == processors.len()
-        && made
-            .steps
-            .iter()
-            .zip(processors)
-            .all(|(made, p)| made.p == *p && made.s == 0)
-}
-
-#[test]
-fn the_lock_ends_where_nobody_runs(rt: HostRuntime) {
-    let in_turn = [
-        0, 1, 2, 3, 0, 1, 2, 3, 0, 1, 2, 3, 0, 1, 2, 3, 0, 1, 0, 1, 1, 1, 1, 1,
-    ];
-    let of_seed_0 = [
-        1, 1, 1, 0, 1, 0, 3, 3, 1, 0, 1, 0, 0, 0, 0, 2, 2, 0, 2, 2, 3, 3,
-    ];
-    let of_seed_3 = [
-        0, 2, 3, 3, 2, 0, 0, 2, 2, 0, 1, 0, 1, 1, 0, 1, 1, 3, 3, 1, 1,
-    ];
-    for (rule, processors) in [
-        (Rounds, in_turn.as_slice()),
-        (Fair, in_turn.as_slice()),
-        (Random(0), of_seed_0.as_slice()),
-        (Random(3), of_seed_3.as_slice()),
-    ] {
-        assert!(rt; makes_of_one(rt.alloc(), LOCK, rule, 100, processors, MadeEnd::NobodyRuns));
+/// Whether this is what is made, and why no more is.
+fn makes(alloc: Global, source: &str, rule: Rule, most: usize, steps: &[u8], end: MadeEnd) -> bool {
+    match made(alloc, source, rule, most) {
+        Some(made) => made.end == end && are_steps(&made.steps, steps),
+        None => false,
     }
 }
 
-#[test]
-fn the_seed_says_the_rule(rt: HostRuntime) {
-    let in_turns_of_8 = [3, 3, 0, 0, 0, 0, 0, 0, 1, 1, 1, 1, 1, 1, 2, 2, 2, 2, 3, 3];
-    let in_turns_of_32 = [3, 3, 3, 3, 1, 1, 1, 1, 1, 1, 2, 2, 2, 2, 0, 0, 0, 0, 0, 0];
-    let by_priorities = [0, 0, 3, 3, 3, 2, 2, 2, 2, 0, 0, 0, 1, 1, 1, 1, 1, 1, 0, 3];
-    for (seed, processors) in [
-        (1, in_turns_of_8.as_slice()),
-        (2, in_turns_of_32.as_slice()),
-        (7, by_priorities.as_slice()),
-    ] {
-        assert!(rt;
-            makes_of_one(
-                rt.alloc(),
-                LOCK,
-                OfSeed(seed),
-                100,
-                processors,
-                MadeEnd::NobodyRuns
-            ),
-            "{seed}"
-        );
+fn are_steps(made: &[Step], steps: &[u8]) -> bool {
+    for (made, step) in made.iter().zip(steps) {
+        if (made.p, made.s) != (*step % 10, *step / 10) {
+            return false;
+        }
     }
+    made.len() == steps.len()
+}
+
+/// The lock in turn.
+const IN_TURN: [u8; 24] = [
+    0, 1, 2, 3, 0, 1, 2, 3, 0, 1, 2, 3, 0, 1, 2, 3, 0, 1, 0, 1, 1, 1, 1, 1,
+];
+/// The lock at random by seed 0, and by seed 3.
+const OF_SEED_0: [u8; 22] = [
+    1, 1, 1, 0, 1, 0, 3, 3, 1, 0, 1, 0, 0, 0, 0, 2, 2, 0, 2, 2, 3, 3,
+];
+
+const OF_SEED_3: [u8; 21] = [
+    0, 2, 3, 3, 2, 0, 0, 2, 2, 0, 1, 0, 1, 1, 0, 1, 1, 3, 3, 1, 1,
+];
+/// The lock by the rules that seeds say.
+const IN_TURNS_OF_8: [u8; 20] = [3, 3, 0, 0, 0, 0, 0, 0, 1, 1, 1, 1, 1, 1, 2, 2, 2, 2, 3, 3];
+
+const IN_TURNS_OF_32: [u8; 20] = [3, 3, 3, 3, 1, 1, 1, 1, 1, 1, 2, 2, 2, 2, 0, 0, 0, 0, 0, 0];
+
+const BY_PRIORITIES: [u8; 20] = [0, 0, 3, 3, 3, 2, 2, 2, 2, 0, 0, 0, 1, 1, 1, 1, 1, 1, 0, 3];
+/// Rounds take each stream, and the fair rule each processor.
+const EACH_STREAM: [u8; 13] = [0, 1, 0, 1, 0, 1, 0, 10, 1, 0, 10, 1, 0];
+
+const EACH_PROCESSOR: [u8; 13] = [0, 1, 0, 1, 0, 1, 0, 1, 10, 1, 0, 1, 10];
+/// The choices of the generator at four seeds.
+const CHOICES_OF_0: [u8; 16] = [0, 1, 1, 0, 1, 0, 2, 2, 0, 0, 0, 0, 0, 0, 0, 1];
+
+const CHOICES_OF_1: [u8; 16] = [2, 2, 0, 2, 0, 1, 2, 1, 0, 0, 2, 1, 0, 1, 0, 0];
+
+const CHOICES_OF_2024: [u8; 16] = [1, 0, 0, 1, 2, 2, 2, 1, 0, 1, 1, 2, 1, 1, 1, 2];
+
+const CHOICES_OF_MAX: [u8; 16] = [1, 2, 2, 0, 1, 1, 2, 1, 1, 2, 1, 1, 2, 0, 0, 0];
+/// A standstill ends a schedule.
+const STOPPING: [u8; 4] = [0, 1, 0, 1];
+
+/// A source, the rule, how many steps there may be, which there are, and why no more.
+type Row = (&'static str, Rule, usize, Steps, MadeEnd);
+
+const ROWS: [Row; 17] = [
+    (LOCK, Rounds, 100, &IN_TURN, MadeEnd::NobodyRuns),
+    (LOCK, Fair, 100, &IN_TURN, MadeEnd::NobodyRuns),
+    (LOCK, Random(0), 100, &OF_SEED_0, MadeEnd::NobodyRuns),
+    (LOCK, Random(3), 100, &OF_SEED_3, MadeEnd::NobodyRuns),
+    (LOCK, OfSeed(1), 100, &IN_TURNS_OF_8, MadeEnd::NobodyRuns),
+    (LOCK, OfSeed(2), 100, &IN_TURNS_OF_32, MadeEnd::NobodyRuns),
+    (LOCK, OfSeed(7), 100, &BY_PRIORITIES, MadeEnd::NobodyRuns),
+    (STARTING, Rounds, 13, &EACH_STREAM, MadeEnd::OutOfSteps),
+    (STARTING, Fair, 13, &EACH_PROCESSOR, MadeEnd::OutOfSteps),
+    (LOOPING, Random(0), 16, &CHOICES_OF_0, MadeEnd::OutOfSteps),
+    (LOOPING, Random(1), 16, &CHOICES_OF_1, MadeEnd::OutOfSteps),
+    (
+        LOOPING,
+        Random(2024),
+        16,
+        &CHOICES_OF_2024,
+        MadeEnd::OutOfSteps,
+    ),
+    (
+        LOOPING,
+        Random(u64::MAX),
+        16,
+        &CHOICES_OF_MAX,
+        MadeEnd::OutOfSteps,
+    ),
+    (DEADLOCK, Fair, 0, &[], MadeEnd::OutOfSteps),
+    (DEADLOCK, Fair, 3, &[0, 1, 0], MadeEnd::OutOfSteps),
+    (DEADLOCK, Fair, 4, &STOPPING, MadeEnd::Standstill),
+    (DEADLOCK, Fair, 100, &STOPPING, MadeEnd::Standstill),
+];
+
+/// The first of the rows that is made otherwise.
+fn first_made_otherwise(alloc: Global, rows: &[Row]) -> Option<usize> {
+    for (number, (source, rule, most, steps, end)) in rows.iter().enumerate() {
+        if !makes(alloc, source, *rule, *most, steps, *end) {
+            return Some(number);
+        }
+    }
+    None
 }
 
 #[test]
-fn rounds_take_each_stream_and_fair_each_processor(rt: HostRuntime) {
-    let start = [(0, 0), (1, 0), (0, 0), (1, 0), (0, 0), (1, 0), (0, 0)];
-    let in_rounds = [(0, 1), (1, 0), (0, 0), (0, 1), (1, 0), (0, 0)];
-    let in_turn = [(1, 0), (0, 1), (1, 0), (0, 0), (1, 0), (0, 1)];
-    for (rule, rest) in [(Rounds, in_rounds), (Fair, in_turn)] {
-        let mut steps = start.to_vec(rt.alloc()).expect(&rt, "no memory");
-        steps.extend_from_slice(&rest).expect(&rt, "no memory");
-        assert!(rt; makes(rt.alloc(), STARTING, rule, 13, &steps, MadeEnd::OutOfSteps));
-    }
-}
-
-#[test]
-fn random_choices_are_the_generators(rt: HostRuntime) {
-    for (seed, processors) in [
-        (0, [0, 1, 1, 0, 1, 0, 2, 2, 0, 0, 0, 0, 0, 0, 0, 1]),
-        (1, [2, 2, 0, 2, 0, 1, 2, 1, 0, 0, 2, 1, 0, 1, 0, 0]),
-        (2024, [1, 0, 0, 1, 2, 2, 2, 1, 0, 1, 1, 2, 1, 1, 1, 2]),
-        (u64::MAX, [1, 2, 2, 0, 1, 1, 2, 1, 1, 2, 1, 1, 2, 0, 0, 0]),
-    ] {
-        assert!(rt;
-            makes_of_one(
-                rt.alloc(),
-                LOOPING,
-                Random(seed),
-                16,
-                &processors,
-                MadeEnd::OutOfSteps
-            ),
-            "{seed}"
-        );
-    }
-}
-
-#[test]
-fn a_standstill_ends_a_schedule(rt: HostRuntime) {
-    for (most, processors, end) in [
-        (0, [].as_slice(), MadeEnd::OutOfSteps),
-        (3, [0, 1, 0].as_slice(), MadeEnd::OutOfSteps),
-        (4, [0, 1, 0, 1].as_slice(), MadeEnd::Standstill),
-        (100, [0, 1, 0, 1].as_slice(), MadeEnd::Standstill),
-    ] {
-        assert!(rt;
-            makes_of_one(rt.alloc(), DEADLOCK, Fair, most, processors, end),
-            "{most}"
-        );
-    }
+fn schedules_are_made_by_their_rules(rt: HostRuntime) {
+    assert!(rt; first_made_otherwise(rt.alloc(), &ROWS).is_none());
 }

@@ -114,9 +114,13 @@ fn do_records_go(record: &mut Recorded<1>, clone: &mut Recorded<1>) -> bool {
 
 fn does_a_record_go(alloc: Global, image: &Image) -> Option<bool> {
     let mut record = record_of(alloc, image)?;
-    let is_blocked = replied(&mut record, BLOCKED) && replied(&mut record, BLOCKED);
+    let is_blocked = is_blocked_twice(&mut record);
     let mut clone = clone_of(&record)?;
     Some(is_blocked && do_records_go(&mut record, &mut clone))
+}
+
+fn is_blocked_twice(record: &mut Recorded<1>) -> bool {
+    replied(record, BLOCKED) && replied(record, BLOCKED)
 }
 
 #[test]

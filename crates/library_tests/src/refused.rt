@@ -1,6 +1,7 @@
 //! Parts that are refused, made by hand: what a run through a lock could leave, and no command is known to.
 use crate::records::{asked, replied, request_of};
 use crate::sources::{WAITING, image_of};
+use image_file::Image;
 use processor::Recorded;
 use shared_history::{GatherFault, Parts, SharedMemory, gather};
 use std::alloc::Global;
@@ -98,9 +99,23 @@ fn the_first_fault_of_the_least_processor(rt: HostRuntime) {
 fn fault_of_both(alloc: Global, source: &str, other: &str) -> Option<Option<GatherFault>> {
     let image = image_of(alloc, source)?;
     let other = image_of(alloc, other)?;
-    let shared = SharedMemory::new(alloc, &image, 0).ok()?;
-    let (fuel, _, records) = Parts::<1>::new(alloc, &other, 0).ok()?.into_parts();
-    fault_of(alloc, Parts::of(fuel, shared, records))
+    fault_of_images(alloc, &image, &other)
+}
+
+fn fault_of_images<'i>(
+    alloc: Global,
+    image: &'i Image,
+    other: &'i Image,
+) -> Option<Option<GatherFault>> {
+    let shared = SharedMemory::new(alloc, image, 0).ok()?;
+    let parts = Parts::<1>::new(alloc, other, 0).ok()?;
+    fault_of(alloc, with_memory(parts, shared))
+}
+
+/// The parts with another memory.
+fn with_memory<'i>(parts: Parts<'i, 1>, shared: SharedMemory<'i>) -> Parts<'i, 1> {
+    let (fuel, _, records) = parts.into_parts();
+    Parts::of(fuel, shared, records)
 }
 
 #[test]

@@ -4,7 +4,6 @@ use debug_commands::{Answer, DebugFault, answer_text, read_command};
 use image_file::Image;
 use replay_debugger::Session;
 use std::alloc::Global;
-use std::process::Abort;
 use trace_text::read_schedule;
 
 /// A countdown of 298 steps behind a first one, then a load that empties the only word, then an endless loop.
@@ -123,21 +122,23 @@ fn reply(alloc: Global, session: &mut Session<1>, line: &str) -> Option<String> 
     }
 }
 
-fn answers(alloc: Global, session: &mut Session<1>, line: &str, wanted: &str) -> bool {
-    let said = reply(alloc, session, line);
-    said.is_some_and(|text| text.as_str() == wanted)
-}
-
-fn replayed(session: &Session<1>) -> u64 {
-    session.replayed()
-}
-
-/// Asserts what a session answers, and how many steps it runs for it.
-fn assert_rows(rt: &impl Abort, alloc: Global, session: &mut Session<1>, rows: &[Row]) {
-    for (line, wanted, steps) in rows {
-        assert!(rt; answers(alloc, session, line, wanted), "{line}");
-        assert!(rt; replayed(session) == *steps, "{line}: steps");
+/// Whether a line is answered so, and by so many steps.
+fn answers(alloc: Global, session: &mut Session<1>, row: &Row) -> bool {
+    let (line, wanted, steps) = row;
+    match reply(alloc, session, line) {
+        Some(text) => text.as_str() == *wanted && session.replayed() == *steps,
+        None => false,
     }
+}
+
+/// The first of the rows that is not so.
+fn first_wrong(alloc: Global, session: &mut Session<1>, rows: &[Row]) -> Option<usize> {
+    for (number, row) in rows.iter().enumerate() {
+        if !answers(alloc, session, row) {
+            return Some(number);
+        }
+    }
+    None
 }
 
 /// A new session over an image and the text of a schedule.
@@ -146,28 +147,22 @@ fn session_of<'i>(alloc: Global, image: &'i Image, schedule: &str) -> Option<Ses
     Session::begin(alloc, image, steps).ok()
 }
 
-/// Asserts the rows of a new session over the countdown.
-fn assert_replayed(rt: &impl Abort, alloc: Global, schedule: &str, rows: &[Row]) {
-    let image = image_of(alloc, COUNTDOWN);
-    let session = match &image {
-        Some(image) => session_of(alloc, image, schedule),
-        None => None,
-    };
-    match session {
-        Some(mut session) => assert_rows(rt, alloc, &mut session, rows),
-        None => assert!(rt; false, "no session"),
-    }
+/// The first of the rows that is not so in a new session over the countdown; none where there is no session.
+fn wrong_in(alloc: Global, schedule: &str, rows: &[Row]) -> Option<Option<usize>> {
+    let image = image_of(alloc, COUNTDOWN)?;
+    let mut session = session_of(alloc, &image, schedule)?;
+    Some(first_wrong(alloc, &mut session, rows))
 }
 
 #[test]
 fn a_move_starts_from_the_nearest_kept_position(rt: HostRuntime) {
-    assert_replayed(&rt, rt.alloc(), "0 0 2000\n", &FROM_THE_NEAREST);
-    assert_replayed(&rt, rt.alloc(), "0 0 20000\n", &AFTER_THE_SPACING_DOUBLED);
+    assert!(rt; wrong_in(rt.alloc(), "0 0 2000\n", &FROM_THE_NEAREST) == Some(None));
+    assert!(rt; wrong_in(rt.alloc(), "0 0 20000\n", &AFTER_THE_SPACING_DOUBLED) == Some(None));
 }
 
 #[test]
 fn going_back_runs_each_interval_once(rt: HostRuntime) {
-    assert_replayed(&rt, rt.alloc(), "0 0 2000\n", &GOING_BACK);
+    assert!(rt; wrong_in(rt.alloc(), "0 0 2000\n", &GOING_BACK) == Some(None));
     let rows = &GOING_BACK_AFTER_THE_SPACING_DOUBLED;
-    assert_replayed(&rt, rt.alloc(), "0 0 20000\n", rows);
+    assert!(rt; wrong_in(rt.alloc(), "0 0 20000\n", rows) == Some(None));
 }

@@ -117,15 +117,6 @@ fn views_of_starting(alloc: Global) -> Option<Vec<StepView>> {
     views(alloc, &mut machine, 5)
 }
 
-#[test]
-fn a_view_has_each_change(rt: HostRuntime) {
-    let right = match &views_of_starting(rt.alloc()) {
-        Some(views) => are_views_right(views),
-        None => false,
-    };
-    assert!(rt; right);
-}
-
 fn are_last_changes_right(views: &[StepView]) -> bool {
     let current = Place::Current { p: 0 };
     let reserved = Place::Reserved { p: 0 };
@@ -136,9 +127,9 @@ fn are_last_changes_right(views: &[StepView]) -> bool {
 }
 
 #[test]
-fn the_last_change_of_a_place_is_found(rt: HostRuntime) {
+fn a_view_has_each_change_and_the_last_of_a_place_is_found(rt: HostRuntime) {
     let right = match &views_of_starting(rt.alloc()) {
-        Some(views) => are_last_changes_right(views),
+        Some(views) => are_views_right(views) && are_last_changes_right(views),
         None => false,
     };
     assert!(rt; right);

@@ -5,6 +5,7 @@ use lab_adapter::adapt;
 use lab_checks::{assemble_file, check, explain, make_schedule, show_word, start_program};
 use lab_command_line::read_lab_command;
 use lab_debugger::{Screen, debug};
+use lab_exercises::exercise;
 use lab_explorer::{Console, show_every_end};
 use lab_grades::grade;
 use lab_pages::{write_page, write_picture, write_play_page};
@@ -159,6 +160,7 @@ fn answer_to<X: Threads + Sync + Clock, F: Files, R: Read, E: Write>(
         LabCommand::Survey(request) => survey(rt, alloc, inputs, request, &mut console),
         LabCommand::Explore(request) => show_every_end(alloc, inputs, request, &mut console),
         LabCommand::Grade(request) => grade(rt, alloc, inputs, request, &mut console),
+        LabCommand::Exercise(request) => exercise(rt, alloc, inputs, request, &mut console),
         LabCommand::Page(request) => write_page(alloc, inputs, request),
         LabCommand::Picture(request) => write_picture(alloc, inputs, request),
         LabCommand::Play(request) => write_play_page(alloc, inputs, request, &mut console),

@@ -56,6 +56,15 @@ found_world v table keys key w is known key_is has =
           (same_world table v.image (cleared v.live (world_of v k)) (cleared v.live w) (is.known k below) known at),
     )
 
+-- a world whose key is that at a place is one for which the world there stands
+pub kept_world : (v : SpaceValue) (table keys : List (List ℕ)) (key : List ℕ) (w : World) (k : ℕ) → IsKeyed v table keys
+    → IsKnown table v.image (cleared v.live w) → key ≡ key_of table v.image (cleared v.live w) → k < count v
+    → get_or keys k [] ≡ key → StandsFor v k w
+kept_world v table keys key w k is known key_is below at =
+    same_agree v.live (world_of v k) w
+    (same_world table v.image (cleared v.live (world_of v k)) (cleared v.live w) (is.known k below) known
+    (sym (key_at v table keys k is below) ∙ at ∙ key_is))
+
 -- a key that is not there is of a world for which none stands
 new_world : (v : SpaceValue) (table keys : List (List ℕ)) (key : List ℕ) (w : World) (k : ℕ) → IsKeyed v table keys
     → key ≡ key_of table v.image (cleared v.live w) → (Has keys key → ⊥) → k < count v → StandsFor v k w → ⊥

@@ -4,7 +4,7 @@ use Rattle.std.proofs.Common.{Option, Some, None, ◌⊎◌, inl, inr, length, g
 use Rattle.std.proofs.Common.{◌≤◌}
 use Rattle.std.proofs.Math.Seq.{get_or-append_seam}
 use Rattle.std.proofs.lemmas.Bool.{cases_lt}
-use Rattle.std.proofs.lemmas.List.{length-map, map-set, get_or-map, get_or-set_same, get_or_append_left}
+use Rattle.std.proofs.lemmas.List.{length-map, map-set, get_or-map, get_or-set_same, get_or_append_left, set-get_or}
 use Rattle.std.proofs.lemmas.Option.{slice_get-get_or, slice_get_within}
 use Rattle.tag_memory.specs.Storage.{TaggedMemory}
 use Rattle.image_file.specs.ImageValue.{ImageValue}
@@ -356,6 +356,17 @@ key_is image live old new w u key more l known is there grown at made =
     (at.memory ∙ ap (λ (m : TaggedMemory). place_in new (memory_numbers image m)) memory)
     (subst (λ (m : TaggedMemory). Has new (memory_numbers image m)) memory at.has)
     (at.content ∙ ap (processor_place new) (sym (processor_cleared live next u.p))) made
+
+-- with the places that it has a key is as it was
+pub key_same : (key : List ℕ) (p : ℕ) (l : Places) → l.content ≡ get_or key (p + 1) 0 → l.memory ≡ get_or key 0 0
+    → key ≡ set (set key 0 l.memory) (p + 1) l.content
+key_same key p l content memory =
+    sym (
+    ap (λ n. set (set key 0 n) (p + 1) l.content) memory
+    ∙ ap (λ xs. set xs (p + 1) l.content) (set-get_or key 0 0)
+    ∙ ap (set key (p + 1)) content
+    ∙ set-get_or key (p + 1) 0
+    )
 
 pub key_known : (image : ImageValue) (live : LiveValue) (old new : List (List ℕ)) (w : World) (u : Step) (key : List ℕ)
     (l : Places) → IsKnown old image (cleared live w) → key ≡ key_of old image (cleared live w)

@@ -24,7 +24,7 @@ use Rattle.schedule_space.specs.Finding.{space_of, with_link, with_edge, IsKeyed
 use Rattle.schedule_space.proofs.Agreeing.{agree_same}
 use Rattle.schedule_space.proofs.Growing.{last_world, with_link_grown, count-link}
 use Rattle.schedule_space.proofs.Parts.{key_at, keys_many, keyed_later, frontier_more, frontier_stays}
-use Rattle.schedule_space.proofs.Keys.{found_world, found_later, found_more, found_edge}
+use Rattle.schedule_space.proofs.Keys.{found_world, kept_world, found_later, found_more, found_edge}
 use Rattle.schedule_space.proofs.Breadth.{breadth_more, breadth_stays}
 
 -- The machine at a place.
@@ -80,6 +80,11 @@ pub steps_back : (v w : SpaceValue) (table : List (List ℕ)) (steps : StepsSeen
 steps_back v w table steps k m all view at =
     subst (λ (i : ImageValue). AreAllLeft i v.live table steps) (sym (image_at v w k m view at)) all
 
+-- what is lent of a place that has a machine is the machine
+pub lent_is : (o : Option (Bor MachineValue)) (b : Bor MachineValue) (s : Option MachineValue) (m : MachineValue)
+    → option_copied o ≡ s → o ≡ Some b → s ≡ Some m → b.now ≡ m
+lent_is o b s m copied is some = let e : Some b.now ≡ Some m = sym (ap option_copied is) ∙ copied ∙ some in cc
+
 -- The machine after a step of it.
 
 -- as contracts see it
@@ -119,6 +124,20 @@ found_at v w fates old table keys key m k is view grown known key_is image at ha
     (key_is ∙ ap (λ (i : ImageValue). key_of table i (cleared v.live m.world)) same) has in
     subst (λ (x : SpaceValue). (k < count x) × StandsFor x k m.world) view
     (subst (λ (n : ℕ). (n < count v) × StandsFor v n m.world) (sym at) here)
+
+-- the world at a place stands for that of the machine whose key is the same
+pub stays_at : (v w : SpaceValue) (fates : List Fate) (old table keys : List (List ℕ)) (key : List ℕ)
+    (m : MachineValue) (k : ℕ) → IsFound v fates old keys → v ≡ w → Extends old table
+    → IsKnown table m.image (cleared v.live m.world) → key ≡ key_of table m.image (cleared v.live m.world)
+    → m.image ≡ w.image → k < count w → Some key ≡ slice_get keys k → StandsFor w k m.world
+stays_at v w fates old table keys key m k is view grown known key_is image below there =
+    let same : m.image ≡ v.image = image ∙ ap (λ (x : SpaceValue). x.image) (sym view) in
+    subst (λ (x : SpaceValue). StandsFor x k m.world) view
+    (kept_world v table keys key m.world k (keyed_later v old table keys grown is.keyed)
+    (subst (λ (i : ImageValue). IsKnown table i (cleared v.live m.world)) same known)
+    (key_is ∙ ap (λ (i : ImageValue). key_of table i (cleared v.live m.world)) same)
+    (subst (λ (x : SpaceValue). k < count x) (sym view) below)
+    (get_or_from_slice_get keys k key [] (sym there)))
 
 -- the parts with one world more
 pub placed : (image : ImageValue) (live : LiveValue) (begin : List Step) (links more : List Link) (edges : List Edge)

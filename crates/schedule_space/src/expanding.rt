@@ -1,9 +1,9 @@
 //! All steps from a world of a space in the making, or one that can be taken before all others.
 
-ghost use Rattle.std.specs.Prelude.{◌≡◌, ◌⊎◌, true, false, Contains, IfOk, OnOk};
+ghost use Rattle.std.specs.Prelude.{◌≡◌, ◌⊎◌, ◌≤◌, true, false, Some, Contains, IfOk, OnOk};
 ghost use Rattle.processor.specs.declared.steps.Step.{Step};
 ghost use Rattle.waiting.specs.Running.{AreRunning};
-ghost use Rattle.schedule_space.specs.Spaces.{schedule_of, machine_after};
+ghost use Rattle.schedule_space.specs.Spaces.{schedule_of, world_of, machine_after};
 ghost use Rattle.schedule_space.specs.Finding.{IsGrown, IsTaken, IsTakenTo, IsExpanded, IsExpanding};
 ghost use Rattle.schedule_space.specs.Quiet.{IsTakenQuietly, IsFollowedQuietly};
 
@@ -26,30 +26,33 @@ pub(crate) enum Wanted {
 }
 
 impl<'i> Found<'i> {
-    /// Takes steps of the world at a place, from its machine, unless there would be more than `most` worlds: each one,
+    /// Takes steps of the world at a place, on its machine, unless there would be more than `most` worlds: each one,
     /// or where ends are wanted and a step that can be taken before all others (`is_free_step`), and that nobody sees who
     /// looks at the places in `looked_at` alone (`is_quiet_step`), leads to a later place, that one. New worlds are put
     /// behind the frontier.
     pub(crate) fn expand<const S: usize>(
         &mut self,
         frontier: &mut VecDeque<Machine<'i, S>>,
-        machine: &Machine<'i, S>,
+        machine: Machine<'i, S>,
         from: u32,
         wanted: Wanted,
         looked_at: &[bool],
         most: u32,
     ) -> Result<(), Stop>
         requires expanding { IsExpanding self.old frontier.old.items from most }
-        requires machine { machine.now ≡ machine_after self.old.image (schedule_of self.old from) }
+        requires machine { machine ≡ machine_after self.old.image (schedule_of self.old from) }
         ensures grown { IsGrown self.old self.new }
         ensures expanding { IsExpanding self.new frontier.new.items from most }
         ensures quiet { OnOk result (IsFollowedQuietly looked_at.now self.new from) }
         ensures expanded { wanted ≡ Wanted.Worlds → OnOk result (IsExpanded self.new from) }
     {
-        let running = running_streams(self.alloc, machine)?;
+        let running = running_streams(self.alloc, &machine)?;
+        let mut here = Some(machine);
         match wanted {
-            Wanted::Worlds => self.take_all(frontier, machine, from, &running, most),
-            Wanted::Ends => { self.take_enough(frontier, machine, from, &running, looked_at, most) }
+            Wanted::Worlds => self.take_all(frontier, &mut here, from, &running, most),
+            Wanted::Ends => {
+                self.take_enough(frontier, &mut here, from, &running, looked_at, most)
+            }
         }
     }
 
@@ -59,15 +62,15 @@ impl<'i> Found<'i> {
     fn take_enough<const S: usize>(
         &mut self,
         frontier: &mut VecDeque<Machine<'i, S>>,
-        machine: &Machine<'i, S>,
+        machine: &mut Option<Machine<'i, S>>,
         from: u32,
         running: &[Step],
         looked_at: &[bool],
         most: u32,
     ) -> Result<(), Stop>
         requires expanding { IsExpanding self.old frontier.old.items from most }
-        requires machine { machine.now ≡ machine_after self.old.image (schedule_of self.old from) }
-        requires running { AreRunning machine.now.world running.now }
+        requires machine { machine.old ≡ Some (machine_after self.old.image (schedule_of self.old from)) }
+        requires running { AreRunning (world_of self.old from) running.now }
         ensures grown { IsGrown self.old self.new }
         ensures expanding { IsExpanding self.new frontier.new.items from most }
         ensures quiet { OnOk result (IsFollowedQuietly looked_at.now self.new from) }
@@ -88,72 +91,86 @@ impl<'i> Found<'i> {
     fn take_free<const S: usize>(
         &mut self,
         frontier: &mut VecDeque<Machine<'i, S>>,
-        machine: &Machine<'i, S>,
+        machine: &mut Option<Machine<'i, S>>,
         link: Link,
         others: &mut Vec<Step>,
         looked_at: &[bool],
         most: u32,
     ) -> Result<bool, Stop>
         requires expanding { IsExpanding self.old frontier.old.items link.from most }
-        requires machine { machine.now ≡ machine_after self.old.image (schedule_of self.old link.from) }
+        requires machine { machine.old ≡ Some (machine_after self.old.image (schedule_of self.old link.from)) }
         ensures grown { IsGrown self.old self.new }
         ensures expanding { IsExpanding self.new frontier.new.items link.from most }
         ensures alone { IfOk result (λ b. b ≡ true → IsTakenQuietly looked_at.now self.new link.from) }
         ensures left { IfOk result (λ b. b ≡ false
             → IsTaken self.new link.from link.step ⊎ Contains others.new.items link.step) }
         ensures others { (t : Step) → Contains others.old.items t → Contains others.new.items t }
+        ensures still { IfOk result (λ b. b ≡ false → machine.new ≡ machine.old) }
     {
         let step = link.step;
-        if !is_free_step(machine, step) || !is_quiet_step(machine, step, looked_at) {
+        let here = machine.as_ref().unwrap();
+        if !is_free_step(here, step) || !is_quiet_step(here, step, looked_at) {
             others.push(step)?;
             return Ok(false);
         }
-        let to = self.take(frontier, machine, link.from, step, most)?;
+        let to = self.take(frontier, machine, link, true, most)?;
         Ok(to > link.from)
     }
 
-    /// Takes each of these steps.
+    /// Takes each of these steps, the last one on the machine itself.
     fn take_all<const S: usize>(
         &mut self,
         frontier: &mut VecDeque<Machine<'i, S>>,
-        machine: &Machine<'i, S>,
+        machine: &mut Option<Machine<'i, S>>,
         from: u32,
         steps: &[Step],
         most: u32,
     ) -> Result<(), Stop>
         requires expanding { IsExpanding self.old frontier.old.items from most }
-        requires machine { machine.now ≡ machine_after self.old.image (schedule_of self.old from) }
+        requires machine { machine.old ≡ Some (machine_after self.old.image (schedule_of self.old from)) }
         ensures grown { IsGrown self.old self.new }
         ensures expanding { IsExpanding self.new frontier.new.items from most }
         ensures taken { OnOk result ((t : Step) → Contains steps.now t → IsTaken self.new from t) }
     {
-        for step in steps {
-            self.take(frontier, machine, from, *step, most)?;
+        for place in 0..steps.len() {
+            let link = Link {
+                from,
+                step: steps[place],
+            };
+            let is_last = place + 1 == steps.len();
+            self.take(frontier, machine, link, is_last, most)?;
         }
         Ok(())
     }
 
-    /// Takes one step, and says to which place it leads.
+    /// Takes one step, and says to which place it leads. Where the machine is let go it is still there unless that is a
+    /// later place.
     fn take<const S: usize>(
         &mut self,
         frontier: &mut VecDeque<Machine<'i, S>>,
-        machine: &Machine<'i, S>,
-        from: u32,
-        step: Step,
+        machine: &mut Option<Machine<'i, S>>,
+        link: Link,
+        is_let_go: bool,
         most: u32,
     ) -> Result<u32, Stop>
-        requires expanding { IsExpanding self.old frontier.old.items from most }
-        requires machine { machine.now ≡ machine_after self.old.image (schedule_of self.old from) }
+        requires expanding { IsExpanding self.old frontier.old.items link.from most }
+        requires machine { machine.old ≡ Some (machine_after self.old.image (schedule_of self.old link.from)) }
         ensures grown { IsGrown self.old self.new }
-        ensures expanding { IsExpanding self.new frontier.new.items from most }
-        ensures taken { OnOk result (IsTaken self.new from step) }
-        ensures to { IfOk result (λ to. IsTakenTo self.new from step to) }
+        ensures expanding { IsExpanding self.new frontier.new.items link.from most }
+        ensures taken { OnOk result (IsTaken self.new link.from link.step) }
+        ensures to { IfOk result (λ to. IsTakenTo self.new link.from link.step to) }
+        ensures kept { is_let_go ≡ false → machine.new ≡ machine.old }
+        ensures still { IfOk result (λ to. to ≤ link.from → machine.new ≡ machine.old) }
     {
-        let to = self.place(frontier, machine, Link { from, step }, most)?;
-        if to == from {
+        let to = self.place(frontier, machine, link, is_let_go, most)?;
+        if to == link.from {
             return Ok(to);
         }
-        self.add_edge(Edge { from, step, to })?;
+        self.add_edge(Edge {
+            from: link.from,
+            step: link.step,
+            to,
+        })?;
         Ok(to)
     }
 }

@@ -162,7 +162,7 @@ fn search<'i, const S: usize, W: Watch>(
         if !is_to_go_on(watch, from, &found, &frontier, machine_size) {
             return Ok(Exploration::Bounded(found.into_space(), Bound::Watch));
         }
-        if let Err(stop) = found.expand(&mut frontier, &machine, from, wanted, looked_at, limit) {
+        if let Err(stop) = found.expand(&mut frontier, machine, from, wanted, looked_at, limit) {
             return Ok(Exploration::Bounded(found.into_space(), bound_of(stop)));
         }
     }

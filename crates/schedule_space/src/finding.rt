@@ -1,11 +1,11 @@
 //! A space in the making: worlds are told apart by their keys, which are those of the worlds with 0 in each register that
 //! does not matter.
 
-ghost use Rattle.std.specs.Prelude.{◌≡◌, ◌<◌, ◌≤◌, ◌+◌, [], ◌∷◌, ◌++◌, length, true, IfOk, OnOk, OnErr, Contains};
+ghost use Rattle.std.specs.Prelude.{◌≡◌, ◌<◌, ◌≤◌, ◌+◌, [], ◌∷◌, ◌++◌, length, true, false, Some, IfOk, OnOk, OnErr, Contains};
 ghost use Rattle.image_file.specs.ImageValue.{ImageValue};
 ghost use Rattle.processor.specs.World.{after};
 ghost use Rattle.dead_registers.specs.Clearing.{IsLive};
-ghost use Rattle.schedule_space.specs.Spaces.{count, schedule_of, machine_after};
+ghost use Rattle.schedule_space.specs.Spaces.{count, schedule_of, world_of, machine_after};
 ghost use Rattle.schedule_space.specs.Spaces.{StandsFor, AreAllApart, StandAlone, IsEdgeToStandIn};
 ghost use Rattle.schedule_space.specs.declared.links.Edge.{Edge};
 ghost use Rattle.world_keys.specs.Tables.{Has};
@@ -17,7 +17,7 @@ use crate::known_steps::StepsSeen;
 use crate::links::{Edge, Link};
 use crate::next_worlds::key_after;
 use crate::spaces::Space;
-use crate::stepping::stepped;
+use crate::stepping::moved_on;
 use dead_registers::LiveRegisters;
 use image_file::Image;
 use machine::Machine;
@@ -155,21 +155,27 @@ impl<'i> Found<'i> {
     }
 
     /// The place of a world that stands for the one to which a step leads from the world at a place, the machine's. A new
-    /// world is put behind the others, and its machine behind the frontier.
+    /// world is put behind the others, and a machine at it behind the frontier: that of the place, where it is let go, else
+    /// a copy.
     pub(crate) fn place<const S: usize>(
         &mut self,
         frontier: &mut VecDeque<Machine<'i, S>>,
-        machine: &Machine<'i, S>,
+        machine: &mut Option<Machine<'i, S>>,
         link: Link,
+        is_let_go: bool,
         most: u32,
     ) -> Result<u32, Stop>
         requires expanding { IsExpanding self.old frontier.old.items link.from most }
-        requires machine { machine.now ≡ machine_after self.old.image (schedule_of self.old link.from) }
+        requires machine { machine.old ≡ Some (machine_after self.old.image (schedule_of self.old link.from)) }
         ensures grown { IsGrown self.old self.new }
         ensures expanding { IsExpanding self.new frontier.new.items link.from most }
         ensures there { IfOk result (λ k. k < count self.new) }
-        ensures stands { IfOk result (λ k. StandsFor self.new k (after machine.now.image machine.now.world link.step)) }
+        ensures stands { IfOk result (λ k.
+            StandsFor self.new k (after self.old.image (world_of self.old link.from) link.step)) }
+        ensures kept { is_let_go ≡ false → machine.new ≡ machine.old }
+        ensures still { IfOk result (λ k. k ≤ link.from → machine.new ≡ machine.old) }
     {
+        let here = machine.as_ref().unwrap();
         let before = self.keys.list(link.from as usize).unwrap();
         let key = key_after(
             self.alloc,
@@ -177,9 +183,12 @@ impl<'i> Found<'i> {
             &mut self.contents,
             &mut self.steps,
             before,
-            machine,
+            here,
             link.step,
         )?;
+        let Some(key) = key else {
+            return Ok(link.from);
+        };
         if let Some(place) = self.keys.find(&key) {
             return Ok(place as u32);
         }
@@ -187,7 +196,7 @@ impl<'i> Found<'i> {
         if place >= most as usize {
             return Err(Stop::Full);
         }
-        let next = stepped(machine, link.step)?;
+        let next = moved_on(machine, link.step, is_let_go)?;
         let fate = fate_of(&next);
         let world = NewWorld {
             machine: next,

@@ -1,6 +1,6 @@
 //! The key of the world to which a step leads, as it is cleared of registers that do not matter.
 
-ghost use Rattle.std.specs.Prelude.{◌≡◌, ◌<◌, ◌+◌, ◌∷◌, [], length, slice_index_or, IsTrue, IfOk, OnOk};
+ghost use Rattle.std.specs.Prelude.{◌≡◌, ◌<◌, ◌+◌, ◌∷◌, [], length, slice_index_or, IsTrue, None, IfSome, IfOk, OnOk};
 ghost use Rattle.processor.specs.World.{after};
 ghost use Rattle.same_futures.specs.Links.{TellsHandlers};
 ghost use Rattle.same_futures.specs.Handlers.{may_have_handlers};
@@ -19,9 +19,9 @@ use processor::Step;
 use std::alloc::{AllocError, Global};
 use world_keys::{Table, next_key};
 
-/// The key of the world to which a step leads from a machine's world, from the key `before` the step. Both are of the
-/// worlds with 0 in each register that does not matter. Only a step of which it is not known what it leaves is taken, on a
-/// copy of the machine.
+/// The key of the world to which a step leads from a machine's world, from the key `before` the step; None where it is
+/// the same. Both are of the worlds with 0 in each register that does not matter. Only a step of which it is not known what
+/// it leaves is taken, on a copy of the machine.
 pub(crate) fn key_after<const S: usize>(
     alloc: Global,
     live: &LiveRegisters,
@@ -30,28 +30,33 @@ pub(crate) fn key_after<const S: usize>(
     before: &[u32],
     machine: &Machine<'_, S>,
     step: Step,
-) -> Result<Vec<u32>, AllocError>
+) -> Result<Option<Vec<u32>>, AllocError>
     requires live { IsLive machine.now.image live.now }
     requires told { TellsHandlers (IsTrue (may_have_handlers machine.now.image)) machine.now.world }
     requires known { IsKnown contents.old machine.now.image (cleared live.now machine.now.world) }
     requires before { before.now ≡ key_of contents.old machine.now.image (cleared live.now machine.now.world) }
     requires steps { AreAllLeft machine.now.image live.now contents.old steps.old }
-    ensures is { IfOk result (λ v. v.items
-        ≡ key_of contents.new machine.now.image (cleared live.now (after machine.now.image machine.now.world step))) }
+    ensures is { IfOk result (λ o. IfSome o (λ v. v.items
+        ≡ key_of contents.new machine.now.image (cleared live.now (after machine.now.image machine.now.world step)))) }
+    ensures same { result ≡ Ok None → before.now
+        ≡ key_of contents.new machine.now.image (cleared live.now (after machine.now.image machine.now.world step)) }
     ensures known { OnOk result (IsKnown contents.new machine.now.image
         (cleared live.now (after machine.now.image machine.now.world step))) }
     ensures steps { AreAllLeft machine.now.image live.now contents.new steps.new }
     ensures grown { Extends contents.old contents.new }
 {
     let here = usize::from(step.p) + 1;
-    let mut key = Vec::from_slice(alloc, before)?;
     if here >= before.len() {
-        return Ok(key);
+        return Ok(None);
     }
     let left = left_by(alloc, live, contents, steps, before, machine, step)?;
+    if left.memory == before[0] && left.content == before[here] {
+        return Ok(None);
+    }
+    let mut key = Vec::from_slice(alloc, before)?;
     key[0] = left.memory;
     key[here] = left.content;
-    Ok(key)
+    Ok(Some(key))
 }
 
 /// What a step leaves of its processor and of the memory.

@@ -1,6 +1,7 @@
 //! A step from a machine's world, and what it can change.
 
-ghost use Rattle.std.specs.Prelude.{◌≡◌, ◌≢◌, ◌<◌, ◌≤◌, length, true, IfOk};
+ghost use Rattle.std.specs.Prelude.{◌≡◌, ◌≢◌, ◌<◌, ◌≤◌, length, true, false, Some, IsSome, IfOk};
+ghost use Rattle.machine.specs.MachineValue.{MachineValue};
 ghost use Rattle.processor.specs.World.{after};
 ghost use Rattle.world_keys.specs.WorldKeys.{processor_in};
 ghost use Rattle.world_keys.specs.Changes.{HasOthersOf};
@@ -51,6 +52,28 @@ pub(crate) fn stepped<'i, const S: usize>(
     ensures world { IfOk result (λ m. m.world ≡ after machine.now.image machine.now.world step) }
 {
     let mut next = machine.try_clone()?;
+    next.step(step.p, step.s);
+    Ok(next)
+}
+
+/// A machine at the world behind a step: the machine itself, moved on, where it is let go, else a copy of it.
+///
+/// Not inlined: its caller would pay for the room of its machines at each step, also where no machine is made.
+#[inline(never)]
+pub(crate) fn moved_on<'i, const S: usize>(
+    machine: &mut Option<Machine<'i, S>>,
+    step: Step,
+    is_let_go: bool,
+) -> Result<Machine<'i, S>, AllocError>
+    requires { IsSome machine.old }
+    ensures next { (m : MachineValue) → machine.old ≡ Some m
+        → IfOk result (λ n. n ≡ record { image = m.image; world = after m.image m.world step }) }
+    ensures kept { is_let_go ≡ false → machine.new ≡ machine.old }
+{
+    if !is_let_go {
+        return stepped(machine.as_ref().unwrap(), step);
+    }
+    let mut next = machine.take().unwrap();
     next.step(step.p, step.s);
     Ok(next)
 }

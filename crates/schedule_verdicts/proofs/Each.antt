@@ -13,7 +13,7 @@ use Rattle.schedule_verdicts.specs.KeptClaims.{all_hold}
 use Rattle.schedule_verdicts.specs.RightSpaces.{IsRight, IsRightOnEachWay}
 
 -- a schedule that goes on from the beginning leads to each world
-begun : (v : SpaceValue) → HasEarlierLinks v → (k : ℕ) → k < count v
+pub begun : (v : SpaceValue) → HasEarlierLinks v → (k : ℕ) → k < count v
     → (ts : List Step) × (run v.image (v.begin ++ ts) ≡ world_of v k)
 begun v earlier k below =
     let on = goes_on v.begin v.links (length v.links) k earlier (omega (arith, below)) (omega (arith, below)) in

@@ -3,6 +3,7 @@ mod StandIns
 mod Looking
 pub mod Every
 mod Each
+mod Sought
 pub mod OnTheWay
 mod Unseen
 mod Shown

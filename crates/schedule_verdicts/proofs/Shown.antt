@@ -1,6 +1,6 @@
 -- What is claimed holds wherever a schedule leads, where it holds of each world of a space that leaves out just steps at
 -- which the claims do not look.
-use Rattle.std.proofs.Common.{◌≡◌, ℕ, ◌<◌, ◌⊎◌, inl, inr, sym, ◌∙◌, ◌++◌, subst, arith, List, Bool}
+use Rattle.std.proofs.Common.{ℕ, ◌⊎◌, inl, inr, sym, ◌∙◌, ◌++◌, subst, List}
 use Rattle.std.specs.Prelude.{IsTrue}
 use Rattle.processor.specs.World.{World, run, steps}
 use Rattle.processor.specs.declared.steps.Step.{Step}
@@ -8,11 +8,11 @@ use Rattle.same_futures.specs.Handlers.{may_have_handlers}
 use Rattle.same_futures.proofs.Chains.{schedules_agree}
 use Rattle.dead_registers.specs.Clearing.{IsLive, AgreeBy}
 use Rattle.agreeing_ends.specs.Followed as found
-use Rattle.agreeing_ends.specs.Unseen.{IsMoving, IsRespected, IsTakenUnseen, AllFollowedUnseen}
+use Rattle.agreeing_ends.specs.Unseen.{IsMoving, IsRespected, IsTakenUnseen}
 use Rattle.agreeing_ends.proofs.Keeping.{holds_wherever}
 use Rattle.expectations.specs.declared.expectation.Expectation.{Expectation}
 use Rattle.claims.specs.declared.claim.Claim.{Claim}
-use Rattle.schedule_space.specs.Spaces.{SpaceValue, count}
+use Rattle.schedule_space.specs.Spaces.{SpaceValue}
 use Rattle.schedule_space.specs.Finding.{found_in}
 use Rattle.schedule_space.specs.Followed.{AllFollowed}
 use Rattle.schedule_space.specs.Quiet.{IsFollowedQuietly}

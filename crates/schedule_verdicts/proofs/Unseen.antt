@@ -2,7 +2,6 @@
 use Rattle.std.proofs.Common.{◌≡◌, ◌≢◌, ℕ, zero, suc, ◌+◌, cond, ◌⊎◌, inl, inr, Bool, true, false, refl, sym, ap, ◌∙◌}
 use Rattle.std.proofs.Common.{List, [], ◌∷◌, Option, Some, None, slice_get, ◌&&◌}
 use Rattle.std.specs.Prelude.{IsTrue, nat_le, slice_index_or}
-use Rattle.std.specs.List.{list_any}
 use Rattle.std.proofs.lemmas.Bool.{or_left, or_right}
 use Rattle.std.proofs.lemmas.List.Sums.{sum_by-cons}
 use Rattle.tag_memory.specs.Storage.{cell_at}

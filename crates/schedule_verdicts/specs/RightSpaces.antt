@@ -10,7 +10,7 @@ use Rattle.schedule_space.specs.Spaces.{SpaceValue, count, world_of}
 use Rattle.schedule_space.specs.Reaching.{IsEnd, CanEnd}
 use Rattle.schedule_space.specs.Quiet.{AllFollowedQuietly}
 use Rattle.schedule_verdicts.specs.RightEnds.{IsRightEnd}
-use Rattle.schedule_verdicts.specs.KeptClaims.{all_hold, AreKept, AreKeptOnTheWay}
+use Rattle.schedule_verdicts.specs.KeptClaims.{all_hold, AreKept}
 
 -- Every schedule that goes on from the beginning: where it ends it ends right, and wherever it is it can still come to an
 -- end.
@@ -23,12 +23,6 @@ pub record IsRightOnEachWay (image : ImageValue) (begin : List Step) (expected :
     (claims : List Claim) : Type 0 where
   pub right : EndsRight image begin expected
   pub claimed : (ts : List Step) → IsTrue (all_hold claims (run image (begin ++ ts)))
-
--- the same, and the claims hold on the way through the beginning too
-pub record IsRightThroughout (image : ImageValue) (begin : List Step) (expected : List Expectation)
-    (claims : List Claim) : Type 0 where
-  pub right : IsRightOnEachWay image begin expected claims
-  pub before : AreKeptOnTheWay image begin claims
 
 -- Of a space.
 

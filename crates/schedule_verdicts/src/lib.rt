@@ -5,8 +5,10 @@ mod kept_claims;
 mod laws;
 mod right_ends;
 mod right_spaces;
+mod shown_claims;
 
 pub use kept_claims::are_kept_on_the_way;
 pub use laws::agreeing_worlds_are_judged_alike;
 pub use right_ends::{are_traps_expected, is_right_end};
 pub use right_spaces::is_right;
+pub use shown_claims::{first_unshown, is_shown_on_the_way};

@@ -3,8 +3,8 @@
 use end_kinds::{EndKind, Status, status_of};
 use std::alloc::AllocError;
 
-/// Ends that agree in their kind, in the words that changed, in who waits or was stopped, and in what is not as
-/// expected.
+/// Ends that agree in their kind, in the words that changed, in who waits or was stopped, in what is not as expected, and in
+/// what is broken on the way.
 #[derive(Drop)]
 pub struct Outcome {
     /// The kind.
@@ -13,6 +13,8 @@ pub struct Outcome {
     pub text: String,
     /// The place of the first expectation that is not met.
     pub missed: Option<usize>,
+    /// The place of the first claim that is broken on the way.
+    pub broken: Option<usize>,
     /// Whether a trap that nobody expected stopped a stream.
     pub is_trapped: bool,
     /// The first seed that leads there.
@@ -26,19 +28,25 @@ pub struct Outcome {
 }
 
 impl Outcome {
-    /// Whether all expectations are met, and nobody was stopped of whom that is not expected.
+    /// Whether all expectations are met, no claim is broken, and nobody was stopped of whom that is not expected.
     pub fn is_as_expected(&self) -> bool {
-        self.missed.is_none() && !self.is_trapped
+        !self.is_wrong() && !self.is_trapped
+    }
+
+    /// Whether an expectation is missed, or a claim is broken.
+    fn is_wrong(&self) -> bool {
+        self.missed.is_some() || self.broken.is_some()
     }
 
     /// What it means for the exit status.
     pub fn status(&self) -> Status {
-        status_of(self.kind, self.missed.is_some(), self.is_trapped)
+        status_of(self.kind, self.is_wrong(), self.is_trapped)
     }
 
     /// Whether another one is told alike.
     fn is_same(&self, other: &Outcome) -> bool {
-        self.kind == other.kind && self.missed == other.missed && self.text == other.text
+        let is_judged_alike = self.missed == other.missed && self.broken == other.broken;
+        self.kind == other.kind && is_judged_alike && self.text == other.text
     }
 }
 

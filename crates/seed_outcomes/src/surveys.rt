@@ -2,16 +2,19 @@
 
 use crate::findings::add_findings;
 use crate::outcomes::{Outcome, add_outcome};
+use claims::Claim;
 use command_parts::loaded;
 use end_kinds::end_kind_of;
-use expectations::{Expectation, FullEmpty, first_missed};
+use expectations::first_missed;
 use image_file::Image;
-use lab_ends::{end_words_of, is_expected_trap};
+use lab_ends::{Wishes, end_words_of, is_expected_trap};
 use lab_texts::{NumberStyle, ProgramNames};
 use machine::LoadFault;
+use processor::Step;
 use rayon::prelude::*;
 use schedule_makers::{fair_length, seeded};
 use schedule_survey::{EndGroup, SeedEnd, grouped, survey};
+use seed_verdicts::first_broken;
 use std::alloc::{AllocError, Global};
 use std::thread::Threads;
 
@@ -38,8 +41,8 @@ pub(crate) struct Surveyed<'a, 't> {
     pub image: &'a Image,
     /// The names of its places.
     pub names: &'a ProgramNames<'t>,
-    /// What is expected of ends.
-    pub expected: &'a [Expectation],
+    /// What is wished of it.
+    pub wishes: &'a Wishes,
     /// How many steps the program's fair run has.
     pub fair_steps: usize,
     /// The most steps of a schedule.
@@ -54,13 +57,13 @@ pub fn outcomes_of<X: Threads + Sync>(
     alloc: Global,
     image: &Image,
     names: &ProgramNames<'_>,
-    expected: &[Expectation],
+    wishes: &Wishes,
     seeds: SurveySeeds,
 ) -> Result<Vec<Outcome>, AllocError> {
     if image.slim() <= 8 {
-        outcomes_on::<X, 8>(rt, alloc, image, names, expected, seeds)
+        outcomes_on::<X, 8>(rt, alloc, image, names, wishes, seeds)
     } else {
-        outcomes_on::<X, 128>(rt, alloc, image, names, expected, seeds)
+        outcomes_on::<X, 128>(rt, alloc, image, names, wishes, seeds)
     }
 }
 
@@ -70,14 +73,14 @@ fn outcomes_on<'a, 't, X: Threads + Sync, const S: usize>(
     alloc: Global,
     image: &'a Image,
     names: &'a ProgramNames<'t>,
-    expected: &'a [Expectation],
+    wishes: &'a Wishes,
     seeds: SurveySeeds,
 ) -> Result<Vec<Outcome>, AllocError> {
     let fair_steps = fair_length(alloc, &loaded::<S>(alloc, image)?)?;
     let surveyed = Surveyed {
         image,
         names,
-        expected,
+        wishes,
         fair_steps,
         most: seeds.most,
         style: seeds.style,
@@ -105,14 +108,30 @@ fn add_some<X: Threads + Sync, const S: usize>(
         Ok(ends) => ends,
         Err(LoadFault::NoMemory | LoadFault::Streams) => return Err(AllocError),
     };
-    let groups = grouped(alloc, &ends)?;
+    let groups = groups_of(alloc, &ends, surveyed.wishes)?;
     for outcome in told::<X, S>(rt, alloc, surveyed, &ends, &groups)? {
         add_outcome(outcomes, outcome)?;
     }
     Ok(())
 }
 
-/// The outcomes of groups of ends that are the same world, over all cores.
+/// Ends that are told alike by their worlds; where something is claimed each by itself, since that is asked of the way.
+fn groups_of(
+    alloc: Global,
+    ends: &[SeedEnd],
+    wishes: &Wishes,
+) -> Result<Vec<EndGroup>, AllocError> {
+    if wishes.claims.is_empty() {
+        return grouped(alloc, ends);
+    }
+    let mut groups = Vec::with_capacity(alloc, ends.len())?;
+    for first in 0..ends.len() {
+        groups.push(EndGroup { first, runs: 1 })?;
+    }
+    Ok(groups)
+}
+
+/// The outcomes of groups of ends, over all cores.
 fn told<X: Threads + Sync, const S: usize>(
     rt: &X,
     alloc: Global,
@@ -154,15 +173,32 @@ fn outcome_of<const S: usize>(
     let is_trapped = words
         .stopped
         .iter()
-        .any(|stream| !is_expected_trap(surveyed.expected, stream));
+        .any(|stream| !is_expected_trap(&surveyed.wishes.ends, stream));
     Ok(Outcome {
         kind: end_kind_of(&machine),
         text: words.text,
-        missed: first_missed(&machine, surveyed.expected),
+        missed: first_missed(&machine, &surveyed.wishes.ends),
+        broken: broken_by::<S>(alloc, surveyed.image, &made.steps, &surveyed.wishes.claims)?,
         is_trapped,
         seed,
         steps: made.steps.len(),
         runs,
         finding: String::new(alloc),
     })
+}
+
+/// The place of the first claim that is broken on the way through these steps.
+fn broken_by<const S: usize>(
+    alloc: Global,
+    image: &Image,
+    steps: &[Step],
+    claims: &[Claim],
+) -> Result<Option<usize>, AllocError> {
+    if claims.is_empty() {
+        return Ok(None);
+    }
+    match first_broken::<S>(alloc, image, steps, claims) {
+        Ok(broken) => Ok(broken.map(|broken| broken.claim)),
+        Err(LoadFault::NoMemory | LoadFault::Streams) => Err(AllocError),
+    }
 }

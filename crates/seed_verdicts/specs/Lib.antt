@@ -1,5 +1,6 @@
 -- What public contracts promise: what is wrong with a run, and what is told of the seeds.
 pub mod RunFlaws
 pub mod Seeds
+pub mod ShownBySeeds
 -- Cited by private contracts alone: what is told of the parts of a run.
 pub mod EndFlaws

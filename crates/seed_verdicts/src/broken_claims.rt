@@ -13,18 +13,18 @@ use std::alloc::Global;
 
 /// Where a claim is broken first.
 #[derive(Clone, Copy, Debug)]
-pub(crate) struct Broken {
+pub struct Broken {
     /// After how many steps.
-    pub(crate) taken: usize,
+    pub taken: usize,
     /// The place of the first claim that does not hold then.
-    pub(crate) claim: usize,
+    pub claim: usize,
 }
 
 /// The first claim that is broken on the way through a schedule of an image: the first one that does not hold of the
 /// first world of which some claim does not. The start and the end are on the way. Nothing behind that world is looked at.
 ///
 /// `Streams` only where the image's slim is above `S`.
-pub(crate) fn first_broken<const S: usize>(
+pub fn first_broken<const S: usize>(
     alloc: Global,
     image: &Image,
     schedule: &[Step],

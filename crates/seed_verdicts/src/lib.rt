@@ -8,6 +8,9 @@ mod first_flaws;
 mod judging;
 mod run_flaw;
 mod seed_runs;
+mod shown_claims;
 
+pub use broken_claims::{Broken, first_broken};
 pub use first_flaws::{first_flaw, first_flaw_alone};
 pub use run_flaw::{RunFlaw, SeedFlaw, Seeds};
+pub use shown_claims::first_unshown_by_seeds;

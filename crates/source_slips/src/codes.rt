@@ -175,9 +175,8 @@ fn tested_help(slips: &Slips, word: usize, op: ArithmeticOp) -> Result<String, A
 
 /// The last word before a place, of those that lead straight to it, that has an arithmetic operation.
 fn untested(program: &Program, place: usize) -> Option<(usize, ArithmeticOp)> {
-    let mut word = place;
-    while word > 0 {
-        word -= 1;
+    for back in 0..place {
+        let word = place.saturating_sub(back).saturating_sub(1);
         if !program.goes_on(word) {
             return None;
         }

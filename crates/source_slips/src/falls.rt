@@ -45,10 +45,9 @@ fn is_others_entry(program: &Program, place: usize) -> bool {
     if !is_entry(program, place) || is_end(program, place) {
         return false;
     }
-    let mut word = place;
     let mut refers = false;
-    while word > 0 {
-        word -= 1;
+    for back in 0..place {
+        let word = place.saturating_sub(back).saturating_sub(1);
         refers |= has_reference(program, word);
         if is_entry(program, word) {
             return refers;

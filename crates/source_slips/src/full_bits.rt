@@ -72,6 +72,9 @@ pub(crate) fn warn_of_full_bits(
     }
     let turns = Turns::of(slips.alloc(), references, cells.len())?;
     for reference in references {
+        if slips.is_full() {
+            return Ok(());
+        }
         if let Some(address) = reference.address() {
             let cell = (address / 8) as usize;
             if let (true, Some(word)) = (address % 8 == 0, cells.get(cell)) {

@@ -28,6 +28,7 @@ pub struct Slip {
 pub(crate) struct Slips<'t> {
     alloc: Global,
     places: SourcePlaces<'t>,
+    /// How many bytes of the text stand before the line of each word of the program.
     starts: Vec<usize>,
     found: Vec<Slip>,
 }
@@ -35,17 +36,11 @@ pub(crate) struct Slips<'t> {
 impl<'t> Slips<'t> {
     /// None yet, of a text.
     pub(crate) fn of(alloc: Global, text: &'t [u8]) -> Result<Slips<'t>, AllocError> {
-        let mut starts = Vec::new(alloc);
-        starts.push(0)?;
-        for (place, byte) in text.iter().enumerate() {
-            if *byte == b'\n' {
-                starts.push(place.saturating_add(1))?;
-            }
-        }
+        let places = SourcePlaces::of(alloc, text)?;
         Ok(Slips {
             alloc,
-            places: SourcePlaces::of(alloc, text)?,
-            starts,
+            starts: starts_of(alloc, &places, text)?,
+            places,
             found: Vec::new(alloc),
         })
     }
@@ -70,6 +65,11 @@ impl<'t> Slips<'t> {
         None
     }
 
+    /// Whether no more are told.
+    pub(crate) fn is_full(&self) -> bool {
+        self.found.len() >= MOST_SLIPS
+    }
+
     /// Warns of a word of the program.
     pub(crate) fn warn(
         &mut self,
@@ -77,12 +77,12 @@ impl<'t> Slips<'t> {
         words: String,
         help: String,
     ) -> Result<(), AllocError> {
+        if self.is_full() {
+            return Ok(());
+        }
         let Some(line) = self.places.line(word) else {
             return Ok(());
         };
-        if self.found.len() >= MOST_SLIPS {
-            return Ok(());
-        }
         let (first, width) = statement_of(line.bytes);
         self.found.push(Slip {
             line: line.number.saturating_add(1),
@@ -90,7 +90,7 @@ impl<'t> Slips<'t> {
             width,
             words,
             help,
-            start: self.starts.get(line.number).copied().unwrap_or(0),
+            start: self.starts.get(word).copied().unwrap_or(0),
         })?;
         Ok(())
     }
@@ -98,6 +98,34 @@ impl<'t> Slips<'t> {
     /// All of them, in the order in which they were found.
     pub(crate) fn into_found(self) -> Vec<Slip> {
         self.found
+    }
+}
+
+/// How many bytes of a text stand before the line of each word of its program.
+fn starts_of(alloc: Global, places: &SourcePlaces, text: &[u8]) -> Result<Vec<usize>, AllocError> {
+    let mut starts = Vec::new(alloc);
+    let mut number = 0usize;
+    let mut start = 0usize;
+    for (place, byte) in text.iter().enumerate() {
+        if *byte == b'\n' {
+            if is_line_of(places, starts.len(), number) {
+                starts.push(start)?;
+            }
+            number = number.saturating_add(1);
+            start = place.saturating_add(1);
+        }
+    }
+    if is_line_of(places, starts.len(), number) {
+        starts.push(start)?;
+    }
+    Ok(starts)
+}
+
+/// Whether a line is that of a word of the program.
+fn is_line_of(places: &SourcePlaces, word: usize, number: usize) -> bool {
+    match places.line(word) {
+        Some(line) => line.number == number,
+        None => false,
     }
 }
 

@@ -1,5 +1,6 @@
-use Rattle.std.proofs.Common.{sym, subst, inl, inr}
-use Rattle.schedule_verdicts.specs.RightSpaces.{IsRightOnEachWay, IsRightThroughout}
+use Rattle.std.proofs.Common.{sym, subst, inl, inr, rules}
+use Rattle.schedule_verdicts.specs.RightSpaces.{IsRightOnEachWay}
+use Rattle.schedule_verdicts.specs.ShownClaims.{IsRightThroughout, TellsOfClaims}
 use Rattle.lab_explorer.proofs.exploring.explore_on.Goals as goal
 
 pub returns : goal.returns
@@ -10,24 +11,33 @@ returns g c = record {
       let v = c.in_ok-space.space in
       let image = c.in_ok-space.ensures.image in
       let begin = c.in_ok-space.ensures.begin in
-      let found = c.in_ok-is_right.ensures in (
+      let found = c.in_ok-is_right.ensures in
+      let judged = c.judges-is_judged.ensures in (
         λ yes.
-            let complete = found.complete yes in
+            let so = judged.0 (found.judged yes) in
             let right : IsRightOnEachWay v.image v.begin expected claims =
-            elim (c.in_ok-space.ensures.known complete) [
+            elim (c.in_ok-space.ensures.known so.0) [
               | inl all ↦ found.each_way yes all
               | inr shown ↦ found.shown yes shown.0 shown.1
             ] in
             let here : IsRightThroughout v.image v.begin expected claims =
-            record { right = right; before = found.before yes } in (
-              complete,
-              c.is_judged-is_asked.ensures.0 (found.asked yes),
+            record { right = right; before = found.before yes; shown = c.in_ok-unshown.ensures.shown so.2 } in (
+              so.0,
+              so.1,
               subst (λ i. IsRightThroughout i c.args.asked.now.begin.now expected claims) image
                   (subst (λ ts. IsRightThroughout v.image ts expected claims) begin here),
             ),
         λ all.
-            found.only all.0 (c.is_judged-is_asked.ensures.1 all.1) (c.in_ok-space.ensures.taken all.0)
-            (subst (λ ts. IsRightThroughout v.image ts expected claims) (sym begin)
-            (subst (λ i. IsRightThroughout i c.args.asked.now.begin.now expected claims) (sym image) all.2)),
+            let right : IsRightThroughout v.image v.begin expected claims =
+            subst (λ ts. IsRightThroughout v.image ts expected claims) (sym begin)
+            (subst (λ i. IsRightThroughout i c.args.asked.now.begin.now expected claims) (sym image) all.2) in
+            let tells : TellsOfClaims v claims =
+            elim (c.in_ok-space.ensures.known all.0) [
+              | inl whole ↦ inl whole
+              | inr shown ↦ inr shown.1
+            ] in
+            let none = c.in_ok-unshown.ensures.only tells right.shown in
+            found.only (judged.1 (all.0, all.1, none))
+            (c.in_ok-space.ensures.taken all.0) right,
       );
 }

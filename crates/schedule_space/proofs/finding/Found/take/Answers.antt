@@ -1,8 +1,7 @@
-use Rattle.std.proofs.Common.{◌≡◌, ap, sym, subst, rules, inl, refl}
-use Rattle.machine.specs.MachineValue.{MachineValue}
+use Rattle.std.proofs.Common.{◌≡◌, sym, subst, rules, inl, refl}
 use Rattle.processor.specs.World.{after}
 use Rattle.schedule_space.specs.declared.links.Edge.{Edge}
-use Rattle.schedule_space.specs.Spaces.{SpaceValue}
+use Rattle.schedule_space.specs.Spaces.{SpaceValue, world_of}
 use Rattle.schedule_space.specs.Finding.{IsGrown, IsTakenTo}
 use Rattle.schedule_space.proofs.Growing.{grown_trans, with_edge_grown}
 use Rattle.schedule_space.proofs.Placing.{edge_expanding, stays_expanding}
@@ -11,24 +10,28 @@ use Rattle.schedule_space.proofs.finding.Found.take.Goals as goal
 
 pub add_edge-requires : goal.add_edge-requires
 add_edge-requires g c =
-    let m = c.args.machine.now in
-    edge_to c.args.self.now c.place.new.self c.args.from c.in_ok-to.to c.args.step (after m.image m.world c.args.step)
+    let v = c.args.self.now in
+    let here = after v.image (world_of v c.args.link.from) c.args.link.step in
+    edge_to c.args.self.now c.place.new.self c.args.link.from c.in_ok-to.to c.args.link.step here
     c.place.ensures.grown c.requires.expanding.there c.in_ok-to.ensures.there c.in_ok-to.ensures.stands
-    (ap (λ (x : MachineValue). after x.image x.world c.args.step) c.requires.machine) (search rules)
+    refl (search rules)
 
-pub returns-then-to-from : goal.returns-then-to-from
-returns-then-to-from g c =
-    let m = c.args.machine.now in
-    let there : IsTakenTo c.place.new.self c.args.from c.args.step c.in_ok-to.to =
-    taken_there c.args.self.now c.place.new.self c.args.from c.in_ok-to.to c.args.step
-    (after m.image m.world c.args.step) c.place.ensures.grown c.requires.expanding.there c.in_ok-to.ensures.there
-    c.in_ok-to.ensures.stands (ap (λ (x : MachineValue). after x.image x.world c.args.step) c.requires.machine)
+pub returns-then-to-link : goal.returns-then-to-link
+returns-then-to-link g c =
+    let v = c.args.self.now in
+    let here = after v.image (world_of v c.args.link.from) c.args.link.step in
+    let there : IsTakenTo c.place.new.self c.args.link.from c.args.link.step c.in_ok-to.to =
+    taken_there c.args.self.now c.place.new.self c.args.link.from c.in_ok-to.to c.args.link.step
+    here c.place.ensures.grown c.requires.expanding.there c.in_ok-to.ensures.there
+    c.in_ok-to.ensures.stands refl
     c.place.ensures.expanding.breadth (inl (search rules)) in
     record {
       grown = c.place.ensures.grown;
       expanding = c.place.ensures.expanding;
       taken = there.0;
       to = there;
+      kept = c.place.ensures.kept;
+      still = c.in_ok-to.ensures.still;
     }
 
 pub returns-in_err-add_edge-clause-grown : goal.returns-in_err-add_edge-clause-grown
@@ -39,28 +42,30 @@ returns-in_err-add_edge-clause-grown g c =
 pub returns-in_err-add_edge-clause-expanding : goal.returns-in_err-add_edge-clause-expanding
 returns-in_err-add_edge-clause-expanding g c =
     stays_expanding c.place.new.self c.add_edge.new.self c.place.new.frontier.items c.place.new.frontier.items
-    c.args.from c.args.most c.in_err-add_edge.ensures.stays refl c.place.ensures.expanding
+    c.args.link.from c.args.most c.in_err-add_edge.ensures.stays refl c.place.ensures.expanding
 
 pub returns : goal.returns
 returns g c =
     let v = c.args.self.now in
-    let m = c.args.machine.now in
+    let behind = after v.image (world_of v c.args.link.from) c.args.link.step in
     let here = c.place.new.self in
     let new = c.add_edge.new.self in
-    let e : Edge = record { from = c.args.from; step = c.args.step; to = c.in_ok-to.to } in
+    let e : Edge = record { from = c.args.link.from; step = c.args.link.step; to = c.in_ok-to.to } in
     let is = c.in_ok-add_edge.ensures.added in
-    let there : IsTakenTo new c.args.from c.args.step c.in_ok-to.to =
-    subst (λ (x : SpaceValue). IsTakenTo x c.args.from c.args.step c.in_ok-to.to) (sym is)
-    (taken_edge v here c.args.from c.in_ok-to.to c.args.step (after m.image m.world c.args.step) e
+    let there : IsTakenTo new c.args.link.from c.args.link.step c.in_ok-to.to =
+    subst (λ (x : SpaceValue). IsTakenTo x c.args.link.from c.args.link.step c.in_ok-to.to) (sym is)
+    (taken_edge v here c.args.link.from c.in_ok-to.to c.args.link.step behind e
     c.place.ensures.grown c.requires.expanding.there c.in_ok-to.ensures.there c.in_ok-to.ensures.stands
-    (ap (λ (x : MachineValue). after x.image x.world c.args.step) c.requires.machine)
+    refl
     c.place.ensures.expanding.breadth refl) in
     record {
       grown =
           grown_trans v here new c.place.ensures.grown
           (subst (λ (x : SpaceValue). IsGrown here x) (sym is) (with_edge_grown here e));
       expanding =
-          edge_expanding here new e c.place.new.frontier.items c.args.from c.args.most is c.place.ensures.expanding;
+          edge_expanding here new e c.place.new.frontier.items c.args.link.from c.args.most is c.place.ensures.expanding;
       taken = there.0;
       to = there;
+      kept = c.place.ensures.kept;
+      still = c.in_ok-to.ensures.still;
     }

@@ -1,6 +1,7 @@
-use Rattle.std.proofs.Common.{◌≡◌, arith, rules, inr, subst, get_or}
+use Rattle.std.proofs.Common.{◌≡◌, ◌∙◌, ap, refl, arith, rules, inr, subst, get_or, Some}
 use Rattle.std.specs.Prelude.{OnOk, List}
 use Rattle.processor.specs.declared.steps.Step.{Step}
+use Rattle.machine.specs.MachineValue.{MachineValue}
 use Rattle.schedule_space.specs.Spaces.{schedule_of, machine_after}
 use Rattle.schedule_space.specs.Finding.{IsExpanding}
 use Rattle.schedule_space.proofs.Growing.{grown_refl, grown_trans}
@@ -12,18 +13,26 @@ pub take_free-requires : goal.take_free-requires
 take_free-requires g c =
     let expanding : IsExpanding c.loop-step.self c.loop-step.frontier.items c.args.from c.args.most =
     c.loop-step.invariant.expanding in
-    let machine : c.args.machine.now ≡ machine_after c.loop-step.self.image (schedule_of c.loop-step.self c.args.from) =
-    machine_grown c.args.self.now c.loop-step.self c.args.from c.args.machine.now c.loop-step.invariant.grown
-    c.requires.expanding.there c.requires.machine in
+    let v = c.args.self.now in
+    let here = c.loop-step.self in
+    let machine : c.loop-step.machine ≡ Some (machine_after here.image (schedule_of here c.args.from)) =
+    c.loop-step.invariant.machine
+    ∙ ap (λ (m : MachineValue). Some m)
+    (machine_grown v here c.args.from (machine_after v.image (schedule_of v c.args.from)) c.loop-step.invariant.grown
+    c.requires.expanding.there refl) in
     search rules
 
 pub take_all-requires : goal.take_all-requires
 take_all-requires g c =
     let expanding : IsExpanding c.loop-step.self c.loop-step.frontier.items c.args.from c.args.most =
     c.loop-step.invariant.expanding in
-    let machine : c.args.machine.now ≡ machine_after c.loop-step.self.image (schedule_of c.loop-step.self c.args.from) =
-    machine_grown c.args.self.now c.loop-step.self c.args.from c.args.machine.now c.loop-step.invariant.grown
-    c.requires.expanding.there c.requires.machine in
+    let v = c.args.self.now in
+    let here = c.loop-step.self in
+    let machine : c.loop-step.machine ≡ Some (machine_after here.image (schedule_of here c.args.from)) =
+    c.loop-step.invariant.machine
+    ∙ ap (λ (m : MachineValue). Some m)
+    (machine_grown v here c.args.from (machine_after v.image (schedule_of v c.args.from)) c.loop-step.invariant.grown
+    c.requires.expanding.there refl) in
     search rules
 
 pub loop-step-init : goal.loop-step-init
@@ -31,6 +40,7 @@ loop-step-init g c = record {
   grown = grown_refl c.args.self.now;
   expanding = c.requires.expanding;
   waits = λ k d below. absurd (omega arith);
+  machine = c.requires.machine;
 }
 
 pub returns-in_err-is_later-clause-grown : goal.returns-in_err-is_later-clause-grown
@@ -63,6 +73,7 @@ loop-step-preserved g c =
           waits_next here new c.args.from n c.loop-step.others.items c.take_free.new.others.items ts none
           c.take_free.ensures.grown c.loop-step.invariant.expanding.there (omega arith) c.take_free.ensures.others
           c.loop-step.invariant.waits last;
+      machine = c.in_ok-is_later.ensures.still c.if-is_later.false ∙ c.loop-step.invariant.machine;
     }
 
 pub returns : goal.returns
@@ -72,9 +83,10 @@ returns g c = record {
   expanding = c.take_all.ensures.expanding;
   quiet =
       followed_if c.take_all.result c.args.looked_at.now c.take_all.new.self c.args.from
-      (expanded_if c.take_all.result c.args.self.now c.take_all.new.self c.args.from c.args.machine.now c.args.running.now
+      (expanded_if c.take_all.result c.args.self.now c.take_all.new.self c.args.from
+      (machine_after c.args.self.now.image (schedule_of c.args.self.now c.args.from)) c.args.running.now
       (grown_trans c.args.self.now c.loop-step.self c.take_all.new.self c.loop-step.invariant.grown c.take_all.ensures.grown)
-      c.requires.expanding.there c.requires.machine c.requires.running
+      c.requires.expanding.there refl c.requires.running
       (waiting_taken c.take_all.result c.loop-step.self c.take_all.new.self c.args.from c.loop-step.step-index
       c.loop-step.others.items c.args.running.now c.take_all.ensures.grown c.loop-step.invariant.expanding.there
       (omega arith) c.loop-step.invariant.waits

@@ -1,0 +1,155 @@
+//! The exercises of a folder.
+
+use command_parts::{Inputs, LabFault};
+use plain_text::plain;
+use std::alloc::{AllocError, Global};
+use std::io::{Error, Read};
+use std::rt::Files;
+use std::str;
+
+/// The bytes that one read of a folder's names asks for.
+const CHUNK: usize = 65_536;
+
+/// The most exercises of a folder.
+const MOST_EXERCISES: usize = 1_000;
+
+/// An exercise.
+#[derive(Drop)]
+pub(crate) struct Exercise {
+    /// Its number, which its folder's name begins with.
+    pub number: usize,
+    /// The path of its folder.
+    pub path: String,
+    /// What it is called: the first line of its task, without control bytes.
+    pub title: String,
+}
+
+impl Exercise {
+    /// The path of a file in its folder.
+    pub(crate) fn file(&self, alloc: Global, name: &str) -> Result<String, AllocError> {
+        let path = self.path.as_str();
+        format!(in alloc; "{path}/{name}")
+    }
+}
+
+/// The exercises of a folder, in the order of their names, one at least: its folders `NUMBER_NAME`.
+pub(crate) fn read_exercises<F: Files, R: Read>(
+    alloc: Global,
+    inputs: &mut Inputs<'_, F, R>,
+    folder: &str,
+) -> Result<Vec<Exercise>, LabFault> {
+    let names = names_of_exercises(alloc, inputs.files, folder)?;
+    let mut exercises = Vec::new(alloc);
+    for name in &names {
+        if let Some(number) = number_in(name) {
+            exercises.push(exercise_of(alloc, inputs, folder, name, number)?)?;
+        }
+    }
+    Ok(exercises)
+}
+
+/// The number of an exercise, by its number or by the name of its folder: `3`, `03_lock`.
+pub(crate) fn number_in(word: &str) -> Option<usize> {
+    let digits = match word.split_once('_') {
+        Some((before, _)) => before,
+        None => word,
+    };
+    if digits.bytes().all(|byte| byte.is_ascii_digit()) {
+        digits.parse::<usize>().ok()
+    } else {
+        None
+    }
+}
+
+/// The exercise of a folder's name.
+fn exercise_of<F: Files, R: Read>(
+    alloc: Global,
+    inputs: &mut Inputs<'_, F, R>,
+    folder: &str,
+    name: &str,
+    number: usize,
+) -> Result<Exercise, LabFault> {
+    let slash = slash_after(folder);
+    let path = format!(in alloc; "{folder}{slash}{name}")?;
+    let task = format!(in alloc; "{path}/task.md")?;
+    let text = inputs.read(alloc, &task)?;
+    Ok(Exercise {
+        number,
+        path,
+        title: title_of(alloc, &text)?,
+    })
+}
+
+/// What stands between a folder's path and a name in it.
+fn slash_after(folder: &str) -> &'static str {
+    if folder.ends_with('/') { "" } else { "/" }
+}
+
+/// The first line of a task, without the mark of a heading.
+fn title_of(alloc: Global, task: &[u8]) -> Result<String, AllocError> {
+    let line = task.split(|byte| *byte == b'\n').next().unwrap_or(b"");
+    let line = str::from_utf8(line).unwrap_or("");
+    plain(alloc, line.strip_prefix("# ").unwrap_or(line).trim())
+}
+
+/// The names of a folder's exercises, in their order.
+fn names_of_exercises<F: Files>(
+    alloc: Global,
+    files: &F,
+    folder: &str,
+) -> Result<Vec<String>, LabFault> {
+    let bytes = bytes_of_folder(alloc, files, folder)?;
+    let mut names: Vec<String> = Vec::new(alloc);
+    for entry in bytes.split(|byte| *byte == 0) {
+        if let Some(name) = name_of_exercise(entry)
+            && names.len() < MOST_EXERCISES
+        {
+            names.push(String::from_str(alloc, name)?)?;
+        }
+    }
+    if names.is_empty() {
+        return Err(LabFault::Words(format!(in alloc;
+            "{folder}: no exercise is here, as a folder 01_NAME; --folder says where they are"
+        )?));
+    }
+    names.sort()?;
+    Ok(names)
+}
+
+/// The name of the exercise that an entry of a folder is.
+fn name_of_exercise(entry: &[u8]) -> Option<&str> {
+    let name = str::from_utf8(entry).ok()?;
+    let (digits, _) = name.split_once('_')?;
+    if digits.is_empty() {
+        return None;
+    }
+    number_in(name)?;
+    Some(name)
+}
+
+/// The names in a folder, each with a zero after it.
+fn bytes_of_folder<F: Files>(alloc: Global, files: &F, folder: &str) -> Result<Vec<u8>, LabFault> {
+    let slash = slash_after(folder);
+    let path = format!(in alloc; "{folder}{slash}")?;
+    let mut names = Vec::new(alloc);
+    let mut chunk = vec![in alloc; 0; CHUNK]?;
+    let mut reader = match files.open_dir(&path) {
+        Ok(reader) => reader,
+        Err(error) => return Err(not_read(alloc, folder, &error)?),
+    };
+    for _ in 0..u64::MAX {
+        match reader.read(&mut chunk) {
+            Ok(0) => return Ok(names),
+            Ok(count) => names.extend_from_slice(&chunk[..count])?,
+            Err(error) => return Err(not_read(alloc, folder, &error)?),
+        }
+    }
+    Ok(names)
+}
+
+/// What is said of a folder that can't be read.
+fn not_read(alloc: Global, folder: &str, error: &Error) -> Result<LabFault, AllocError> {
+    Ok(LabFault::Words(format!(in alloc;
+        "{folder}: read failed: {error}; --folder says where the exercises are"
+    )?))
+}

@@ -1,0 +1,12 @@
+//! The command `exercise`: the exercises of a folder, what is done of them, and what is said of a program.
+#![tactic(auto)]
+
+mod advice;
+mod exercising;
+mod folders;
+mod hints;
+mod judging;
+mod listing;
+mod telling;
+
+pub use exercising::exercise;

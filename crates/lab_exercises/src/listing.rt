@@ -1,0 +1,37 @@
+//! All exercises, and which are done.
+
+use crate::folders::Exercise;
+use crate::judging::Judgement;
+use std::alloc::AllocError;
+
+/// How many characters the longest title has.
+pub(crate) fn widest(exercises: &[Exercise]) -> usize {
+    let mut widest: usize = 0;
+    for exercise in exercises.iter() {
+        widest = widest.max(exercise.title.chars().count());
+    }
+    widest
+}
+
+/// Adds the line of an exercise: its number, its title in so many columns, and how far its program is.
+pub(crate) fn push_line(
+    out: &mut String,
+    exercise: &Exercise,
+    width: usize,
+    judgement: &Judgement,
+) -> Result<(), AllocError> {
+    let (number, title) = (exercise.number, exercise.title.as_str());
+    write!(out, "{number:>3}  {title}")?;
+    for _ in title.chars().count()..width {
+        out.push_str(" ")?;
+    }
+    if judgement.is_right() {
+        return out.push_str("  done\n");
+    }
+    if judgement.is_source_fault() {
+        let why = judgement.why.as_str();
+        return write!(out, "  does not assemble: {why}\n");
+    }
+    let verdict = judgement.verdict.as_str();
+    write!(out, "  not yet: {verdict}\n")
+}

@@ -1,0 +1,94 @@
+//! What is wished of a program as a whole, and is not so.
+
+use crate::expected_lines::ExpectedLines;
+use command_parts::push_object;
+use lab_ends::Wishes;
+use lab_json::{line_value, object_of};
+use serde_json::Value;
+use std::alloc::{AllocError, Global};
+
+/// What is wished of a program as a whole, and is not so.
+#[derive(Clone, Copy, Debug)]
+pub struct Unkept {
+    /// The place of the first rule of programs that it breaks.
+    pub rule: Option<usize>,
+    /// The place of the first claim that has to hold of one world at least, and that none shows which was looked at.
+    pub unshown: Option<usize>,
+}
+
+/// Adds the first rule that a program breaks, if it breaks one, and the first claim that no world shows,
+/// by every schedule or by some runs: those say nothing of other schedules.
+pub fn push_unkept(
+    out: &mut String,
+    text: &[u8],
+    wishes: &Wishes,
+    unkept: Unkept,
+    is_of_every: bool,
+) -> Result<(), AllocError> {
+    if let Some(said) = unkept.rule.and_then(|place| wishes.rules.get(place)) {
+        let line = said.line;
+        let words = said.text.as_str();
+        write!(out, "NOT as expected: {words} (line {line})\n")?;
+    }
+    if let Some(words) = unshown_words(wishes, unkept) {
+        let lines = ExpectedLines {
+            text,
+            expected: &wishes.ends,
+        };
+        let line = lines.line_of_claim(words);
+        let (head, who) = if is_of_every {
+            ("NOT as expected", "schedule")
+        } else {
+            ("not decided", "run")
+        };
+        write!(
+            out,
+            "{head}: {words} (line {line}): in no state of any {who}\n"
+        )?;
+    }
+    Ok(())
+}
+
+/// Adds the objects of the same.
+pub fn push_unkept_objects(
+    alloc: Global,
+    out: &mut String,
+    text: &[u8],
+    wishes: &Wishes,
+    unkept: Unkept,
+) -> Result<(), AllocError> {
+    if let Some(said) = unkept.rule.and_then(|place| wishes.rules.get(place)) {
+        let line = line_value(alloc, said.line, &said.text)?;
+        push_line_object(alloc, out, "rule", "broken", line)?;
+    }
+    if let Some(words) = unshown_words(wishes, unkept) {
+        let lines = ExpectedLines {
+            text,
+            expected: &wishes.ends,
+        };
+        let line = lines.claim_value(alloc, words)?;
+        push_line_object(alloc, out, "unshown", "claim", line)?;
+    }
+    Ok(())
+}
+
+/// The words of the claim that no world shows.
+fn unshown_words<'w>(wishes: &'w Wishes, unkept: Unkept) -> Option<&'w str> {
+    let text = unkept
+        .unshown
+        .and_then(|place| wishes.claim_texts.get(place))?;
+    Some(text.as_str())
+}
+
+/// Adds an object of this kind, whose one field is a line.
+fn push_line_object(
+    alloc: Global,
+    out: &mut String,
+    kind: &str,
+    field: &str,
+    line: Value,
+) -> Result<(), AllocError> {
+    let mut fields = object_of(alloc, kind)?;
+    serde_json::put(&mut fields, alloc, field, line)?;
+    push_object(alloc, out, &Value::Object(fields))
+}

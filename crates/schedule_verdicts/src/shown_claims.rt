@@ -1,0 +1,82 @@
+//! Whether some world shows a claim that has to hold of one at least.
+
+ghost use Rattle.std.specs.Prelude.{◌≡◌, ◌<◌, IsTrue, IsFalse, IfSome, IfOk, None, Err};
+ghost use Rattle.schedule_verdicts.specs.ShownClaims.{IsShownOnTheWay, IsUnshownOnTheWay, IsShown, AreShown};
+ghost use Rattle.schedule_verdicts.specs.ShownClaims.{IsUnshownIn, IsUnshownAt, TellsOfClaims};
+
+use claims::Claim;
+use image_file::Image;
+use machine::{LoadFault, Machine};
+use processor::Step;
+use schedule_space::Space;
+use std::alloc::Global;
+
+/// The first of some claims, counted from 0, that no world of a space shows and none on the way through its beginning; None
+/// where each is shown. Then each is shown by a schedule. Of a space that has all worlds, or that leaves out just steps at
+/// which the claims do not look, this is so where each is.
+///
+/// `Streams` only where the image's slim is above `S`.
+pub fn first_unshown<const S: usize>(
+    alloc: Global,
+    space: &Space<'_>,
+    claims: &[Claim],
+) -> Result<Option<usize>, LoadFault>
+    ensures shown { IfOk result (λ told. told ≡ None → AreShown space.now.image space.now.begin claims.now) }
+    ensures only { IfOk result (λ told. TellsOfClaims space.now claims.now
+        → AreShown space.now.image space.now.begin claims.now → told ≡ None) }
+    ensures unshown { IfOk result (λ told. IfSome told (λ k. IsUnshownAt space.now claims.now k)) }
+{
+    // They say that it has a first world, and that what is live is all that may be read.
+    let (_worlds, _live) = (space.len(), space.live());
+    for place in 0..claims.len() {
+        if !is_shown::<S>(alloc, space, &claims[place])? {
+            return Ok(Some(place));
+        }
+    }
+    Ok(None)
+}
+
+/// Whether a world of a space shows a claim, or one on the way through its beginning.
+fn is_shown<const S: usize>(
+    alloc: Global,
+    space: &Space<'_>,
+    claim: &Claim,
+) -> Result<bool, LoadFault>
+    ensures shown { IfOk result (λ b. IsTrue b → IsShown space.now.image space.now.begin claim.now) }
+    ensures unshown { IfOk result (λ b. IsFalse b → IsUnshownIn space.now claim.now) }
+{
+    if is_shown_on_the_way::<S>(alloc, space.image(), space.begin(), claim)? {
+        return Ok(true);
+    }
+    for place in 0..space.len() {
+        let machine = space.machine::<S>(alloc, place)?;
+        if claim.is_shown(&machine) {
+            return Ok(true);
+        }
+    }
+    Ok(false)
+}
+
+/// Whether some world on the way through a schedule of an image shows a claim: the first one, or that behind some step.
+///
+/// `Streams` only where the image's slim is above `S`.
+pub fn is_shown_on_the_way<const S: usize>(
+    alloc: Global,
+    image: &Image,
+    schedule: &[Step],
+    claim: &Claim,
+) -> Result<bool, LoadFault>
+    ensures shown { IfOk result (λ b. IsTrue b → IsShownOnTheWay image.now schedule.now claim.now) }
+    ensures unshown { IfOk result (λ b. IsFalse b → IsUnshownOnTheWay image.now schedule.now claim.now) }
+    ensures streams { result ≡ Err LoadFault.Streams → S < image.now.slim }
+{
+    let mut machine = Machine::<S>::load(alloc, image)?;
+    for taken in 0..schedule.len() {
+        if claim.is_shown(&machine) {
+            return Ok(true);
+        }
+        let step = schedule[taken];
+        machine.step(step.p, step.s);
+    }
+    Ok(claim.is_shown(&machine))
+}

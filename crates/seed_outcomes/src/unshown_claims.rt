@@ -1,0 +1,30 @@
+//! Claims that have to hold of one world at least, by the runs of seeds.
+
+ghost use Rattle.std.specs.Prelude.{IfOk};
+ghost use Rattle.seed_verdicts.specs.ShownBySeeds.{IsToldOfClaims};
+
+use claims::Claim;
+use image_file::Image;
+use machine::LoadFault;
+use seed_verdicts::{Seeds, first_unshown_by_seeds};
+use std::alloc::{AllocError, Global};
+
+/// The place of the first claim that has to hold of one world at least, and that the run of no seed shows.
+pub fn unshown_by_seeds(
+    alloc: Global,
+    image: &Image,
+    claims: &[Claim],
+    seeds: Seeds,
+) -> Result<Option<usize>, AllocError>
+    ensures { IfOk result (λ told. IsToldOfClaims image.now claims.now seeds told) }
+{
+    let told = if image.slim() <= 8 {
+        first_unshown_by_seeds::<8>(alloc, image, claims, seeds)
+    } else {
+        first_unshown_by_seeds::<128>(alloc, image, claims, seeds)
+    };
+    match told {
+        Ok(told) => Ok(told),
+        Err(LoadFault::NoMemory | LoadFault::Streams) => Err(AllocError),
+    }
+}

@@ -1,4 +1,0 @@
-use Rattle.thread_tests.proofs.turn_limits.answer_so.Given as goal
-
-abbrev pub ghosts-answer_at : goal.ghosts-answer_at
-ghosts-answer_at g a = record { table = a.table.shared.table_id }
