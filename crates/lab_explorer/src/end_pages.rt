@@ -61,11 +61,12 @@ impl FoundProgram<'_> {
         let names = RunNames {
             program: stem_of(self.path),
             schedule: &schedule,
-            verdict: self.verdict_of(end, &missed),
         };
+        let verdict = self.verdict_of(end, &missed);
         page_of_run(
             alloc,
             names,
+            verdict,
             &self.program.text,
             &self.program.image,
             &end.schedule,

@@ -62,9 +62,8 @@ fn page_by_case<C: Clock, E: Write>(
             let names = RunNames {
                 program: called,
                 schedule: &schedule,
-                verdict: judged,
             };
-            Ok(replay_page(alloc, names, program, &made.steps)?)
+            Ok(replay_page(alloc, names, judged, program, &made.steps)?)
         }
         Witness::Schedule(steps) => {
             let played = page_of_all(alloc, called, program, case, steps, console)?;
@@ -74,9 +73,8 @@ fn page_by_case<C: Clock, E: Write>(
                     let names = RunNames {
                         program: called,
                         schedule: "the schedule that decides",
-                        verdict: judged,
                     };
-                    Ok(replay_page(alloc, names, program, steps)?)
+                    Ok(replay_page(alloc, names, judged, program, steps)?)
                 }
             }
         }

@@ -37,10 +37,17 @@ fn page_text<F: Files, R: Read>(
     let names = RunNames {
         program: program_name(request),
         schedule: &schedule,
-        verdict: RunVerdict::NotJudged,
     };
     let program = &run.program;
-    Ok(page_of_run(alloc, names, &program.text, &program.image, &run.steps)?)
+    let verdict = RunVerdict::NotJudged;
+    Ok(page_of_run(
+        alloc,
+        names,
+        verdict,
+        &program.text,
+        &program.image,
+        &run.steps,
+    )?)
 }
 
 /// The page of two runs, the second by this schedule.

@@ -3,7 +3,7 @@
 use crate::paging::{RunToShow, program_name, run_to_show, schedule_words};
 use command_parts::{Answer, Inputs, LabFault, loaded};
 use lab_requests::PageRequest;
-use replay_page::{MOST_DRAWN_STEPS, MOST_STEPS, RunNames, RunVerdict, picture_of};
+use replay_page::{MOST_DRAWN_STEPS, MOST_STEPS, RunNames, picture_of};
 use std::alloc::{AllocError, Global};
 use std::io::Read;
 use std::rt::Files;
@@ -63,7 +63,6 @@ fn picture_text(
     let names = RunNames {
         program: program_name(request),
         schedule: &schedule,
-        verdict: RunVerdict::NotJudged,
     };
     if run.program.image.slim() <= 8 {
         picture_on::<8>(alloc, names, run, request.from)

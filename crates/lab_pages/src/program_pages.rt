@@ -7,23 +7,24 @@ use lab_explorer::Console;
 use lab_requests::PlayRequest;
 use lab_texts::ProgramNames;
 use processor::Step;
-use replay_page::{MOST_STEPS, RunNames, page_of_run};
+use replay_page::{MOST_STEPS, RunNames, RunVerdict, page_of_run};
 use schedule_page::MOST_STATES;
 use std::alloc::{AllocError, Global};
 use std::io::Write;
 use std::time::Clock;
 
-/// The page of a program's run by these steps; None if they are more than a page shows.
+/// The page of a program's run by these steps, with how its end was judged; None if they are more than a page shows.
 pub fn replay_page(
     alloc: Global,
     names: RunNames,
+    verdict: RunVerdict<'_>,
     program: &Program,
     steps: &[Step],
 ) -> Result<Option<String>, AllocError> {
     if steps.len() > MOST_STEPS {
         return Ok(None);
     }
-    let page = page_of_run(alloc, names, &program.text, &program.image, steps)?;
+    let page = page_of_run(alloc, names, verdict, &program.text, &program.image, steps)?;
     Ok(Some(page))
 }
 

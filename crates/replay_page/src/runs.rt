@@ -16,15 +16,13 @@ use step_views::StepView;
 use waiting::Wanted;
 use whole_runs::first_difference;
 
-/// What a run is called, and how its end was judged.
+/// What a run is called.
 #[derive(Clone, Copy, Debug)]
 pub struct RunNames<'a> {
     /// The program.
     pub program: &'a str,
     /// The schedule.
     pub schedule: &'a str,
-    /// How its end was judged.
-    pub verdict: RunVerdict<'a>,
 }
 
 /// What two runs of a program are called.
@@ -39,10 +37,11 @@ pub struct PairNames<'a> {
 }
 
 /// A run as one JSON object: the program with this text, the world at the start, each step with its changes, the waits,
-/// the findings and the end (docs/PAGE.md, "The data"). The machine has taken no step.
+/// the findings and the end, with how that was judged (docs/PAGE.md, "The data"). The machine has taken no step.
 pub(crate) fn run_json<const S: usize>(
     alloc: Global,
     names: RunNames,
+    verdict: RunVerdict<'_>,
     text: &[u8],
     start: &Machine<'_, S>,
     schedule: &[Step],
@@ -54,7 +53,7 @@ pub(crate) fn run_json<const S: usize>(
     };
     let mut json = open_head(alloc, title, text, start)?;
     push_run(alloc, &mut json, start, schedule)?;
-    names.verdict.push_members(alloc, &mut json)?;
+    verdict.push_members(alloc, &mut json)?;
     json.push_str("}\n")?;
     Ok(json)
 }

@@ -1,24 +1,29 @@
 //! The pages of programs, of their images and their schedules.
 
 use crate::pages::{page_of, pair_page_of};
+use crate::run_verdicts::RunVerdict;
 use crate::runs::{PairNames, RunNames, both_names, pair_json, run_json};
 use image_file::Image;
 use machine::{LoadFault, Machine};
 use processor::Step;
 use std::alloc::{AllocError, Global};
 
-/// The page of the run of a program with this text and this image by a schedule, with its names as the title.
+/// The page of the run of a program with this text and this image by a schedule, with its names as the title, and how its
+/// end was judged.
 pub fn page_of_run(
     alloc: Global,
     names: RunNames,
+    verdict: RunVerdict<'_>,
     text: &[u8],
     image: &Image,
     schedule: &[Step],
 ) -> Result<String, AllocError> {
     let json = if image.slim() <= 8 {
-        run_json(alloc, names, text, &loaded::<8>(alloc, image)?, schedule)?
+        let machine = loaded::<8>(alloc, image)?;
+        run_json(alloc, names, verdict, text, &machine, schedule)?
     } else {
-        run_json(alloc, names, text, &loaded::<128>(alloc, image)?, schedule)?
+        let machine = loaded::<128>(alloc, image)?;
+        run_json(alloc, names, verdict, text, &machine, schedule)?
     };
     let title = title_of(alloc, names.program, names.schedule)?;
     page_of(alloc, &title, &json)
