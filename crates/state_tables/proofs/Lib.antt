@@ -1,0 +1,4 @@
+pub mod Lists
+pub mod RowsSoFar
+pub mod Telling
+pub mod Leading
