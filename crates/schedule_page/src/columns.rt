@@ -7,7 +7,7 @@ const DIGITS: &[u8; 64] = b"0123456789ABCDEFGHIJKLMNOPQRSTUVWXYZabcdefghijklmnop
 
 /// Numbers as text.
 #[derive(Debug, Drop)]
-pub struct Column {
+pub(crate) struct Column {
     /// How many digits each number has, 1 to 6: as many as the greatest needs.
     pub width: u32,
     /// The digits of all numbers, the highest of each first.
@@ -15,7 +15,7 @@ pub struct Column {
 }
 
 /// Numbers as text.
-pub fn column_of(alloc: Global, numbers: &[u32]) -> Result<Column, AllocError> {
+pub(crate) fn column_of(alloc: Global, numbers: &[u32]) -> Result<Column, AllocError> {
     let width = width_of(numbers);
     let mut text = String::new(alloc);
     for number in numbers {

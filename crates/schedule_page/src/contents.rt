@@ -1,162 +1,99 @@
-//! What a stream holds, as numbers that tell it from others, and as JSON.
+//! What a stream holds, as JSON: of the numbers of its row (world_keys).
 
-use crate::numbers::{halves, number_of};
-use lab_json::{content_value, place_name};
-use machine::Machine;
 use serde_json::{Map, Value};
 use std::alloc::{AllocError, Global};
-use step_views::{Content, Place, StreamPart, content_of};
-use stream_core::Status;
 
 /// How many registers a stream has.
-const REGISTERS: u8 = 32;
+const REGISTERS: usize = 32;
 
 /// How many target registers a stream has.
-const TARGETS: u8 = 8;
+const TARGETS: usize = 8;
+
+/// The numbers of 64 bits behind the registers and the targets: status word, trap register, retry count, and the status, which
+/// is 1 if the stream runs, and above that one more than the number of the trap that stopped it.
+const STATUS_WORD: usize = 40;
+
+const TRAP_REGISTER: usize = 41;
+
+const RETRIES: usize = 42;
+
+const STATUS: usize = 43;
 
 /// The pc of a target register that names no handler.
 const NO_HANDLER: u64 = 0xFFFF_FFFF;
 
-/// The parts of a stream beside its registers.
-const PARTS: [StreamPart; 7] = [
-    StreamPart::Status,
-    StreamPart::Pc,
-    StreamPart::Codes,
-    StreamPart::Mask,
-    StreamPart::InTrap,
-    StreamPart::TrapRegister,
-    StreamPart::Retries,
-];
-
-/// Writes what a stream holds as numbers: of each part that is not zero its own number and two of 32 bits, after the
-/// processor's number. Streams of one processor that hold something else have others.
-pub(crate) fn write_numbers<const S: usize>(
-    numbers: &mut Vec<u32>,
-    machine: &Machine<'_, S>,
-    p: u8,
-    s: u8,
-) -> Result<(), AllocError> {
-    numbers.clear();
-    numbers.push(u32::from(p))?;
-    for (index, part) in PARTS.iter().enumerate() {
-        push_part(
-            numbers,
-            machine,
-            Place::Stream { p, s, part: *part },
-            number_of(index),
-        )?;
-    }
-    for number in 0..REGISTERS {
-        let part = StreamPart::Register(number);
-        push_part(
-            numbers,
-            machine,
-            Place::Stream { p, s, part },
-            7 + u32::from(number),
-        )?;
-    }
-    for number in 0..TARGETS {
-        let part = StreamPart::Target(number);
-        push_part(
-            numbers,
-            machine,
-            Place::Stream { p, s, part },
-            39 + u32::from(number),
-        )?;
-    }
-    Ok(())
+/// Whether the stream of these numbers runs.
+pub(crate) fn is_running(numbers: &[u32]) -> bool {
+    word_at(numbers, STATUS) == 1
 }
 
-/// Adds what stands in a place, which has this number, if it is not zero.
-fn push_part<const S: usize>(
-    numbers: &mut Vec<u32>,
-    machine: &Machine<'_, S>,
-    place: Place,
-    number: u32,
-) -> Result<(), AllocError> {
-    let bits = match content_of(machine, place) {
-        Some(content) => bits_of(content),
-        None => 0,
-    };
-    if bits == 0 {
-        return Ok(());
-    }
-    numbers.push(number)?;
-    Ok(numbers.extend_from_slice(&halves(bits))?)
-}
-
-/// What stands in a place as 64 bits; a status as 0 for idle, 1 for running, and above that the trap that stopped it.
-fn bits_of(content: Content) -> u64 {
-    match content {
-        Content::Status(Status::Idle) => 0,
-        Content::Status(Status::Running) => 1,
-        Content::Status(Status::Stopped(trap)) => 1 + u64::from(trap.number()),
-        _ => content.number().unwrap_or(0),
-    }
-}
-
-/// What a stream holds as JSON: by their names the parts that are not zero, but for a target that names no handler;
-/// nothing of an idle stream.
-pub(crate) fn content_json<const S: usize>(
-    alloc: Global,
-    machine: &Machine<'_, S>,
-    p: u8,
-    s: u8,
-) -> Result<Value, AllocError> {
+/// What the stream of these numbers holds: its status and its pc, and by their names all other parts that are not zero, but for
+/// a target that names no handler.
+pub(crate) fn content_json(alloc: Global, numbers: &[u32]) -> Result<Value, AllocError> {
     let mut fields = Map::new(alloc);
-    let status = Place::Stream {
-        p,
-        s,
-        part: StreamPart::Status,
+    let status = match word_at(numbers, STATUS) {
+        0 => String::from_str(alloc, "idle")?,
+        1 => String::from_str(alloc, "running")?,
+        code => {
+            let trap = code.saturating_sub(1);
+            format!(in alloc; "stopped {trap}")?
+        }
     };
-    if content_of(machine, status) == Some(Content::Status(Status::Idle)) {
-        return Ok(Value::Object(fields));
-    }
-    for part in PARTS {
-        put_part(alloc, &mut fields, machine, Place::Stream { p, s, part })?;
-    }
+    serde_json::put(&mut fields, alloc, "status", Value::String(status))?;
+    let word = word_at(numbers, STATUS_WORD);
+    serde_json::put(&mut fields, alloc, "pc", Value::from(word & 0xFFFF_FFFF))?;
+    put_small(alloc, &mut fields, "codes", word >> 32 & 0xFFFF)?;
+    put_small(alloc, &mut fields, "mask", word >> 48 & 7)?;
+    put_small(alloc, &mut fields, "trap", word >> 56 & 1)?;
+    put_small(alloc, &mut fields, "retries", word_at(numbers, RETRIES))?;
+    put_large(alloc, &mut fields, "xr", word_at(numbers, TRAP_REGISTER))?;
     for number in 0..REGISTERS {
-        let part = StreamPart::Register(number);
-        put_part(alloc, &mut fields, machine, Place::Stream { p, s, part })?;
+        let name = format!(in alloc; "r{number}")?;
+        put_large(alloc, &mut fields, &name, word_at(numbers, number))?;
     }
     for number in 0..TARGETS {
-        let part = StreamPart::Target(number);
-        put_part(alloc, &mut fields, machine, Place::Stream { p, s, part })?;
+        let target = word_at(numbers, REGISTERS + number);
+        if target != NO_HANDLER {
+            let name = format!(in alloc; "t{number}")?;
+            put_large(alloc, &mut fields, &name, target)?;
+        }
     }
     Ok(Value::Object(fields))
 }
 
-/// Puts what stands in a place by the name of its part, if it says something.
-fn put_part<const S: usize>(
+/// Puts a number of few bits, if it is not zero.
+fn put_small(
     alloc: Global,
     fields: &mut Map<String, Value>,
-    machine: &Machine<'_, S>,
-    place: Place,
+    name: &str,
+    number: u64,
 ) -> Result<(), AllocError> {
-    let Some(content) = content_of(machine, place) else {
-        return Ok(());
-    };
-    if !is_shown(place, content) {
+    if number == 0 {
         return Ok(());
     }
-    let name = place_name(alloc, place)?;
-    let value = content_value(alloc, place, content)?;
-    serde_json::put(fields, alloc, last_part(&name), value)
+    serde_json::put(fields, alloc, name, Value::from(number))
 }
 
-/// The part of a place's name behind its last point.
-fn last_part(name: &str) -> &str {
-    match name.rsplit_once('.') {
-        Some((_, part)) => part,
-        None => name,
+/// Puts a number of 64 bits as its decimal digits, if it is not zero.
+fn put_large(
+    alloc: Global,
+    fields: &mut Map<String, Value>,
+    name: &str,
+    number: u64,
+) -> Result<(), AllocError> {
+    if number == 0 {
+        return Ok(());
     }
+    let text = format!(in alloc; "{number}")?;
+    serde_json::put(fields, alloc, name, Value::String(text))
 }
 
-/// Whether what stands in a place is shown: the pc always, no target that names no handler, nothing that is zero.
-fn is_shown(place: Place, content: Content) -> bool {
-    match (place, content) {
-        (_, Content::Target(word)) => word.bits() != 0 && word.bits() != NO_HANDLER,
-        (Place::Stream { part, .. }, _) if part == StreamPart::Pc => true,
-        _ => bits_of(content) != 0,
-    }
+/// The number of 64 bits at a place, of which there are two of 32, the lower first; 0 if there is none.
+fn word_at(numbers: &[u32], place: usize) -> u64 {
+    let low = numbers.get(place.saturating_mul(2)).copied().unwrap_or(0);
+    let high = numbers
+        .get(place.saturating_mul(2).saturating_add(1))
+        .copied()
+        .unwrap_or(0);
+    u64::from(low) | u64::from(high) << 32
 }

@@ -3,15 +3,15 @@
 use crate::columns::column_of;
 use crate::ends::{Judging, ends_json, numbers_json, schedule_text, texts_json};
 use crate::numbers::number_of;
-use crate::sets::EndSets;
-use crate::state_tables::{StateTables, machine_at};
-use crate::targets::targets_of;
+use crate::page_tables::PageTables;
+use crate::records::Records;
 use lab_ends::SpaceEnd;
 use lab_json::{RunTitle, head_value};
 use lab_texts::ProgramNames;
 use schedule_space::Space;
 use serde_json::{Map, Value, json};
 use space_graphs::ends_ahead;
+use state_tables::{NumberSets, depths_of, machine_at, rows_of, sets_of, targets_of};
 use std::alloc::{AllocError, Global};
 
 /// What a page is called, and what it is judged by.
@@ -118,27 +118,26 @@ fn put_states<const S: usize>(
     let steps = space.step_count();
     let counted = json!(in alloc; { "states": states, "steps": steps })?;
     put(alloc, fields, "counted", counted)?;
-    let tables = StateTables::of::<S>(alloc, space)?;
+    let rows = rows_of::<S>(alloc, space)?;
+    let tables = PageTables::of(alloc, &rows)?;
+    let mut records = Records::new(alloc);
+    records.add_all::<S>(alloc, space, &tables)?;
     let ahead = ends_ahead(alloc, space, ends)?;
-    let sets = EndSets::of(alloc, &ahead)?;
-    put(alloc, fields, "sets", sets_json(alloc, &ahead, &sets)?)?;
-    put(
-        alloc,
-        fields,
-        "states",
-        columns_json(alloc, space, &tables, &sets)?,
-    )?;
+    let sets = sets_of(alloc, &ahead)?;
+    put(alloc, fields, "sets", sets_json(alloc, &sets)?)?;
+    let columns = columns_json(alloc, space, &tables, &sets)?;
+    put(alloc, fields, "states", columns)?;
     put(alloc, fields, "streams", streams_json(alloc, &tables)?)?;
     let count = tables.contents.len();
-    let (records, does) = tables.records.into_json(alloc, count)?;
+    let (records, does) = records.into_json(alloc, count)?;
     put(alloc, fields, "contents", Value::Array(tables.contents))?;
     put(alloc, fields, "shared", Value::Array(tables.shared))?;
     put(alloc, fields, "steps", records)?;
     put(alloc, fields, "does", does)
 }
 
-/// The names of the streams that run in some state.
-fn streams_json(alloc: Global, tables: &StateTables) -> Result<Value, AllocError> {
+/// The names of the streams that are not idle in some state.
+fn streams_json(alloc: Global, tables: &PageTables) -> Result<Value, AllocError> {
     let mut names = Vec::with_capacity(alloc, tables.streams.len())?;
     for held in &tables.streams {
         let p = held.stream.p;
@@ -148,15 +147,13 @@ fn streams_json(alloc: Global, tables: &StateTables) -> Result<Value, AllocError
     Ok(Value::Array(names))
 }
 
-/// The distinct sets of ends, as places in the list of ends.
-fn sets_json(alloc: Global, ahead: &[Vec<usize>], sets: &EndSets) -> Result<Value, AllocError> {
-    let mut values = Vec::with_capacity(alloc, sets.firsts.len())?;
-    for first in &sets.firsts {
+/// The distinct sets of ends, as places in the list of ends, which the numbers of the ends count from 1.
+fn sets_json(alloc: Global, sets: &NumberSets) -> Result<Value, AllocError> {
+    let mut values = Vec::with_capacity(alloc, sets.table.len())?;
+    for place in 0..sets.table.len() {
         let mut places = Vec::new(alloc);
-        if let Some(numbers) = ahead.get(*first) {
-            for number in numbers {
-                places.push(number.saturating_sub(1))?;
-            }
+        for number in sets.table.list(place).unwrap_or(&[]) {
+            places.push((*number as usize).saturating_sub(1))?;
         }
         values.push(numbers_json(alloc, &places)?)?;
     }
@@ -167,13 +164,15 @@ fn sets_json(alloc: Global, ahead: &[Vec<usize>], sets: &EndSets) -> Result<Valu
 fn columns_json(
     alloc: Global,
     space: &Space<'_>,
-    tables: &StateTables,
-    sets: &EndSets,
+    tables: &PageTables,
+    sets: &NumberSets,
 ) -> Result<Value, AllocError> {
     let mut held = Vec::with_capacity(alloc, tables.streams.len())?;
     let mut to = Vec::with_capacity(alloc, tables.streams.len())?;
     for stream in &tables.streams {
-        held.push(column_json(alloc, &stream.numbers)?)?;
+        let mut numbers = Vec::from_slice(alloc, &stream.numbers)?;
+        numbers.resize(space.len(), 0)?;
+        held.push(column_json(alloc, &numbers)?)?;
         let targets = targets_of(alloc, space.len(), space.edges(), stream.stream)?;
         to.push(column_json(alloc, &targets)?)?;
     }
@@ -190,7 +189,7 @@ fn columns_json(
         alloc,
         &mut fields,
         "depth",
-        column_json(alloc, &depths_of(alloc, space)?)?,
+        column_json(alloc, &narrowed(alloc, &depths_of(alloc, space)?)?)?,
     )?;
     put(
         alloc,
@@ -201,19 +200,13 @@ fn columns_json(
     Ok(Value::Object(fields))
 }
 
-/// Of each state how many steps the schedule has by which it was found, after those that all begin with.
-fn depths_of(alloc: Global, space: &Space<'_>) -> Result<Vec<u32>, AllocError> {
-    let begin = space.begin().len();
-    let mut depths = Vec::with_capacity(alloc, space.len())?;
-    for place in 0..space.len() {
-        let steps = if place < space.len() {
-            space.schedule(alloc, place)?.len()
-        } else {
-            begin
-        };
-        depths.push(number_of(steps.saturating_sub(begin)))?;
+/// Numbers of 32 bits.
+fn narrowed(alloc: Global, numbers: &[usize]) -> Result<Vec<u32>, AllocError> {
+    let mut narrow = Vec::with_capacity(alloc, numbers.len())?;
+    for number in numbers {
+        narrow.push(number_of(*number))?;
     }
-    Ok(depths)
+    Ok(narrow)
 }
 
 /// Numbers as a column: how many digits each has, and all digits.

@@ -4,8 +4,3 @@
 pub(crate) fn number_of(count: usize) -> u32 {
     u32::try_from(count).unwrap_or(u32::MAX)
 }
-
-/// The lower and the upper half of 64 bits.
-pub(crate) fn halves(bits: u64) -> [u32; 2] {
-    [(bits & 0xFFFF_FFFF) as u32, (bits >> 32) as u32]
-}

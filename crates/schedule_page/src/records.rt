@@ -2,10 +2,14 @@
 //! stream holds and on what no stream has for itself alone.
 
 use crate::numbers::number_of;
+use crate::page_tables::PageTables;
 use lab_json::{outcome_name, reference_value};
+use processor::Step;
+use schedule_space::Space;
 use serde_json::Value;
+use state_tables::machine_at;
 use std::alloc::{AllocError, Global};
-use step_views::StepView;
+use step_views::{StepView, take_step};
 use world_keys::Table;
 
 /// The distinct records of steps, and which of them a stream's step has.
@@ -28,19 +32,70 @@ impl Records {
         }
     }
 
-    /// Whether the record of a stream's step is there, by the numbers of what it holds and of what is shared.
-    pub(crate) fn has(&self, content: u32, shared: u32) -> bool {
-        self.pairs.find(&[content, shared]).is_some()
+    /// Adds the records of the steps of all states of a space, by its tables.
+    pub(crate) fn add_all<const S: usize>(
+        &mut self,
+        alloc: Global,
+        space: &Space<'_>,
+        tables: &PageTables,
+    ) -> Result<(), AllocError> {
+        for (place, shared) in tables.shared_of.iter().enumerate() {
+            let missing = self.missing_at(alloc, tables, place, *shared)?;
+            if !missing.is_empty() {
+                self.add_at::<S>(alloc, space, place, *shared, &missing)?;
+            }
+        }
+        Ok(())
     }
 
-    /// Adds the record of a step that was not there.
-    pub(crate) fn add(
+    /// The streams that run in the state at a place, and what they hold, the record of whose step is not there.
+    fn missing_at(
+        &self,
+        alloc: Global,
+        tables: &PageTables,
+        place: usize,
+        shared: u32,
+    ) -> Result<Vec<(Step, u32)>, AllocError> {
+        let mut missing = Vec::new(alloc);
+        for held in &tables.streams {
+            let content = held.numbers.get(place).copied().unwrap_or(0);
+            let is_running = tables.running.get(content as usize) == Some(&true);
+            if is_running && self.pairs.find(&[content, shared]).is_none() {
+                missing.push((held.stream, content))?;
+            }
+        }
+        Ok(missing)
+    }
+
+    /// Adds the records of the steps of streams in the state at a place.
+    fn add_at<const S: usize>(
+        &mut self,
+        alloc: Global,
+        space: &Space<'_>,
+        place: usize,
+        shared: u32,
+        streams: &[(Step, u32)],
+    ) -> Result<(), AllocError> {
+        let machine = machine_at::<S>(alloc, space, place)?;
+        for (stream, content) in streams {
+            let mut after = machine.try_clone()?;
+            let view = take_step(alloc, &mut after, *stream)?;
+            self.add(alloc, *content, shared, &view)?;
+        }
+        Ok(())
+    }
+
+    /// Adds the record of a step, if it is not there: two streams may hold the same.
+    fn add(
         &mut self,
         alloc: Global,
         content: u32,
         shared: u32,
         view: &StepView,
     ) -> Result<(), AllocError> {
+        if self.pairs.find(&[content, shared]).is_some() {
+            return Ok(());
+        }
         let value = record_json(alloc, view)?;
         let number = self.number_of(alloc, value)?;
         self.pairs.place(&[content, shared])?;
