@@ -31,14 +31,14 @@ pub(crate) struct PageTables {
     pub streams: Vec<HeldContents>,
     /// Of each state the number of its shared state.
     pub shared_of: Vec<u32>,
-    content_of: Vec<u32>,
+    content_table: Table,
     shared_table: Table,
 }
 
 impl PageTables {
     /// The tables of rows.
     pub(crate) fn of(alloc: Global, rows: &StateRows) -> Result<PageTables, AllocError> {
-        let mut tables = PageTables::new(alloc, rows.table.len())?;
+        let mut tables = PageTables::new(alloc)?;
         for (place, row) in rows.rows.iter().enumerate() {
             tables.add_row(alloc, &rows.table, place, row)?;
         }
@@ -48,8 +48,10 @@ impl PageTables {
         Ok(tables)
     }
 
-    /// The tables of no state, in which an idle stream has the first content; the rows count in so many lists.
-    fn new(alloc: Global, lists: usize) -> Result<PageTables, AllocError> {
+    /// The tables of no state, in which an idle stream has the first content.
+    fn new(alloc: Global) -> Result<PageTables, AllocError> {
+        let mut content_table = Table::new(alloc);
+        content_table.place(&[])?;
         let mut contents = Vec::new(alloc);
         contents.push(Value::Object(serde_json::Map::new(alloc)))?;
         let mut running = Vec::new(alloc);
@@ -60,7 +62,7 @@ impl PageTables {
             shared: Vec::new(alloc),
             streams: Vec::new(alloc),
             shared_of: Vec::new(alloc),
-            content_of: vec![in alloc; 0; lists]?,
+            content_table,
             shared_table: Table::new(alloc),
         })
     }
@@ -111,30 +113,27 @@ impl PageTables {
         shared.push(number_of(marks.len() / 2))?;
         for mark in marks.chunks(2) {
             let s = small(mark.first().copied().unwrap_or(0) as usize);
-            let held = mark.get(1).copied().unwrap_or(0) as usize;
-            let number = self.content_number(alloc, table, held)?;
+            let held = mark.get(1).copied().unwrap_or(0);
+            let number = self.content_number(alloc, table, p, held)?;
             self.put_content(alloc, Step { p, s }, place, number)?;
         }
         Ok(())
     }
 
-    /// The number of the content whose numbers stand at a place of the table; it is added if it is not there.
+    /// The number of the content of a processor's stream whose numbers stand at a place of the table; it is added if it is not
+    /// there. Streams of other processors that hold the same have another: a CREATE hangs on its processor.
     fn content_number(
         &mut self,
         alloc: Global,
         table: &Table,
-        held: usize,
+        p: u8,
+        held: u32,
     ) -> Result<u32, AllocError> {
-        let known = self.content_of.get(held).copied().unwrap_or(0);
-        if known != 0 {
-            return Ok(known);
-        }
-        let numbers = table.list(held).unwrap_or(&[]);
-        let number = number_of(self.contents.len());
-        self.contents.push(content_json(alloc, numbers)?)?;
-        self.running.push(is_running(numbers))?;
-        if let Some(place) = self.content_of.get_mut(held) {
-            *place = number;
+        let number = self.content_table.place(&[u32::from(p), held])?;
+        if number as usize >= self.contents.len() {
+            let numbers = table.list(held as usize).unwrap_or(&[]);
+            self.contents.push(content_json(alloc, numbers)?)?;
+            self.running.push(is_running(numbers))?;
         }
         Ok(number)
     }
