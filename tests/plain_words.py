@@ -15,7 +15,8 @@ import sys
 ROOT = os.path.dirname(os.path.dirname(os.path.abspath(__file__)))
 HELD = ("README.md", "docs/TUTORIAL.md", "docs/CHEAT_SHEET.md", "docs/COMMANDS.md", "docs/WRITING_PROGRAMS.md",
         "docs/MANY_RUNS.md", "docs/PAGE.md", "docs/PLAY.md", "docs/EDITORS.md", "docs/RATTLE.md", "docs/LAB.md",
-        "docs/FINDINGS.md", "docs/MACHINE.md", "docs/FORMATS.md", "CONTRIBUTING.md")
+        "docs/FINDINGS.md", "docs/MACHINE.md", "docs/FORMATS.md", "CONTRIBUTING.md",
+        "docs/PROMISES.md", "docs/ARCHITECTURE.md")
 EASE, LONGEST = 60, 30
 # a word that readers stumble over, and what to write
 PLAIN = (
