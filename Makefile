@@ -14,7 +14,7 @@ PROCESSORS ?= 2
 # how many crates' edits are tried side by side
 JOBS ?= $(shell nproc)
 
-.PHONY: help run run-lab try test prove cases checks trust minutes affected fits edits refuse hostile spaces pages editors documents bench build dist check-dist install uninstall clean
+.PHONY: help run run-lab try test prove cases checks trust minutes crates affected fits edits refuse hostile spaces pages editors documents bench build dist check-dist install uninstall clean
 
 # the targets, each with what it does and how long it takes
 help:
@@ -28,6 +28,7 @@ help:
 	@echo "make cases      runs the cases below tests/cases on the built program (seconds)"
 	@echo "make documents  runs the commands of the documents and compares what they print (seconds)"
 	@echo "make minutes    writes the table of what a check costs into docs/ARCHITECTURE.md, of what make test left in out/ (a second)"
+	@echo "make crates     writes the table of crates into docs/ARCHITECTURE.md, of crates.txt and the crates' README.md (a second)"
 	@echo "make affected   which crates a change of the CRATES proves again, and their minutes (a second)"
 	@echo "make fits       how long make test takes from nothing on PROCESSORS processors, 2 where none are named: reckoned, not measured (a second)"
 	@echo "make edits      tries the edits of the CRATES that the prover has to refuse, of all crates where none is named (half a minute an edit, and as much as half a crate's proof for its first)"
@@ -81,6 +82,10 @@ trust:
 # writes the table of what a check costs into docs/ARCHITECTURE.md, of what make test has left in out/
 minutes:
 	@python3 tests/minutes.py table
+
+# writes the table of crates into docs/ARCHITECTURE.md, of crates.txt and the crates' README.md
+crates:
+	@python3 tests/crates.py table
 
 # which crates a change of the CRATES proves again, and how long that takes
 affected:

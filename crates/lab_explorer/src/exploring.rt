@@ -9,6 +9,7 @@ ghost use Rattle.schedule_verdicts.specs.NamedRegisters.{AreNamed};
 ghost use Rattle.schedule_verdicts.specs.RightSpaces.{IsFollowedForClaims, IsRightOnEachWay};
 ghost use Rattle.schedule_verdicts.specs.ShownClaims.{AreShown, IsRightThroughout, TellsOfClaims};
 
+use crate::end_folders::{make_folders, write_folders};
 use crate::end_pages::FoundProgram;
 use crate::expected_lines::ExpectedLines;
 use crate::explored_words::answer_of;
@@ -33,7 +34,6 @@ use std::alloc::{AllocError, Global};
 use std::io::{Read, Write};
 use std::rt::Files;
 use std::time::Clock;
-use trace_text::write_schedule;
 
 /// What is looked for among the schedules of a program.
 #[derive(Clone, Copy)]
@@ -190,28 +190,6 @@ fn begin_asked<F: Files, R: Read>(
     }
 }
 
-/// Makes the folders for schedules and for pages, where they are asked for and nothing has their names.
-fn make_folders<F: Files, R: Read>(
-    alloc: Global,
-    inputs: &Inputs<'_, F, R>,
-    request: &ExploreRequest,
-) -> Result<(), LabFault> {
-    make_folder(alloc, inputs, request.keep)?;
-    make_folder(alloc, inputs, request.pages)
-}
-
-/// Makes a folder, where one is asked for and nothing has its name.
-fn make_folder<F: Files, R: Read>(
-    alloc: Global,
-    inputs: &Inputs<'_, F, R>,
-    folder: Option<&str>,
-) -> Result<(), LabFault> {
-    match folder {
-        Some(folder) => inputs.make_folder(alloc, folder),
-        None => Ok(()),
-    }
-}
-
 /// The text of the file that says what is wished; empty where none is named.
 fn text_asked<F: Files, R: Read>(
     alloc: Global,
@@ -257,40 +235,6 @@ fn found_by<C: Clock, E: Write>(
         style: style_of(request.shown),
     };
     explore_program(alloc, program, names, &asked, watcher)
-}
-
-/// Writes the schedule to each end, and the page of its run, into the folders that are asked for and were made.
-fn write_folders<F: Files, R: Read>(
-    alloc: Global,
-    inputs: &Inputs<'_, F, R>,
-    request: &ExploreRequest,
-    made: Result<(), LabFault>,
-    told: FoundProgram<'_>,
-) -> Result<(), LabFault> {
-    made?;
-    if let Some(folder) = request.keep {
-        keep_schedules(alloc, inputs, folder, &told.found.ends)?;
-    }
-    match request.pages {
-        Some(folder) => told.write_pages(alloc, inputs, folder),
-        None => Ok(()),
-    }
-}
-
-/// Writes the schedule to each end into a folder, as `1.schedule` and so on.
-fn keep_schedules<F: Files, R: Read>(
-    alloc: Global,
-    inputs: &Inputs<'_, F, R>,
-    folder: &str,
-    ends: &[SpaceEnd],
-) -> Result<(), LabFault> {
-    for (index, end) in ends.iter().enumerate() {
-        let number = index.saturating_add(1);
-        let path = format!(in alloc; "{folder}/{number}.schedule")?;
-        let text = write_schedule(alloc, &end.schedule)?;
-        inputs.write(alloc, &path, text.as_bytes())?;
-    }
-    Ok(())
 }
 
 /// What a search among the schedules of a program comes to.

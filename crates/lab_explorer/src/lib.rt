@@ -2,6 +2,7 @@
 #![tactic(auto)]
 
 mod claim_texts;
+mod end_folders;
 mod end_pages;
 mod expectation_texts;
 mod expected_lines;
