@@ -17,10 +17,20 @@ pub(crate) struct Surveyed<'a> {
     pub program: &'a Program,
     /// What is wished of it.
     pub wishes: &'a Wishes,
-    /// The lines that say it.
-    pub lines: ExpectedLines<'a>,
+    /// The text whose lines say it; empty where none does.
+    pub text: &'a [u8],
     /// The most steps of a schedule.
     pub most: usize,
+}
+
+impl<'a> Surveyed<'a> {
+    /// The lines that say what is expected of ends.
+    fn lines(&self) -> ExpectedLines<'a> {
+        ExpectedLines {
+            text: self.text,
+            expected: &self.wishes.ends,
+        }
+    }
 }
 
 /// Adds the objects of outcomes. What an outcome's words, streams and findings are is told of the run of its seed.
@@ -51,14 +61,13 @@ fn outcome_fields(
     // (nobody expects a deadlock)
     let is_as_expected = outcome.is_as_expected() && outcome.kind != EndKind::Deadlock;
     put_flag(alloc, &mut fields, "expected", is_as_expected)?;
-    surveyed
-        .lines
-        .put_missed(alloc, &mut fields, outcome.missed)?;
+    let lines = surveyed.lines();
+    lines.put_missed(alloc, &mut fields, outcome.missed)?;
     let broken = outcome
         .broken
         .and_then(|place| surveyed.wishes.claim_texts.get(place));
     let words = broken.map(|text| text.as_str());
-    surveyed.lines.put_claim(alloc, &mut fields, words)?;
+    lines.put_claim(alloc, &mut fields, words)?;
     put_run(alloc, &mut fields, image, &made.steps)?;
     Ok(fields)
 }

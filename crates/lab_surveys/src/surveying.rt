@@ -4,8 +4,8 @@ use crate::survey_objects::{Surveyed, push_coverage, push_outcome_objects};
 use command_parts::{Answer, Inputs, LabFault, Program, Status, read_program, style_of};
 use lab_ends::{SpaceEnd, SpaceEndKind, Wishes, first_broken_rule};
 use lab_explorer::{
-    Console, ExpectedLines, Explored, Search, Unkept, Watcher, digits_of, explore_program,
-    push_expectation, push_unkept, push_unkept_objects, wishes_of,
+    Console, Explored, Search, Unkept, Watcher, digits_of, explore_program, push_expectation,
+    push_unkept, push_unkept_objects, wishes_of,
 };
 use lab_requests::{Bounds, SurveyRequest};
 use lab_texts::{NumberStyle, ProgramNames};
@@ -39,10 +39,7 @@ pub fn survey<X: Threads + Sync, C: Clock, F: Files, R: Read, E: Write>(
     let surveyed = Surveyed {
         program: &program,
         wishes: &wishes,
-        lines: ExpectedLines {
-            text: &text,
-            expected: &wishes.ends,
-        },
+        text: &text,
         most: request.most,
     };
     survey_of(rt, alloc, request, surveyed, &names, console)
@@ -126,7 +123,7 @@ fn push_whole(
     unkept: Unkept,
     is_of_every: bool,
 ) -> Result<(), AllocError> {
-    let text = surveyed.lines.text;
+    let text = surveyed.text;
     if is_json {
         push_unkept_objects(alloc, out, text, surveyed.wishes, unkept)
     } else {
