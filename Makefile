@@ -20,8 +20,8 @@ JOBS ?= $(shell nproc)
 help:
 	@echo "make try        runs a SOURCE by a SCHEDULE with both programs, unproved (two minutes); examples/lock.asm where none is named"
 	@echo "make run        proves and builds mta_sim, and shows a first run (42 processor minutes)"
-	@echo "make run-lab    the same of mta_lab (147 processor minutes)"
-	@echo "make test       proves everything, tries the edits in must-fail/, runs all tests (197 processor minutes from nothing; ANEW=1: nothing that is kept counts)"
+	@echo "make run-lab    the same of mta_lab (165 processor minutes)"
+	@echo "make test       proves everything, tries the edits in must-fail/, runs all tests (201 processor minutes from nothing; ANEW=1: nothing that is kept counts)"
 	@echo "make prove      proves the CRATES and those that they stand on, as make test does (docs/ARCHITECTURE.md has the minutes of each)"
 	@echo "make checks     what make test looks at before any proof (seconds)"
 	@echo "make trust      writes docs/TRUST.md, the definitions that a reader has to trust (seconds)"
