@@ -4,6 +4,7 @@
 _mta_lab_options() {
   case $1 in
     check) echo '--as --program --strict --json' ;;
+    fmt) echo '--check' ;;
     schedule) echo '--seed --steps' ;;
     view) echo '--fair --seed --steps --from --to --only --word --columns --hex --json' ;;
     compare) echo '--seeds --steps --hex --json' ;;
@@ -22,7 +23,7 @@ _mta_lab_options() {
 _mta_lab() {
   local current=${COMP_WORDS[COMP_CWORD]} before=${COMP_WORDS[COMP_CWORD - 1]} command=${COMP_WORDS[1]} words
   if [ "$COMP_CWORD" -eq 1 ]; then
-    words='check schedule view compare survey explore grade exercise page picture play debug dap asm explain word new --help --version'
+    words='check fmt schedule view compare survey explore grade exercise page picture play debug dap asm explain word new --help --version'
   elif [ "$before" = --as ]; then
     words='source image schedule'
   elif [ "$before" = --goal ]; then

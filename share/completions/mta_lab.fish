@@ -1,5 +1,6 @@
 # completion of mta_lab for fish
 complete -c mta_lab -f -n __fish_use_subcommand -a check -d 'judge source texts, images and schedules, in words'
+complete -c mta_lab -f -n __fish_use_subcommand -a fmt -d 'lay source texts out, labels, statements and comments in columns'
 complete -c mta_lab -f -n __fish_use_subcommand -a schedule -d 'make a schedule of a program, and print it'
 complete -c mta_lab -f -n __fish_use_subcommand -a view -d 'show a run step by step, and how it ends'
 complete -c mta_lab -f -n __fish_use_subcommand -a debug -d 'go to and fro in a run, by the lines of standard input'
@@ -23,7 +24,7 @@ complete -c mta_lab -f -n __fish_use_subcommand -l version -d 'print the version
 complete -c mta_lab -n '__fish_seen_subcommand_from check' -k -f -a '(__fish_complete_suffix .asm; __fish_complete_suffix .image; __fish_complete_suffix .schedule)'
 complete -c mta_lab -n '__fish_seen_subcommand_from view debug compare page picture' -k -f -a '(__fish_complete_suffix .asm; __fish_complete_suffix .image; __fish_complete_suffix .schedule)'
 complete -c mta_lab -n '__fish_seen_subcommand_from schedule survey explore grade play' -k -f -a '(__fish_complete_suffix .asm; __fish_complete_suffix .image)'
-complete -c mta_lab -n '__fish_seen_subcommand_from asm' -k -f -a '(__fish_complete_suffix .asm)'
+complete -c mta_lab -n '__fish_seen_subcommand_from asm fmt' -k -f -a '(__fish_complete_suffix .asm)'
 complete -c mta_lab -n '__fish_seen_subcommand_from schedule' -a 'rounds fair random'
 
 # options
@@ -68,7 +69,8 @@ complete -c mta_lab -n '__fish_seen_subcommand_from picture' -l out -r -k -a '(_
 complete -c mta_lab -n '__fish_seen_subcommand_from asm' -l out -r -k -a '(__fish_complete_suffix .image)' -d 'the image file'
 complete -c mta_lab -n '__fish_seen_subcommand_from check' -l as -x -a 'source image schedule' -d 'all are of this kind'
 complete -c mta_lab -n '__fish_seen_subcommand_from check' -l program -r -k -a '(__fish_complete_suffix .asm; __fish_complete_suffix .image)' -d 'the schedules are of this program'
+complete -c mta_lab -n '__fish_seen_subcommand_from fmt' -l check -f -d 'write nothing, and say which files would change'
 complete -c mta_lab -n '__fish_seen_subcommand_from check' -l strict -f -d 'warnings count as errors'
 complete -c mta_lab -n '__fish_seen_subcommand_from view compare survey explore grade' -l hex -f -d 'numbers in hexadecimal'
 complete -c mta_lab -n '__fish_seen_subcommand_from check view compare survey explore grade' -l json -f -d 'a JSON object a line'
-complete -c mta_lab -n '__fish_seen_subcommand_from check schedule view debug dap compare survey explore grade exercise page picture play asm explain word new' -l help -f -d 'print help'
+complete -c mta_lab -n '__fish_seen_subcommand_from check fmt schedule view debug dap compare survey explore grade exercise page picture play asm explain word new' -l help -f -d 'print help'

@@ -5,7 +5,7 @@ use output_files::UsedFiles;
 use std::alloc::{AllocError, Global};
 use std::fs;
 use std::fs::OpenFile;
-use std::io::Read;
+use std::io::{Error, Read};
 use std::rt::Files;
 
 /// The most bytes that are taken from one input.
@@ -45,7 +45,18 @@ impl<'a, F: Files, R: Read> Inputs<'a, F, R> {
                 self.remember(alloc, path, &file)?;
                 read_whole(alloc, path, &mut file)
             }
-            Err(error) => Err(LabFault::Words(format!(in alloc; "{path}: read failed: {error}")?)),
+            Err(error) => Err(not_read(alloc, path, &error)?),
+        }
+    }
+
+    /// The same of a file that the command is to replace: it is not remembered, and so it may be written over.
+    pub fn read_to_replace(&mut self, alloc: Global, path: &str) -> Result<Vec<u8>, LabFault> {
+        if path == "-" {
+            return read_whole(alloc, path, self.input);
+        }
+        match fs::open(self.files, path) {
+            Ok(mut file) => read_whole(alloc, path, &mut file),
+            Err(error) => Err(not_read(alloc, path, &error)?),
         }
     }
 
@@ -56,6 +67,11 @@ impl<'a, F: Files, R: Read> Inputs<'a, F, R> {
             Err(_) => Ok(()),
         }
     }
+}
+
+/// Why a file was not read, in words.
+fn not_read(alloc: Global, path: &str, error: &Error) -> Result<LabFault, AllocError> {
+    Ok(LabFault::Words(format!(in alloc; "{path}: read failed: {error}")?))
 }
 
 /// All the bytes that a reader has.
@@ -74,7 +90,7 @@ fn read_whole<R: Read>(alloc: Global, path: &str, reader: &mut R) -> Result<Vec<
                 bytes.extend_from_slice(&chunk[..count])?;
             }
             Err(error) => {
-                return Err(LabFault::Words(format!(in alloc; "{path}: read failed: {error}")?));
+                return Err(not_read(alloc, path, &error)?);
             }
         }
     }

@@ -1,9 +1,10 @@
-//! The commands `check`, `schedule`, `asm`, `explain`, `word` and `new`: they judge files, make schedules and images, say what
-//! words mean, and begin programs.
+//! The commands `check`, `fmt`, `schedule`, `asm`, `explain`, `word` and `new`: they judge files, lay source texts out, make
+//! schedules and images, say what words mean, and begin programs.
 #![tactic(auto)]
 
 mod assembling;
 mod checking;
+mod layouts;
 mod messages;
 mod new_programs;
 mod scheduling;
@@ -12,6 +13,7 @@ mod words;
 
 pub use assembling::assemble_file;
 pub use checking::check;
+pub use layouts::lay_out;
 pub use new_programs::start_program;
 pub use scheduling::make_schedule;
 pub use words::{explain, show_word};

@@ -15,6 +15,8 @@ pub(crate) enum Form {
     Optional(&'static [&'static str]),
     /// One or more files.
     Files,
+    /// Files, which may be left out.
+    AnyFiles,
     /// `--name`, which does not go with the options of these names.
     Flag(&'static [&'static str]),
     /// `--name VALUE`.
@@ -48,7 +50,8 @@ pub(crate) fn parser_of<'a>(alloc: Global, argument: &Argument) -> Result<Arg<'a
         Form::Needed => Ok(word(alloc, name, about).required(true)),
         Form::OneOf(words) => Ok(word(alloc, name, about).required(true).value_parser(words)),
         Form::Optional(excluded) => word(alloc, name, about).conflicts_with_all(excluded),
-        Form::Files => Ok(files(alloc, name, about)),
+        Form::Files => Ok(files(alloc, name, about).required(true)),
+        Form::AnyFiles => Ok(files(alloc, name, about)),
         Form::Flag(excluded) => flag(alloc, name, about).conflicts_with_all(excluded),
         Form::Option(value) => Ok(option(alloc, name, value, about)),
         Form::NeededOption(value) => Ok(option(alloc, name, value, about).required(true)),
@@ -79,11 +82,10 @@ fn word<'a>(alloc: Global, name: &'a str, about: &'a str) -> Arg<'a> {
     Arg::new(alloc, name).help(about).action(ArgAction::Set)
 }
 
-/// One or more files.
+/// Files.
 fn files<'a>(alloc: Global, name: &'a str, about: &'a str) -> Arg<'a> {
     Arg::new(alloc, name)
         .help(about)
-        .required(true)
         .num_args(1..)
         .action(ArgAction::Append)
 }

@@ -2,8 +2,8 @@
 
 use crate::arguments::Argument;
 use crate::file_arguments::{
-    ASM_ARGUMENTS, CHECK_ARGUMENTS, EXERCISE_ARGUMENTS, EXPLAIN_ARGUMENTS, NEW_ARGUMENTS,
-    WORD_ARGUMENTS,
+    ASM_ARGUMENTS, CHECK_ARGUMENTS, EXERCISE_ARGUMENTS, EXPLAIN_ARGUMENTS, FMT_ARGUMENTS,
+    NEW_ARGUMENTS, WORD_ARGUMENTS,
 };
 use crate::help;
 use crate::many_runs_arguments::{
@@ -28,12 +28,18 @@ pub(crate) struct CommandWords {
 }
 
 /// The commands, in the order of the help.
-pub(crate) const COMMANDS: [CommandWords; 17] = [
+pub(crate) const COMMANDS: [CommandWords; 18] = [
     CommandWords {
         name: "check",
         about: "Judges source texts, images and schedules, in words",
         long: help::CHECK,
         arguments: &CHECK_ARGUMENTS,
+    },
+    CommandWords {
+        name: "fmt",
+        about: "Lays source texts out: labels, statements and comments in columns",
+        long: help::FMT,
+        arguments: &FMT_ARGUMENTS,
     },
     CommandWords {
         name: "schedule",

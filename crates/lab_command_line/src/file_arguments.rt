@@ -21,6 +21,16 @@ pub(crate) const CHECK_ARGUMENTS: [Argument; 5] = [
     Argument("json", help::JSON, Form::Flag(&[])),
 ];
 
+/// Of `fmt`.
+pub(crate) const FMT_ARGUMENTS: [Argument; 2] = [
+    Argument("FILE", "the source texts [standard input]", Form::AnyFiles),
+    Argument(
+        "check",
+        "writes nothing, and says which files would change",
+        Form::Flag(&[]),
+    ),
+];
+
 /// Of `explain`.
 pub(crate) const EXPLAIN_ARGUMENTS: [Argument; 1] = [Argument(
     "WORD",

@@ -27,6 +27,19 @@ mta_lab reads, letters beyond ASCII in comments and * in schedules, it warns.
 Example:
   mta_lab check lock.asm";
 
+pub(crate) const FMT: &str = "\
+Lays source texts out: labels in column 1, statements in column 9, comments in column 33, or 49
+behind a long statement, one blank behind commas and around bars. Each line stays where it is, and
+comments keep their words. Lines end by LF; CR LF becomes LF, and a byte order mark is dropped.
+
+A file is written in place, and named. Without FILE, or with -, standard input is laid out to
+standard output. If a text has an error, nothing is written. The image stays the same.
+With --check the status is 1 if a file would change.
+
+Examples:
+  mta_lab fmt lock.asm
+  mta_lab fmt --check examples/*.asm";
+
 pub(crate) const SCHEDULE: &str = "\
 Makes a schedule of a program and prints it: rounds takes the running streams in the order of
 processor and stream, fair the processors in turn and within each its streams in turn, random

@@ -9,8 +9,8 @@ use clap::error::ErrorKind;
 use clap::{ArgMatches, Error};
 use lab_requests::{
     Bounds, CheckRequest, ExerciseRequest, ExploreRequest, FileKind, GradeCases, GradeFormat,
-    GradeRequest, LabCommand, Maker, PageRequest, PlayRequest, RunChoice, Shown, SurveyRequest,
-    ViewRequest,
+    GradeRequest, LabCommand, LayoutRequest, Maker, PageRequest, PlayRequest, RunChoice, Shown,
+    SurveyRequest, ViewRequest,
 };
 use std::alloc::{AllocError, Global};
 use std::convert::AsStr;
@@ -110,6 +110,10 @@ fn command_of<'a>(alloc: Global, matches: &ArgMatches<'a>) -> Result<LabCommand<
         Some(("word", found)) => Ok(LabCommand::Word {
             words: words(alloc, found, "WORD")?,
         }),
+        Some(("fmt", found)) => Ok(LabCommand::LayOut(LayoutRequest {
+            files: words(alloc, found, "FILE")?,
+            checks: found.get_flag("check"),
+        })),
         Some(("exercise", found)) => Ok(LabCommand::Exercise(exercise_of(found))),
         Some((name, found)) => Ok(command_of_runs(name, found)),
         None => Ok(LabCommand::Adapt),

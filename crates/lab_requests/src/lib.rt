@@ -5,6 +5,6 @@ mod requests;
 
 pub use requests::{
     Bounds, CheckRequest, ExerciseRequest, ExploreRequest, FileKind, GradeCases, GradeFormat,
-    GradeRequest, LabCommand, Maker, PageRequest, PlayRequest, RunChoice, Shown, SurveyRequest,
-    ViewRequest,
+    GradeRequest, LabCommand, LayoutRequest, Maker, PageRequest, PlayRequest, RunChoice, Shown,
+    SurveyRequest, ViewRequest,
 };

@@ -234,6 +234,15 @@ pub struct ExerciseRequest<'a> {
     pub hint: Option<usize>,
 }
 
+/// What `fmt` is asked.
+#[derive(Drop)]
+pub struct LayoutRequest<'a> {
+    /// The source texts; none, or `-` alone, is standard input.
+    pub files: Vec<&'a str>,
+    /// Nothing is written: which files would change is told alone.
+    pub checks: bool,
+}
+
 /// What a command line asks for. Files are named by their paths, `-` being standard input.
 #[derive(Drop)]
 pub enum LabCommand<'a> {
@@ -283,6 +292,8 @@ pub enum LabCommand<'a> {
     Word {
         words: Vec<&'a str>,
     },
+    /// Lays source texts out.
+    LayOut(LayoutRequest<'a>),
     /// Writes a program to begin with, of this name.
     New {
         name: &'a str,

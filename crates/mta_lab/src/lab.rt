@@ -2,7 +2,7 @@
 
 use command_parts::{Answer, Inputs, LabFault, Status};
 use lab_adapter::adapt;
-use lab_checks::{assemble_file, check, explain, make_schedule, show_word, start_program};
+use lab_checks::{assemble_file, check, explain, lay_out, make_schedule, show_word, start_program};
 use lab_command_line::read_lab_command;
 use lab_debugger::{Screen, debug};
 use lab_exercises::exercise;
@@ -166,6 +166,7 @@ fn answer_to<X: Threads + Sync + Clock, F: Files, R: Read, E: Write>(
         LabCommand::Play(request) => write_play_page(alloc, inputs, request, &mut console),
         LabCommand::Explain { word } => explain(alloc, *word),
         LabCommand::Word { words } => show_word(alloc, words),
+        LabCommand::LayOut(request) => lay_out(alloc, inputs, request),
         LabCommand::New { name } => start_program(alloc, inputs, name),
         LabCommand::Assemble { source, image } => assemble_file(alloc, inputs, source, *image),
     }

@@ -1,0 +1,8 @@
+//! Lines for people with colours, for a terminal (docs/LAB.md, "Colours").
+#![tactic(auto)]
+
+mod colours;
+mod lines;
+mod words;
+
+pub use lines::coloured;

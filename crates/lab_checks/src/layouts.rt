@@ -1,0 +1,138 @@
+//! The command `fmt`.
+
+use command_parts::{Answer, Inputs, LabFault, SourceText, Status, is_image, program_of};
+use lab_requests::LayoutRequest;
+use plain_text::push_plain;
+use source_layout::laid_out;
+use std::alloc::{AllocError, Global};
+use std::io::Read;
+use std::rt::Files;
+
+/// A text in the one layout, which it did not have.
+#[derive(Drop)]
+struct NewLayout<'a> {
+    /// The path of its file.
+    path: &'a str,
+    /// The text.
+    text: Vec<u8>,
+}
+
+/// Lays source texts out in place, or says which would change. A fault of one leaves all as they are.
+pub fn lay_out<F: Files, R: Read>(
+    alloc: Global,
+    inputs: &mut Inputs<'_, F, R>,
+    request: &LayoutRequest,
+) -> Result<Answer, LabFault> {
+    let mut changed = Vec::new(alloc);
+    for path in &request.files {
+        if *path == "-" {
+            return lay_out_input(alloc, inputs, request);
+        }
+        let bytes = inputs.read_to_replace(alloc, path)?;
+        if let Some(text) = new_layout(alloc, path, bytes)? {
+            changed.push(NewLayout { path, text })?;
+        }
+    }
+    if request.files.is_empty() {
+        return lay_out_input(alloc, inputs, request);
+    }
+    if request.checks {
+        return would_change(alloc, &changed);
+    }
+    write_layouts(alloc, inputs, &changed)
+}
+
+/// Writes the texts to their files, and says which were written before a fault.
+fn write_layouts<F: Files, R: Read>(
+    alloc: Global,
+    inputs: &Inputs<'_, F, R>,
+    changed: &[NewLayout],
+) -> Result<Answer, LabFault> {
+    let mut out = String::new(alloc);
+    for layout in changed {
+        match inputs.write(alloc, layout.path, &layout.text) {
+            Ok(()) => push_file(&mut out, layout.path, "laid out")?,
+            Err(fault) => {
+                return Ok(Answer {
+                    output: out,
+                    errors: String::new(alloc),
+                    status: Status::Fault,
+                    fault: Some(fault),
+                });
+            }
+        }
+    }
+    Ok(Answer::printed(alloc, out, Status::Done))
+}
+
+/// Lays standard input out to standard output, or says whether it would change.
+fn lay_out_input<F: Files, R: Read>(
+    alloc: Global,
+    inputs: &mut Inputs<'_, F, R>,
+    request: &LayoutRequest,
+) -> Result<Answer, LabFault> {
+    if request.files.len() > 1 {
+        return Err(LabFault::Words(String::from_str(
+            alloc,
+            "- is standard input, and goes alone",
+        )?));
+    }
+    let bytes = inputs.read(alloc, "-")?;
+    let given = Vec::from_slice(alloc, &bytes)?;
+    let layout = new_layout(alloc, "-", bytes)?;
+    if request.checks {
+        return match layout {
+            Some(text) => would_change(alloc, &[NewLayout { path: "-", text }]),
+            None => Ok(Answer::silent(alloc)),
+        };
+    }
+    match String::from_utf8(layout.unwrap_or(given)) {
+        Ok(text) => Ok(Answer::printed(alloc, text, Status::Done)),
+        Err(_) => Err(LabFault::Words(String::from_str(
+            alloc,
+            "-: a comment is not UTF-8; name the file, whose comments stay as they are",
+        )?)),
+    }
+}
+
+/// The text of a path's bytes in the one layout; None where they have it.
+fn new_layout(alloc: Global, path: &str, bytes: Vec<u8>) -> Result<Option<Vec<u8>>, LabFault> {
+    if is_image(&bytes) {
+        return Err(LabFault::Words(format!(in alloc;
+            "{path}: this is an image, and no source text"
+        )?));
+    }
+    let given = Vec::from_slice(alloc, &bytes)?;
+    let _ = program_of(alloc, path, bytes)?;
+    let copy = Vec::from_slice(alloc, &given)?;
+    let source = SourceText::of(alloc, copy)?.into_written();
+    match laid_out(alloc, &source)? {
+        Some(text) if text == given => Ok(None),
+        Some(text) => Ok(Some(text)),
+        None => Err(LabFault::Words(format!(in alloc;
+            "{path}: not laid out: its image would change"
+        )?)),
+    }
+}
+
+/// Says which files would change: it is a fault where there is one.
+fn would_change(alloc: Global, changed: &[NewLayout]) -> Result<Answer, LabFault> {
+    let mut out = String::new(alloc);
+    for layout in changed {
+        push_file(&mut out, layout.path, "the layout would change")?;
+    }
+    let status = if changed.is_empty() {
+        Status::Done
+    } else {
+        Status::Fault
+    };
+    Ok(Answer::printed(alloc, out, status))
+}
+
+/// Adds a line about a file.
+fn push_file(out: &mut String, path: &str, words: &str) -> Result<(), AllocError> {
+    push_plain(out, path)?;
+    out.push_str(": ")?;
+    out.push_str(words)?;
+    out.push_str("\n")
+}
