@@ -2,7 +2,7 @@
 #![tactic(auto)]
 
 mod answer;
-mod file_names;
+mod folder_names;
 mod inputs;
 mod json_lines;
 mod lab_fault;
@@ -14,15 +14,18 @@ mod runs;
 mod sources;
 mod star_words;
 mod stars;
+mod written;
 
 pub use answer::Answer;
 pub use end_kinds::Status;
-pub use file_names::{file_name, stem_of};
+pub use folder_names::{folder_names, slash_after};
+pub use image_machines::loaded;
 pub use inputs::Inputs;
 pub use json_lines::push_object;
 pub use lab_fault::LabFault;
 pub use loose_schedules::check_loose_schedule;
 pub use number_styles::style_of;
 pub use programs::{Program, is_image, program_of, read_program};
-pub use runs::{loaded, made_by, read_steps, steps_of};
+pub use runs::{made_by, read_steps, steps_of};
 pub use sources::SourceText;
+pub use written::{write_out, written};

@@ -5,8 +5,8 @@ use crate::lab_fault::LabFault;
 use crate::loose_schedules::{check_loose_schedule, read_loose_schedule};
 use crate::programs::Program;
 use image_file::Image;
+use image_machines::{by_room, loaded};
 use lab_requests::{Maker, RunChoice};
-use machine::{LoadFault, Machine};
 use plain_text::plain;
 use processor::Step;
 use schedule_makers::{MadeSchedule, fair, fair_length, rounds, seeded};
@@ -23,34 +23,23 @@ pub fn made_by(
     maker: Maker,
     most: usize,
 ) -> Result<MadeSchedule, AllocError> {
-    if image.slim() <= 8 {
-        made_on(&mut loaded::<8>(alloc, image)?, alloc, maker, most)
-    } else {
-        made_on(&mut loaded::<128>(alloc, image)?, alloc, maker, most)
-    }
+    by_room!(image, made_on(alloc, image, maker, most))
 }
 
-/// The machine of an image, whose streams a processor has `S` places at least.
-pub fn loaded<const S: usize>(alloc: Global, image: &Image) -> Result<Machine<'_, S>, AllocError> {
-    match Machine::load(alloc, image) {
-        Ok(machine) => Ok(machine),
-        Err(LoadFault::NoMemory | LoadFault::Streams) => Err(AllocError),
-    }
-}
-
-/// The schedule that a rule makes on a machine.
+/// The same on a machine with room for `S` streams a processor.
 fn made_on<const S: usize>(
-    machine: &mut Machine<'_, S>,
     alloc: Global,
+    image: &Image,
     maker: Maker,
     most: usize,
 ) -> Result<MadeSchedule, AllocError> {
+    let mut machine = loaded::<S>(alloc, image)?;
     match maker {
-        Maker::Rounds => rounds(alloc, machine, most),
-        Maker::Fair => fair(alloc, machine, most),
+        Maker::Rounds => rounds(alloc, &mut machine, most),
+        Maker::Fair => fair(alloc, &mut machine, most),
         Maker::Random { seed } => {
-            let fair_steps = fair_length(alloc, machine)?;
-            seeded(alloc, machine, seed, fair_steps, most)
+            let fair_steps = fair_length(alloc, &machine)?;
+            seeded(alloc, &mut machine, seed, fair_steps, most)
         }
     }
 }

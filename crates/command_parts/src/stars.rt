@@ -1,7 +1,7 @@
 //! Steps that a schedule leaves open: `p s *`, a stream that steps until it can't go on (docs/LAB.md, "Schedules").
 
-use crate::runs::loaded;
 use image_file::Image;
+use image_machines::{by_room, loaded};
 use machine::Machine;
 use processor::{MAX_STEPS, Step};
 use std::alloc::{AllocError, Global};
@@ -76,19 +76,16 @@ pub(crate) fn expand(
     image: &Image,
     lines: &[SaidSteps],
 ) -> Result<Expanded, AllocError> {
-    if image.slim() <= 8 {
-        expand_on(alloc, &mut loaded::<8>(alloc, image)?, lines)
-    } else {
-        expand_on(alloc, &mut loaded::<128>(alloc, image)?, lines)
-    }
+    by_room!(image, expand_on(alloc, image, lines))
 }
 
-/// The same on a machine that has taken no step.
+/// The same on a machine with room for `S` streams a processor.
 fn expand_on<const S: usize>(
     alloc: Global,
-    machine: &mut Machine<'_, S>,
+    image: &Image,
     lines: &[SaidSteps],
 ) -> Result<Expanded, AllocError> {
+    let mut machine = loaded::<S>(alloc, image)?;
     let mut all = Expanded {
         steps: Vec::new(alloc),
         stars: Vec::new(alloc),
@@ -96,9 +93,9 @@ fn expand_on<const S: usize>(
     };
     for (line, said) in lines.iter().enumerate() {
         let taken = match said.times {
-            Some(times) => take_times(machine, said.stream, times.min(MAX_STEPS)),
+            Some(times) => take_times(&mut machine, said.stream, times.min(MAX_STEPS)),
             None => {
-                let (steps, end) = take_star(machine, said.stream);
+                let (steps, end) = take_star(&mut machine, said.stream);
                 all.stars.push(Star {
                     line,
                     stream: said.stream,

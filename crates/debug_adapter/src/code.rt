@@ -5,18 +5,11 @@ use crate::json_text::Json;
 use crate::memory::whole_number;
 use crate::refusals::Refusal;
 use crate::requests::Request;
+use plain_text::file_name;
 use serde_json::Value;
 
 /// The most instructions that are told at once.
 const MOST_INSTRUCTIONS: i64 = 10_000;
-
-/// The last part of a path.
-fn file_name(path: &str) -> &str {
-    match path.rsplit_once('/') {
-        Some((_, name)) => name,
-        None => path,
-    }
-}
 
 impl<'a, 'i, 't> Adapter<'a, 'i, 't> {
     /// Adds where the program's text is, under this name: its file, or the listing that the client may ask for.

@@ -1,12 +1,10 @@
 //! What a request to launch asks for.
 
 use crate::requests::Request;
+use processor::MAX_STEPS;
 
 /// How many steps a made schedule has at most, where none are said.
 const USUAL_STEPS: u64 = 10_000;
-
-/// The most steps of a made schedule.
-const MOST_STEPS: u64 = 1_000_000;
 
 /// By which schedule a program is to run.
 #[derive(Clone, Copy)]
@@ -79,7 +77,7 @@ fn named_schedule(text: &str) -> Result<ScheduleChoice<'_>, &'static str> {
 /// How many steps a made schedule has at most.
 fn steps_asked(request: &Request) -> Result<usize, &'static str> {
     match request.number_or("steps", USUAL_STEPS) {
-        Some(steps) if steps >= 1 && steps <= MOST_STEPS => Ok(steps as usize),
+        Some(steps) if steps >= 1 && steps <= MAX_STEPS as u64 => Ok(steps as usize),
         _ => Err("steps takes a number from 1 to 1000000"),
     }
 }

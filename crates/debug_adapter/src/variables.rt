@@ -5,13 +5,14 @@ use crate::json_text::Json;
 use crate::refusals::Refusal;
 use crate::requests::Request;
 use crate::scopes::{Container, container_of, word_reference};
-use lab_texts::{NumberStyle, push_stream, push_trap, push_value, push_word};
+use lab_texts::{
+    NumberStyle, full_word, push_stream, push_trap, push_value, push_word, wanted_word,
+};
 use processor::Step;
 use serde_json::Value;
 use step_views::{Content, Place, StreamPart};
 use stream_core::Status;
 use tag_memory::Word;
-use waiting::Wanted;
 
 /// The most variables that are told at once.
 const MOST_VARIABLES: u64 = 4096;
@@ -79,10 +80,7 @@ impl<'a, 'i, 't> Adapter<'a, 'i, 't> {
             self.push_part(step, name, *part, style, body)?;
         }
         if let Some(wait) = self.named.wait(step.p, step.s) {
-            let wanted = match wait.wanted {
-                Wanted::Full => "full",
-                Wanted::Empty => "empty",
-            };
+            let wanted = wanted_word(wait.wanted);
             let address = wait.address;
             let text = format!(in self.alloc; "for [{address}] to be {wanted}")?;
             push_variable(body, "waits", &text, 0);
@@ -211,7 +209,7 @@ impl<'a, 'i, 't> Adapter<'a, 'i, 't> {
         let mut value = String::new(self.alloc);
         push_value(&mut value, style, word.value())?;
         push_variable(body, "value", &value, 0);
-        let full = if word.is_full() { "full" } else { "empty" };
+        let full = full_word(word.is_full());
         push_variable(body, "full/empty", full, 0);
         push_other_tags(body, word);
         Ok(())

@@ -1,7 +1,7 @@
 //! The command `dap`: requests of an editor from standard input, answers on standard output.
 
 use crate::second_thread::{has_begun, has_second_thread, no_thread};
-use command_parts::{Inputs, LabFault, Program, Status, is_image, program_of, steps_of};
+use command_parts::{Inputs, LabFault, Program, Status, is_image, program_of, steps_of, write_out};
 use crossbeam_channel::{Receiver, Sender};
 use debug_adapter::{
     Adapter, Client, Connection, Frame, Frames, Json, LaunchRequest, Origin, Request,
@@ -12,7 +12,7 @@ use lab_requests::{Maker, RunChoice};
 use lab_texts::ProgramNames;
 use processor::Step;
 use std::alloc::{AllocError, Global};
-use std::io::{ErrorKind, Read, Write};
+use std::io::{Read, Write};
 use std::marker::Send;
 use std::rt::Files;
 use std::sync::Wait;
@@ -336,16 +336,9 @@ struct Line<'a, W> {
 impl<W: Write> Line<'_, W> {
     /// Writes what is to be sent.
     fn flush(&mut self) -> Result<(), LabFault> {
-        let wrote = self
-            .output
-            .write_all(self.connection.outbox.out.as_bytes())
-            .and_then(|()| self.output.flush());
+        let wrote = write_out(self.output, self.connection.outbox.out.as_bytes());
         self.connection.outbox.out.clear();
-        match wrote {
-            Ok(()) => Ok(()),
-            Err(error) if error.kind() == ErrorKind::BrokenPipe => Err(LabFault::Closed),
-            Err(_) => Err(LabFault::Write),
-        }
+        wrote
     }
 
     /// Writes what is to be sent, and waits for the next request; None at the end of the input. What is no request is

@@ -1,7 +1,7 @@
 //! Findings of runs.
 
-use crate::machines::loaded;
 use image_file::Image;
+use image_machines::loaded;
 use lab_texts::{
     FindingsOfRun, MOST_STEPS_OF_TORN, NumberStyle, ProgramNames, Telling, push_findings,
     push_first_finding,

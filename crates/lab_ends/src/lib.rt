@@ -21,7 +21,7 @@ mod wishes;
 
 pub use claim_fault::ClaimFault;
 pub use claim_lines::{ClaimLine, is_claim_word};
-pub use end_words::{EndWords, StoppedBy, end_words_of};
+pub use end_words::{EndWords, end_words_of};
 pub use every_end::{SpaceEnd, SpaceEndKind, space_ends};
 pub use expected_traps::is_expected_trap;
 pub use findings::{first_finding, push_findings_of_run};

@@ -1,14 +1,14 @@
 //! The exercises of a folder.
 
-use command_parts::{Inputs, LabFault};
+use command_parts::{Inputs, LabFault, folder_names, slash_after};
 use plain_text::plain;
 use std::alloc::{AllocError, Global};
-use std::io::{Error, Read};
+use std::io::Read;
 use std::rt::Files;
 use std::str;
 
-/// The bytes that one read of a folder's names asks for.
-const CHUNK: usize = 65_536;
+/// What is said besides of a folder that can't be read.
+const ADVICE: &str = "; --folder says where the exercises are";
 
 /// The most exercises of a folder.
 const MOST_EXERCISES: usize = 1_000;
@@ -80,11 +80,6 @@ fn exercise_of<F: Files, R: Read>(
     })
 }
 
-/// What stands between a folder's path and a name in it.
-fn slash_after(folder: &str) -> &'static str {
-    if folder.ends_with('/') { "" } else { "/" }
-}
-
 /// The first line of a task, without the mark of a heading.
 fn title_of(alloc: Global, task: &[u8]) -> Result<String, AllocError> {
     let line = task.split(|byte| *byte == b'\n').next().unwrap_or(b"");
@@ -98,7 +93,7 @@ fn names_of_exercises<F: Files>(
     files: &F,
     folder: &str,
 ) -> Result<Vec<String>, LabFault> {
-    let bytes = bytes_of_folder(alloc, files, folder)?;
+    let bytes = folder_names(alloc, files, folder, ADVICE)?;
     let mut names: Vec<String> = Vec::new(alloc);
     for entry in bytes.split(|byte| *byte == 0) {
         if let Some(name) = name_of_exercise(entry)
@@ -125,31 +120,4 @@ fn name_of_exercise(entry: &[u8]) -> Option<&str> {
     }
     number_in(name)?;
     Some(name)
-}
-
-/// The names in a folder, each with a zero after it.
-fn bytes_of_folder<F: Files>(alloc: Global, files: &F, folder: &str) -> Result<Vec<u8>, LabFault> {
-    let slash = slash_after(folder);
-    let path = format!(in alloc; "{folder}{slash}")?;
-    let mut names = Vec::new(alloc);
-    let mut chunk = vec![in alloc; 0; CHUNK]?;
-    let mut reader = match files.open_dir(&path) {
-        Ok(reader) => reader,
-        Err(error) => return Err(not_read(alloc, folder, &error)?),
-    };
-    for _ in 0..u64::MAX {
-        match reader.read(&mut chunk) {
-            Ok(0) => return Ok(names),
-            Ok(count) => names.extend_from_slice(&chunk[..count])?,
-            Err(error) => return Err(not_read(alloc, folder, &error)?),
-        }
-    }
-    Ok(names)
-}
-
-/// What is said of a folder that can't be read.
-fn not_read(alloc: Global, folder: &str, error: &Error) -> Result<LabFault, AllocError> {
-    Ok(LabFault::Words(format!(in alloc;
-        "{folder}: read failed: {error}; --folder says where the exercises are"
-    )?))
 }

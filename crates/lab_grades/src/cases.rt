@@ -2,18 +2,15 @@
 
 use asm_text::AsmFault;
 use case_cells::{CellsFault, program_of_cells, read_cells};
-use command_parts::{Inputs, LabFault};
+use command_parts::{Inputs, LabFault, folder_names, slash_after};
 use image_file::Image;
 use lab_requests::GradeCases;
 use plain_text::plain;
 use source_faults::check_source;
 use std::alloc::{AllocError, Global};
-use std::io::{Error, Read};
+use std::io::Read;
 use std::rt::Files;
 use std::str;
-
-/// The bytes that one read of a folder's names asks for.
-const CHUNK: usize = 65_536;
 
 /// The most cases that a folder has.
 const MOST_CASES: usize = 10_000;
@@ -61,7 +58,7 @@ fn cases_of_folder<F: Files, R: Read>(
     inputs: &mut Inputs<'_, F, R>,
     folder: &str,
 ) -> Result<Vec<Case>, LabFault> {
-    let bytes = bytes_of_folder(alloc, inputs.files, folder)?;
+    let bytes = folder_names(alloc, inputs.files, folder, "")?;
     let names = names_of_cases(alloc, folder, &bytes)?;
     let mut cases = Vec::new(alloc);
     for name in &names {
@@ -77,7 +74,7 @@ fn case_of<F: Files, R: Read>(
     folder: &str,
     name: &str,
 ) -> Result<Case, LabFault> {
-    let slash = if folder.ends_with('/') { "" } else { "/" };
+    let slash = slash_after(folder);
     let path = format!(in alloc; "{folder}{slash}{name}.expect")?;
     let data = format!(in alloc; "{folder}{slash}{name}.data")?;
     Ok(Case {
@@ -121,31 +118,6 @@ fn name_of_case(entry: &[u8]) -> Option<&str> {
         return None;
     }
     Some(name)
-}
-
-/// The names of a folder's files, each with a zero behind it.
-fn bytes_of_folder<F: Files>(alloc: Global, files: &F, folder: &str) -> Result<Vec<u8>, LabFault> {
-    let slash = if folder.ends_with('/') { "" } else { "/" };
-    let path = format!(in alloc; "{folder}{slash}")?;
-    let mut names = Vec::new(alloc);
-    let mut chunk = vec![in alloc; 0; CHUNK]?;
-    let mut reader = match files.open_dir(&path) {
-        Ok(reader) => reader,
-        Err(error) => return Err(not_read(alloc, folder, &error)?),
-    };
-    for _ in 0..u64::MAX {
-        match reader.read(&mut chunk) {
-            Ok(0) => return Ok(names),
-            Ok(count) => names.extend_from_slice(&chunk[..count])?,
-            Err(error) => return Err(not_read(alloc, folder, &error)?),
-        }
-    }
-    Ok(names)
-}
-
-/// What is said of a folder that can't be read.
-fn not_read(alloc: Global, folder: &str, error: &Error) -> Result<LabFault, AllocError> {
-    Ok(LabFault::Words(format!(in alloc; "{folder}: read failed: {error}")?))
 }
 
 /// An image with the cells of the text of a file.

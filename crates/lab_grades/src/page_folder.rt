@@ -4,10 +4,11 @@ use crate::judged::Grading;
 use crate::page_names::page_names;
 use crate::side_by_side::Graded;
 use crate::verdict_pages::page_of_verdict;
-use command_parts::{Inputs, LabFault, stem_of};
+use command_parts::{Inputs, LabFault, slash_after};
 use grade_reports::Verdict;
 use lab_explorer::Console;
 use lab_requests::GradeRequest;
+use plain_text::stem_of;
 use std::alloc::Global;
 use std::io::{Read, Write};
 use std::rt::Files;
@@ -88,7 +89,7 @@ impl<'a> PageFolder<'a> {
         place: usize,
         page: String,
     ) -> Result<Option<String>, LabFault> {
-        let slash = if folder.ends_with('/') { "" } else { "/" };
+        let slash = slash_after(folder);
         let name = self.names.get(place).map_or("", |name| name.as_str());
         let path = format!(in alloc; "{folder}{slash}{name}.html")?;
         self.take(inputs.write(alloc, &path, page.as_bytes()));

@@ -1,6 +1,6 @@
 //! What the pages of submissions are called.
 
-use command_parts::stem_of;
+use plain_text::stem_of;
 use std::alloc::{AllocError, Global};
 
 /// The names of the pages of submissions, in their order, no two alike: that of the file without its ending. What a link

@@ -6,10 +6,10 @@ ghost use Rattle.seed_verdicts.specs.ShownBySeeds.{AreShownBySeeds};
 
 use crate::judged::{Grading, Judged};
 use crate::seed_ends::counted_ends;
-use command_parts::loaded;
 use end_kinds::{EndKind, end_kind_of, status_of};
 use expectations::first_missed;
 use grade_reports::{Known, Verdict, VerdictKind, Witness};
+use image_machines::{by_room, loaded};
 use lab_ends::{end_words_of, first_finding};
 use machine::LoadFault;
 use schedule_makers::{fair_length, seeded};
@@ -105,11 +105,10 @@ fn flaw_of<X: Threads + Sync>(
     ensures { let j = judged.now in IfOk result (λ found. AreJudged
         j.program.now.image j.wishes.now.ends.items j.wishes.now.claims.items seeds found) }
 {
-    let found = if judged.program.image.slim() <= 8 {
-        flaw_on::<X, 8>(rt, alloc, judged, seeds, is_spread)
-    } else {
-        flaw_on::<X, 128>(rt, alloc, judged, seeds, is_spread)
-    };
+    let found = by_room!(
+        judged.program.image,
+        flaw_on::<X>(rt, alloc, judged, seeds, is_spread)
+    );
     match found {
         Ok(found) => Ok(found),
         Err(LoadFault::NoMemory | LoadFault::Streams) => Err(AllocError),
@@ -157,11 +156,8 @@ fn verdict_of_flaw(
 ) -> Result<Verdict, AllocError>
     ensures { IfOk result (λ v. ¬ (v.kind ≡ VerdictKind.Right)) }
 {
-    let shown = if judged.program.image.slim() <= 8 {
-        shown_by::<8>(alloc, grading, judged, found.seed)?
-    } else {
-        shown_by::<128>(alloc, grading, judged, found.seed)?
-    };
+    let image = &judged.program.image;
+    let shown = by_room!(image, shown_by(alloc, grading, judged, found.seed))?;
     let missed = match found.flaw {
         RunFlaw::Broken { claim, .. } => judged.lines.claim_at(alloc, Some(claim))?,
         RunFlaw::Trap | RunFlaw::Deadlock | RunFlaw::Missed { .. } | RunFlaw::OutOfSteps => {

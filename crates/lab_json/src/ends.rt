@@ -4,13 +4,12 @@ use crate::fields::{Fields, object_of, put_number, put_text};
 use crate::findings::put_findings;
 use crate::streams::{put_streams, stream_value};
 use crate::words::put_words;
-use lab_texts::{RunEnd, StoppedStream};
+use lab_texts::{RunEnd, StoppedStream, wanted_word};
 use machine::Machine;
 use processor::Step;
 use serde_json::{Map, Value};
 use std::alloc::{AllocError, Global};
 use stream_waits::StreamWait;
-use waiting::Wanted;
 
 /// The end of a run by these steps, which led the machine to its world: its kind, of whom it is, the words that differ from
 /// the image, and the findings.
@@ -70,10 +69,7 @@ fn put_stopped(
 
 /// A stream that waits: for which word, for which state, since which try, and who left the word so in which step.
 fn wait_value(alloc: Global, wait: &StreamWait) -> Result<Value, AllocError> {
-    let wanted = match wait.wait.wanted {
-        Wanted::Full => "full",
-        Wanted::Empty => "empty",
-    };
+    let wanted = wanted_word(wait.wait.wanted);
     let (made, by) = match wait.turn {
         Some(turn) => (turn.number, stream_value(alloc, turn.step)?),
         None => (0, Value::Null),

@@ -1,8 +1,8 @@
 //! Findings.
 
 use crate::fields::{Fields, put_number};
-use crate::runs::loaded;
 use image_file::Image;
+use image_machines::loaded;
 use lab_texts::FindingsOfRun;
 use processor::Step;
 use run_findings::{Action, LostUpdate, TornRead, UnreadStore};

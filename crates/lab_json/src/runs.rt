@@ -5,8 +5,8 @@ use crate::fields::Fields;
 use crate::findings::put_findings;
 use crate::words::put_words;
 use image_file::Image;
+use image_machines::{by_room, loaded};
 use lab_texts::end_of;
-use machine::{LoadFault, Machine};
 use processor::Step;
 use std::alloc::{AllocError, Global};
 use whole_runs::run_views;
@@ -19,11 +19,7 @@ pub fn put_run(
     image: &Image,
     steps: &[Step],
 ) -> Result<(), AllocError> {
-    if image.slim() <= 8 {
-        put_run_on::<8>(alloc, fields, image, steps)
-    } else {
-        put_run_on::<128>(alloc, fields, image, steps)
-    }
+    by_room!(image, put_run_on(alloc, fields, image, steps))
 }
 
 /// The same on machines with room for `S` streams a processor.
@@ -39,15 +35,4 @@ fn put_run_on<const S: usize>(
     put_end(alloc, fields, &end)?;
     put_words(alloc, fields, &machine)?;
     put_findings::<S>(alloc, fields, image, steps)
-}
-
-/// The machine of an image that has room for its streams.
-pub(crate) fn loaded<const S: usize>(
-    alloc: Global,
-    image: &Image,
-) -> Result<Machine<'_, S>, AllocError> {
-    match Machine::load(alloc, image) {
-        Ok(machine) => Ok(machine),
-        Err(LoadFault::NoMemory | LoadFault::Streams) => Err(AllocError),
-    }
 }

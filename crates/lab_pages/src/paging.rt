@@ -1,9 +1,8 @@
 //! The command `page`.
 
-use command_parts::{
-    Answer, Inputs, LabFault, Program, file_name, read_program, stem_of, steps_of,
-};
+use command_parts::{Answer, Inputs, LabFault, Program, read_program, steps_of};
 use lab_requests::{Maker, PageRequest, RunChoice};
+use plain_text::{file_name, stem_of};
 use processor::Step;
 use replay_page::{
     MOST_STEPS, MOST_STEPS_OF_TWO, PairNames, RunNames, RunVerdict, page_of_pair, page_of_run,

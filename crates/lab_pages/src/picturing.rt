@@ -1,7 +1,8 @@
 //! The command `picture`.
 
 use crate::paging::{RunToShow, program_name, run_to_show, schedule_words};
-use command_parts::{Answer, Inputs, LabFault, loaded};
+use command_parts::{Answer, Inputs, LabFault};
+use image_machines::{by_room, loaded};
 use lab_requests::PageRequest;
 use replay_page::{MOST_DRAWN_STEPS, MOST_STEPS, RunNames, picture_of};
 use std::alloc::{AllocError, Global};
@@ -64,11 +65,10 @@ fn picture_text(
         program: program_name(request),
         schedule: &schedule,
     };
-    if run.program.image.slim() <= 8 {
-        picture_on::<8>(alloc, names, run, request.from)
-    } else {
-        picture_on::<128>(alloc, names, run, request.from)
-    }
+    by_room!(
+        run.program.image,
+        picture_on(alloc, names, run, request.from)
+    )
 }
 
 /// The picture from this step on, on a machine with room for `S` streams a processor.

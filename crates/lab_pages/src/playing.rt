@@ -2,12 +2,13 @@
 
 use crate::goals::{Judging, goal_place};
 use crate::opened_pages::opened_after;
-use command_parts::{Answer, Inputs, LabFault, Program, read_program, read_steps, stem_of};
+use command_parts::{Answer, Inputs, LabFault, Program, read_program, read_steps};
 use lab_ends::{Wishes, are_rules_kept, space_ends};
 use lab_explorer::{Console, Watcher, push_expectation, wishes_of};
 use lab_requests::{Bounds, PlayRequest};
 use lab_texts::{NumberStyle, ProgramNames};
 use machine::LoadFault;
+use plain_text::stem_of;
 use processor::Step;
 use schedule_page::{GraphNames, graph_json, page_of_graph};
 use schedule_space::{Bound, Exploration, Space, explore};

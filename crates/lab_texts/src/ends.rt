@@ -86,7 +86,7 @@ fn has_stepped(views: &[StepView], stream: Step) -> bool {
 }
 
 /// The streams that a trap stopped, in the order of processor and stream.
-fn stopped_streams<const S: usize>(
+pub fn stopped_streams<const S: usize>(
     alloc: Global,
     machine: &Machine<'_, S>,
 ) -> Result<Vec<StoppedStream>, AllocError> {
@@ -113,7 +113,7 @@ fn stopped_streams<const S: usize>(
     Ok(stopped)
 }
 
-/// The streams that have quit, in the order of their last steps.
+/// The streams that have quit, in the order of their first steps.
 fn quit_streams<const S: usize>(
     alloc: Global,
     machine: &Machine<'_, S>,

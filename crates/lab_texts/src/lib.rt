@@ -13,8 +13,9 @@ mod words;
 
 pub use changes::{push_changes, push_part_of};
 pub use differences::{push_changed_words, push_differences, push_differing_words};
-pub use ends::{RunEnd, StoppedStream, end_of, push_end};
+pub use ends::{RunEnd, StoppedStream, end_of, push_end, stopped_streams};
 pub use findings::{FindingsOfRun, MOST_STEPS_OF_TORN, Telling, push_findings, push_first_finding};
 pub use names::ProgramNames;
 pub use step_lines::{Columns, push_lane_head, push_lane_line, push_step_line};
+pub use waits::{full_word, turned_word, wanted_word};
 pub use words::{NumberStyle, push_stream, push_trap, push_value, push_word};

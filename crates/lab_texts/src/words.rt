@@ -1,5 +1,6 @@
 //! Numbers, streams, tags and traps as people read them.
 
+use crate::waits::full_word;
 use bitflags::Flags;
 use processor::Step;
 use std::alloc::AllocError;
@@ -97,7 +98,7 @@ pub fn push_word(out: &mut String, style: NumberStyle, word: Word) -> Result<(),
 /// Adds tags: whether full or empty, and the other bits that are set.
 pub(crate) fn push_tags(out: &mut String, tags: Tags) -> Result<(), AllocError> {
     let full = tags.contains(Tags::FULL);
-    out.push_str(if full { "full" } else { "empty" })?;
+    out.push_str(full_word(full))?;
     if tags.contains(Tags::FORWARD) {
         out.push_str(" forward")?;
     }

@@ -1,6 +1,6 @@
 //! The program, from its command line to its status.
 
-use command_parts::{Answer, Inputs, LabFault, Status};
+use command_parts::{Answer, Inputs, LabFault, Status, write_out, written};
 use lab_adapter::adapt;
 use lab_checks::{assemble_file, check, explain, lay_out, make_schedule, show_word, start_program};
 use lab_command_line::read_lab_command;
@@ -16,7 +16,7 @@ use plain_text::{plain, push_plain};
 use std::alloc::{AllocError, Global};
 use std::convert::AsStr;
 use std::fmt::Display;
-use std::io::{Error, ErrorKind, Read, Write};
+use std::io::{Read, Write};
 use std::marker::Send;
 use std::rt::Files;
 use std::sync::Wait;
@@ -73,7 +73,7 @@ pub(crate) fn run_lab<
 fn tell_refused<D: Display, E: Write>(alloc: Global, error: &D, errors: &mut E) {
     match plain_lines(alloc, error) {
         Ok(lines) => {
-            let _ = write_whole(errors, lines.as_bytes());
+            let _ = write_out(errors, lines.as_bytes());
         }
         Err(_) => {
             let _ = writeln!(errors, "mta_lab: no memory");
@@ -184,9 +184,9 @@ fn tell<W: Write, E: Write>(
         status,
         fault,
     } = answer;
-    let wrote = write_whole(output, text.as_bytes());
+    let wrote = write_out(output, text.as_bytes());
     if wrote.is_ok() {
-        let _ = write_whole(errors, words.as_bytes());
+        let _ = write_out(errors, words.as_bytes());
     }
     if let Some(fault) = fault {
         return Err(fault);
@@ -200,7 +200,7 @@ fn tell_fault<E: Write>(fault: &LabFault, errors: &mut E) -> u8 {
     match fault {
         LabFault::Words(words) => tell_words(words, errors),
         LabFault::Lines(lines) => {
-            let _ = write_whole(errors, lines.as_bytes());
+            let _ = write_out(errors, lines.as_bytes());
         }
         LabFault::NoMemory => {
             let _ = writeln!(errors, "mta_lab: no memory");
@@ -222,19 +222,5 @@ fn tell_words<E: Write>(words: &String, errors: &mut E) {
         Err(_) => {
             let _ = writeln!(errors, "mta_lab: no memory");
         }
-    }
-}
-
-/// Writes all the bytes.
-fn write_whole<W: Write>(writer: &mut W, bytes: &[u8]) -> Result<(), LabFault> {
-    written(writer.write_all(bytes).and_then(|()| writer.flush()))
-}
-
-/// What it means that something was written, or was not.
-fn written(wrote: Result<(), Error>) -> Result<(), LabFault> {
-    match wrote {
-        Ok(()) => Ok(()),
-        Err(error) if error.kind() == ErrorKind::BrokenPipe => Err(LabFault::Closed),
-        Err(_) => Err(LabFault::Write),
     }
 }

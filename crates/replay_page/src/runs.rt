@@ -7,13 +7,12 @@ use image_file::Image;
 use lab_json::{
     RunTitle, difference_value, end_part, findings_value, head_value, step_part, stream_value,
 };
-use lab_texts::ProgramNames;
+use lab_texts::{ProgramNames, wanted_word};
 use machine::{LoadFault, Machine};
 use processor::Step;
 use serde_json::{Value, json};
 use std::alloc::{AllocError, Global};
 use step_views::StepView;
-use waiting::Wanted;
 use whole_runs::first_difference;
 
 /// What a run is called.
@@ -193,10 +192,7 @@ fn waits_value(alloc: Global, waits: &[RunWait]) -> Result<Value, AllocError> {
 fn wait_value(alloc: Global, wait: &RunWait) -> Result<Value, AllocError> {
     let stream = stream_value(alloc, wait.stream)?;
     let word = wait.wait.address;
-    let wanted = match wait.wait.wanted {
-        Wanted::Full => "full",
-        Wanted::Empty => "empty",
-    };
+    let wanted = wanted_word(wait.wait.wanted);
     let from = wait.from;
     let tries = wait.tries;
     let made = wait.made;

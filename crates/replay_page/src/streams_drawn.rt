@@ -5,11 +5,10 @@ use crate::marks::push_outcome;
 use crate::pages::push_escaped;
 use crate::waits::RunWait;
 use crate::whole_run::WholeRun;
-use lab_texts::ProgramNames;
+use lab_texts::{ProgramNames, wanted_word};
 use processor::Step;
 use std::alloc::AllocError;
 use stream_core::Outcome;
-use waiting::Wanted;
 
 /// Adds the lanes of all streams.
 pub(crate) fn push_streams(
@@ -96,10 +95,7 @@ fn push_life(
 fn push_note(out: &mut String, run: &WholeRun, stream: Step) -> Result<(), AllocError> {
     if let Some(wait) = run.end.waits.iter().find(|wait| wait.stream == stream) {
         let address = wait.wait.address;
-        let wanted = match wait.wait.wanted {
-            Wanted::Full => "full",
-            Wanted::Empty => "empty",
-        };
+        let wanted = wanted_word(wait.wait.wanted);
         return write!(out, "waits for [{address}] {wanted}");
     }
     if let Some(stopped) = run

@@ -4,7 +4,7 @@ use crate::pages::{page_of, pair_page_of};
 use crate::run_verdicts::RunVerdict;
 use crate::runs::{PairNames, RunNames, both_names, pair_json, run_json};
 use image_file::Image;
-use machine::{LoadFault, Machine};
+use image_machines::{by_room, loaded};
 use processor::Step;
 use std::alloc::{AllocError, Global};
 
@@ -18,13 +18,7 @@ pub fn page_of_run(
     image: &Image,
     schedule: &[Step],
 ) -> Result<String, AllocError> {
-    let json = if image.slim() <= 8 {
-        let machine = loaded::<8>(alloc, image)?;
-        run_json(alloc, names, verdict, text, &machine, schedule)?
-    } else {
-        let machine = loaded::<128>(alloc, image)?;
-        run_json(alloc, names, verdict, text, &machine, schedule)?
-    };
+    let json = by_room!(image, run_on(alloc, names, verdict, text, image, schedule))?;
     let title = title_of(alloc, names.program, names.schedule)?;
     page_of(alloc, &title, &json)
 }
@@ -38,31 +32,38 @@ pub fn page_of_pair(
     one: &[Step],
     other: &[Step],
 ) -> Result<String, AllocError> {
-    let json = if image.slim() <= 8 {
-        pair_json(alloc, names, text, &loaded::<8>(alloc, image)?, one, other)?
-    } else {
-        pair_json(
-            alloc,
-            names,
-            text,
-            &loaded::<128>(alloc, image)?,
-            one,
-            other,
-        )?
-    };
+    let json = by_room!(image, pair_on(alloc, names, text, image, one, other))?;
     let title = title_of(alloc, names.program, &both_names(alloc, names)?)?;
     pair_page_of(alloc, &title, &json)
+}
+
+/// The JSON of a run, on a machine with room for `S` streams a processor.
+fn run_on<const S: usize>(
+    alloc: Global,
+    names: RunNames,
+    verdict: RunVerdict<'_>,
+    text: &[u8],
+    image: &Image,
+    schedule: &[Step],
+) -> Result<String, AllocError> {
+    let machine = loaded::<S>(alloc, image)?;
+    run_json(alloc, names, verdict, text, &machine, schedule)
+}
+
+/// The JSON of two runs, on machines with room for `S` streams a processor.
+fn pair_on<const S: usize>(
+    alloc: Global,
+    names: PairNames,
+    text: &[u8],
+    image: &Image,
+    one: &[Step],
+    other: &[Step],
+) -> Result<String, AllocError> {
+    let machine = loaded::<S>(alloc, image)?;
+    pair_json(alloc, names, text, &machine, one, other)
 }
 
 /// The title of a page.
 fn title_of(alloc: Global, program: &str, schedules: &str) -> Result<String, AllocError> {
     format!(in alloc; "{program}, {schedules}")
-}
-
-/// The machine of an image, whose streams a processor has `S` places at least.
-fn loaded<const S: usize>(alloc: Global, image: &Image) -> Result<Machine<'_, S>, AllocError> {
-    match Machine::load(alloc, image) {
-        Ok(machine) => Ok(machine),
-        Err(LoadFault::NoMemory | LoadFault::Streams) => Err(AllocError),
-    }
 }

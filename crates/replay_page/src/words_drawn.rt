@@ -5,7 +5,7 @@ use crate::marks::{push_bars, push_meeting};
 use crate::pages::push_cut;
 use crate::whole_run::WholeRun;
 use bitflags::Flags;
-use lab_texts::ProgramNames;
+use lab_texts::{ProgramNames, full_word};
 use run_findings::LostUpdate;
 use std::alloc::AllocError;
 use step_views::{Content, Place, StepView};
@@ -83,7 +83,7 @@ fn push_bar(
     push_state(out, lanes.x(state.from), lanes.end(), floor, state)?;
     let note = lanes.end().saturating_add(6);
     let value = state.value;
-    let words = if state.is_full { "full" } else { "empty" };
+    let words = full_word(state.is_full);
     write!(
         out,
         "<text class=\"note\" x=\"{note}\" y=\"{floor}\" dy=\"-5\">{value}, {words}</text>\n"

@@ -2,7 +2,7 @@
 
 use crate::outcomes::Outcome;
 use crate::surveys::Surveyed;
-use command_parts::loaded;
+use image_machines::loaded;
 use lab_ends::first_finding;
 use rayon::prelude::*;
 use schedule_makers::seeded;

@@ -3,10 +3,10 @@
 use crate::findings::add_findings;
 use crate::outcomes::{Outcome, add_outcome};
 use claims::Claim;
-use command_parts::loaded;
 use end_kinds::end_kind_of;
 use expectations::first_missed;
 use image_file::Image;
+use image_machines::{by_room, loaded};
 use lab_ends::{Wishes, end_words_of, is_expected_trap};
 use lab_texts::{NumberStyle, ProgramNames};
 use machine::LoadFault;
@@ -60,11 +60,10 @@ pub fn outcomes_of<X: Threads + Sync>(
     wishes: &Wishes,
     seeds: SurveySeeds,
 ) -> Result<Vec<Outcome>, AllocError> {
-    if image.slim() <= 8 {
-        outcomes_on::<X, 8>(rt, alloc, image, names, wishes, seeds)
-    } else {
-        outcomes_on::<X, 128>(rt, alloc, image, names, wishes, seeds)
-    }
+    by_room!(
+        image,
+        outcomes_on::<X>(rt, alloc, image, names, wishes, seeds)
+    )
 }
 
 /// The same on machines with room for `S` streams a processor.

@@ -5,6 +5,7 @@ ghost use Rattle.seed_verdicts.specs.ShownBySeeds.{IsToldOfClaims};
 
 use claims::Claim;
 use image_file::Image;
+use image_machines::by_room;
 use machine::LoadFault;
 use seed_verdicts::{Seeds, first_unshown_by_seeds};
 use std::alloc::{AllocError, Global};
@@ -18,11 +19,7 @@ pub fn unshown_by_seeds(
 ) -> Result<Option<usize>, AllocError>
     ensures { IfOk result (λ told. IsToldOfClaims image.now claims.now seeds told) }
 {
-    let told = if image.slim() <= 8 {
-        first_unshown_by_seeds::<8>(alloc, image, claims, seeds)
-    } else {
-        first_unshown_by_seeds::<128>(alloc, image, claims, seeds)
-    };
+    let told = by_room!(image, first_unshown_by_seeds(alloc, image, claims, seeds));
     match told {
         Ok(told) => Ok(told),
         Err(LoadFault::NoMemory | LoadFault::Streams) => Err(AllocError),

@@ -1,0 +1,21 @@
+//! How much room for streams a machine of an image has.
+
+/// Calls a function that is generic over the room of a machine, the streams of a processor: with 8 where an image needs no
+/// more, else with 128, the most that one needs. What is generic besides stands before it, as in `f::<X>(..)`.
+#[macro_export]
+macro_rules! by_room {
+    ($image:expr, $function:ident($($argument:expr),* $(,)?)) => {
+        if $image.slim() <= 8 {
+            $function::<8>($($argument),*)
+        } else {
+            $function::<128>($($argument),*)
+        }
+    };
+    ($image:expr, $function:ident::<$($before:ty),+>($($argument:expr),* $(,)?)) => {
+        if $image.slim() <= 8 {
+            $function::<$($before),+, 8>($($argument),*)
+        } else {
+            $function::<$($before),+, 128>($($argument),*)
+        }
+    };
+}
