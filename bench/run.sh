@@ -101,9 +101,9 @@ search() {
   shift
   # (a deadlock has a status of its own)
   head=$("$lab" explore "$@" "$program" | head -n 1) || true
-  worlds=$(sed -E 's/.*: ([0-9]+) worlds.*/\1/' <<<"$head")
+  worlds=$(sed -E 's/.*: ([0-9]+) states.*/\1/' <<<"$head")
   steps=$(sed -E 's/.*, ([0-9]+) steps.*/\1/' <<<"$head")
-  report "lab: explore${*:+ $*} $(basename "$program"), $worlds worlds" "$(best 3 "$lab" explore "$@" "$program" || true)" \
+  report "lab: explore${*:+ $*} $(basename "$program"), $worlds states" "$(best 3 "$lab" explore "$@" "$program" || true)" \
     "$(instructions "$lab" explore "$@" "$program")" "$steps" step "$(peak "$lab" explore "$@" "$program" || true)"
 }
 

@@ -1,4 +1,4 @@
-// Shows a run, or two, which stand as JSON in #run (docs/PAGE.md has its form). The script computes nothing of the
+// Shows a run, or two, which stand as JSON in #run (docs/LAB_REFERENCE.md has its form). The script computes nothing of the
 // machine: a position is reached by putting recorded values in place, forwards or backwards.
 
 const data = JSON.parse(byId("run").textContent);

@@ -3,7 +3,7 @@
 #SBATCH --cpus-per-task=1
 #SBATCH --mem=1G
 #SBATCH --time=00:05:00
-# judges one submission a task by every schedule; its line goes to a file of its own (docs/MANY_RUNS.md)
+# judges one submission a task by every schedule; its line goes to a file of its own (docs/GRADING.md)
 set -eu
 submissions=(submissions/*.asm)
 line=grades.$SLURM_ARRAY_TASK_ID.tsv

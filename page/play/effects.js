@@ -50,7 +50,7 @@ function effectParts(w, k) {
   parts.push(...registerChanges(before, now));
   const p = Number(names[k].split(".")[0]);
   const [was, is] = [shared(w).places[p][1], shared(to).places[p][1]];
-  if (was !== is) parts.push([`processor ${p} has ${is} places`]);
+  if (was !== is) parts.push([`processor ${p} has ${is} slots`]);
   if (outcome[0] === "done" && now.pc !== before.pc + 1) parts.push([`goes on at ${placeOf(now.pc)}`]);
   return parts.length ? parts : [["goes on"]];
 }

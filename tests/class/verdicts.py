@@ -1,4 +1,4 @@
-"""The verdicts of a submission by docs/LAB.md ("Judging a class"), docs/MACHINE.md and the machine of tests/spaces: a
+"""The verdicts of a submission by docs/LAB_REFERENCE.md ("Judging a class"), docs/MACHINE.md and the machine of tests/spaces: a
 second judge, which shares nothing with the programs that are tested."""
 
 import glob

@@ -15,7 +15,7 @@ from of_lab import lab
 COUNTS = b".entry more\n.data 0\nmore: ADD r1, r1, 1\n SKIP ALWAYS, 0, more\n"
 # so long that the line is told, on a busy machine too
 SECONDS = "4"
-TOLD = rb"\r(\d+) worlds, (\d+) still to look at, (\d+) a second, (\d+) MB\x1b\[K"
+TOLD = rb"\r(\d+) states, (\d+) still to explore, (\d+) a second, (\d+) MB\x1b\[K"
 WIPED = b"\r\x1b[K"
 
 
@@ -42,7 +42,7 @@ def by_memory(path):
 
 def by_seconds(path):
     ended = lab("explore", path, "--seconds", "1", "--states", "1000000000")
-    says = re.fullmatch(rb"some schedules: \d+ worlds looked at, \d+ steps, not complete, ended by --seconds: nothing is "
+    says = re.fullmatch(rb"some schedules: \d+ states explored, \d+ steps, not complete, ended by --seconds: nothing is "
                         rb"said of the others\n", ended.out)
     return ended.status, ended.err, says is not None or ended.out
 

@@ -12,7 +12,7 @@ import tool
 
 LINES = 120
 NO_PLACE = b"until takes a label, as eat or eat+1, or a line\n"
-NO_BREAK = b"break takes a label, as eat or eat+1, or a line, perhaps behind a processor\n"
+NO_BREAK = b"break takes a label, as eat or eat+1, or a line, perhaps after a processor\n"
 AT = re.compile(rb"after (\d+) of (\d+) steps")
 WORD = re.compile(rb"\[(\d+)\] (-?\d+), (full|empty)")
 
@@ -57,7 +57,7 @@ def refusals():
                        ("list 9", b"list takes a stream, as 2.0\n"), ("why x", b"why takes a stream, as 2.0\n"),
                        ("delete x", b"delete takes the number of a point\n"), ("try x", b"try takes a stream, as 2.0\n"),
                        ("break 2 bare+99", NO_BREAK), ("break x bare", NO_BREAK), ("until bare+", NO_PLACE),
-                       ("until 99", NO_PLACE), ("\x07\x1b[2K", b"\\x07\\x1b[2K: no such word; help tells them\n")):
+                       ("until 99", NO_PLACE), ("\x07\x1b[2K", b"\\x07\\x1b[2K: no such word; help lists them\n")):
         yield line, lambda line=line, said=said: (said, behind_the_first_line(line))
 
 
@@ -78,7 +78,7 @@ def long_lines():
     tried = behind_the_first_line("try 2.0\ntry 3.0")
     for length, said in ((65_537, refused), (70_000, refused), (200_000, refused), (65_536, None)):
         line = "y" * length
-        answer = said or line.encode() + b": no such word; help tells them\n"
+        answer = said or line.encode() + b": no such word; help lists them\n"
         last = behind_the_first_line(f"try 2.0\ntry 3.0\n{line}\nback 0")
         goes_on = b"after 2 of 2 steps" in last.removeprefix(tried + answer)
         yield f"{length} bytes", (True, True), (last.startswith(tried + answer), goes_on)

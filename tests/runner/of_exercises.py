@@ -96,7 +96,7 @@ def wrong(fields):
     return head, found if found else f"no advice on {verdict}: {why}"
 
 
-# the command `exercise`, beside what `grade` says of the same program, put into words by the rules of docs/LAB.md
+# the command `exercise`, beside what `grade` says of the same program, put into words by the rules of docs/LAB_REFERENCE.md
 
 THOROUGH = ("--states", "200000", "--seeds", "200", "--steps", "10000")
 QUICK = ("--states", "20000", "--seeds", "20", "--steps", "2000")
@@ -156,7 +156,7 @@ def shown_run(path, why):
         lines = ["  printf '" + "".join(turn + "\\n" for turn in turns.split(", ")) + "' > found.schedule",
                  view + "found.schedule"]
     return ["To look at this run:", *lines,
-            f"It has the words of {path}/cases/{case}.data: where your .data lines say others, put these there."]
+            f"It has the words of {path}/cases/{case}.data: if your .data lines differ, put these there."]
 
 
 def told(exercise, verdict, why):
@@ -167,7 +167,7 @@ def told(exercise, verdict, why):
         return [*lines, *next_after(exercise)]
     _, sentence = advice_for(exercise, verdict, why)
     lines += [sentence] if sentence else []
-    lines += [f"All that is to be said of it: mta_lab check {path}/start.asm"] if verdict == "source fault" else []
+    lines += [f"All messages: mta_lab check {path}/start.asm"] if verdict == "source fault" else []
     return [*lines, *shown_run(path, why), f"A hint: mta_lab exercise {number} --hint 1"]
 
 

@@ -287,7 +287,7 @@ def ends_by_fewer_worlds():
 @checks.others("lab/explored")
 def explored():
     """Bounds, beginnings, kept schedules, claims, grades, and how many ends a survey meets."""
-    yield "a bound", lambda: ((5, b"some schedules: 10 worlds"), bounded())
+    yield "a bound", lambda: ((5, b"some schedules: 10 states"), bounded())
     yield "a beginning", lambda: (True, begins())
     yield "kept schedules", lambda: ([1, 2, 3, 4], kept())
 

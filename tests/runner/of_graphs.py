@@ -121,7 +121,7 @@ def compared(text, head, *ends):
     worlds, steps = list(graph.worlds), {step[0] for step in graph.steps}
     if worlds != list(range(1, head["worlds"] + 1)) or len(steps) != head["steps"]:
         return f"{len(worlds)} worlds, {len(steps)} steps"
-    if len(graph.comments) != (1 if head["plain"] else 2) or ("looked at" in graph.comments[0]) == head["plain"]:
+    if len(graph.comments) != (1 if head["plain"] else 2) or ("explored" in graph.comments[0]) == head["plain"]:
         return f"its comments: {graph.comments}"
     if [world for world in worlds if graph.worlds[world][6]] != [1]:
         return "the first world is not marked"

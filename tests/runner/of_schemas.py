@@ -37,10 +37,10 @@ KINDS = {
 
 @checks.others("lab/objects")
 def objects():
-    """What is printed as JSON: an object a line, of the kinds that docs/LAB.md names, and as the schemas of these say."""
+    """What is printed as JSON: an object a line, of the kinds that docs/LAB_REFERENCE.md names, and as the schemas of these say."""
     for line, kinds in KINDS.items():
         yield line, lambda line=line, kinds=kinds: (True, are_of_kinds(objects_of(line), kinds))
-    yield "docs/PAGE.md", None, schemas.fault_of(example_of("PAGE.md"))
+    yield "docs/LAB_REFERENCE.md", None, schemas.fault_of(example_of("LAB_REFERENCE.md"))
     yield "page", lambda: (None, schemas.fault_of(run_in(written("page", "lock.asm", "lock.lost_update.schedule")[1])))
 
 

@@ -1,5 +1,5 @@
 """Who waits at the end of a run, by a second reading: since which try, whose step turned the word last, and circles.
-From the steps that `view` prints alone; docs/LAB.md, "Texts", has the rules."""
+From the steps that `view` prints alone; docs/LAB_REFERENCE.md, "Texts", has the rules."""
 
 import glob
 import os

@@ -1,4 +1,4 @@
-"""A second reading of docs/FINDINGS.md: the findings of a run, worked out from what `mta_lab` tells of its steps. It knows
+"""A second reading of docs/LAB_REFERENCE.md ("Findings"): the findings of a run, worked out from what `mta_lab` tells of its steps. It knows
 the memory at each moment by the changes of the steps, and follows each value that is read through the registers, with
 the steps in which it was read."""
 

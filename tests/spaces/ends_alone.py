@@ -1,4 +1,4 @@
-"""The search for ends alone, by the rules of docs/LAB.md ("Every schedule"): of worlds that differ in registers alone that
+"""The search for ends alone, by the rules of docs/LAB_REFERENCE.md ("Every schedule"): of worlds that differ in registers alone that
 nobody reads again, and in condition codes that nobody asks for again, one is kept, and a step that concerns nobody else, and
 at which no claim looks, is taken alone where it leads to a later world."""
 

@@ -1,4 +1,5 @@
-//! Source texts as the lab reads them: with letters of any language in their comments (docs/LAB.md, "Check a program").
+//! Source texts as the lab reads them: with letters of any language in their comments (docs/LAB_REFERENCE.md,
+//! "Checks").
 
 use source_comments::{ascii_comments, foreign_comments, is_showable};
 use source_faults::{Message, Severity, check_source};

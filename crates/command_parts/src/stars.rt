@@ -1,4 +1,5 @@
-//! Steps that a schedule leaves open: `p s *`, a stream that steps until it can't go on (docs/LAB.md, "Schedules").
+//! Steps that a schedule leaves open: `p s *`, a stream that steps until it can't go on (docs/LAB_REFERENCE.md,
+//! "Schedules").
 
 use image_file::Image;
 use image_machines::{by_room, loaded};
@@ -53,7 +54,8 @@ pub(crate) struct Expanded {
     pub steps: Vec<Step>,
     /// The stars, in their order.
     pub stars: Vec<Star>,
-    /// The first line, from 0, that takes the schedule past the most steps that one has; it and those behind it add nothing.
+    /// The first line, from 0, that takes the schedule past the most steps that one has; it and those behind it add
+    /// nothing.
     pub past: Option<usize>,
 }
 

@@ -117,7 +117,7 @@ impl<'a, 'i, 't> Adapter<'a, 'i, 't> {
                 )?,
                 Some(_) if is_ours => push_unverified(body, "there are too many breakpoints"),
                 Some(_) => push_unverified(body, "this is not the program's source"),
-                None => push_unverified(body, "no instruction stands on this line or behind it"),
+                None => push_unverified(body, "no instruction is on this line or after it"),
             }
         }
         body.close_list();
@@ -143,7 +143,7 @@ impl<'a, 'i, 't> Adapter<'a, 'i, 't> {
                     body,
                 )?,
                 Some(_) => push_unverified(body, "there are too many breakpoints"),
-                None => push_unverified(body, "the program has no such place"),
+                None => push_unverified(body, "the program has no such label or line"),
             }
         }
         body.close_list();

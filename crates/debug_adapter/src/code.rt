@@ -90,11 +90,11 @@ impl<'a, 'i, 't> Adapter<'a, 'i, 't> {
     /// Program words around a place. Those that the program doesn't have are told as no instructions.
     pub(crate) fn disassemble(&self, request: &Request, body: &mut Json) -> Result<(), Refusal> {
         let Some(place) = request.text("memoryReference").and_then(read_reference) else {
-            return Err(Refusal::Words("this is no place of the program"));
+            return Err(Refusal::Words("this is no address of the program"));
         };
         let count = whole_number(request, "instructionCount")?;
         if count > MOST_INSTRUCTIONS {
-            return Err(Refusal::Words("at most 10000 instructions are told at once"));
+            return Err(Refusal::Words("at most 10000 instructions are shown at once"));
         }
         let first = i64::try_from(place)
             .unwrap_or(i64::MAX)

@@ -84,7 +84,7 @@ impl<'a, 'i, 't> Adapter<'a, 'i, 't> {
     /// Adds a program word: its place and its instruction.
     fn push_program_word(&self, out: &mut String, word: Option<u32>) -> Result<(), Refusal> {
         let Some(word) = word else {
-            return Err(Refusal::Words("the program has no such place"));
+            return Err(Refusal::Words("the program has no such label or line"));
         };
         self.names.push_place(out, word)?;
         out.push_str(": ")?;

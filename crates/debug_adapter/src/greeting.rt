@@ -121,13 +121,13 @@ fn capabilities(alloc: Global) -> Json {
         &mut body,
         "traps",
         "Traps",
-        "stops behind a step that trapped",
+        "stops after a step that trapped",
     );
     push_filter(
         &mut body,
         "blocked",
         "Blocked steps",
-        "stops behind a step that was blocked",
+        "stops after a step that was blocked",
     );
     body.close_list();
     body.close();

@@ -51,7 +51,7 @@ impl<'a, 'i, 't> Adapter<'a, 'i, 't> {
 fn bytes_asked(request: &Request) -> Result<u64, Refusal> {
     match request.number_or("count", 0) {
         Some(count) if count <= MOST_BYTES => Ok(count),
-        Some(_) => Err(Refusal::Words("at most 2097152 bytes are told at once")),
+        Some(_) => Err(Refusal::Words("at most 2097152 bytes are shown at once")),
         None => Err(Refusal::Words("count takes a number of bytes")),
     }
 }

@@ -157,7 +157,7 @@ impl<'a, 'i, 't> Adapter<'a, 'i, 't> {
             _ => left,
         };
         if count > MOST_VARIABLES && request.number("count").is_some() {
-            return Err(Refusal::Words("at most 4096 words are told at once"));
+            return Err(Refusal::Words("at most 4096 words are shown at once"));
         }
         for index in 0..count.min(MOST_VARIABLES) {
             self.push_memory_word(start.saturating_add(index), style, body)?;

@@ -1,4 +1,4 @@
-//! Verdicts as JSON ("JSON", docs/LAB.md).
+//! Verdicts as JSON ("JSON", docs/LAB_REFERENCE.md).
 
 use crate::reports::Judgement;
 use crate::verdicts::{CountedEnd, Known, Verdict, WishLine, Witness};

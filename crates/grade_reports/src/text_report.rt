@@ -44,7 +44,7 @@ pub(crate) fn why_of(alloc: Global, judgement: &Judgement<'_>) -> Result<String,
     Ok(why)
 }
 
-/// Adds what was looked at: `every schedule, 36 worlds`, `200 seeds`, or both, and of how many cases.
+/// Adds what was looked at: `every schedule, 36 states`, `200 seeds`, or both, and of how many cases.
 fn push_known(why: &mut String, judgement: &Judgement<'_>) -> Result<(), AllocError> {
     let known = judgement.verdict.known;
     if judgement.cases > 0 && judgement.verdict.kind == VerdictKind::Right {
@@ -72,7 +72,7 @@ fn push_worlds(why: &mut String, known: Known) -> Result<(), AllocError> {
     };
     let comma = if known.ended.is_empty() { "" } else { ", " };
     let ended = known.ended;
-    write!(why, "{which}, {worlds} worlds{comma}{ended}")
+    write!(why, "{which}, {worlds} states{comma}{ended}")
 }
 
 /// Adds the run that shows what is wrong, the line that it misses, its end, and the first finding on the way to it.

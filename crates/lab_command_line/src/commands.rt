@@ -31,7 +31,7 @@ pub(crate) struct CommandWords {
 pub(crate) const COMMANDS: [CommandWords; 18] = [
     CommandWords {
         name: "check",
-        about: "Judges source texts, images and schedules, in words",
+        about: "Checks source texts, images and schedules",
         long: help::CHECK,
         arguments: &CHECK_ARGUMENTS,
     },
@@ -55,7 +55,7 @@ pub(crate) const COMMANDS: [CommandWords; 18] = [
     },
     CommandWords {
         name: "debug",
-        about: "Goes to and fro in a run, by the lines of standard input",
+        about: "Goes forward and back in a run, by the lines of standard input",
         long: help::DEBUG,
         arguments: &DEBUG_ARGUMENTS,
     },
@@ -67,7 +67,7 @@ pub(crate) const COMMANDS: [CommandWords; 18] = [
     },
     CommandWords {
         name: "compare",
-        about: "Shows where two schedules of a program part, and both ends",
+        about: "Shows where two schedules of a program first differ, and both ends",
         long: help::COMPARE,
         arguments: &COMPARE_ARGUMENTS,
     },
@@ -79,7 +79,7 @@ pub(crate) const COMMANDS: [CommandWords; 18] = [
     },
     CommandWords {
         name: "explore",
-        about: "Shows every end that schedules of a program come to",
+        about: "Shows every end that schedules of a program can reach",
         long: help::EXPLORE,
         arguments: &EXPLORE_ARGUMENTS,
     },

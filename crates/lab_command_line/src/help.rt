@@ -4,15 +4,15 @@
 pub(crate) const STATUSES: &str = "\
 Exit status:
   0  done, and all is as expected
-  1  a fault: what is wrong stands on standard error, or in the table of grade
+  1  an error: standard error says what is wrong, or the table of grade does
   2  the command line asks for no command
   3  some end is not as expected        4  some end is a deadlock
   5  some run ended at its bound";
 
 pub(crate) const TOOL: &str = "\
 Shows what programs of the Tera MTA do: what is wrong with a source text, a run step by step,
-where two runs part, and which ends many schedules come to. A PROGRAM is a source text or an
-image, and - is standard input.
+where two runs first differ, and which ends schedules can reach. A PROGRAM is a source text or
+an image, and - is standard input.
 
 Example:
   mta_lab check lock.asm
@@ -20,9 +20,9 @@ Example:
   mta_lab view lock.asm --seed 7";
 
 pub(crate) const CHECK: &str = "\
-Judges source texts, images and schedules. Each message stands on a line
-FILE:LINE:COLUMN: error: WORDS, with the line and a mark under the place below it. Of what only
-mta_lab reads, letters beyond ASCII in comments and * in schedules, it warns.
+Judges source texts, images and schedules. Each message is a line FILE:LINE:COLUMN: error: WORDS.
+The source line follows, with a mark under the spot, and how to correct it. check also warns about
+what only mta_lab reads: letters beyond ASCII in comments, and * in schedules.
 
 Example:
   mta_lab check lock.asm";
@@ -41,108 +41,108 @@ Examples:
   mta_lab fmt --check examples/*.asm";
 
 pub(crate) const SCHEDULE: &str = "\
-Makes a schedule of a program and prints it: rounds takes the running streams in the order of
-processor and stream, fair the processors in turn and within each its streams in turn, random
-one of the running streams at each step. It ends when no stream runs, when nobody can go on,
-or after --steps, and says which on standard error.
+Makes a schedule of a program and prints it. rounds takes the running streams in the order of
+processor and stream. fair takes the processors in turn, and in each its streams in turn. random
+takes any running stream. The schedule ends when no stream runs, when no stream can go on, or
+after --steps. Standard error says which.
 
-How random takes them is said by the seed's number modulo 4: 0 any running stream at each step,
-1 turns of 8 steps on average, 2 turns of 32, 3 the running stream of the highest priority, where
-two streams fall behind on the way. In 1 to 3 no stream steps that is blocked, if another is not.
+The seed modulo 4 is the rule of random. 0: any running stream at each step. 1: a stream goes on
+for 8 steps on average. 2: for 32 steps. 3: by priorities, of which two fall during the run. In
+1 to 3 a blocked stream does not step while another can.
 
 Example:
   mta_lab schedule random lock.asm --seed 7 > found.schedule";
 
 pub(crate) const VIEW: &str = "\
-Shows a run: a line a step with its number, the stream, the place, the instruction, and what
-it changed; then how the run ends, who waits for what, and the words that differ. Without a
-schedule the processors step in turn.
+Shows a run, a line for each step: its number, the stream, the address, the instruction, and
+what it changed. Then it says how the run ends, who waits for what, and which words differ from
+the start. Without a schedule the processors step in turn.
 
 Example:
   mta_lab view lock.asm lock.lost_update.schedule";
 
 pub(crate) const DEBUG: &str = "\
-Goes to and fro in a run: each line of standard input is a word, as step, next, back, continue,
-reverse-continue, until, break, watch, delete, info, print, list, why, try or save, and is
-answered before the next is read. An empty line repeats the last. The word help tells all.
+Goes forward and back in a run. Each line of standard input is a command: step, next, back,
+continue, reverse-continue, until, break, watch, delete, info, print, list, why, try or save. It
+is answered before the next is read. An empty line repeats the last. help lists all commands.
 
 Example:
   mta_lab debug lock.asm --seed 7";
 
 pub(crate) const DAP: &str = "\
-Lets an editor debug a program: requests of the Debug Adapter Protocol come on standard input,
-and are answered on standard output. The editor starts it; its launch request names the program
-and the schedule. docs/EDITORS.md has what to set in VS Code, Neovim and Emacs.
+Lets an editor debug a program: it reads requests of the Debug Adapter Protocol from standard
+input, and answers on standard output. The editor starts it; its launch request names the program
+and the schedule. docs/EDITORS.md says what to set in VS Code, Neovim and Emacs.
 
 Example:
   mta_lab dap";
 
 pub(crate) const COMPARE: &str = "\
-Shows the first step at which two schedules of a program part, the first position at which
-the worlds differ, and in what, and both ends. With --seeds these are the random schedules of
-two seeds.
+Shows the first step at which two schedules of a program differ, the first position at which
+the states differ, and in what, and both ends. With --seeds ONE and OTHER are seeds of random
+schedules.
 
 Examples:
   mta_lab compare lock.asm lock.ends.schedule lock.lost_update.schedule
   mta_lab compare lock.asm --seeds 3 8";
 
 pub(crate) const SURVEY: &str = "\
-Runs a program by many random schedules, over all cores, and counts the ends they come to, each
-with a seed that leads there. How a schedule is made its seed says: mta_lab schedule --help.
+Runs a program by many random schedules, on all cores, and counts their ends. Each end has a
+seed that reaches it. The seed says how its schedule is made (mta_lab schedule --help).
 
 Example:
   mta_lab survey lock.asm --seeds 1000";
 
 pub(crate) const EXPLORE: &str = "\
-Shows the ends that schedules of a program lead to: how many worlds, the steps of a schedule to
-them, a shortest one unless it says otherwise, who waits or was stopped, and the words that changed.
-Where it says complete, no schedule of any length comes to another end. Where a step concerns its
-own stream alone, or ends the last stream of its processor that runs, and leads to a world whose
-own steps are still to be looked at, the others wait: so fewer worlds are looked at. Where --expect
-claims something of streams at places, steps from these places and to them are no such steps. With
---plain all worlds are looked at.
+Shows every end that schedules of a program can reach: how many states, the number of steps of a
+schedule (a shortest one, unless the line says otherwise), who waits or was stopped, and the words
+that changed. If it says complete, no schedule of any length ends differently.
 
-Beside lines about ends the file of --expect may have claims: always, never or some, and behind it
+Some steps concern their own stream alone, or end the last running stream of their processor. If
+such a step leads to a state that is still to be explored, the other streams wait: their steps
+commute with it. So fewer states are explored. If --expect claims something about streams at some
+addresses, steps from and to these are not taken so. --plain explores all states.
+
+Beside lines about ends the file of --expect may have claims: always, never or some, and then
 word ADDRESS is|above|below VALUE, word ADDRESS full|empty, or at most N of P.S .. in FIRST..LAST.
-above and below compare signed where VALUE has a sign (-1, +3), or signed stands behind it
-(below 0 signed); else a word is a number from 0 on, so that -1 is above 5 and none is below 0.
+above and below compare signed if VALUE has a sign (-1, +3), or if signed follows it (below 0
+signed). Else a word is a number from 0 on: -1 is above 5, and none is below 0.
 
-With --keep FOLDER the schedule to each end is written as FOLDER/1.schedule and so on, and with
---pages FOLDER the page of its run (mta_lab page --help), as FOLDER/1_deadlock.html and so on.
+--keep FOLDER writes the schedule to each end as FOLDER/1.schedule and so on. --pages FOLDER writes
+the page of its run (mta_lab page --help), as FOLDER/1_deadlock.html and so on.
 
-With --dot FILE the worlds are also written as a graph for Graphviz, up to 2000 of them: each coloured
-by the ends that can still be reached from it, the schedules to the ends bold. It has the worlds that
-were looked at, so use --plain to see all.
+--dot FILE writes the explored states, up to 2000, as a graph for Graphviz. The colour of a state
+says which ends can still be reached, and the schedules to the ends are bold. --plain shows all.
 
 Examples:
   mta_lab explore lock.asm
   mta_lab explore race.asm --plain --dot race.dot && dot -Tsvg race.dot > race.svg";
 
 pub(crate) const GRADE: &str = "\
-Judges submissions: a line a submission, which is right, wrong, a deadlock, a trap, out of steps,
-a faulty source or not read, with what shows it. Each runs by many random schedules; the first
-seed whose run is not right decides. With --explore every schedule is looked at; a submission of
-which that says nothing by its bounds runs by the random schedules too.
+Judges submissions, a line for each: right, wrong, a deadlock, a trap, out of steps, a source with
+errors or not read, and what shows it. Each runs by many random schedules; the first seed whose run
+is not right decides. --explore tries every schedule. If its bounds end that search before it finds
+anything, the submission runs by the random schedules too.
 
 A file of --expect has lines about the end of a run, lines always .. and never .. about every state
-on the way, and lines some .. that one state has to show (mta_lab explore --help). With --cases each submission is judged by each case of
-a folder, in the order of their names: NAME.data takes the place of its cells, and NAME.expect
-says what the end has to be. All have to be right. Only regular files are read, and - is
-standard input.
+of the run, and lines some .. that one state has to show (mta_lab explore --help). With --cases each
+submission is judged by every case of a folder, in the order of their names: NAME.data replaces its
+cells, and NAME.expect says what the end has to be. All have to be right. Only regular files are
+read, and - is standard input.
 
-With --pages FOLDER the run that shows why a submission is not right is written as a page for a
-browser, FOLDER/NAME.html of NAME.asm; with --explore as a page of all schedules (mta_lab play),
-if the program has no more than 100000 states.
+--pages FOLDER writes the run that shows why a submission is not right as a page for a browser,
+FOLDER/NAME.html of NAME.asm. With --explore it is a page of all schedules (mta_lab play), if the
+program has no more than 100000 states.
 
 Examples:
   mta_lab grade --expect wanted.expect submissions/*.asm
   mta_lab grade --cases cases --explore --seconds 10 --format junit submissions/*.asm";
 
 pub(crate) const EXERCISE: &str = "\
-Lists the exercises of a folder with what is done. With a number it judges yours: the file start.asm
-in the folder of that exercise, which you edit. It is tried with all cases, by every schedule; if it
-is not right, a schedule shows why, with the commands to look at that run. Each exercise has a task,
-task.md, and hints.
+Lists the exercises of a folder, and which are done. With a number it judges your program: the file
+start.asm in the folder of that exercise, which you edit. It is tried with all cases, by every
+schedule. If it is not right, a schedule shows why, with the commands to view that run. Each
+exercise has a task, task.md, and hints.
 
 Examples:
   mta_lab exercise
@@ -150,8 +150,8 @@ Examples:
   mta_lab exercise 3 --hint 1";
 
 pub(crate) const ASM: &str = "\
-Assembles a source text, and writes the image. The image is written beside its place and
-renamed to there, so a fault leaves what was there as it was.
+Assembles a source text, and writes the image. The image is written under another name and then
+renamed. So if anything fails, the old file stays as it was.
 
 Example:
   mta_lab asm lock.asm --out lock.image";
@@ -159,8 +159,8 @@ Example:
 pub(crate) const EXPLAIN: &str = "\
 Says what a word means: an operation, an access as .S, a condition, a directive, a trap by its
 number, a value of the trap register as 0x806, the letters of a code, a fault as E2 or a warning as
-101. Each page has the meaning, an example that runs, and what to do. Without WORD all words that
-have a page are listed.
+101. Each page has the meaning, an example that runs, and what to do. Without WORD it lists all
+words that have a page.
 
 Example:
   mta_lab explain LOAD.S";
@@ -175,7 +175,7 @@ Examples:
 
 pub(crate) const NEW: &str = "\
 Writes NAME.asm, a program of two processors to begin with, and NAME.expect, which says what each
-of its ends has to be. A file that is there is never written over.
+of its ends has to be. It never writes over a file.
 
 Example:
   mta_lab new count";
@@ -183,7 +183,7 @@ Example:
 pub(crate) const PAGE: &str = "\
 Writes a page that shows a run, for a browser: the lanes of streams and words over time, the
 source, each step forwards and backwards, who waits for whom, what was lost. The page is one
-file, which needs no network. A run has up to 100000 steps there.
+file, which needs no network. The run may have up to 100000 steps.
 
 With OTHER the page shows two runs of the program, one above the other, up to 50000 steps each:
 it opens where they first differ. With --seeds both are random schedules of these seeds.
@@ -194,7 +194,7 @@ Examples:
 
 pub(crate) const PICTURE: &str = "\
 Writes the lanes of a run as a picture, an SVG file: a lane a stream and a lane a word over
-time, with a legend. Up to 500 steps are drawn: of a longer run those from --from to --to.
+time, with a legend. It draws up to 500 steps: of a longer run those from --from to --to.
 
 Examples:
   mta_lab picture lock.asm lock.lost_update.schedule --out lock.svg
@@ -202,12 +202,12 @@ Examples:
 
 pub(crate) const PLAY: &str = "\
 Writes a page on which the reader is the scheduler, for a browser: at each step the reader
-chooses which stream goes on, forwards and back, and sees which ends can still come, and the step
-at which the right one got out of reach. The page is one file, which needs no network, and has
-every state that a schedule of the program can reach, up to 100000. With --expect ends are right or
-wrong; each end is a goal.
+chooses which stream goes on, forwards and back. The page shows which ends can still come, and
+after which step the right one can no longer be reached. It is one file, which needs no network,
+and has every state that a schedule of the program can reach, up to 100000. With --expect ends are
+right or wrong. Each end is a goal.
 
-If a program has more states, take fewer turns of its loops, or give a beginning by --from.
+If a program has more states, let its loops repeat less often, or give a beginning by --from.
 
 Examples:
   mta_lab play lock.asm --out lock.html --expect lock.expect
@@ -223,19 +223,20 @@ pub(crate) const SCHEDULE_FILE: &str =
 pub(crate) const PAGE_SCHEDULE: &str =
     "its schedule: lines of processor, stream and number of steps, or * until it is blocked; with --seeds its seed";
 
-pub(crate) const STEPS: &str = "the most steps of a made schedule, 1 to 1000000 [10000]";
+pub(crate) const STEPS: &str =
+    "the most steps of a schedule that mta_lab makes, 1 to 1000000 [10000]";
 
 pub(crate) const SEED: &str = "steps are random, by the rule and the generator of this seed";
 
 pub(crate) const BEGIN: &str = "a schedule: only those that begin with it [none]";
 
-pub(crate) const STATES: &str = "of every schedule, the most worlds that are looked for [5000000]";
+pub(crate) const STATES: &str = "of every schedule, the most states that are explored [5000000]";
 
 pub(crate) const SECONDS: &str = "of every schedule, the most seconds of the search [none]";
 
 pub(crate) const MEMORY: &str = "of every schedule, the most megabytes of the search [none]";
 
-pub(crate) const PLAIN: &str = "looks at all worlds, also where the ends need fewer";
+pub(crate) const PLAIN: &str = "explores all states, even if the ends need fewer";
 
 pub(crate) const JSON: &str = "prints JSON, an object a line";
 

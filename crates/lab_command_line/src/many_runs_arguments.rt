@@ -23,7 +23,7 @@ pub(crate) const SURVEY_ARGUMENTS: [Argument; 11] = [
     Argument("expect", help::EXPECT, Form::Option("FILE")),
     Argument(
         "explore",
-        "says how many of the ends of every schedule were met",
+        "says how many of the ends of every schedule were reached",
         Form::Flag(&[]),
     ),
     Argument(
@@ -70,7 +70,7 @@ pub(crate) const EXPLORE_ARGUMENTS: [Argument; 12] = [
     ),
     Argument(
         "dot",
-        "writes the worlds as a graph for Graphviz, FILE.dot",
+        "writes the states as a graph for Graphviz, FILE.dot",
         Form::Option("FILE"),
     ),
     Argument("hex", help::HEX, Form::Flag(&[])),
@@ -103,7 +103,7 @@ pub(crate) const GRADE_ARGUMENTS: [Argument; 17] = [
     ),
     Argument(
         "explore",
-        "every schedule; where that is not decided, random ones too",
+        "every schedule; if that decides nothing, random ones too",
         Form::Flag(&[]),
     ),
     Argument(
@@ -123,7 +123,7 @@ pub(crate) const GRADE_ARGUMENTS: [Argument; 17] = [
     ),
     Argument(
         "jobs",
-        "how many submissions side by side, 1 to 256 [as many as processors]",
+        "how many submissions at a time, 1 to 256 [as many as processors]",
         Form::Number("N", 1, MOST_JOBS),
     ),
     Argument(

@@ -39,12 +39,12 @@ pub(crate) const VIEW_ARGUMENTS: [Argument; 12] = [
     ),
     Argument(
         "only",
-        "shows the steps of this stream alone",
+        "shows only the steps of this stream",
         Form::Option("P.S"),
     ),
     Argument(
         "word",
-        "shows the steps that meet the word at this byte address",
+        "shows the steps that use the word at this byte address",
         Form::Number("A", 0, u64::MAX),
     ),
     Argument("columns", "a column a stream", Form::Flag(&["json"])),
@@ -94,7 +94,7 @@ pub(crate) const PAGE_ARGUMENTS: [Argument; 10] = [
     ),
     Argument(
         "OTHER",
-        "another one, whose run is shown beside the first",
+        "another one, whose run is shown next to the first",
         Form::Optional(&[]),
     ),
     Argument(

@@ -31,7 +31,7 @@ impl<'a, 'i, 't, const S: usize> Desk<'a, 'i, 't, S> {
         let (processor, place) = processor_and_place(rest);
         let Some(word) = self.named.word_of_place(place) else {
             return Ok(out.push_str(
-                "break takes a label, as eat or eat+1, or a line, perhaps behind a processor\n",
+                "break takes a label, as eat or eat+1, or a line, perhaps after a processor\n",
             )?);
         };
         if let Some(p) = processor {

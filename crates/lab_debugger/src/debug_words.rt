@@ -144,7 +144,7 @@ pub(crate) fn push_no_word(out: &mut String, text: &str) -> Result<(), AllocErro
         }
     }
     if count == 0 {
-        out.push_str("no such word; help tells them")?;
+        out.push_str("no such word; help lists them")?;
     } else {
         out.push_str("?")?;
     }

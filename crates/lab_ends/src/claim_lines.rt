@@ -1,4 +1,4 @@
-//! Claims as lines say them ("Claims", docs/LAB.md).
+//! Claims as lines say them ("Claims", docs/LAB_REFERENCE.md).
 
 use crate::claim_fault::ClaimFault;
 use crate::claim_words::{GREATEST_SIGNED, address_of, count_of, number_of, range_of, streams_of};

@@ -1,5 +1,5 @@
 //! How runs and all schedules of a program end, told in words: who was stopped, who waits, the words that changed, the
-//! first finding; the ends of a space, and claims about all its worlds (docs/LAB.md, "Every schedule").
+//! first finding; the ends of a space, and claims about all its worlds (docs/LAB_REFERENCE.md, "Every schedule").
 #![tactic(auto)]
 
 mod broken_claims;

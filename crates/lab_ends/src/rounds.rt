@@ -12,8 +12,9 @@ use waiting::{is_stuck, running_streams};
 /// The most steps that are told one by one.
 const MOST_TOLD: usize = 12;
 
-/// The steps of a shortest way round along the edges of a space from the world at a place, a machine's, back to it, or to
-/// one for which it stands: where none leads back, a step that goes on and leaves such a world. Empty where there is neither.
+/// The steps of a shortest way round along the edges of a space from the world at a place, a machine's, back to it, or
+/// to one for which it stands: where none leads back, a step that goes on and leaves such a world. Empty where there is
+/// neither.
 pub(crate) fn round_of<const S: usize>(
     alloc: Global,
     space: &Space<'_>,
@@ -66,7 +67,7 @@ pub(crate) fn push_round<const S: usize>(
     }
     let count = steps.len();
     let some_steps = if count == 1 { "" } else { "s" };
-    write!(words, "goes round in {count} step{some_steps}: ")?;
+    write!(words, "loops in {count} step{some_steps}: ")?;
     for (number, step) in steps.iter().enumerate() {
         if number >= MOST_TOLD {
             return words.push_str(", ..");

@@ -91,8 +91,8 @@ fn going_of<const S: usize>(machine: &Machine<'_, S>, stream: Step) -> Going {
 /// What is told of a set of worlds.
 #[derive(Drop)]
 pub(crate) struct SetTold {
-    /// Who runs in it and who waits in each of its worlds, the words that differ from the image in its first one, and those
-    /// that change in it.
+    /// Who runs in it and who waits in each of its worlds, the words that differ from the image in its first one, and
+    /// those that change in it.
     pub text: String,
     /// The streams that can go on in some world of it.
     pub running: Vec<Step>,
@@ -167,7 +167,7 @@ fn push_streams(text: &mut String, streams: &[GoingStream]) -> Result<(), AllocE
 fn push_changing(text: &mut String, changing: &[u64]) -> Result<(), AllocError> {
     for address in changing {
         push_part_of(text, 0, "")?;
-        write!(text, "[{address}] goes on changing")?;
+        write!(text, "[{address}] keeps changing")?;
     }
     Ok(())
 }

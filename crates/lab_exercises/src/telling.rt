@@ -37,10 +37,7 @@ pub(crate) fn push_told(
         out.push_str("\n")?;
     }
     if judgement.is_source_fault() {
-        write!(
-            out,
-            "All that is to be said of it: mta_lab check {path}/start.asm\n"
-        )?;
+        write!(out, "All messages: mta_lab check {path}/start.asm\n")?;
     }
     push_commands(out, &path, shown_by(why))
 }
@@ -67,7 +64,7 @@ fn push_commands(out: &mut String, path: &str, shown: Shown<'_>) -> Result<(), A
     match shown.case {
         Some(case) => write!(
             out,
-            "It has the words of {path}/cases/{case}.data: where your .data lines say others, put these there.\n"
+            "It has the words of {path}/cases/{case}.data: if your .data lines differ, put these there.\n"
         ),
         None => Ok(()),
     }

@@ -23,7 +23,7 @@ pub fn claim_words(alloc: Global, fault: ClaimFault, image: &Image) -> Result<St
         ClaimFault::Place => {
             let last = image.program().len() - 1;
             format!(in alloc;
-                "the program has no such place: a place is a label, or as label+1 behind one, or a number from 0 to {last}"
+                "the program has no such address: write a label, an address after one as label+1, or a number from 0 to {last}"
             )
         }
         ClaimFault::Form
@@ -39,16 +39,16 @@ pub fn claim_words(alloc: Global, fault: ClaimFault, image: &Image) -> Result<St
 fn plain_words(fault: ClaimFault) -> &'static str {
     match fault {
         ClaimFault::Number => {
-            "this is no number of 64 bits; one that has a sign, or signed behind it, is from -9223372036854775808 to 9223372036854775807"
+            "this is no number of 64 bits; one with a sign, or with signed after it, is from -9223372036854775808 to 9223372036854775807"
         }
         ClaimFault::Beyond => {
-            "no number is so: without a sign none is below 0, or above 18446744073709551615; write +0, or signed behind the number, to compare signed"
+            "no number is so: without a sign none is below 0, or above 18446744073709551615; write +0, or signed after the number, to compare signed"
         }
         ClaimFault::Twice => "a stream is named twice",
         ClaimFault::Range => "the range ends before it begins",
         ClaimFault::NoMemory => "no memory",
         ClaimFault::Form | ClaimFault::Word | ClaimFault::Stream | ClaimFault::Place => {
-            "behind always, never or some stands word ADDRESS is VALUE, word ADDRESS above|below VALUE [signed], word ADDRESS full|empty, or at most N of P.S .. in FIRST..LAST"
+            "after always, never or some comes word ADDRESS is VALUE, word ADDRESS above|below VALUE [signed], word ADDRESS full|empty, or at most N of P.S .. in FIRST..LAST"
         }
     }
 }

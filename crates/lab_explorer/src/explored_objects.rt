@@ -1,4 +1,4 @@
-//! What is told of a search as objects (docs/LAB.md, "JSON").
+//! What is told of a search as objects (docs/LAB_REFERENCE.md, "JSON").
 
 use crate::expected_lines::ExpectedLines;
 use crate::exploring::Explored;
@@ -119,8 +119,8 @@ pub(crate) fn is_as_expected(end: &SpaceEnd) -> bool {
     }
 }
 
-/// Puts what is told of a set that spins alone: the steps of a way round, the streams that go on in it, and the words that
-/// change.
+/// Puts what is told of a set that spins alone: the steps of a way round, the streams that go on in it, and the words
+/// that change.
 fn put_set(alloc: Global, fields: &mut Fields, end: &SpaceEnd) -> Result<(), AllocError> {
     put_turns(alloc, fields, "round", &end.round)?;
     put_streams(alloc, fields, "running", &end.running)?;

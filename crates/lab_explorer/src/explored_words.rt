@@ -61,14 +61,14 @@ pub(crate) fn push_head_line(out: &mut String, found: &Explored) -> Result<(), A
     let which = schedules_of(found);
     let some_worlds = plural(worlds);
     let some_steps = plural(steps);
-    let looked_at = if found.is_of_all_worlds {
+    let explored = if found.is_of_all_worlds {
         ""
     } else {
-        " looked at"
+        " explored"
     };
     write!(
         out,
-        "{which}: {worlds} world{some_worlds}{looked_at}, {steps} step{some_steps}, "
+        "{which}: {worlds} state{some_worlds}{explored}, {steps} step{some_steps}, "
     )?;
     match found.bound {
         Some(bound) => {
@@ -124,7 +124,7 @@ fn push_end_line(
     };
     write!(
         out,
-        "  {by}{steps} step{some_steps}, from {sources} world{some_sources}"
+        "  {by}{steps} step{some_steps}, from {sources} state{some_sources}"
     )?;
     if !end.text.is_empty() {
         out.push_str("   ")?;

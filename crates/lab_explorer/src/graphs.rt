@@ -44,7 +44,7 @@ pub(crate) fn write_graph<F: Files, R: Read>(
 fn too_many(alloc: Global, path: &str, found: &Explored) -> Result<LabFault, AllocError> {
     let worlds = found.worlds;
     Ok(LabFault::Words(format!(in alloc;
-        "{path}: not written: a graph has up to {MOST_DRAWN} worlds, and these are {worlds}; a program with fewer rounds has fewer, and so have the schedules that begin with one of --from"
+        "{path}: not written: a graph has up to {MOST_DRAWN} states, and these are {worlds}; loops that repeat less often make fewer states, and so does a beginning by --from"
     )?))
 }
 
@@ -54,7 +54,7 @@ fn with_head(alloc: Global, found: &Explored, graph: &str) -> Result<String, All
     push_head_line(&mut text, found)?;
     if !found.is_of_all_worlds {
         text.push_str(
-            "// Worlds that the ends do not need were not looked at, and are not here: --plain draws all.\n",
+            "// States that the ends do not need were not explored, and are not here: --plain draws all.\n",
         )?;
     }
     text.push_str(graph)?;

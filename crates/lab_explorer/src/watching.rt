@@ -166,7 +166,7 @@ impl<'w, 'c, C: Clock, E: Write> Watcher<'w, 'c, C, E> {
         let megabytes = bytes / MEGABYTE;
         let _ = write!(
             self.console.errors,
-            "\r{found} worlds, {waiting} still to look at, {rate} a second, {megabytes} MB\x1b[K"
+            "\r{found} states, {waiting} still to explore, {rate} a second, {megabytes} MB\x1b[K"
         );
         let _ = self.console.errors.flush();
     }

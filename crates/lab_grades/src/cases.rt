@@ -142,7 +142,7 @@ fn cells_fault(
             1,
             String::from_str(
                 alloc,
-                "no cell is given here, so nothing takes the place of others",
+                "no cell is given here, so nothing replaces the submission's own",
             )?,
         ),
         CellsFault::Source(fault) => (fault.line, source_words(alloc, text, fault.line)?),

@@ -29,8 +29,8 @@ pub(crate) fn put_findings<const S: usize>(
     put_number(alloc, fields, "more_findings", more as u64)
 }
 
-/// What went wrong in a run of these actions: lost updates, torn reads, unread stores (docs/FINDINGS.md); no torn reads of
-/// a run of more than 20,000 steps. Steps count from 1 here.
+/// What went wrong in a run of these actions: lost updates, torn reads, unread stores (docs/LAB_REFERENCE.md,
+/// "Findings"); no torn reads of a run of more than 20,000 steps. Steps count from 1 here.
 pub fn findings_value(alloc: Global, actions: &[Action]) -> Result<Value, AllocError> {
     let found = FindingsOfRun::of(alloc, actions)?;
     Ok(Value::Array(first_findings(alloc, &found, usize::MAX)?))

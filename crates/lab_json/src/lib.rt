@@ -1,6 +1,6 @@
-//! Runs as JSON: the program, the world at the start, each step with its changes, and the end (docs/LAB.md, "JSON";
-//! share/schema has the schemas). 64-bit values are strings of decimal digits; all other numbers are numbers; no value is
-//! a sentence.
+//! Runs as JSON: the program, the world at the start, each step with its changes, and the end (docs/LAB_REFERENCE.md,
+//! "JSON"; share/schema has the schemas). 64-bit values are strings of decimal digits; all other numbers are numbers;
+//! no value is a sentence.
 #![tactic(auto)]
 
 mod differences;

@@ -36,7 +36,7 @@ pub fn write_picture<F: Files, R: Read>(
 /// What is said of steps that end before they begin.
 fn none_drawn(alloc: Global, request: &PageRequest) -> Result<LabFault, AllocError> {
     let (from, to) = (request.from, request.to);
-    Ok(LabFault::Words(format!(in alloc; "--from {from} is behind --to {to}: no step is drawn")?))
+    Ok(LabFault::Words(format!(in alloc; "--from {from} is after --to {to}: no step is drawn")?))
 }
 
 /// What is said of steps that begin behind the last of so many.

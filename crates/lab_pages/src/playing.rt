@@ -146,7 +146,7 @@ fn too_many(alloc: Global, request: &PlayRequest) -> Result<LabFault, AllocError
     let out = request.out;
     let states = request.states;
     Ok(LabFault::Words(format!(in alloc;
-        "{out}: not written: the program has more than {states} states; with fewer turns of its loops it has fewer, and so have the schedules that begin with one of --from"
+        "{out}: not written: the program has more than {states} states; loops that repeat less often make fewer states, and so does a beginning by --from"
     )?))
 }
 

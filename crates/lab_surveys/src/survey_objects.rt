@@ -1,4 +1,4 @@
-//! What is told of a survey as objects (docs/LAB.md, "JSON").
+//! What is told of a survey as objects (docs/LAB_REFERENCE.md, "JSON").
 
 use command_parts::{Program, made_by, push_object};
 use end_kinds::EndKind;

@@ -198,7 +198,7 @@ fn push_met(
     };
     write!(
         out,
-        "met {met} of the {ends} ends of {which} ({worlds} worlds{comma}{ended})\n"
+        "reached {met} of the {ends} ends of {which} ({worlds} states{comma}{ended})\n"
     )
 }
 

@@ -38,7 +38,7 @@ pub fn push_changes(
     match quit {
         Quit::Not => {}
         Quit::Whole => push_part_of(out, begin, "the stream ends")?,
-        Quit::KeepsPlace => push_part_of(out, begin, "the stream ends, its place is kept")?,
+        Quit::KeepsPlace => push_part_of(out, begin, "the stream ends, its slot is kept")?,
     }
     let writer = ChangeWriter {
         names,
@@ -196,7 +196,7 @@ impl ChangeWriter<'_, '_> {
         push_part_of(out, self.begin, "processor ")?;
         write!(out, "{p} has ")?;
         self.push_content(out, change.after)?;
-        out.push_str(" places")
+        out.push_str(" slots")
     }
 
     /// Adds the value of a word, before and after.

@@ -29,8 +29,8 @@ pub fn push_differing_words<const S: usize>(
     Ok(())
 }
 
-/// Adds the words of the memory that are not the image's in one line, as `[0] 0 -> 4, [8] 0 -> 2`, and the comment where
-/// there is one word alone.
+/// Adds the words of the memory that are not the image's in one line, as `[0] 0 -> 4, [8] 0 -> 2`, and the comment
+/// where there is one word alone.
 pub fn push_changed_words<const S: usize>(
     out: &mut String,
     names: &ProgramNames,
@@ -122,7 +122,7 @@ fn push_place_name(out: &mut String, place: Place) -> Result<(), AllocError> {
             push_part(out, part)
         }
         Place::Current { p } => write!(out, "{p} streams "),
-        Place::Reserved { p } => write!(out, "{p} places "),
+        Place::Reserved { p } => write!(out, "{p} slots "),
         Place::Value { address } | Place::Tags { address } => write!(out, "[{address}] "),
     }
 }

@@ -8,11 +8,11 @@ use std::alloc::{AllocError, Global};
 /// Of each kind of findings so many are told, and how many more there are.
 const MOST_OF_A_KIND: usize = 10;
 
-/// The most steps of a run whose torn reads are looked for, without those that were skipped or blocked: how long that takes
-/// may grow faster than the run.
+/// The most steps of a run whose torn reads are looked for, without those that were skipped or blocked: how long that
+/// takes may grow faster than the run.
 pub const MOST_STEPS_OF_TORN: usize = 20_000;
 
-/// The findings of a run (docs/FINDINGS.md).
+/// The findings of a run (docs/LAB_REFERENCE.md, "Findings").
 #[derive(Drop)]
 pub struct FindingsOfRun {
     /// Its lost updates.
@@ -141,7 +141,8 @@ pub fn push_findings(
     push_more(out, found.unread.len(), "unread stores")
 }
 
-/// Adds the first finding of a run without an end of the line, and how many more there are; nothing where there is none.
+/// Adds the first finding of a run without an end of the line, and how many more there are; nothing where there is
+/// none.
 pub fn push_first_finding(
     out: &mut String,
     telling: &Telling<'_, '_>,

@@ -1,5 +1,5 @@
 //! What people read of a program and its runs: names of its places, what a step did, who waits for what, how a run
-//! ended, and its findings (docs/LAB.md).
+//! ended, and its findings (docs/LAB_REFERENCE.md).
 #![tactic(auto)]
 
 mod changes;

@@ -61,7 +61,7 @@ fn check_range(alloc: Global, request: &ViewRequest) -> Result<(), LabFault> {
     if from <= to {
         return Ok(());
     }
-    Err(LabFault::Words(format!(in alloc; "--from {from} is behind --to {to}: no step is shown")?))
+    Err(LabFault::Words(format!(in alloc; "--from {from} is after --to {to}: no step is shown")?))
 }
 
 /// Refuses a stream that the image has not.

@@ -1,5 +1,5 @@
-//! What words of programs, runs and messages mean, and what an instruction word says: the texts of the commands `explain`
-//! and `word` (docs/LAB.md, "Words").
+//! What words of programs, runs and messages mean, and what an instruction word says: the texts of the commands
+//! `explain` and `word` (docs/LAB_REFERENCE.md, "Words").
 #![tactic(auto)]
 
 mod explaining;

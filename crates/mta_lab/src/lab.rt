@@ -32,9 +32,9 @@ pub(crate) struct Terminals {
     pub errors: bool,
 }
 
-/// Runs the command of a command line, whose first word is the program's name, on these files and standard streams,
-/// and gives the exit status ("Exit statuses", docs/LAB.md). All is composed before anything is written, but for the
-/// prompts of `debug` and the line of a search.
+/// Runs the command of a command line, whose first word is the program's name, on these files and standard streams, and
+/// gives the exit status ("Exit statuses", docs/LAB_REFERENCE.md). All is composed before anything is written, but for
+/// the prompts of `debug` and the line of a search.
 pub(crate) fn run_lab<
     X: Threads + Wait + Sync + Clock,
     S: AsStr,

@@ -1,4 +1,4 @@
-//! The one way in which the lab writes files ("Files", docs/LAB.md).
+//! The one way in which the lab writes files ("Files", docs/LAB_REFERENCE.md).
 #![tactic(auto)]
 
 mod folders;

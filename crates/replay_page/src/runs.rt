@@ -36,7 +36,8 @@ pub struct PairNames<'a> {
 }
 
 /// A run as one JSON object: the program with this text, the world at the start, each step with its changes, the waits,
-/// the findings and the end, with how that was judged (docs/PAGE.md, "The data"). The machine has taken no step.
+/// the findings and the end, with how that was judged (docs/LAB_REFERENCE.md, "The data of a page"). The machine has
+/// taken no step.
 pub(crate) fn run_json<const S: usize>(
     alloc: Global,
     names: RunNames,
@@ -57,9 +58,9 @@ pub(crate) fn run_json<const S: usize>(
     Ok(json)
 }
 
-/// Two runs of a program as one JSON object: what a run has of the program and the world at the start; the first position
-/// at which the worlds of the two differ, and in what; of each its schedule's name, and what a run has beside that
-/// (docs/PAGE.md, "Two runs"). The machine has taken no step.
+/// Two runs of a program as one JSON object: what a run has of the program and the world at the start; the first
+/// position at which the worlds of the two differ, and in what; of each its schedule's name, and what a run has beside
+/// that (docs/LAB_REFERENCE.md, "The data of a page"). The machine has taken no step.
 pub(crate) fn pair_json<const S: usize>(
     alloc: Global,
     names: PairNames,

@@ -131,7 +131,7 @@ const OPERATIONS: [Foreign; 37] = [
     ),
     Foreign(
         &["UNLOCK", "RELEASE", "SIGNAL", "GIVE"],
-        "STORE.S waits until a word is empty and leaves it full: so it gives a lock back",
+        "STORE.S waits until a word is empty and leaves it full: so it releases a lock",
     ),
     Foreign(
         &["FORK", "SPAWN", "START"],
@@ -139,7 +139,7 @@ const OPERATIONS: [Foreign; 37] = [
     ),
     Foreign(
         &["CAS", "SWAP", "TAS", "LL", "SC", "XADD", "FAA"],
-        "FADD.N adds at once, and LOAD.S and STORE.S take a word and give it back",
+        "FADD.N adds at once, and LOAD.S and STORE.S take a word and release it",
     ),
 ];
 

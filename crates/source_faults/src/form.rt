@@ -80,7 +80,7 @@ impl Form {
             Form::Displacement => "a number of words",
             Form::Value | Form::Pc | Form::Entry => "a number or label",
             Form::Condition => "a condition",
-            Form::Code => "the place of a code",
+            Form::Code => "the number of a code",
             Form::Distance => "a number of words or a label",
             Form::Mask
             | Form::Profile

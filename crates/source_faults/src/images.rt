@@ -45,7 +45,7 @@ fn fault_told(alloc: Global, bytes: &[u8], fault: ImageFault) -> Result<Told, Al
         ImageFault::Short => Told {
             place: length,
             width: 1,
-            words: format!(in alloc; "the file ends too soon, behind {length} bytes")?,
+            words: format!(in alloc; "the file ends too soon, after {length} bytes")?,
             help: "it was cut off: copy or assemble it again",
         },
         ImageFault::Magic => Told {
@@ -151,7 +151,7 @@ impl Layout {
             words: format!(in alloc;
                 "processor {processor} begins at word {entry} of a program of {words} words"
             )?,
-            help: "an entry is the place of a program word, from 0",
+            help: "an entry is the number of a program word, from 0",
         })
     }
 

@@ -64,7 +64,7 @@ fn malformed_words(label: Token) -> (&'static str, &'static str) {
         let help = "letters, digits and _ alone, and no blank";
         ("a label has characters that none may have", help)
     } else if name.len() < label.bytes.len() {
-        let words = "the colon of a label stands right behind its name";
+        let words = "the colon of a label comes directly after its name";
         (words, "take the blank away")
     } else if name.len() > LONGEST_LABEL {
         ("the label is too long", "it may have 32 characters")

@@ -30,9 +30,7 @@ pub(crate) fn range_words(
                 "{text} is {far} words {direction}, and SKIP reaches 128 on or 127 back"
             )
         }
-        (Form::Entry, Some(_)) => {
-            format!(in alloc; "{text} stands behind the last instruction line")
-        }
+        (Form::Entry, Some(_)) => { format!(in alloc; "{text} is after the last instruction line") }
         (Form::Entry, None) => {
             let words = reader.words();
             format!(in alloc;

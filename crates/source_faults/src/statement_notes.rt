@@ -92,7 +92,7 @@ fn note_lookahead<'t>(
         .operand_fault(notes.alloc(), Form::Lookahead, number)?
         .is_some()
     {
-        let help = "a blank stands behind it";
+        let help = "a blank comes after it";
         notes.say(
             reader.spot(head),
             "a lookahead is @ and a number 0 to 7",

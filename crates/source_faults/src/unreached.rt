@@ -16,7 +16,7 @@ pub(crate) fn note_unreached(
 ) -> Result<(), AllocError> {
     for place in unreached_rows(notes.alloc(), image)? {
         if let Some(spot) = spots.get(place) {
-            notes.say(*spot, "no way leads to this word", help_at(text, *spot))?;
+            notes.say(*spot, "no stream can reach this word", help_at(text, *spot))?;
         }
     }
     Ok(())

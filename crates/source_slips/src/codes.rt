@@ -147,12 +147,14 @@ fn warn_of_code(
     };
     let code = c.code;
     let words = match most {
-        0 => format!(in alloc; "no .T has made a code on any way here, so {condition} {holds}")?,
+        0 => format!(in alloc;
+            "no .T has made a code on any path to here, so {condition} {holds}"
+        )?,
         1 => format!(in alloc;
-            "one code is made on the ways here, and code {code} is none, so {condition} {holds}"
+            "one code is made on the paths to here, and code {code} is none, so {condition} {holds}"
         )?,
         _ => format!(in alloc;
-            "{most} codes are made on the ways here, and code {code} is none, so {condition} {holds}"
+            "{most} codes are made on the paths to here, and code {code} is none, so {condition} {holds}"
         )?,
     };
     let help = match untested(program, place) {

@@ -1,4 +1,5 @@
-//! What in a right source text is likely not meant, by the ways that its program may go (docs/LAB.md, "Check a program").
+//! What in a right source text is likely not meant, by the ways that its program may go (docs/LAB_REFERENCE.md,
+//! "Checks").
 #![tactic(auto)]
 
 mod addresses;

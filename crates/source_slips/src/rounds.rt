@@ -112,12 +112,12 @@ fn warn_of_round(slips: &mut Slips, place: usize, c: CPart) -> Result<(), AllocE
     let alloc = slips.alloc();
     let (words, help) = if c.cond == Condition::Always {
         (
-            "this loop has no way out, and changes nothing in memory",
+            "this loop has no exit, and changes nothing in memory",
             "a SKIP with a condition leads out of a loop",
         )
     } else {
         (
-            "nothing that this SKIP asks changes in its loop: once it goes round, it never ends",
+            "nothing that this SKIP asks changes in its loop: once it repeats, it never ends",
             "change a register that the loop compares, as by ADD r1, r1, 1",
         )
     };

@@ -1,4 +1,4 @@
-//! The worlds of a space as a graph for Graphviz (docs/LAB.md, "The graph of worlds").
+//! The worlds of a space as a graph for Graphviz (docs/LAB_REFERENCE.md, "The graph of states").
 #![tactic(auto)]
 
 mod ahead;

@@ -18,7 +18,7 @@ A result that one stream stores once and many read: the readers use LOAD.F, the 
 >  QUIT
 
 = .S sync
-An access .S is sync: it waits, and turns the full bit.
+An access .S is sync: it waits, and changes the full bit.
 
   LOAD.S   waits until the word is full, and leaves it empty
   STORE.S  waits until the word is empty, and leaves it full
@@ -33,7 +33,7 @@ An access .S is sync: it waits, and turns the full bit.
 > take: LOAD.S r2, r0, 0
 >  QUIT
 
-A lock is a full word: LOAD.S takes it, STORE.S gives it back.
+A lock is a full word: LOAD.S takes it, STORE.S releases it.
 
 = .T test
 The suffix .T of an arithmetic operation makes a condition code. SKIP and JUMP of later words ask it.

@@ -26,7 +26,7 @@ Code 0 is the newest. A label may be 128 words on or 127 back.
 If it never goes, or always: did an earlier word make the code, by .T? A code of its own word counts later.
 
 = CALL
-CALL t, u goes to the target register t. The target register u becomes the place after the CALL.
+CALL t, u goes to the target register t. The target register u becomes the address after the CALL.
 
 > .entry start
 > .data 0
@@ -36,7 +36,7 @@ CALL t, u goes to the target register t. The target register u becomes the place
 > routine: ADD r1, r1, 1
 >  JUMP ALWAYS, 0, t2
 
-A routine that calls another one needs a second register for the way back.
+A routine that calls another one needs a second register for its return address.
 
 = XCHG
 XCHG t exchanges the status word and the target register t. A trap handler goes back by XCHG t0.
@@ -51,7 +51,7 @@ XCHG t exchanges the status word and the target register t. A trap handler goes 
 >  TSET t0, r2
 >  XCHG t0
 
-Here the handler adds 1 to the place that trapped, so the stream goes on after that word.
+Here the handler adds 1 to the address that trapped, so the stream goes on after that word.
 
 = TSET TGET
 TSET t, ra moves a register to a target register. TGET rd, t moves a target register to a register.
@@ -106,8 +106,8 @@ CREATE t, ra starts a stream at the target register t. Its r1 becomes ra, all ot
 RESERVE comes first. If no reserved stream is free, CREATE traps (trap 3).
 
 = QUIT QUITP
-QUIT ends the stream. Its place can be reserved by another RESERVE.
-QUITP ends the stream too, and its place stays reserved for a CREATE to come.
+QUIT ends the stream. Its slot can be reserved by another RESERVE.
+QUITP ends the stream too, and its slot stays reserved for a CREATE to come.
 
 > .entry start
 > .data 0
@@ -153,7 +153,7 @@ LITH rd, n sets the high 32 bits of rd. The low half stays.
 LIT comes first, since it clears the high half.
 
 = TLIT
-TLIT t, label sets a target register to the place of a label, for JUMP, CALL and CREATE.
+TLIT t, label sets a target register to the address of a label, for JUMP, CALL and CREATE.
 
 > .entry start
 > .data 0

@@ -6,7 +6,7 @@ Fault 1: a byte above 7F, in mta_sim in a comment too. mta_lab takes any letters
 = E2 Unknown
 Fault 2: the operation, its suffix or the directive is unknown, or a label has characters that none may have.
 
-What to do: names are in capitals, as ADD and LOAD.S; a label has its colon right behind it. PURGE wants .profile 2.
+What to do: names are in capitals, as ADD and LOAD.S; a label has its colon directly after it. PURGE wants .profile 2.
 
 = E3 Operand
 Fault 3: the operands are not those that the operation takes.
@@ -39,7 +39,7 @@ Fault 9: more than 65,536 instructions, 262,144 data words or 16 entries.
 Fault 10: memory was refused.
 
 = 101
-Warning 101: no way leads to this word. No stream ever stands there, in any schedule.
+Warning 101: no stream can reach this word, in any schedule.
 
 What to do: take the word away, or mend the SKIP or JUMP that should lead to it. .word adds no data.
 
@@ -61,9 +61,9 @@ Warning 105: the pointer's bits 59 and 60 say how this reference waits. Write .N
 Warning 106: a comment is not ASCII, or a byte order mark stands before the text. mta_lab reads it, mta_sim does not.
 
 = 107
-Warning 107: a SKIP or JUMP asks a condition code, and no .T has made it on any way to there.
+Warning 107: a SKIP or JUMP asks a condition code, and no .T has made it on any path to there.
 
-What to do: write .T behind the operation that compares, as SUB.T r0, r1, 10. 0 is the newest code.
+What to do: write .T after the operation that compares, as SUB.T r0, r1, 10. 0 is the newest code.
 
 = 108
 Warning 108: a stream that goes on from here is past the end of the program, and traps (trap 1).
@@ -74,7 +74,7 @@ What to do: end it by QUIT.
 Warning 109: a stream goes on from here into the code of another processor. End it by QUIT.
 
 = 110
-Warning 110: a loop never ends once it goes round, since nothing that it asks changes in it.
+Warning 110: a loop never ends once it repeats, since nothing that it asks changes in it.
 
 What to do: change a register that it compares, or wait for a word by LOAD.F or LOAD.S.
 
@@ -84,7 +84,7 @@ Warning 111: the address here is that of no data word, so the reference traps (t
 What to do: an address counts bytes, a displacement words. LOAD.N r1, r0, 2 reads [16], the third data word.
 
 = 112
-Warning 112: a reference waits for a word that is full, or empty, from the start on, and nothing in the program turns it.
+Warning 112: a reference waits for a word that is full, or empty, from the start on, and nothing in the program changes that.
 
 What to do: .data 0 begins full, .data 0, 0 empty. STORE.S fills a word, LOAD.S empties it.
 

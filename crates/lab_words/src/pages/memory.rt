@@ -46,7 +46,7 @@ FADD rd, base, d adds rd to a word, and rd becomes the old value. No other strea
 >  FADD.N r1, r0, 0
 >  QUIT
 
-Here r1 becomes 5 and the word 6. With LOAD, ADD and STORE in its place another stream's count can be lost.
+Here r1 becomes 5 and the word 6. With LOAD, ADD and STORE instead, another stream's count can be lost.
 
 = TAGGET
 TAGGET rd, base, d reads the four tags of a word, and never waits.

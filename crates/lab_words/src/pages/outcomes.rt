@@ -68,5 +68,5 @@ What to do: view names who waits for whom. Take locks in one order, or give back
 = spinning
 Spinning: streams go on forever and nothing new happens, as a loop that polls a word that nobody changes.
 
-What to do: wait by LOAD.F or LOAD.S in place of a loop.
+What to do: wait by LOAD.F or LOAD.S, and not in a loop.
 ";

@@ -47,7 +47,7 @@ function showRows(from) {
   const behind = tableFrom + shown.length;
   byId("steps").replaceChildren(
     html("caption", { class: "unseen" }, `Steps ${tableFrom + 1} to ${behind} of ${steps.length}`),
-    tableHead("step", "stream", "place", "instruction", "outcome", "word, changes"),
+    tableHead("step", "stream", "address", "instruction", "outcome", "word, changes"),
     html("tbody", {}, ...shown.map((step, i) => stepRow(step, tableFrom + i + 1))),
   );
   byId("earlier").hidden = tableFrom === 0;

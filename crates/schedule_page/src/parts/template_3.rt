@@ -73,7 +73,7 @@ pub(crate) const TEXT: &str = r##"</style>
     <tr><td><kbd>x</kbd></td><td>hexadecimal or decimal numbers</td></tr>
     <tr><td><kbd>?</kbd></td><td>these keys</td></tr>
   </tbody></table>
-  <p>A click on a step of your way goes back to it; one on a place of the map goes there. Every schedule there is leads
+  <p>A click on a step of your way goes back to it; one on a state of the map goes there. Every schedule there is leads
     only to places of the map, and what is crossed out can&rsquo;t be reached by any schedule from there on.</p>
   <form method="dialog"><button>Close</button></form>
 </dialog>
