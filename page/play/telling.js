@@ -26,7 +26,8 @@ function tell() {
   const before = stateAt(n - 1);
   const { pc } = content(before, k);
   byId("told").replaceChildren(`Step ${n}: `, html("b", {}, names[k]), " at ", html("b", {}, placeOf(pc)), " ",
-    code(cut(statement(pc), 90)), ": ", ...joined(effectParts(before, k)), ".", ...outOfReach(n));
+    code(cut(statement(pc), 90)), ": ", ...joined(effectParts(before, k)), ".",
+    ...foundIn(n).flatMap((finding) => [" ", ...findingParts(finding)]), ...outOfReach(n));
 }
 
 const button = (text, act) => {
@@ -96,14 +97,21 @@ function resultLines(e) {
       + "still come, after it no schedule leads there."));
   }
   const own = way.slice(0, view.at).map(([k]) => names[k]).join();
-  const isTold = scheduleSteps(end.schedule).join() === own;
-  for (const finding of end.findings.slice(0, 3)) {
-    const text = finding.replace(/\s{2,}.*$/, "");
-    lines.push(html("li", {}, isTold ? "" : "By a shortest schedule to this end: ",
-      html("b", { class: "lost" }, text.split(": ")[0]),
-      `: ${text.split(": ").slice(1).join(": ")}.`));
-  }
+  const found = foundTo(view.at);
+  lines.push(...found.slice(0, FOUND_SHOWN).map((finding) => html("li", {}, ...findingParts(finding))));
+  const isTold = found.length > 0 || scheduleSteps(end.schedule).join() === own;
+  if (!found.length) lines.push(...shortestFindings(end, isTold));
   return [lines, isTold, n];
+}
+const FOUND_SHOWN = 3;
+
+/** What was found in the shortest schedule to an end; `isOwn` where that is the way here. */
+function shortestFindings(end, isOwn) {
+  return end.findings.slice(0, FOUND_SHOWN).map((finding) => {
+    const [kind, ...rest] = finding.replace(/\s{2,}.*$/, "").split(": ");
+    return html("li", {}, isOwn ? "" : "By a shortest schedule to this end: ", html("b", { class: "lost" }, kind),
+      `: ${rest.join(": ")}.`);
+  });
 }
 
 let hadFocus = false; // whether the focus is on a button of the result, which is made anew

@@ -11,6 +11,7 @@ import of_pictures
 import of_play
 import of_sizes
 import of_states
+import of_ways
 import of_widths
 import tally
 
@@ -22,6 +23,7 @@ ALL = {
     "pictures": of_pictures.part,
     "pairs": of_pairs.part,
     "play": of_play.part,
+    "ways": of_ways.part,
     "hostile": of_hostile.part,
     "sizes": of_sizes.part,
     "widths": of_widths.part,

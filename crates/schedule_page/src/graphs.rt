@@ -13,6 +13,7 @@ use serde_json::{Map, Value, json};
 use space_graphs::ends_ahead;
 use state_tables::{NumberSets, depths_of, machine_at, rows_of, sets_of, targets_of};
 use std::alloc::{AllocError, Global};
+use text_parts::push_hexadecimal_16;
 
 /// What a page is called, and what it is judged by.
 #[derive(Clone, Copy)]
@@ -94,9 +95,24 @@ fn head_fields<const S: usize>(
         schedule: "",
     };
     match head_value(alloc, title, text, names, &machine)? {
-        Value::Object(fields) => Ok(fields),
+        Value::Object(mut fields) => {
+            let code = code_json(alloc, machine.image().program())?;
+            put(alloc, &mut fields, "code", code)?;
+            Ok(fields)
+        }
         _ => Ok(Map::new(alloc)),
     }
+}
+
+/// Each word of the program, in 16 hexadecimal digits.
+fn code_json(alloc: Global, program: &[u64]) -> Result<Value, AllocError> {
+    let mut words = Vec::with_capacity(alloc, program.len())?;
+    for word in program {
+        let mut digits = String::new(alloc);
+        push_hexadecimal_16(&mut digits, *word)?;
+        words.push(Value::String(digits))?;
+    }
+    Ok(Value::Array(words))
 }
 
 /// The place of the end that is the first goal; null if there is none.

@@ -1,9 +1,11 @@
 //! The texts of a page. Made by page/embed.py of the files in page/.
 
+mod actions_script;
 mod base_style;
 mod choices_script;
 mod effects_script;
 mod elements_script;
+mod findings_script;
 mod goals_script;
 mod going_script;
 mod graph_script;
@@ -50,6 +52,8 @@ pub(crate) fn push_tail(page: &mut String) -> Result<(), AllocError> {
     page.push_str(kinds_script::TEXT)?;
     page.push_str(way_script::TEXT)?;
     page.push_str(naming_script::TEXT)?;
+    page.push_str(actions_script::TEXT)?;
+    page.push_str(findings_script::TEXT)?;
     page.push_str(effects_script::TEXT)?;
     page.push_str(telling_script::TEXT)?;
     page.push_str(choices_script::TEXT)?;

@@ -165,7 +165,7 @@ function goToState(w) {
 
 const LINKED = 5000; // steps of a link that are followed
 
-/** Follows a link such as #0.0x2,1.0, or the way on which the page opens, as far as it names steps that can be taken. */
+/** Follows a link such as #0.0x2,1.0, or the way on which the page opens, as far as its steps can be taken. */
 function followLink() {
   let hash = "";
   try {
