@@ -1,6 +1,6 @@
 #!/usr/bin/env bash
 # What can be seen before any proof, in seconds: the layout of code and definitions, texts that speak of what a reader has
-# not, links, the counts and the kit's identity that README.md names, the version, the names of wrong bodies, those that
+# not, links, headings that are cited, the counts and the kit's identity that README.md names, the version, the names of wrong bodies, those that
 # editors know, and that each must-fail edit can be applied. A line says what is not so; the last one counts the checks.
 set -u
 cd "$(dirname "$0")/.." || exit 1
@@ -129,6 +129,7 @@ operation_table() {
 verdict "files in another layout than rt fmt's" < <(sources | xargs "$(rattle)" fmt --check 2>&1)
 verdict "texts that cite what a reader has not" < <(citations)
 verdict "links that lead nowhere" < <(links)
+verdict "headings that are not there" < <(python3 tests/headings.py 2>&1)
 verdict "another logic" < <(kit)
 verdict "versions" < <(version)
 verdict "crates without a line" < <(described)

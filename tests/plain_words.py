@@ -13,7 +13,7 @@ import re
 import sys
 
 ROOT = os.path.dirname(os.path.dirname(os.path.abspath(__file__)))
-HELD = ("README.md", "CONTRIBUTING.md", "docs/TUTORIAL.md", "docs/CHEAT_SHEET.md", "docs/COMMANDS.md",
+HELD = ("README.md", "CONTRIBUTING.md", "docs/TUTORIAL.md", "docs/CHEAT_SHEET.md",
         "docs/WRITING_PROGRAMS.md", "docs/LAB.md", "docs/LAB_REFERENCE.md", "docs/GRADING.md", "docs/PAGE.md",
         "docs/PLAY.md", "docs/EDITORS.md", "docs/RATTLE.md", "docs/FINDINGS.md", "docs/MACHINE.md",
         "docs/FORMATS.md", "docs/PROMISES.md", "docs/ARCHITECTURE.md")

@@ -1,4 +1,4 @@
-"""The schedule of a seed, by docs/MACHINE.md ("Made schedules") and the machine of tests/spaces: a second maker, which
+"""The schedule of a seed, by docs/MACHINE.md ("Schedules") and the machine of tests/spaces: a second maker, which
 shares nothing with the programs that are tested."""
 
 import itertools

@@ -1,4 +1,4 @@
-//! Lines for people with colours, for a terminal (docs/LAB.md, "Colours").
+//! Lines for people with colours, for a terminal (docs/LAB_REFERENCE.md, "Colours").
 #![tactic(auto)]
 
 mod colours;
