@@ -41,7 +41,7 @@ const WORDS: [Word; 27] = [
     Word("not decided", Colour::Doubtful, Place::Column),
     Word("spinning", Colour::Doubtful, Place::Column),
     Word("spins", Colour::Doubtful, Place::Column),
-    Word("steps", Colour::Doubtful, Place::Column),
+    Word("out of steps", Colour::Doubtful, Place::Column),
     Word("ran out of steps", Colour::Doubtful, Place::Column),
     Word("lost update", Colour::Bad, Place::Beginning),
     Word("torn read", Colour::Bad, Place::Beginning),

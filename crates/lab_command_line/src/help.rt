@@ -240,6 +240,9 @@ pub(crate) const PLAIN: &str = "explores all states, even if the ends need fewer
 
 pub(crate) const JSON: &str = "prints JSON, an object a line";
 
+pub(crate) const COLOUR: &str = "\
+colours, auto: on a terminal, unless NO_COLOR is set [auto]";
+
 pub(crate) const HEX: &str = "prints numbers in hexadecimal digits";
 
 pub(crate) const EXPECT: &str = "what each end has to be: word ADDRESS VALUE [full|empty], ..";

@@ -1,10 +1,17 @@
 //! The parser of the command lines.
 
-use crate::arguments::{Argument, parser_of};
+use crate::arguments::{Argument, Form, parser_of};
 use crate::commands::{COMMANDS, CommandWords};
 use crate::{VERSION, help};
 use clap::Command;
 use std::alloc::{AllocError, Global};
+
+/// When lines for people have colours, of all commands.
+const COLOUR: Argument = Argument(
+    "color",
+    help::COLOUR,
+    Form::OptionOf("WHEN", &["auto", "always", "never"]),
+);
 
 /// The parser of the command lines, with the texts that it prints.
 pub(crate) fn lab_parser<'a>(alloc: Global) -> Result<Command<'a>, AllocError> {
@@ -31,7 +38,7 @@ fn with_commands<'a>(
 /// The parser of a command, and what `--help` says of it.
 fn command_parser<'a>(alloc: Global, words: &CommandWords) -> Result<Command<'a>, AllocError> {
     let parser = described(alloc, words.name, words.about, words.long);
-    with_arguments(alloc, parser, words.arguments)
+    with_arguments(alloc, parser, words.arguments)?.arg(parser_of(alloc, &COLOUR)?)
 }
 
 /// The parser of the tool or of a command, before its arguments, and what `--help` says of it.

@@ -8,9 +8,9 @@ use crate::parsers::lab_parser;
 use clap::error::ErrorKind;
 use clap::{ArgMatches, Error};
 use lab_requests::{
-    Bounds, CheckRequest, ExerciseRequest, ExploreRequest, FileKind, GradeCases, GradeFormat,
-    GradeRequest, LabCommand, LayoutRequest, Maker, PageRequest, PlayRequest, RunChoice, Shown,
-    SurveyRequest, ViewRequest,
+    Bounds, CheckRequest, Colours, ExerciseRequest, ExploreRequest, FileKind, GradeCases,
+    GradeFormat, GradeRequest, LabCall, LabCommand, LayoutRequest, Maker, PageRequest, PlayRequest,
+    RunChoice, Shown, SurveyRequest, ViewRequest,
 };
 use std::alloc::{AllocError, Global};
 use std::convert::AsStr;
@@ -18,10 +18,7 @@ use std::convert::AsStr;
 /// The command that the words of a line ask for, the first of which is the program's name.
 ///
 /// The error has the text for the user, also where help or the version was asked for, or memory was refused.
-pub fn read_lab_command<'a, S: AsStr>(
-    alloc: Global,
-    line: &'a [S],
-) -> Result<LabCommand<'a>, Error> {
+pub fn read_lab_command<'a, S: AsStr>(alloc: Global, line: &'a [S]) -> Result<LabCall<'a>, Error> {
     if let Some(program) = mistyped_program(line) {
         let words = format!(in alloc; "to run a program, type: mta_lab view {program}")?;
         return Err(refused(alloc, words.as_str())?);
@@ -29,7 +26,23 @@ pub fn read_lab_command<'a, S: AsStr>(
     let matches = lab_parser(alloc)?.try_get_matches_from(line)?;
     match misfit_of(&matches) {
         Some(words) => Err(refused(alloc, words)?),
-        None => Ok(command_of(alloc, &matches)?),
+        None => Ok(LabCall {
+            command: command_of(alloc, &matches)?,
+            colours: colours_of(&matches),
+        }),
+    }
+}
+
+/// When the lines of the command have colours.
+fn colours_of(matches: &ArgMatches) -> Colours {
+    let said = match matches.subcommand() {
+        Some((_, found)) => text(found, "color"),
+        None => None,
+    };
+    match said {
+        Some("always") => Colours::Always,
+        Some("never") => Colours::Never,
+        _ => Colours::Auto,
     }
 }
 

@@ -4,7 +4,7 @@
 mod requests;
 
 pub use requests::{
-    Bounds, CheckRequest, ExerciseRequest, ExploreRequest, FileKind, GradeCases, GradeFormat,
-    GradeRequest, LabCommand, LayoutRequest, Maker, PageRequest, PlayRequest, RunChoice, Shown,
-    SurveyRequest, ViewRequest,
+    Bounds, CheckRequest, Colours, ExerciseRequest, ExploreRequest, FileKind, GradeCases,
+    GradeFormat, GradeRequest, LabCall, LabCommand, LayoutRequest, Maker, PageRequest, PlayRequest,
+    RunChoice, Shown, SurveyRequest, ViewRequest,
 };

@@ -243,6 +243,26 @@ pub struct LayoutRequest<'a> {
     pub checks: bool,
 }
 
+/// When lines for people have colours.
+#[derive(Clone, Copy, Debug, PartialEq, Eq)]
+pub enum Colours {
+    /// On a terminal, unless the environment says no.
+    Auto,
+    /// Always.
+    Always,
+    /// Never.
+    Never,
+}
+
+/// A command, and how its lines are shown.
+#[derive(Drop)]
+pub struct LabCall<'a> {
+    /// The command.
+    pub command: LabCommand<'a>,
+    /// When its lines have colours.
+    pub colours: Colours,
+}
+
 /// What a command line asks for. Files are named by their paths, `-` being standard input.
 #[derive(Drop)]
 pub enum LabCommand<'a> {

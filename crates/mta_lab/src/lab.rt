@@ -1,5 +1,7 @@
 //! The program, from its command line to its status.
 
+use crate::painting::Painting;
+use coloured_lines::coloured;
 use command_parts::{Answer, Inputs, LabFault, Status, write_out, written};
 use lab_adapter::adapt;
 use lab_checks::{assemble_file, check, explain, lay_out, make_schedule, show_word, start_program};
@@ -9,7 +11,7 @@ use lab_exercises::exercise;
 use lab_explorer::{Console, show_every_end};
 use lab_grades::grade;
 use lab_pages::{write_page, write_picture, write_play_page};
-use lab_requests::LabCommand;
+use lab_requests::{Colours, LabCommand};
 use lab_surveys::survey;
 use lab_views::{compare, view};
 use plain_text::{plain, push_plain};
@@ -28,8 +30,12 @@ use std::time::Clock;
 pub(crate) struct Terminals {
     /// Standard input: then `debug` prompts.
     pub input: bool,
+    /// Standard output.
+    pub output: bool,
     /// Standard error: then a search tells how far it is.
     pub errors: bool,
+    /// The environment wants no colours.
+    pub refuse_colours: bool,
 }
 
 /// Runs the command of a command line, whose first word is the program's name, on these files and standard streams, and
@@ -53,27 +59,51 @@ pub(crate) fn run_lab<
     terminals: Terminals,
 ) -> u8 {
     match read_lab_command(alloc, words) {
-        Ok(command) => {
+        Ok(call) => {
             let mut inputs = Inputs::new(alloc, files, input);
-            let ended = run_command(rt, alloc, &command, &mut inputs, output, errors, terminals);
-            status_told(ended, errors)
+            let painting = Painting::of(&call, terminals);
+            let ended = run_command(
+                rt,
+                alloc,
+                &call.command,
+                &mut inputs,
+                output,
+                errors,
+                terminals,
+                painting,
+            );
+            status_told(ended, errors, painting)
         }
         Err(error) if error.use_stderr() => {
-            tell_refused(alloc, &error, errors);
+            tell_refused(
+                alloc,
+                &error,
+                errors,
+                Painting::by(Colours::Auto, terminals),
+            );
             Status::NoCommand.number()
         }
         Err(help) => {
             let wrote = write!(output, "{help}").and_then(|()| output.flush());
-            status_told(written(wrote).map(|()| Status::Done), errors)
+            status_told(
+                written(wrote).map(|()| Status::Done),
+                errors,
+                Painting::NONE,
+            )
         }
     }
 }
 
 /// Writes why a command line is refused.
-fn tell_refused<D: Display, E: Write>(alloc: Global, error: &D, errors: &mut E) {
+fn tell_refused<D: Display, E: Write>(
+    alloc: Global,
+    error: &D,
+    errors: &mut E,
+    painting: Painting,
+) {
     match plain_lines(alloc, error) {
         Ok(lines) => {
-            let _ = write_out(errors, lines.as_bytes());
+            let _ = write_lines(errors, &lines, painting.errors);
         }
         Err(_) => {
             let _ = writeln!(errors, "mta_lab: no memory");
@@ -93,10 +123,14 @@ fn plain_lines<D: Display>(alloc: Global, message: &D) -> Result<String, AllocEr
 }
 
 /// The number of a command's status; why it gave up, where it did, is written first.
-fn status_told<E: Write>(ended: Result<Status, LabFault>, errors: &mut E) -> u8 {
+fn status_told<E: Write>(
+    ended: Result<Status, LabFault>,
+    errors: &mut E,
+    painting: Painting,
+) -> u8 {
     match ended {
         Ok(status) => status.number(),
-        Err(fault) => tell_fault(&fault, errors),
+        Err(fault) => tell_fault(&fault, errors, painting.errors),
     }
 }
 
@@ -109,6 +143,7 @@ fn run_command<X: Threads + Wait + Sync + Clock, F: Files, R: Read + Send, W: Wr
     output: &mut W,
     errors: &mut E,
     terminals: Terminals,
+    painting: Painting,
 ) -> Result<Status, LabFault> {
     match command {
         LabCommand::Adapt => adapt(rt, alloc, inputs.files, inputs.input, output),
@@ -122,7 +157,7 @@ fn run_command<X: Threads + Wait + Sync + Clock, F: Files, R: Read + Send, W: Wr
         }
         _ => {
             let answer = answer_to(rt, alloc, command, inputs, errors, terminals)?;
-            tell(answer, output, errors)
+            tell(answer, output, errors, painting)
         }
     }
 }
@@ -177,6 +212,7 @@ fn tell<W: Write, E: Write>(
     answer: Answer,
     output: &mut W,
     errors: &mut E,
+    painting: Painting,
 ) -> Result<Status, LabFault> {
     let Answer {
         output: text,
@@ -184,9 +220,9 @@ fn tell<W: Write, E: Write>(
         status,
         fault,
     } = answer;
-    let wrote = write_out(output, text.as_bytes());
+    let wrote = write_lines(output, &text, painting.output);
     if wrote.is_ok() {
-        let _ = write_out(errors, words.as_bytes());
+        let _ = write_lines(errors, &words, painting.errors);
     }
     if let Some(fault) = fault {
         return Err(fault);
@@ -196,11 +232,11 @@ fn tell<W: Write, E: Write>(
 }
 
 /// Writes why a command gave up, and gives its status.
-fn tell_fault<E: Write>(fault: &LabFault, errors: &mut E) -> u8 {
+fn tell_fault<E: Write>(fault: &LabFault, errors: &mut E, is_coloured: bool) -> u8 {
     match fault {
-        LabFault::Words(words) => tell_words(words, errors),
+        LabFault::Words(words) => tell_words(words, errors, is_coloured),
         LabFault::Lines(lines) => {
-            let _ = write_out(errors, lines.as_bytes());
+            let _ = write_lines(errors, lines, is_coloured);
         }
         LabFault::NoMemory => {
             let _ = writeln!(errors, "mta_lab: no memory");
@@ -214,13 +250,33 @@ fn tell_fault<E: Write>(fault: &LabFault, errors: &mut E) -> u8 {
 }
 
 /// Writes a reason in words, which may have names of files, on a line of its own.
-fn tell_words<E: Write>(words: &String, errors: &mut E) {
-    match plain(*words.allocator(), words.as_str()) {
+fn tell_words<E: Write>(words: &String, errors: &mut E, is_coloured: bool) {
+    match fault_line(*words.allocator(), words.as_str()) {
         Ok(line) => {
-            let _ = writeln!(errors, "mta_lab: {line}");
+            let _ = write_lines(errors, &line, is_coloured);
         }
         Err(_) => {
             let _ = writeln!(errors, "mta_lab: no memory");
         }
     }
+}
+
+/// The line of a reason in words.
+fn fault_line(alloc: Global, words: &str) -> Result<String, AllocError> {
+    let line = plain(alloc, words)?;
+    format!(in alloc; "mta_lab: {line}\n")
+}
+
+/// Writes lines for people, with colours or without; without where memory for them is refused.
+fn write_lines<W: Write>(
+    writer: &mut W,
+    lines: &String,
+    is_coloured: bool,
+) -> Result<(), LabFault> {
+    if is_coloured {
+        if let Ok(painted) = coloured(*lines.allocator(), lines.as_str()) {
+            return write_out(writer, painted.as_bytes());
+        }
+    }
+    write_out(writer, lines.as_bytes())
 }

@@ -2,9 +2,11 @@
 #![tactic(auto)]
 
 mod lab;
+mod painting;
 
 use lab::{Terminals, run_lab};
 use std::env;
+use std::env::VarError;
 use std::io::IsTerminal;
 use std::process::ExitCode;
 
@@ -13,7 +15,9 @@ fn main(rt: HostRuntime) -> ExitCode {
     let arguments = env::args(&rt).and_then(|words| Ok(words.collect::<Vec<String>>(alloc)?));
     let terminals = Terminals {
         input: rt.stdin().is_terminal(),
+        output: rt.stdout().is_terminal(),
         errors: rt.stderr().is_terminal(),
+        refuse_colours: refuses_colours(&rt),
     };
     let status = match arguments {
         Ok(words) => run_lab(
@@ -32,4 +36,12 @@ fn main(rt: HostRuntime) -> ExitCode {
         }
     };
     ExitCode::from(status)
+}
+
+/// Whether the environment says that nobody wants colours: NO_COLOR is set, and not empty.
+fn refuses_colours(rt: &HostRuntime) -> bool {
+    match env::var(rt, "NO_COLOR") {
+        Ok(value) => !value.is_empty(),
+        Err(error) => error != VarError::NotPresent,
+    }
 }
