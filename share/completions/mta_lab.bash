@@ -26,12 +26,14 @@ _mta_lab() {
     words='check fmt schedule view compare survey explore grade exercise page picture play debug dap asm explain word new --help --version'
   elif [ "$before" = --as ]; then
     words='source image schedule'
+  elif [ "$before" = --color ]; then
+    words='auto always never'
   elif [ "$before" = --goal ]; then
     words='right wrong deadlock stopped spinning broken'
   elif [ "$command $COMP_CWORD" = 'schedule 2' ]; then
     words='rounds fair random'
   elif [[ $current = -* ]]; then
-    words="$(_mta_lab_options "$command") --help"
+    words="$(_mta_lab_options "$command") --color --help"
   elif [[ $before = --@(seed|seeds|steps|states|seconds|memory|from|to|only|word|title|hint) && $command$before != @(explore|play)--from ]]; then
     words=''
   else

@@ -73,4 +73,5 @@ complete -c mta_lab -n '__fish_seen_subcommand_from fmt' -l check -f -d 'write n
 complete -c mta_lab -n '__fish_seen_subcommand_from check' -l strict -f -d 'warnings count as errors'
 complete -c mta_lab -n '__fish_seen_subcommand_from view compare survey explore grade' -l hex -f -d 'numbers in hexadecimal'
 complete -c mta_lab -n '__fish_seen_subcommand_from check view compare survey explore grade' -l json -f -d 'a JSON object a line'
+complete -c mta_lab -n '__fish_seen_subcommand_from check fmt schedule view debug dap compare survey explore grade exercise page picture play asm explain word new' -l color -x -a 'auto always never' -d 'colours'
 complete -c mta_lab -n '__fish_seen_subcommand_from check fmt schedule view debug dap compare survey explore grade exercise page picture play asm explain word new' -l help -f -d 'print help'

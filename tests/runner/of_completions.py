@@ -33,8 +33,8 @@ def by_bash(*words):
 
 
 def options_of_bash(command):
-    """It offers --help with each command."""
-    return {it.removeprefix("--") for it in by_bash("_mta_lab_options", command)} | {"help"}
+    """It offers --color and --help with each command."""
+    return {it.removeprefix("--") for it in by_bash("_mta_lab_options", command)} | {"color", "help"}
 
 
 def options_of_zsh(command):

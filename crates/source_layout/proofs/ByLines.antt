@@ -1,5 +1,5 @@
 -- A text with its comments in ASCII means what its lines mean.
-use Rattle.std.proofs.Common.{◌≡◌, ℕ, List, Option, Some, None, Result, Ok, Err, sym, ◌∙◌, ap, absurd}
+use Rattle.std.proofs.Common.{◌≡◌, ℕ, List, Option, Some, None, Result, Ok, Err, sym, ◌∙◌, ap}
 use Rattle.image_file.specs.ImageValue.{ImageValue}
 use Rattle.asm_line.specs.Lines.{Line, lines}
 use Rattle.asm_text.specs.Sources.{meaning_of, meaning_of_lines, meaning_unless, not_ascii, Means}
