@@ -2,7 +2,9 @@
 are right, those on the pages of `explain` among them."""
 
 import glob
+import json
 import os
+import re
 import tempfile
 
 import checks
@@ -98,3 +100,37 @@ def pages():
         with tempfile.TemporaryDirectory(prefix="mta-case-") as folder:
             tool.write(os.path.join(folder, "s.asm"), text.encode())
             yield f"view {name}", True, lab("view", "s.asm", folder=folder).status in (0, 3)
+
+
+@checks.others("lab/numbers_of_messages")
+def numbers():
+    """The least number of the errors on the line that mta_sim refuses is the kind that it says; each number has a page, and
+    each page of a warning a case."""
+    texts = {f"{row}": program(row.fields[1], row.fields[2]) for row in table.rows("lab_check/slips.tsv")}
+    texts |= {f"{row}": unescaped(row.fields[1]) for row in table.rows("lab_check/sentences.tsv") if row.fields[0] == "wrong.asm"}
+    texts |= {os.path.basename(path): tool.read(path) for path in glob.glob(os.path.join(table.CASES, "lab_check/*.asm"))}
+    numbers = set()
+    for name, text in texts.items():
+        found = messages(text)
+        numbers |= {it["number"] for it in found}
+        refused = re.fullmatch(rb"!source line (\d+) fault (\d+)", tool.asm(text))
+        if refused and text.isascii():
+            line, kind = map(int, refused.groups())
+            yield name, kind, min(it["number"] for it in found if is_about(it, line))
+    for number in numbers:
+        page = f"E{number}" if number < 100 else f"{number}"
+        yield f"page {page}", 0, lab("explain", page).status
+    yield "warnings", set(range(101, 114)), {it for it in numbers if it > 100}
+
+
+def is_about(message, line):
+    """Whether a message tells an error of a line, or for 0 of the text as a whole."""
+    is_whole = message["message"].startswith("the text has no ")
+    return message["severity"] == "error" and (is_whole if line == 0 else message["line"] == line and not is_whole)
+
+
+def messages(text):
+    """The objects of the messages about a text."""
+    with tempfile.TemporaryDirectory(prefix="mta-case-") as folder:
+        tool.write(os.path.join(folder, "s.asm"), text)
+        return [json.loads(line) for line in lab("check", "--json", "s.asm", folder=folder).out.splitlines()]

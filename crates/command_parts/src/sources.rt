@@ -8,6 +8,9 @@ use std::alloc::{AllocError, Global};
 /// What some editors put before a text in UTF-8.
 const BYTE_ORDER_MARK: &[u8] = b"\xEF\xBB\xBF";
 
+/// The number of warnings of what the assembler of `mta_sim` does not take.
+const NOT_ASCII: u8 = 106;
+
 /// A source text, without the byte order mark that it may begin with.
 #[derive(Drop)]
 pub struct SourceText {
@@ -98,6 +101,7 @@ impl SourceText {
         };
         Ok(Some(Message {
             severity: Severity::Warning,
+            number: Some(NOT_ASCII),
             line: found.line,
             column: found.column,
             width: found.width,
@@ -113,6 +117,7 @@ fn mark_words(alloc: Global) -> Result<Message, AllocError> {
     let help = "mta_lab reads on; for mta_sim save the text as UTF-8 without a mark (BOM)";
     Ok(Message {
         severity: Severity::Warning,
+        number: Some(NOT_ASCII),
         line: 1,
         column: 1,
         width: 1,

@@ -22,6 +22,7 @@ impl Words {
         } = self;
         Message {
             severity,
+            number: None,
             line,
             column: before.saturating_add(1),
             width: 1,

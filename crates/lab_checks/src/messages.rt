@@ -19,6 +19,10 @@ pub(crate) fn push_message_object(
     put_number(alloc, &mut fields, "column", message.column as u64)?;
     put_number(alloc, &mut fields, "width", message.width as u64)?;
     put_text(alloc, &mut fields, "severity", message.severity.name())?;
+    match message.number {
+        Some(number) => put_number(alloc, &mut fields, "number", u64::from(number))?,
+        None => serde_json::put(&mut fields, alloc, "number", Value::Null)?,
+    }
     put_text(alloc, &mut fields, "message", &message.words)?;
     match &message.help {
         Some(help) => put_text(alloc, &mut fields, "help", help)?,

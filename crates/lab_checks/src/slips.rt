@@ -20,6 +20,7 @@ pub(crate) fn add_slips(
 /// The warning that tells a slip.
 fn message_of(slip: Slip) -> Message {
     let Slip {
+        number,
         line,
         column,
         width,
@@ -29,6 +30,7 @@ fn message_of(slip: Slip) -> Message {
     } = slip;
     Message {
         severity: Severity::Warning,
+        number: Some(number),
         line,
         column,
         width,

@@ -9,6 +9,7 @@ use crate::operand_words::COMMENTS;
 use crate::phrases::{operands_counted, operands_listed, said, shown};
 use crate::reader::Reader;
 use crate::token::Token;
+use asm_line::Fault;
 use std::alloc::{AllocError, Global};
 
 /// Tells that there are too many operands, or too few, by a statement that has as many as it takes.
@@ -31,6 +32,7 @@ pub(crate) fn note_count(
     } else {
         operands
     };
+    notes.number(Fault::Operand.number());
     notes.add(reader.spot(marked), words, help)
 }
 

@@ -10,6 +10,7 @@ use crate::operations::{
 use crate::phrases::{listed, said, shown};
 use crate::reader::Reader;
 use crate::token::Token;
+use asm_line::Fault;
 use std::alloc::{AllocError, Global};
 
 /// How a text asks for what Profile 2 alone has.
@@ -33,6 +34,7 @@ pub(crate) fn note_unknown_operation(
         }
         Some(operation) => {
             let words = format!(in alloc; "{} is an operation of Profile 2", operation.name())?;
+            notes.number(Fault::Unknown.number());
             notes.add_with(reader.spot(head), words, ASK_FOR_TWO)
         }
         None => note_no_operation(notes, reader, head, operands),
@@ -50,6 +52,7 @@ fn note_no_operation(
     let help = help_for_operation(alloc, reader, head, operands)?;
     let text = shown(alloc, head.bytes)?;
     let words = format!(in alloc; "no operation is called {text}")?;
+    notes.number(Fault::Unknown.number());
     notes.add(reader.spot(head), words, help)
 }
 
@@ -65,6 +68,7 @@ fn note_suffix(
     let help = suffix_help(alloc, reader, name)?;
     let suffix = shown(alloc, head.behind(name.len()).bytes)?;
     let words = format!(in alloc; "{name} has no suffix {suffix}")?;
+    notes.number(Fault::Unknown.number());
     notes.add(reader.spot(head), words, Some(help))
 }
 
@@ -170,10 +174,12 @@ pub(crate) fn note_unknown_directive(
     let text = shown(alloc, head.bytes)?;
     if directive_named(head.bytes).is_some() {
         let words = format!(in alloc; "{text} is a directive of Profile 2")?;
+        notes.number(Fault::Unknown.number());
         return notes.add_with(reader.spot(head), words, ASK_FOR_TWO);
     }
     let words = format!(in alloc; "no directive is called {text}")?;
     let help = directive_help(alloc, head.bytes)?;
+    notes.number(Fault::Unknown.number());
     notes.add(reader.spot(head), words, help)
 }
 

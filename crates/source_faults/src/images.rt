@@ -29,6 +29,7 @@ pub fn image_fault_words(
     } = fault_told(alloc, bytes, fault)?;
     Ok(Message {
         severity: Severity::Error,
+        number: None,
         line: 1,
         column: place.saturating_add(1),
         width,

@@ -18,10 +18,12 @@ pub(crate) fn note_label(notes: &mut Notes, reader: &Reader) -> Result<bool, All
     };
     if let (second, Some(_)) = reader.line().statement().cut(b':') {
         let help = "take the second label to a line of its own";
+        notes.number(Fault::Unknown.number());
         notes.say(reader.spot(second), "a line has at most one label", help)?;
         return Ok(false);
     }
     if directive_named(label.trim().bytes).is_some() {
+        notes.number(Fault::Unknown.number());
         notes.say(
             reader.spot(label),
             "a directive has no colon",
@@ -46,12 +48,14 @@ fn note_twice(notes: &mut Notes, reader: &Reader, label: Token) -> Result<(), Al
     let alloc = notes.alloc();
     let name = shown(alloc, label.bytes)?;
     let words = format!(in alloc; "the label {name} stands on line {first} already")?;
+    notes.number(Fault::LabelTwice.number());
     notes.add_with(reader.spot(label), words, "rename one of them")
 }
 
 /// The label is no name.
 fn note_malformed(notes: &mut Notes, reader: &Reader, label: Token) -> Result<(), AllocError> {
     let (words, help) = malformed_words(label);
+    notes.number(Fault::Unknown.number());
     notes.say(reader.spot(label), words, help)
 }
 

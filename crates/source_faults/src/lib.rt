@@ -16,6 +16,7 @@ mod message;
 mod nearest;
 mod notes;
 mod number_words;
+mod numbers;
 mod operand_notes;
 mod operand_words;
 mod operations;

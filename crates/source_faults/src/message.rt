@@ -31,6 +31,8 @@ impl Severity {
 pub struct Message {
     /// Whether the text is refused for it.
     pub severity: Severity,
+    /// Its number: of a fault of a source text 1 to 10, of a warning 101 to 113; None where it has none.
+    pub number: Option<u8>,
     /// The line, from 1.
     pub line: usize,
     /// The first byte of the place on its line, from 1; a tab is one.
@@ -64,8 +66,8 @@ impl Spot {
     };
 }
 
-/// Prints a message about a text that stands in a file: `FILE:LINE:COLUMN: error: WORDS`, then the line with its number,
-/// and under it the mark with the help. A line of more than 200 bytes, or with a byte 00, is left out.
+/// Prints a message about a text that stands in a file: `FILE:LINE:COLUMN: error: WORDS (explain NUMBER)`, then the line with
+/// its number, and under it the mark with the help. A line of more than 200 bytes, or with a byte 00, is left out.
 pub fn push_message(
     out: &mut String,
     file: &str,
@@ -73,16 +75,26 @@ pub fn push_message(
     message: &Message,
 ) -> Result<(), AllocError> {
     let severity = message.severity.name();
-    writeln!(
+    write!(
         out,
         "{file}:{}:{}: {severity}: {}",
         message.line, message.column, message.words
     )?;
+    push_page(out, message)?;
     let line = line_at(text, message.start);
     if is_printable(line) {
         push_excerpt(out, line, message)
     } else {
         push_help(out, message)
+    }
+}
+
+/// Prints which page of `explain` says more of a message, and ends the line.
+fn push_page(out: &mut String, message: &Message) -> Result<(), AllocError> {
+    match (message.number, message.severity) {
+        (Some(number), Severity::Error) => writeln!(out, " (explain E{number})"),
+        (Some(number), Severity::Warning) => writeln!(out, " (explain {number})"),
+        (None, _) => out.push('\n'),
     }
 }
 

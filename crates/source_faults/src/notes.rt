@@ -16,6 +16,7 @@ const MOST_SUGGESTIONS: usize = 16;
 #[derive(Drop)]
 struct Found {
     spot: Spot,
+    number: Option<u8>,
     words: String,
     help: Option<String>,
 }
@@ -25,9 +26,15 @@ impl Found {
     fn message(self, severity: Severity) -> Message
         ensures { result.severity ≡ severity }
     {
-        let Found { spot, words, help } = self;
+        let Found {
+            spot,
+            number,
+            words,
+            help,
+        } = self;
         Message {
             severity,
+            number,
             line: spot.line,
             column: spot.column,
             width: spot.width,
@@ -43,6 +50,7 @@ impl Found {
 pub(crate) struct Notes {
     alloc: Global,
     suggestions: usize,
+    number: Option<u8>,
     found: Vec<Found>,
 }
 
@@ -52,6 +60,7 @@ impl Notes {
         Notes {
             alloc,
             suggestions: 0,
+            number: None,
             found: Vec::new(alloc),
         }
     }
@@ -68,6 +77,13 @@ impl Notes {
         self.found.len()
     }
 
+    /// What is added next has this number: that of a fault, or of a warning.
+    pub(crate) fn number(&mut self, number: u8)
+        ensures { self.new.found ≡ self.old.found }
+    {
+        self.number = Some(number);
+    }
+
     /// Adds what is found at a place, unless very much is found already.
     pub(crate) fn add(
         &mut self,
@@ -77,8 +93,14 @@ impl Notes {
     ) -> Result<(), AllocError>
         ensures { OnOk result (0 < vec_len self.new.found) }
     {
+        let number = self.number.take();
         if self.found.len() < MOST_FOUND {
-            self.found.push(Found { spot, words, help })?;
+            self.found.push(Found {
+                spot,
+                number,
+                words,
+                help,
+            })?;
         }
         Ok(())
     }

@@ -85,6 +85,7 @@ fn note_missing_label(
     let help = missing_label_help(notes, reader, operand.bytes)?;
     let text = shown(alloc, operand.bytes)?;
     let words = format!(in alloc; "no line has the label {text}")?;
+    notes.number(Fault::LabelMissing.number());
     notes.add(reader.spot(operand), words, help)
 }
 
@@ -99,6 +100,7 @@ fn note_range(
     let alloc = notes.alloc();
     let words = range_words(alloc, reader, form, operand.bytes, name)?;
     let help = range_help(alloc, reader, form, operand.bytes)?;
+    notes.number(Fault::Range.number());
     notes.add(reader.spot(operand), words, help)
 }
 
@@ -114,6 +116,7 @@ fn note_missing_operand(
     let noun = form.noun();
     let words = format!(in alloc; "{name} is missing")?;
     let help = format!(in alloc; "it is {noun}")?;
+    notes.number(Fault::Operand.number());
     notes.add(reader.spot(operand), words, Some(help))
 }
 
@@ -133,5 +136,6 @@ fn note_form(
     let text = shown(alloc, operand.bytes)?;
     let noun = form.noun();
     let words = format!(in alloc; "{name} is {noun}, and {text} is none")?;
+    notes.number(Fault::Operand.number());
     notes.add(reader.spot(operand), words, Some(help))
 }

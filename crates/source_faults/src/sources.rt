@@ -85,6 +85,7 @@ fn faults_of<'t>(
             line: fault.line.max(1),
             ..Spot::FIRST
         };
+        notes.number(fault.kind.number());
         notes.say(spot, kind_words(fault.kind), KINDS)?;
     }
     Ok(notes)
@@ -117,6 +118,7 @@ fn note_line(notes: &mut Notes, reader: &Reader, kind: Fault) -> Result<(), Allo
     }
     if notes.len() == before {
         let spot = reader.spot(reader.line().statement());
+        notes.number(kind.number());
         notes.say(spot, kind_words(kind), KINDS)?;
     }
     Ok(())

@@ -8,7 +8,7 @@ use crate::operations::{Named, directive_named, directive_operands, operation_na
 use crate::reader::Reader;
 use crate::token::Token;
 use crate::word_notes::{Operation, note_word};
-use asm_line::{Directive, names};
+use asm_line::{Directive, Fault, names};
 use std::alloc::AllocError;
 
 /// Tells what is wrong with the statement of a line.
@@ -88,11 +88,14 @@ fn note_lookahead<'t>(
     }
     let (head, behind) = statement.split_head();
     let number = head.behind(1).bytes;
-    if reader
-        .operand_fault(notes.alloc(), Form::Lookahead, number)?
-        .is_some()
-    {
+    if let Some(fault) = reader.operand_fault(notes.alloc(), Form::Lookahead, number)? {
         let help = "a blank comes after it";
+        let kind = if behind.bytes.is_empty() {
+            Fault::Unknown
+        } else {
+            fault
+        };
+        notes.number(kind.number());
         notes.say(
             reader.spot(head),
             "a lookahead is @ and a number 0 to 7",
@@ -110,6 +113,7 @@ fn note_operation(
 ) -> Result<Option<Named>, AllocError> {
     if piece.bytes.is_empty() {
         let help = "a bar stands between two operations";
+        notes.number(Fault::Unknown.number());
         notes.say(reader.spot(piece), "an operation is missing here", help)?;
         return Ok(None);
     }

@@ -2,6 +2,7 @@
 
 use crate::data_lines::DataLines;
 use crate::notes::Notes;
+use crate::numbers::{LABEL_ADDRESS, POINTER_CONTROL};
 use crate::phrases::shown;
 use crate::reader::Reader;
 use crate::token::Token;
@@ -163,6 +164,7 @@ fn note_label_address(
     let alloc = notes.alloc();
     let spot = reader.spot(base_operand(alloc, reader)?);
     let words = holder_words(alloc, m.base, label)?;
+    notes.number(LABEL_ADDRESS);
     match label_address(reader, data_lines, label) {
         Some(address) => {
             let help = format!(in alloc; "the data on the label's line is at address {address}")?;
@@ -205,6 +207,7 @@ fn note_control(
         "the pointer in r{} gives this {name} {control}: its bits 59 and 60 are set so",
         m.base
     )?;
+    notes.number(POINTER_CONTROL);
     notes.add_with(spot, words, "a suffix .N, .F or .S says it in the program")
 }
 

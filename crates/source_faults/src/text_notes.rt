@@ -7,7 +7,7 @@ use crate::operations::directive_named;
 use crate::phrases::shown;
 use crate::reader::Source;
 use crate::token::Token;
-use asm_line::{Directive, Item};
+use asm_line::{Directive, Fault, Item};
 use std::alloc::AllocError;
 
 const MAX_ENTRIES: usize = 16;
@@ -86,6 +86,7 @@ impl Totals {
         self.entries = self.entries.saturating_add(1);
         if self.entries == MAX_ENTRIES + 1 {
             let help = "a machine has at most 16 processors";
+            notes.number(Fault::Limit.number());
             notes.say(head_spot(line), "this is the 17th .entry", help)?;
         }
         Ok(())
@@ -101,6 +102,7 @@ impl Totals {
         self.cells = before.saturating_add(count);
         if before <= MAX_CELLS && self.cells > MAX_CELLS {
             let words = "a memory has at most 262144 words, and this line adds more";
+            notes.number(Fault::Limit.number());
             notes.say(head_spot(line), words, "take data words out")?;
         }
         Ok(())
@@ -117,6 +119,7 @@ impl Totals {
             note_no_entry(notes, source)?;
         }
         if source.words() == 0 {
+            notes.number(Fault::Directive.number());
             notes.say(
                 end,
                 "the text has no instruction",
@@ -129,6 +132,7 @@ impl Totals {
             } else {
                 ".data 0 adds one"
             };
+            notes.number(Fault::Directive.number());
             notes.say(end, "the text has no data word", help)?;
         }
         Ok(())
@@ -146,6 +150,7 @@ fn note_no_entry(notes: &mut Notes, source: &Source) -> Result<(), AllocError> {
     let help = format!(in alloc;
         "write .entry {entry} on a line of its own: a processor begins there"
     )?;
+    notes.number(Fault::Directive.number());
     notes.add(Spot::FIRST, words, Some(help))
 }
 
@@ -175,12 +180,14 @@ fn note_once(notes: &mut Notes, line: &Line, first: &mut Option<usize>) -> Resul
     let alloc = notes.alloc();
     let name = shown(alloc, line.statement().split_head().0.bytes)?;
     let words = format!(in alloc; "{name} stands on line {number} already")?;
+    notes.number(Fault::Directive.number());
     notes.add_with(head_spot(line), words, "it may stand once")
 }
 
 fn take_word(notes: &mut Notes, line: &Line) -> Result<(), AllocError> {
     if line.here == MAX_PROGRAM_WORDS {
         let words = "a program has at most 65536 words, and this is one more";
+        notes.number(Fault::Limit.number());
         notes.say(head_spot(line), words, "take instruction lines out")?;
     }
     Ok(())
@@ -197,6 +204,7 @@ pub(crate) fn note_foreign(notes: &mut Notes, line: &Line) -> Result<(), AllocEr
     let byte = rest.bytes.first().copied().unwrap_or(0);
     let alloc = notes.alloc();
     let words = format!(in alloc; "the byte {byte:02X} is above 7F")?;
+    notes.number(Fault::NotAscii.number());
     notes.add_with(
         line.spot(marked),
         words,

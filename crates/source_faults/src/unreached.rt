@@ -2,6 +2,7 @@
 
 use crate::message::Spot;
 use crate::notes::Notes;
+use crate::numbers::UNREACHED;
 use image_file::Image;
 use reachable_places::unreached_rows;
 use std::alloc::AllocError;
@@ -16,6 +17,7 @@ pub(crate) fn note_unreached(
 ) -> Result<(), AllocError> {
     for place in unreached_rows(notes.alloc(), image)? {
         if let Some(spot) = spots.get(place) {
+            notes.number(UNREACHED);
             notes.say(*spot, "no stream can reach this word", help_at(text, *spot))?;
         }
     }

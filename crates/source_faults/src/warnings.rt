@@ -4,6 +4,7 @@ use crate::data_lines::DataLines;
 use crate::lines::Lines;
 use crate::message::Spot;
 use crate::notes::Notes;
+use crate::numbers::{DATA_LABEL, EARLIER_CODE};
 use crate::phrases::shown;
 use crate::reader::{Reader, Source};
 use crate::straight_line::StraightLine;
@@ -95,6 +96,7 @@ fn note_data_label(
         Some(address) => Some(format!(in alloc; "this data is at address {address}")?),
         None => None,
     };
+    notes.number(DATA_LABEL);
     notes.add(reader.spot(label), words, help)
 }
 
@@ -124,6 +126,7 @@ fn note_code(notes: &mut Notes, reader: &Reader, insn: Insn) -> Result<(), Alloc
             .last()
             .copied()
             .unwrap_or(reader.line().statement());
+        notes.number(EARLIER_CODE);
         return notes.say(reader.spot(last), words, help);
     }
     Ok(())

@@ -4,7 +4,7 @@ use crate::notes::Notes;
 use crate::operations::{Named, Part};
 use crate::reader::Reader;
 use crate::token::Token;
-use asm_line::Item;
+use asm_line::{Fault, Item};
 use insn_word::Insn;
 use std::alloc::AllocError;
 
@@ -61,6 +61,7 @@ fn note_alone(notes: &mut Notes, reader: &Reader, operation: Operation) -> Resul
     let alloc = notes.alloc();
     let name = operation.named.name();
     let words = format!(in alloc; "{name} stands alone in its word")?;
+    notes.number(Fault::Operand.number());
     notes.add_with(
         reader.spot(operation.piece),
         words,
@@ -93,6 +94,7 @@ fn note_pair(
         let help = format!(in alloc; "write {second} before {first}")?;
         (String::from_str(alloc, words)?, help)
     };
+    notes.number(Fault::Operand.number());
     notes.add(reader.spot(operation.piece), words, Some(help))
 }
 
@@ -152,6 +154,7 @@ fn note_both(
     let words = format!(in alloc; "{first} and {second} both write r{register}")?;
     let operands = operation.piece.split_head().1;
     let written = operands.cut(b',').0.trim();
+    notes.number(Fault::TwoWriters.number());
     notes.add_with(
         reader.spot(written),
         words,

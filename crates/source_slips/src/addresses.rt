@@ -1,7 +1,7 @@
 //! Addresses that are no word's.
 
 use crate::references::Reference;
-use crate::spots::Slips;
+use crate::spots::{Kind, Slips};
 use std::alloc::{AllocError, Global};
 
 /// The least address that only a displacement below 0 makes.
@@ -42,7 +42,7 @@ fn warn_unaligned(
             "an address counts bytes: data words are [0], [8], [16] and so on",
         )?
     };
-    slips.warn(reference.place, words, help)
+    slips.warn(Kind::NoDataWord, reference.place, words, help)
 }
 
 fn warn_past(
@@ -55,14 +55,14 @@ fn warn_past(
     if address >= BELOW {
         let words = String::from_str(alloc, "the address here is below 0: the reference traps")?;
         let help = String::from_str(alloc, "the first data word is [0]")?;
-        return slips.warn(reference.place, words, help);
+        return slips.warn(Kind::NoDataWord, reference.place, words, help);
     }
     let last = end.saturating_sub(8);
     let words = format!(in alloc;
         "the address here is [{address}], and the last data word is [{last}]: the reference traps"
     )?;
     let help = past_help(alloc, reference, address)?;
-    slips.warn(reference.place, words, help)
+    slips.warn(Kind::NoDataWord, reference.place, words, help)
 }
 
 /// How an address that is past the end may be mended.

@@ -1,7 +1,7 @@
 //! Conditions on codes that nothing has made.
 
 use crate::program::Program;
-use crate::spots::Slips;
+use crate::spots::{Kind, Slips};
 use asm_line::names;
 use insn_word::{APart, ArithmeticOp, CPart, Condition, ControlOp, Insn};
 use std::alloc::{AllocError, Global};
@@ -162,7 +162,7 @@ fn warn_of_code(
         Some((word, op)) => tested_help(slips, word, op)?,
         None => String::from_str(alloc, "make a code first, as by SUB.T r0, r1, 10")?,
     };
-    slips.warn(place, words, help)
+    slips.warn(Kind::NoCode, place, words, help)
 }
 
 /// That the operation of a word may be meant with `.T`.

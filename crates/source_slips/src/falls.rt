@@ -1,7 +1,7 @@
 //! Streams that run on where none is meant to.
 
 use crate::program::Program;
-use crate::spots::Slips;
+use crate::spots::{Kind, Slips};
 use insn_word::{ControlOp, Insn, MemoryOp};
 use std::alloc::AllocError;
 
@@ -37,7 +37,7 @@ fn warn_of_end(slips: &mut Slips, place: usize) -> Result<(), AllocError> {
     let words = "a stream that goes on from here is past the end of the program, and traps";
     let words = String::from_str(alloc, words)?;
     let help = String::from_str(alloc, "did you forget QUIT?")?;
-    slips.warn(place, words, help)
+    slips.warn(Kind::PastEnd, place, words, help)
 }
 
 /// Whether a processor begins at a word and does not end there, behind code of another one's that refers to memory.
@@ -91,5 +91,5 @@ fn warn_of_entry(
         "a stream goes on from here into the code of processor {processor}"
     )?;
     let help = String::from_str(alloc, "did you forget QUIT?")?;
-    slips.warn(place, words, help)
+    slips.warn(Kind::OthersCode, place, words, help)
 }

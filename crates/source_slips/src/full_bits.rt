@@ -1,7 +1,7 @@
 //! References that wait for what never comes.
 
 use crate::references::Reference;
-use crate::spots::Slips;
+use crate::spots::{Kind, Slips};
 use asm_line::names;
 use image_file::Image;
 use insn_word::{Access, MemoryOp};
@@ -124,7 +124,7 @@ fn warn_of_empty(slips: &mut Slips, reference: &Reference, cell: usize) -> Resul
         }
         None => String::from_str(alloc, "fill it by STORE.S, or let it begin full: .data 0")?,
     };
-    slips.warn(reference.place, words, help)
+    slips.warn(Kind::EndlessWait, reference.place, words, help)
 }
 
 fn warn_of_full(slips: &mut Slips, reference: &Reference, cell: usize) -> Result<(), AllocError> {
@@ -140,5 +140,5 @@ fn warn_of_full(slips: &mut Slips, reference: &Reference, cell: usize) -> Result
         }
         None => String::from_str(alloc, "let it begin empty: .data 0, 0; or write STORE.N")?,
     };
-    slips.warn(reference.place, words, help)
+    slips.warn(Kind::EndlessWait, reference.place, words, help)
 }

@@ -1,7 +1,7 @@
 //! Results that r0 does not keep.
 
 use crate::program::Program;
-use crate::spots::Slips;
+use crate::spots::{Kind, Slips};
 use asm_line::names;
 use insn_word::{ArithmeticOp, Insn, WideOp};
 use std::alloc::AllocError;
@@ -14,7 +14,7 @@ pub(crate) fn warn_of_lost_results(slips: &mut Slips, program: &Program) -> Resu
             Some(Insn::Wide { op, reg, .. }) if reg == 0 && op != WideOp::TargetLiteral => {
                 let words = String::from_str(alloc, "r0 is always 0: this number is lost")?;
                 let help = String::from_str(alloc, "write r1 to r31")?;
-                slips.warn(place, words, help)?;
+                slips.warn(Kind::LostResult, place, words, help)?;
             }
             Some(Insn::Normal { a, .. }) if a.rd == 0 && !a.test && a.op != ArithmeticOp::Nop => {
                 let name = names::arithmetic(a.op);
@@ -22,7 +22,7 @@ pub(crate) fn warn_of_lost_results(slips: &mut Slips, program: &Program) -> Resu
                 let help = format!(in alloc;
                     "write r1 to r31; or {name}.T, which makes a code for a later SKIP"
                 )?;
-                slips.warn(place, words, help)?;
+                slips.warn(Kind::LostResult, place, words, help)?;
             }
             _ => {}
         }

@@ -1,7 +1,7 @@
 //! Loops that never end once they go round.
 
 use crate::program::Program;
-use crate::spots::Slips;
+use crate::spots::{Kind, Slips};
 use insn_word::{APart, ArithmeticOp, CPart, Condition, ControlOp, Insn, MemoryOp, WideOp};
 use std::alloc::AllocError;
 
@@ -122,6 +122,7 @@ fn warn_of_round(slips: &mut Slips, place: usize, c: CPart) -> Result<(), AllocE
         )
     };
     slips.warn(
+        Kind::EndlessLoop,
         place,
         String::from_str(alloc, words)?,
         String::from_str(alloc, help)?,

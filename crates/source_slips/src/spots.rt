@@ -6,9 +6,30 @@ use std::alloc::{AllocError, Global};
 /// The most slips of a text that are told.
 const MOST_SLIPS: usize = 1000;
 
+/// What a slip is, with the number of its page of `explain` (docs/words/faults.txt).
+#[derive(Clone, Copy)]
+pub(crate) enum Kind {
+    /// A condition asks a code that nothing has made.
+    NoCode = 107,
+    /// A stream goes on past the end.
+    PastEnd = 108,
+    /// A stream goes on into the code of another processor.
+    OthersCode = 109,
+    /// A loop never ends.
+    EndlessLoop = 110,
+    /// An address is that of no data word.
+    NoDataWord = 111,
+    /// A reference waits for what nothing changes.
+    EndlessWait = 112,
+    /// A result is lost.
+    LostResult = 113,
+}
+
 /// What is likely not meant at a place of a text.
 #[derive(Debug, Drop)]
 pub struct Slip {
+    /// The number of its page of `explain`.
+    pub number: u8,
     /// The line, from 1.
     pub line: usize,
     /// The first byte of the place on its line, from 1.
@@ -73,6 +94,7 @@ impl<'t> Slips<'t> {
     /// Warns of a word of the program.
     pub(crate) fn warn(
         &mut self,
+        kind: Kind,
         word: usize,
         words: String,
         help: String,
@@ -85,6 +107,7 @@ impl<'t> Slips<'t> {
         };
         let (first, width) = statement_of(line.bytes);
         self.found.push(Slip {
+            number: kind as u8,
             line: line.number.saturating_add(1),
             column: first.saturating_add(1),
             width,
