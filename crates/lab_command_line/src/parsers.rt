@@ -18,7 +18,8 @@ pub(crate) fn lab_parser<'a>(alloc: Global) -> Result<Command<'a>, AllocError> {
     let about = "Shows what programs of the Tera MTA do";
     let tool = described(alloc, "mta_lab", about, help::TOOL)
         .version(VERSION)
-        .subcommand_required(true);
+        .subcommand_required(true)
+        .arg(parser_of(alloc, &COLOUR)?.global(true))?;
     with_commands(alloc, tool, &COMMANDS)
 }
 
@@ -38,7 +39,7 @@ fn with_commands<'a>(
 /// The parser of a command, and what `--help` says of it.
 fn command_parser<'a>(alloc: Global, words: &CommandWords) -> Result<Command<'a>, AllocError> {
     let parser = described(alloc, words.name, words.about, words.long);
-    with_arguments(alloc, parser, words.arguments)?.arg(parser_of(alloc, &COLOUR)?)
+    with_arguments(alloc, parser, words.arguments)
 }
 
 /// The parser of the tool or of a command, before its arguments, and what `--help` says of it.
