@@ -23,7 +23,8 @@ pub fn coloured(alloc: Global, text: &str) -> Result<String, AllocError> {
     Ok(out)
 }
 
-/// Adds a line whose words get their colours, and answers the colour of the last message: this line's, or else the one given.
+/// Adds a line whose words get their colours, and answers the colour of the last message: this line's, or else the one
+/// given.
 fn push_line(out: &mut String, line: &str, severity: Colour) -> Result<Colour, AllocError> {
     let mut severity = severity;
     let mut next = 0;

@@ -7,11 +7,11 @@ use crate::colours::Colour;
 enum Place {
     /// At the head of a message: at a line's beginning or behind a colon and a blank.
     Head,
-    /// In a column of its own: at a line's beginning, or behind a tab, two blanks, or a colon and a blank; and before a tab,
-    /// two blanks, a colon, a comma or the line's end.
+    /// In a column of its own: at a line's beginning, or behind a tab, two blanks, or a colon and a blank; and before a
+    /// tab, two blanks, a colon, a comma or the line's end.
     Column,
-    /// What a word of memory is: behind a comma, an arrow, or `to be`; and before an arrow, a mark, two blanks or the line's
-    /// end.
+    /// What a word of memory is: behind a comma, an arrow, or `to be`; and before an arrow, a mark, two blanks or the
+    /// line's end.
     State,
     /// At the beginning of a line, perhaps behind blanks.
     Beginning,

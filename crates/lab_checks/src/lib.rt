@@ -1,5 +1,5 @@
-//! The commands `check`, `fmt`, `schedule`, `asm`, `explain`, `word` and `new`: they judge files, lay source texts out, make
-//! schedules and images, say what words mean, and begin programs.
+//! The commands `check`, `fmt`, `schedule`, `asm`, `explain`, `word` and `new`: they judge files, lay source texts out,
+//! make schedules and images, say what words mean, and begin programs.
 #![tactic(auto)]
 
 mod assembling;

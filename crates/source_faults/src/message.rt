@@ -66,8 +66,9 @@ impl Spot {
     };
 }
 
-/// Prints a message about a text that stands in a file: `FILE:LINE:COLUMN: error: WORDS (explain NUMBER)`, then the line with
-/// its number, and under it the mark with the help. A line of more than 200 bytes, or with a byte 00, is left out.
+/// Prints a message about a text that stands in a file: `FILE:LINE:COLUMN: error: WORDS (explain NUMBER)`, then the
+/// line with its number, and under it the mark with the help. A line of more than 200 bytes, or with a byte 00, is left
+/// out.
 pub fn push_message(
     out: &mut String,
     file: &str,

@@ -20,8 +20,8 @@ const FURTHER: usize = 8;
 /// A comment that stands alone on its line is one of the statements' column up to here.
 const LAST_OF_STATEMENTS: usize = 20;
 
-/// The text with each of its lines laid out. Each line stays where it is and keeps its label, what stands between the blanks
-/// of its statement, and its comment. The text ends with a line end.
+/// The text with each of its lines laid out. Each line stays where it is and keeps its label, what stands between the
+/// blanks of its statement, and its comment. The text ends with a line end.
 pub(crate) fn in_columns(alloc: Global, text: &[u8]) -> Result<Vec<u8>, AllocError> {
     let mut out = Vec::with_capacity(alloc, text.len())?;
     let mut is_first = true;

@@ -12,8 +12,8 @@ use image_file::Image;
 use source_comments::ascii_comments;
 use std::alloc::{AllocError, Global};
 
-/// The text in the one layout; None where the text has a fault, or where its layout would mean another image. Comments may
-/// have any bytes. Only memory can be missing.
+/// The text in the one layout; None where the text has a fault, or where its layout would mean another image. Comments
+/// may have any bytes. Only memory can be missing.
 pub fn laid_out(alloc: Global, text: &[u8]) -> Result<Option<Vec<u8>>, AllocError>
     ensures meaning { IfOk result (λ o. IfSome o (λ laid. MeanTheSame laid.items text.now)) }
 {

@@ -2,8 +2,8 @@
 
 use std::alloc::AllocError;
 
-/// Adds a statement with one blank where it has blanks, none before a comma and one behind it, and one on both sides of a
-/// bar.
+/// Adds a statement with one blank where it has blanks, none before a comma and one behind it, and one on both sides of
+/// a bar.
 pub(crate) fn push_statement(out: &mut Vec<u8>, statement: &[u8]) -> Result<(), AllocError> {
     let mut is_first = true;
     let mut is_apart = false;
