@@ -1,5 +1,5 @@
 //! One layout of source texts: labels, statements and comments in columns, the image unchanged
-//! (docs/LAB_REFERENCE.md, "One layout").
+//! (docs/WRITING_PROGRAMS.md, "One layout").
 #![tactic(auto)]
 
 mod lines;
