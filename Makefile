@@ -37,7 +37,7 @@ help:
 	@echo "make hostile    hostile use of the built program; needs Python 3 and a C compiler (11 minutes on two cores beside other work)"
 	@echo "make refuse     the part of it that refuses each allocation of the commands in turn (some minutes)"
 	@echo "make spaces     500 random programs, all of whose worlds are searched by a machine of the tests' own beside mta_lab (a minute)"
-	@echo "make pages      the replay page in a browser; needs chromium, its driver and Python's selenium, and says what is missing (a minute and a half)"
+	@echo "make pages      the pages in a browser; needs chromium, its driver and Python's selenium, and says what is missing (some minutes)"
 	@echo "make editors    mta_lab dap by a client that others' library makes; needs Go and Debian's go-dap, and says what is missing (seconds)"
 	@echo "make bench      time, instructions and peak memory on the longest inputs (some minutes; valgrind counts instructions)"
 	@echo "make install    puts the built programs, their examples and documents under PREFIX, $(PREFIX) (a second)"

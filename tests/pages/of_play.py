@@ -2,17 +2,19 @@
 the texts that are copied; each state that is shown beside the graph in the page."""
 
 import json
+import pathlib
 import random
 import re
 
 import runs
 import tally
+import worlds
 from selenium.webdriver.common.keys import Keys
 
 LEFT, RIGHT, HOME, END, ESCAPE = Keys.ARROW_LEFT, Keys.ARROW_RIGHT, Keys.HOME, Keys.END, Keys.ESCAPE
 PROGRAMS = runs.ROOT / "tests/cases/lab_play"
 DIGITS = "0123456789ABCDEFGHIJKLMNOPQRSTUVWXYZabcdefghijklmnopqrstuvwxyz-_"
-WALKS, STEPS = 6, 30
+WALKS, STEPS = 34, 30
 
 
 class Graph:
@@ -51,20 +53,55 @@ def shown(page):
     return int(page.script("return document.body.dataset.state"))
 
 
+# the state, the choices and whether each can't be taken, whether they are shown, the ends that can come, the result
+SEEN = """
+  const all = (what) => [...document.querySelectorAll(what)];
+  return [Number(document.body.dataset.state),
+    all('.choice:not([hidden])').map((one) => [Number(one.dataset.stream), one.getAttribute('aria-disabled')]),
+    !document.getElementById('choices').hidden,
+    all('#ends li').flatMap((row, number) => (Number(row.dataset.left) >= 0 ? [number] : [])),
+    !document.getElementById('result').hidden];
+"""
+
+
 def is_as(page, graph, state, what):
     """Whether the page shows a state: its number, its choices, the ends that can still come, the result."""
-    tally.same(f"{what}: the state", shown(page), state)
-    choices = page.script("return [...document.querySelectorAll('.choice:not([hidden])')].map((c) => [Number(c.dataset.stream), "
-                          "c.getAttribute('aria-disabled')])")
+    seen, choices, are_choices_shown, ahead, has_result = page.script(SEEN)
+    tally.same(f"{what}: the state", seen, state)
     can_step = graph.steps(state)
-    if page.script("return !document.getElementById('choices').hidden"):
+    if are_choices_shown:
         wanted = [[at, "false" if at in can_step else "true"] for at in graph.running(state)]
         tally.same(f"{what}: the choices", choices, wanted)
-    left = page.script("return [...document.querySelectorAll('#ends li')].map((row) => Number(row.dataset.left) >= 0)")
-    ahead = graph.data["sets"][graph.ahead[state]]
-    tally.same(f"{what}: the ends ahead", [number for number, is_ahead in enumerate(left) if is_ahead], ahead)
-    has_result = page.script("return !document.getElementById('result').hidden")
+    tally.same(f"{what}: the ends ahead", ahead, graph.data["sets"][graph.ahead[state]])
     tally.same(f"{what}: whether there is a result", has_result, state in graph.ends)
+
+
+# what the page shows of words and of the streams that are not idle
+PLACES = """
+  const all = (what, from) => [...(from ?? document).querySelectorAll(what)];
+  return [all('#words td[data-word]').flatMap((one) => [[`[${one.dataset.word}].value`, one.dataset.value],
+      [`[${one.dataset.word}].tags`, one.dataset.tags]]),
+    all('.stream').filter((one) => one.dataset.status !== 'idle').flatMap((one) => [
+      [`${one.dataset.name}.status`, one.dataset.status], [`${one.dataset.name}.pc`, one.dataset.pc],
+      ...all('[data-place]', one).filter((place) => !place.querySelector('.change'))
+        .map((place) => [`${one.dataset.name}.${place.dataset.place}`, place.dataset.value])])].flat();
+"""
+
+
+def is_as_in_simulator(page, graph, source, what):
+    """Whether the schedule of the page's way leads mta_sim to what the page shows."""
+    if not worlds.has_debugger():
+        return
+    page.press("c")
+    text = page.script("return document.getElementById('as-schedule').value")
+    page.press(ESCAPE)
+    schedule = pathlib.Path(page.folder) / "way.schedule"
+    schedule.write_text(text)
+    steps = sum(int(line.split()[2]) for line in text.splitlines())
+    words = sum(count for count, _, _ in graph.data["start"]["memory"])
+    places = worlds.debugged_by(page.folder, source, schedule, graph.data["streams"], words, [steps])[steps]
+    differing = [(place, value, places.get(place)) for place, value in page.script(PLACES) if value != places.get(place)]
+    tally.same(f"{what}: what mta_sim comes to by its schedule", differing, [])
 
 
 def walk(page, graph, chance, name):
@@ -94,6 +131,7 @@ def walks(page, name, text, graph):
     chance = random.Random(name)
     for number in range(WALKS):
         way = walk(page, graph, chance, f"{name}, walk {number + 1}")
+        is_as_in_simulator(page, graph, PROGRAMS / f"{name}.asm", f"{name}, walk {number + 1}")
     page.press(END)
     link = page.script("return location.hash")
     page.open(name, text, link)

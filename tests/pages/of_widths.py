@@ -15,7 +15,7 @@ PAIRS = (
 LEAST_CONTRAST = 4.5
 OUTSIDE = """
   return [...document.querySelectorAll('body *')].filter((one) => {
-    if (one.closest('.pane, #scroll, #trace, #numbers, .unseen, .skip, dialog, #paper')) return false;
+    if (one.closest('.pane, #scroll, #goals, #trace, #numbers, .unseen, .skip, dialog, #paper')) return false;
     const box = one.getBoundingClientRect();
     return box.width && (box.right > innerWidth + 1 || box.left < -1);
   }).map((one) => one.id || one.className || one.tagName);

@@ -9,6 +9,7 @@ import of_hostile
 import of_pairs
 import of_pictures
 import of_play
+import of_play_access
 import of_sizes
 import of_states
 import of_ways
@@ -23,6 +24,7 @@ ALL = {
     "pictures": of_pictures.part,
     "pairs": of_pairs.part,
     "play": of_play.part,
+    "play_access": of_play_access.part,
     "ways": of_ways.part,
     "hostile": of_hostile.part,
     "sizes": of_sizes.part,

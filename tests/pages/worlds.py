@@ -57,11 +57,14 @@ def has_debugger():
 
 def debugged(folder, name, run, positions):
     """The places at each of these positions, as the debugger of mta_sim shows them."""
-    source, schedule = runs.files_of(name)
+    words = sum(count for count, _, _ in run["start"]["memory"])
+    return debugged_by(folder, *runs.files_of(name), streams_of(run), words, positions)
+
+
+def debugged_by(folder, source, schedule, streams, words, positions):
+    """The places of these streams and so many words, at each of these positions of a source text's run."""
     image = os.path.join(folder, "image")
     runs.call(runs.SIM, "asm", str(source), image)
-    streams = streams_of(run)
-    words = sum(count for count, _, _ in run["start"]["memory"])
     lines = []
     for k in positions:
         lines.append(f"g {k}")
