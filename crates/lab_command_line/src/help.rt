@@ -29,12 +29,12 @@ Example:
 
 pub(crate) const FMT: &str = "\
 Lays source texts out: labels in column 1, statements in column 9, comments in column 33, or 49
-behind a long statement, one blank behind commas and around bars. Each line stays where it is, and
+after a long statement, one blank after commas and around bars. No line moves up or down, and
 comments keep their words. Lines end by LF; CR LF becomes LF, and a byte order mark is dropped.
 
-A file is written in place, and named. Without FILE, or with -, standard input is laid out to
-standard output. If a text has an error, nothing is written. The image stays the same.
-With --check the status is 1 if a file would change.
+fmt writes each file that changes, and names it. Without FILE, or with -, it lays standard input
+out to standard output. If a text has an error, it writes nothing. The image stays the same.
+With --check it writes nothing, and the status is 1 if a file would change.
 
 Examples:
   mta_lab fmt lock.asm
