@@ -6,7 +6,8 @@ reading ease by Flesch.
   plain_words.py FILE..     says it of these files, and their reading ease
 
 A sentence is at most 30 words long, and a document's reading ease is at least 60: 206.835 - 1.015 * words a sentence
-- 84.6 * syllables a word. Code, tables and headings don't count; a name in backquotes counts as one short word."""
+- 84.6 * syllables a word. Code doesn't count, nor do tables and headings, but for their words; a name in backquotes
+counts as one short word."""
 
 import os
 import re
@@ -15,33 +16,36 @@ import sys
 ROOT = os.path.dirname(os.path.dirname(os.path.abspath(__file__)))
 HELD = ("README.md", "CONTRIBUTING.md", "docs/TUTORIAL.md", "docs/CHEAT_SHEET.md",
         "docs/WRITING_PROGRAMS.md", "docs/LAB.md", "docs/LAB_REFERENCE.md", "docs/GRADING.md", "docs/PAGE.md",
-        "docs/PLAY.md", "docs/EDITORS.md", "docs/RATTLE.md", "docs/FINDINGS.md", "docs/MACHINE.md",
-        "docs/FORMATS.md", "docs/PROMISES.md", "docs/ARCHITECTURE.md")
+        "docs/PLAY.md", "docs/EDITORS.md", "docs/RATTLE.md", "docs/GLOSSARY.md", "docs/FINDINGS.md", "docs/MACHINE.md",
+        "docs/FORMATS.md", "docs/PROMISES.md", "docs/ARCHITECTURE.md", "docs/DECISIONS.md", "docs/SPEED.md",
+        "page/README.md", "exercises/README.md")
 EASE, LONGEST = 60, 30
 # a word that readers stumble over, and what to write
 PLAIN = (
     (r"\bbehind\b", "after, next to"),
-    (r"\b(tells|told|telling) of\b", "reports, shows, says"),
-    (r"\b(is|are) told\b", "is shown, is reported"),
+    (r"\b(tells|told|telling)\b", "reports, shows, says"),
     (r"\ba way leads\b|\bways lead\b", "can reach"),
     (r"\b(goes|go|going) round\b", "loops"),
     (r"\bstandstills?\b", "deadlock"),
     (r"\blooked at\b", "explored"),
     (r"\bhands? out\b|\bgives? back\b", "returns, releases"),
-    (r"\bnobody runs\b", "all streams have finished"),
+    (r"\bnobody (runs|can go on|else)\b", "no stream"),
+    (r"\bto and fro\b", "forward and back"),
+    (r"\bfor ever\b", "forever"),
+    (r"\bstrong sets?\b", "sets of states that cannot be left"),
     (r"\bone behind the other\b", "one after the other"),
     (r"\bwhere (it|they|there|this|that|no|a|an|the) (is|are|has|have|says?|can)\b", "if"),
 )
 
 
-def text_of(path):
-    """The sentences' lines of a document, without code, tables and headings."""
+def text_of(path, other=r"\||#|!\["):
+    """The lines of a document, without code, and without what begins otherwise than sentences: tables, headings, pictures."""
     with open(path, encoding="utf-8") as file:
         lines, kept, in_code = file.read().splitlines(), [], False
         for line in lines:
             if line.startswith("```"):
                 in_code = not in_code
-            kept.append("" if in_code or re.match(r"```|\||#|!\[", line) else line)
+            kept.append("" if in_code or re.match(rf"```|{other}", line) else line)
         return kept
 
 
@@ -73,7 +77,7 @@ def ease(sentences):
 def faults_of(path):
     """What is not plain in a document, a line each."""
     lines = text_of(f"{ROOT}/{path}")
-    for number, line in enumerate(lines, 1):
+    for number, line in enumerate(text_of(f"{ROOT}/{path}", r"!\["), 1):
         for pattern, plain in PLAIN:
             for found in re.finditer(pattern, re.sub(r"`[^`]*`", "", line)):
                 yield f"{path}:{number}: '{found[0]}': write {plain}"
