@@ -2,12 +2,14 @@
 //! Lines count from 0.
 #![tactic(auto)]
 
+mod data_names;
 mod faulty_lines;
 mod laws;
 mod lines;
 mod source_places;
 mod walks;
 
+pub use data_names::{DataName, MOST_NAMES};
 pub use faulty_lines::{LineFault, line_faults};
 pub use laws::program_words_stand_on_their_lines;
 pub use lines::{DataLine, ProgramLine, comment_of};

@@ -4,9 +4,12 @@ ghost use Rattle.std.specs.Prelude.{◌≡◌, IfOk, slice_get};
 ghost use Rattle.std.specs.Option.{option_map};
 ghost use Rattle.source_places.specs.ProgramLines.{program_lines};
 ghost use Rattle.source_places.specs.DataLines.{data_lines};
+ghost use Rattle.source_places.specs.DataNames.{data_names, said_names};
 ghost use Rattle.source_places.specs.SourceLabels.{labels_of};
 ghost use Rattle.source_places.specs.SourcePlaces.{line_seen, lines_seen, labels_seen, data_lines_seen};
+ghost use Rattle.source_places.specs.SourcePlaces.{data_names_seen};
 
+use crate::data_names::{DataName, own_names, said_names};
 use crate::lines::{DataLine, ProgramLine};
 use crate::walks::{data_lines, first_labels, program_lines};
 use asm_line::Place;
@@ -29,6 +32,8 @@ pub struct SourcePlaces<'t> {
     lines: Vec<ProgramLine<'t>>,
     labels: Vec<SourceLabel<'t>>,
     data_lines: Vec<DataLine<'t>>,
+    said_names: Vec<DataName<'t>>,
+    data_names: Vec<DataName<'t>>,
 }
 
 impl<'t> SourcePlaces<'t> {
@@ -37,12 +42,21 @@ impl<'t> SourcePlaces<'t> {
         ensures lines { IfOk result (λ s. lines_seen s.lines.items ≡ program_lines text.now) }
         ensures labels { IfOk result (λ s. labels_seen s.labels.items ≡ labels_of text.now) }
         ensures data { IfOk result (λ s. data_lines_seen s.data_lines.items ≡ data_lines text.now) }
+        ensures said { IfOk result (λ s. data_names_seen s.said_names.items ≡ said_names text.now) }
+        ensures names { IfOk result (λ s. data_names_seen s.data_names.items ≡ data_names text.now) }
     {
         let outline = outline_of(alloc, text)?;
+        let lines = program_lines(alloc, text)?;
+        let labels = first_labels(alloc, &outline.labels, text)?;
+        let data_lines = data_lines(alloc, &outline, text)?;
+        let said_names = said_names(alloc, &data_lines)?;
+        let data_names = own_names(alloc, &outline.labels, &said_names)?;
         Ok(SourcePlaces {
-            lines: program_lines(alloc, text)?,
-            labels: first_labels(alloc, &outline.labels, text)?,
-            data_lines: data_lines(alloc, &outline, text)?,
+            lines,
+            labels,
+            data_lines,
+            said_names,
+            data_names,
         })
     }
 
@@ -66,5 +80,19 @@ impl<'t> SourcePlaces<'t> {
         ensures { data_lines_seen result.now ≡ data_lines_seen self.now.data_lines.items }
     {
         &self.data_lines
+    }
+    /// The names that the lines of data say, in the order of the lines: a line's label, or what its comment says where that
+    /// is a name, or begins with one and a colon. They are the first 4,096 of a text.
+    pub fn said_names(&self) -> &[DataName<'t>]
+        ensures { data_names_seen result.now ≡ data_names_seen self.now.said_names.items }
+    {
+        &self.said_names
+    }
+
+    /// Those of them that name their words: one that two lines say, or that is a label of another line, names nothing.
+    pub fn data_names(&self) -> &[DataName<'t>]
+        ensures { data_names_seen result.now ≡ data_names_seen self.now.data_names.items }
+    {
+        &self.data_names
     }
 }
