@@ -18,25 +18,25 @@ JOBS ?= $(shell nproc)
 
 # the targets, each with what it does and how long it takes
 help:
-	@echo "make try        runs a SOURCE by a SCHEDULE with both programs, unproved (two minutes); examples/lock.asm where none is named"
+	@echo "make try        runs a SOURCE by a SCHEDULE with both programs, unproved (two minutes); examples/lock.asm if none is named"
 	@echo "make run        proves and builds mta_sim, and shows a first run (42 processor minutes)"
 	@echo "make run-lab    the same of mta_lab (165 processor minutes)"
 	@echo "make test       proves everything, tries the edits in must-fail/, runs all tests (201 processor minutes from nothing; ANEW=1: nothing that is kept counts)"
 	@echo "make prove      proves the CRATES and those that they stand on, as make test does (docs/ARCHITECTURE.md has the minutes of each)"
-	@echo "make checks     what make test looks at before any proof (seconds)"
+	@echo "make checks     what make test tests before any proof (seconds)"
 	@echo "make trust      writes docs/TRUST.md, the definitions that a reader has to trust (seconds)"
 	@echo "make cases      runs the cases below tests/cases on the built program (seconds)"
 	@echo "make documents  runs the commands of the documents and compares what they print (seconds)"
 	@echo "make minutes    writes the table of what a check costs into docs/ARCHITECTURE.md, of what make test left in out/ (a second)"
 	@echo "make crates     writes the table of crates into docs/ARCHITECTURE.md, of crates.txt and the crates' README.md (a second)"
 	@echo "make affected   which crates a change of the CRATES proves again, and their minutes (a second)"
-	@echo "make fits       how long make test takes from nothing on PROCESSORS processors, 2 where none are named: reckoned, not measured (a second)"
-	@echo "make edits      tries the edits of the CRATES that the prover has to refuse, of all crates where none is named (half a minute an edit, and as much as half a crate's proof for its first)"
+	@echo "make fits       how long make test takes from nothing on PROCESSORS processors, 2 if none are named: computed, not measured (a second)"
+	@echo "make edits      tries the edits of the CRATES that the prover has to refuse, of all crates if none is named (half a minute an edit, and as much as half a crate's proof for its first)"
 	@echo "make dist       packs the built programs as an archive and a Debian package, in out/dist (seconds)"
-	@echo "make check-dist unpacks them where nothing but the C library is, and runs the examples there (seconds)"
-	@echo "make hostile    hostile use of the built program; needs Python 3 and a C compiler (11 minutes on two cores beside other work)"
+	@echo "make check-dist unpacks them next to nothing but the C library, and runs the examples there (seconds)"
+	@echo "make hostile    hostile use of the built program; needs Python 3 and a C compiler (11 minutes on two cores, with other work)"
 	@echo "make refuse     the part of it that refuses each allocation of the commands in turn (some minutes)"
-	@echo "make spaces     500 random programs, all of whose worlds are searched by a machine of the tests' own beside mta_lab (a minute)"
+	@echo "make spaces     compares mta_lab on 500 random programs with a search of all states by a machine of the tests' own (a minute)"
 	@echo "make pages      the pages in a browser; needs chromium, its driver and Python's selenium, and says what is missing (some minutes)"
 	@echo "make editors    mta_lab dap by a client that others' library makes; needs Go and Debian's go-dap, and says what is missing (seconds)"
 	@echo "make bench      time, instructions and peak memory on the longest inputs (some minutes; valgrind counts instructions)"
@@ -95,7 +95,7 @@ affected:
 fits:
 	@python3 tests/minutes.py fits $(PROCESSORS)
 
-# proves and builds the programs, where one is not built yet
+# proves and builds the programs, if one is not built yet
 build:
 	@test -x $(PROGRAM) && test -x $(LAB) || tests/build.sh
 
@@ -132,7 +132,7 @@ hostile: build
 	@test -x $(CALLS) || (cd crates/library_calls && rt run -- calls < /dev/null > /dev/null)
 	@python3 tests/hostile
 
-# random programs, all of whose worlds are searched by a machine of the tests' own, beside what explore and grade say
+# random programs: a search of all states by a machine of the tests' own is compared with what explore and grade say
 spaces: build
 	@python3 tests/spaces
 
