@@ -75,6 +75,9 @@ def habit(chance, words):
         [f"LOAD.N r1, r0, {one} | TSET t1, r1", "TGET r2, t1", f"STORE.N r2, r0, {one}"],
         [f"LOAD.N r1, r0, {one}", "LITH r1, 1", f"STORE.N r1, r0, {one}"],
         [f"FADD.N r1, r0, {one}", f"STORE.N r1, r0, {other}"],
+        [f"LOAD.N r1, r0, {one}", f"LOAD.N r2, r0, {one}", f"STORE.N r1, r0, {one} | ADD r1, r1, 1"],
+        [f"LOAD.N r1, r0, {one}", f"LOAD.N r2, r0, {other} | {sum_of}", f"LOAD.N r1, r0, {one}"],
+        [f"STORE.N r2, r0, {one} | ADD r2, r2, 1", f"STORE.N r2, r0, {other}", f"STORE.N r3, r0, {one}"],
     ))
 
 
