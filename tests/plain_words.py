@@ -5,10 +5,13 @@ reading ease by Flesch.
   plain_words.py            says what is not plain in the documents that are held to it
   plain_words.py FILE..     says it of these files, and their reading ease
 
+Of man pages and of the help texts of mta_lab only the words are looked for, and of exercises all.
+
 A sentence is at most 30 words long, and a document's reading ease is at least 60: 206.835 - 1.015 * words a sentence
 - 84.6 * syllables a word. Code doesn't count, nor do tables and headings, but for their words; a name in backquotes
 counts as one short word."""
 
+import glob
 import os
 import re
 import sys
@@ -19,6 +22,8 @@ HELD = ("README.md", "CONTRIBUTING.md", "docs/TUTORIAL.md", "docs/CHEAT_SHEET.md
         "docs/PLAY.md", "docs/EDITORS.md", "docs/RATTLE.md", "docs/GLOSSARY.md", "docs/FINDINGS.md", "docs/MACHINE.md",
         "docs/FORMATS.md", "docs/PROMISES.md", "docs/ARCHITECTURE.md", "docs/DECISIONS.md", "docs/SPEED.md",
         "page/README.md", "exercises/README.md")
+TASKS, WORDS_ALONE = "exercises/*/task.md", ("share/man/man1/*.1", "crates/lab_command_line/src/help.rt",
+                                             "crates/lab_command_line/src/*arguments.rt")
 EASE, LONGEST = 60, 30
 # a word that readers stumble over, and what to write
 PLAIN = (
@@ -36,6 +41,11 @@ PLAIN = (
     (r"\bone behind the other\b", "one after the other"),
     (r"\bwhere (it|they|there|this|that|no|a|an|the) (is|are|has|have|says?|can)\b", "if"),
 )
+
+# what the core's own documents call a state (docs/GLOSSARY.md, "The field's words")
+WORLD = (r"\b[Ww]orlds?\b", "state")
+OF_THE_CORE = ("CONTRIBUTING.md", "docs/RATTLE.md", "docs/GLOSSARY.md", "docs/FORMATS.md", "docs/PROMISES.md",
+               "docs/ARCHITECTURE.md", "docs/DECISIONS.md", "docs/SPEED.md", "page/README.md")
 
 
 def text_of(path, other=r"\||#|!\["):
@@ -74,13 +84,29 @@ def ease(sentences):
     return 206.835 - 1.015 * len(words) / len(sentences) - 84.6 * sum(map(syllables, words)) / len(words)
 
 
+def named(pattern):
+    """The files of a pattern, by their paths from the root."""
+    return sorted(os.path.relpath(path, ROOT) for path in glob.glob(f"{ROOT}/{pattern}"))
+
+
+def words_of_file(path):
+    """The lines of a man page without its macros, or of a source without its comments and names of code."""
+    with open(f"{ROOT}/{path}", encoding="utf-8") as file:
+        return [re.sub(r"^\s*//.*|^\.\w+ ?", "", line.rstrip()) for line in file]
+
+
+def words_at_fault(path, lines):
+    """The words in lines of a file that are not plain."""
+    for number, line in enumerate(lines, 1):
+        for pattern, plain in PLAIN if path in OF_THE_CORE else (*PLAIN, WORLD):
+            for found in re.finditer(pattern, re.sub(r"`[^`]*`", "", line)):
+                yield f"{path}:{number}: '{found[0]}': write {plain}"
+
+
 def faults_of(path):
     """What is not plain in a document, a line each."""
     lines = text_of(f"{ROOT}/{path}")
-    for number, line in enumerate(text_of(f"{ROOT}/{path}", r"!\["), 1):
-        for pattern, plain in PLAIN:
-            for found in re.finditer(pattern, re.sub(r"`[^`]*`", "", line)):
-                yield f"{path}:{number}: '{found[0]}': write {plain}"
+    yield from words_at_fault(path, text_of(f"{ROOT}/{path}", r"!\["))
     sentences = list(sentences_of(lines))
     for words in sentences:
         if len(words) > LONGEST:
@@ -90,11 +116,14 @@ def faults_of(path):
 
 
 def main():
-    for path in sys.argv[1:] or HELD:
+    for path in sys.argv[1:] or (*HELD, *named(TASKS)):
         for fault in faults_of(path):
             print(fault)
         if sys.argv[1:]:
             print(f"{path}: a reading ease of {ease(list(sentences_of(text_of(f'{ROOT}/{path}')))):.0f}")
+    for path in () if sys.argv[1:] else [path for pattern in WORDS_ALONE for path in named(pattern)]:
+        for fault in words_at_fault(path, words_of_file(path)):
+            print(fault)
 
 
 if __name__ == "__main__":
