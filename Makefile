@@ -161,6 +161,7 @@ install:
 	install -D -m 644 share/completions/_mta_lab $(SHARE)/zsh/site-functions/_mta_lab
 	install -D -m 644 share/completions/mta_sim.fish $(SHARE)/fish/vendor_completions.d/mta_sim.fish
 	install -D -m 644 share/completions/mta_lab.fish $(SHARE)/fish/vendor_completions.d/mta_lab.fish
+	install -D -m 644 share/completions/mta_lab.rlwrap $(SHARE)/rlwrap/completions/mta_lab
 	install -d $(SHARE)/mta_sim/schema
 	install -m 644 share/schema/*.json $(SHARE)/mta_sim/schema
 	install -d $(SHARE)/doc/mta_sim/docs
@@ -175,6 +176,7 @@ uninstall:
 	rm -f $(DESTDIR)$(PREFIX)/bin/mta_lab $(SHARE)/man/man1/mta_lab.1 $(SHARE)/bash-completion/completions/mta_lab
 	rm -f $(SHARE)/zsh/site-functions/_mta_sim $(SHARE)/fish/vendor_completions.d/mta_sim.fish
 	rm -f $(SHARE)/zsh/site-functions/_mta_lab $(SHARE)/fish/vendor_completions.d/mta_lab.fish
+	rm -f $(SHARE)/rlwrap/completions/mta_lab
 	rm -rf $(SHARE)/doc/mta_sim $(SHARE)/mta_sim
 
 clean:

@@ -113,6 +113,8 @@ lay_out_debian() {
     install -D -m 644 "$from/share/completions/$name.fish" "$share/fish/vendor_completions.d/$name.fish"
     gzip -9nc "$from/share/man/man1/$name.1" >"$share/man/man1/$name.1.gz"
   done
+  # the words of mta_lab debug, which rlwrap completes
+  install -D -m 644 "$from/share/completions/mta_lab.rlwrap" "$share/rlwrap/completions/mta_lab"
   # Debian has the changes packed, under a name of its own
   sed 's/CHANGELOG\.md/changelog.gz/' "$from/README.md" >"$doc/README.md"
   cp -r "$from/CONTRIBUTING.md" "$from/docs" "$from/examples" "$from/exercises" "$from/pages" "$from/editors" "$from/BUILD" "$doc"

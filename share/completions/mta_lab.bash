@@ -6,7 +6,7 @@ _mta_lab_options() {
     check) echo '--as --program --strict --json' ;;
     fmt) echo '--check' ;;
     schedule) echo '--seed --steps' ;;
-    view) echo '--fair --seed --steps --from --to --only --word --columns --hex --json' ;;
+    view) echo '--fair --seed --steps --from --to --only --word --columns --all --hex --json' ;;
     compare) echo '--seeds --steps --hex --json' ;;
     survey) echo '--seeds --from --steps --expect --explore --states --seconds --memory --hex --json' ;;
     explore) echo '--expect --from --states --seconds --memory --plain --keep --pages --dot --hex --json' ;;

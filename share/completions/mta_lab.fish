@@ -37,6 +37,7 @@ complete -c mta_lab -n '__fish_seen_subcommand_from view picture' -l to -x -d 't
 complete -c mta_lab -n '__fish_seen_subcommand_from view' -l only -x -d 'only the steps of this stream, as 1.0'
 complete -c mta_lab -n '__fish_seen_subcommand_from view' -l word -x -d 'the steps that use the word at this byte address'
 complete -c mta_lab -n '__fish_seen_subcommand_from view' -l columns -f -d 'a column a stream'
+complete -c mta_lab -n '__fish_seen_subcommand_from view' -l all -f -d 'a line for each step, also where a loop repeats'
 complete -c mta_lab -n '__fish_seen_subcommand_from survey grade' -l seeds -x -d 'how many random schedules'
 complete -c mta_lab -n '__fish_seen_subcommand_from compare page' -l seeds -f -d 'the random schedules of two seeds'
 complete -c mta_lab -n '__fish_seen_subcommand_from survey' -l from -x -d 'the first seed'

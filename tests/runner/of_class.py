@@ -100,8 +100,8 @@ def graded(task, *words):
 
 
 def lines_of(ended):
-    """The submission, the verdict and the reason of each line."""
-    return [tuple(line.split("\t")) for line in ended.out.decode().splitlines()]
+    """The submission, the verdict and the reason of each line behind the head."""
+    return [tuple(line.split("\t")) for line in ended.out.decode().splitlines()[1:]]
 
 
 def compared(column, *words):
@@ -198,7 +198,7 @@ def all_and_jobs():
                     found = graded(task, *words, "--jobs", jobs)
                     yield f"{task}, {jobs} jobs", (wanted.status, wanted.out), (found.status, found.out)
                 counted = graded(task, *words, "--all").out.decode().splitlines()
-                rows = [tuple(line.split("\t")[:2]) for line in counted if not line.startswith("  ")]
+                rows = [tuple(line.split("\t")[:2]) for line in counted[1:] if not line.startswith("  ")]
                 yield f"{task}, all", [line[:2] for line in lines_of(wanted)], rows
 
 

@@ -69,7 +69,7 @@ def unusual():
             wanted = ["right", "right", "source fault", "not read", "not read", links, "not read"]
             call = ("grade", *words, "--expect", "w.expect", "--seeds", "2")
             for jobs in ("1", "3"):
-                rows = lab(*call, "--jobs", jobs, *names, folder=folder).out.decode().splitlines()
+                _, *rows = lab(*call, "--jobs", jobs, *names, folder=folder).out.decode().splitlines()
                 yield f"text {words} {jobs}", (wanted, [3] * 7), (
                     [row.split("\t")[1] for row in rows], [row.count("\t") + 1 for row in rows])
             rows = lab(*call, "--format", "tsv", *names, folder=folder).out.decode().splitlines()
@@ -99,7 +99,7 @@ def side_by_side():
             for jobs in ("2", "7", "256"):
                 yield f"{words} {jobs}", (1, alone.out), (lambda e: (e.status, e.out))(
                     lab(*call, "--jobs", jobs, *names, folder=folder))
-            yield f"{words} rows", 40, alone.out.count(b"\n")
+            yield f"{words} rows behind the head", 41, alone.out.count(b"\n")
 
 
 def paged(folder, *words):

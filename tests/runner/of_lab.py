@@ -229,7 +229,7 @@ def control_bytes():
         names = [*HOSTILE_NAMES, "no\tne\n.asm"]
         for words in ([], ["--explore"]):
             printed = lab("grade", *words, "--expect", "w.expect", *names, folder=folder).out.decode()
-            rows = [line.split("\t") for line in printed.removesuffix("\n").split("\n")]
+            rows = [line.split("\t") for line in printed.removesuffix("\n").split("\n")[1:]]
             yield (f"grade {words}", list(zip(WRITTEN_NAMES, ["right", "source fault", "right", "not read"], [3] * 4)),
                    [(row[0], row[1], len(row)) for row in rows])
         for name in names:

@@ -45,13 +45,16 @@ pub fn report_of(
     }
 }
 
-/// A line a submission.
+/// A line a submission; of texts behind the names of the columns, where they are several.
 fn lines_of(
     alloc: Global,
     format: GradeFormat,
     judgements: &[Judgement<'_>],
 ) -> Result<String, AllocError> {
     let mut out = String::new(alloc);
+    if format == GradeFormat::Text && judgements.len() > 1 {
+        out.push_str("submission\tverdict\twhy\n")?;
+    }
     for judgement in judgements {
         match format {
             GradeFormat::Json => push_json(alloc, &mut out, judgement)?,

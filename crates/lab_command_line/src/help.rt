@@ -55,16 +55,18 @@ Example:
 
 pub(crate) const VIEW: &str = "\
 Shows a run, a line for each step: its number, the stream, the address, the instruction, and
-what it changed. Then it says how the run ends, who waits for what, and which words differ from
-the start. Without a schedule the processors step in turn.
+what it read and changed. Then it says how the run ends, who waits for what, and which words
+differ from the start. A loop whose lines repeat is folded; --all shows each step. Without a
+schedule the processors step in turn.
 
 Example:
   mta_lab view lock.asm lock.lost_update.schedule";
 
 pub(crate) const DEBUG: &str = "\
 Goes forward and back in a run. Each line of standard input is a command: step, next, back,
-continue, reverse-continue, until, break, watch, delete, info, print, list, why, try or save. It
-is answered before the next is read. An empty line repeats the last. help lists all commands.
+continue, reverse-continue, until, break, watch, delete, info, print, list, why, try, undo, run,
+where, x or save. It is answered before the next is read. An empty line repeats the last. help
+lists all commands; most words of gdb work too. With rlwrap the words are completed.
 
 Example:
   mta_lab debug lock.asm --seed 7";

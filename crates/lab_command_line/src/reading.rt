@@ -224,6 +224,7 @@ fn view_of<'a>(found: &ArgMatches<'a>) -> ViewRequest<'a> {
         only: text(found, "only"),
         word: found.get_one::<u64>("word"),
         columns: found.get_flag("columns"),
+        are_all: found.get_flag("all"),
         shown: shown_of(found),
     }
 }

@@ -17,7 +17,7 @@ pub(crate) const SCHEDULE_ARGUMENTS: [Argument; 4] = [
 ];
 
 /// Of `view`.
-pub(crate) const VIEW_ARGUMENTS: [Argument; 12] = [
+pub(crate) const VIEW_ARGUMENTS: [Argument; 13] = [
     Argument("PROGRAM", help::PROGRAM, Form::Needed),
     Argument(
         "SCHEDULE",
@@ -48,6 +48,11 @@ pub(crate) const VIEW_ARGUMENTS: [Argument; 12] = [
         Form::Number("A", 0, u64::MAX),
     ),
     Argument("columns", "a column a stream", Form::Flag(&["json"])),
+    Argument(
+        "all",
+        "a line for each step, also where a loop repeats",
+        Form::Flag(&["json"]),
+    ),
     Argument("hex", help::HEX, Form::Flag(&["json"])),
     Argument("json", help::JSON, Form::Flag(&[])),
 ];

@@ -1,15 +1,15 @@
 //! A session of `debug`, and what its lines ask for.
 
+use crate::debug_tries::Dropped;
 use crate::debug_words::{DebugWord, debug_word, push_help, push_no_word};
 use command_parts::LabFault;
 use debug_commands::{Answer, Command, DebugFault, Why};
-use lab_texts::{Columns, NumberStyle, ProgramNames, push_step_line, push_stream};
+use lab_texts::{Columns, NumberStyle, ProgramNames, push_step_line};
 use machine::Machine;
 use named_session::{NamedSession, UserName, read_name};
 use processor::Step;
 use std::alloc::Global;
 use step_views::take_step;
-use stream_core::Status;
 
 /// A session with the names that its answers tell.
 #[derive(Drop)]
@@ -18,6 +18,8 @@ pub(crate) struct Desk<'a, 'i, 't, const S: usize> {
     pub named: NamedSession<'i, 't, S>,
     pub names: &'a ProgramNames<'t>,
     pub columns: Columns,
+    /// What each try dropped that was not taken back, the last one last.
+    pub tried: Vec<Dropped>,
 }
 
 /// What comes behind an answer.
@@ -45,7 +47,12 @@ impl<'a, 'i, 't, const S: usize> Desk<'a, 'i, 't, S> {
         if first.is_empty() {
             return Ok(Turn::On);
         }
-        match debug_word(first) {
+        let (name, size) = match first.split_once('/') {
+            Some(("x", size)) => ("x", size),
+            _ => (first, ""),
+        };
+        match debug_word(name) {
+            Some(DebugWord::Examine) => self.examine(size, rest, out)?,
             None => push_no_word(out, first)?,
             Some(DebugWord::Quit) => return Ok(Turn::Quit),
             Some(DebugWord::Save) => return Ok(Turn::Save(rest)),
@@ -76,6 +83,10 @@ impl<'a, 'i, 't, const S: usize> Desk<'a, 'i, 't, S> {
             DebugWord::List => self.list(rest, out),
             DebugWord::Why => self.why(rest, out),
             DebugWord::Try => self.take(rest, out),
+            DebugWord::Undo => self.undo(out),
+            DebugWord::Run => self.run(out),
+            DebugWord::Where => self.push_where(out),
+            DebugWord::Examine => self.examine("", rest, out),
             DebugWord::Help | DebugWord::Save | DebugWord::Quit => Ok(push_help(out, rest)?),
         }
     }
@@ -125,6 +136,14 @@ impl<'a, 'i, 't, const S: usize> Desk<'a, 'i, 't, S> {
         }
     }
 
+    /// From the start on to the first stop.
+    fn run(&mut self, out: &mut String) -> Result<(), LabFault> {
+        match self.to(0) {
+            Ok(_) => self.go(&Command::Continue, out),
+            Err(fault) => refuse(fault, out),
+        }
+    }
+
     /// So many steps back, as far as the start.
     fn back(&mut self, rest: &str, out: &mut String) -> Result<(), LabFault> {
         let Some(count) = count_of(rest) else {
@@ -135,7 +154,7 @@ impl<'a, 'i, 't, const S: usize> Desk<'a, 'i, 't, S> {
     }
 
     /// Goes where a command leads, and tells which step led there, where that is, and what comes next.
-    pub(crate) fn go(&mut self, command: &Command, out: &mut String) -> Result<(), LabFault> {
+    pub(crate) fn move_by(&mut self, command: &Command, out: &mut String) -> Result<(), LabFault> {
         match self.named.session.command(command) {
             Ok(Answer::At(_, why)) => {
                 self.push_last_step(out)?;
@@ -153,7 +172,7 @@ impl<'a, 'i, 't, const S: usize> Desk<'a, 'i, 't, S> {
             return Ok(());
         };
         let position = self.named.session.position();
-        let mut machine = self.machine_before(position)?;
+        let mut machine = self.machine_at(position.saturating_sub(1), position)?;
         let view = take_step(self.alloc, &mut machine, step)?;
         let style = NumberStyle::Decimal;
         let number = position as usize;
@@ -168,9 +187,13 @@ impl<'a, 'i, 't, const S: usize> Desk<'a, 'i, 't, S> {
         )?)
     }
 
-    /// The machine before the step that led to the session's position.
-    fn machine_before(&mut self, position: u64) -> Result<Machine<'i, S>, LabFault> {
-        let went = self.to(position.saturating_sub(1)).is_ok();
+    /// The machine at a position, of a session that stands at another and is to stand there again.
+    pub(crate) fn machine_at(
+        &mut self,
+        asked: u64,
+        position: u64,
+    ) -> Result<Machine<'i, S>, LabFault> {
+        let went = self.to(asked).is_ok();
         let machine = self.named.session.machine().try_clone()?;
         if went && self.to(position).is_ok() {
             Ok(machine)
@@ -204,31 +227,6 @@ impl<'a, 'i, 't, const S: usize> Desk<'a, 'i, 't, S> {
                 }
                 Ok(out.push_str(". ")?)
             }
-        }
-    }
-
-    /// A step of a stream in place of the schedule's next; the schedule from there on goes.
-    fn take(&mut self, rest: &str, out: &mut String) -> Result<(), LabFault> {
-        let Some(UserName::Stream(step)) = read_name(rest) else {
-            return Ok(out.push_str("try takes a stream, as 2.0\n")?);
-        };
-        if !self.runs(step) {
-            push_stream(out, step.p, step.s)?;
-            return Ok(out.push_str(" does not run\n")?);
-        }
-        let position = self.named.session.position();
-        let steps = [step];
-        match self.named.session.replace_schedule_from(position, &steps) {
-            Ok(()) => self.go(&Command::Forward(1), out),
-            Err(fault) => refuse(fault, out),
-        }
-    }
-
-    /// Whether a stream runs.
-    fn runs(&self, step: Step) -> bool {
-        match self.named.session.machine().stream(step.p, step.s) {
-            Some(stream) => matches!(stream.status(), Status::Running),
-            None => false,
         }
     }
 }

@@ -2,7 +2,7 @@
 
 use crate::debug_desk::{Desk, refuse};
 use command_parts::LabFault;
-use lab_texts::{NumberStyle, push_stream, push_value, push_word};
+use lab_texts::{NumberStyle, push_stream, push_value};
 use named_session::{UserName, read_name};
 use processor::Step;
 use std::alloc::AllocError;
@@ -28,7 +28,7 @@ impl<'a, 'i, 't, const S: usize> Desk<'a, 'i, 't, S> {
     }
 
     /// Adds a stream, where it stands, and the instruction there, with the line's end.
-    fn push_stream_line(&self, step: Step, out: &mut String) -> Result<(), LabFault> {
+    pub(crate) fn push_stream_line(&self, step: Step, out: &mut String) -> Result<(), LabFault> {
         push_stream(out, step.p, step.s)?;
         if let Some(pc) = self.named.pc(step.p, step.s) {
             out.push_str(" at ")?;
@@ -42,13 +42,21 @@ impl<'a, 'i, 't, const S: usize> Desk<'a, 'i, 't, S> {
         Ok(out.push_str("\n")?)
     }
 
-    /// Adds streams, points, or who waits.
+    /// Adds streams, points, who waits, or the registers of a stream.
     pub(crate) fn info(&self, rest: &str, out: &mut String) -> Result<(), LabFault> {
-        match rest {
-            "points" => self.push_points(out),
-            "streams" => self.push_streams(out),
-            "waiting" => self.push_waits(out),
-            _ => Ok(out.push_str("info takes streams, points or waiting\n")?),
+        let (what, of) = match rest.split_once(' ') {
+            Some((what, of)) => (what, of.trim()),
+            None => (rest, ""),
+        };
+        match (what, of) {
+            ("points" | "breakpoints" | "break" | "b", "") => self.push_points(out),
+            ("streams" | "threads", "") => self.push_streams(out),
+            ("waiting", "") => self.push_waits(out),
+            ("registers" | "r", _) => match self.stream_of(of) {
+                Some(step) => self.push_registers(step, out),
+                None => Ok(out.push_str("info registers takes a stream, as 2.0\n")?),
+            },
+            _ => Ok(out.push_str("info takes streams, points, waiting or registers\n")?),
         }
     }
 
@@ -74,23 +82,19 @@ impl<'a, 'i, 't, const S: usize> Desk<'a, 'i, 't, S> {
     /// Adds what stands in a place.
     pub(crate) fn print(&self, rest: &str, out: &mut String) -> Result<(), LabFault> {
         match read_name(rest) {
-            Some(UserName::Word(address)) => match self.named.session.machine().word(address) {
-                Some(word) => {
-                    write!(out, "[{address}] ")?;
-                    push_word(out, NumberStyle::Decimal, word)?;
-                    Ok(out.push_str("\n")?)
-                }
-                None => Ok(out.push_str("there is no word at this address\n")?),
-            },
+            Some(UserName::Word(address)) => {
+                let _ = self.push_memory_word(address, out)?;
+                Ok(())
+            }
             Some(UserName::Register { stream, register }) => {
                 let step = stream.unwrap_or(self.stream_here());
                 self.push_register(step, register, out)
             }
-            Some(UserName::Stream(step)) if self.named.pc(step.p, step.s).is_some() => {
-                self.push_stream_line(step, out)
-            }
-            Some(UserName::Stream(_)) => Ok(out.push_str("there is no such stream\n")?),
-            _ => Ok(out.push_str("print takes a register or a word, as r1, 2.0.r1 or [8]\n")?),
+            Some(UserName::Stream(step)) => self.push_registers(step, out),
+            None if rest.is_empty() => self.push_registers(self.stream_here(), out),
+            _ => Ok(out.push_str(
+                "print takes a register, a stream or a word, as r1, 2.0.r1, 2.0 or [8]\n",
+            )?),
         }
     }
 

@@ -1,5 +1,6 @@
 //! The words of `debug`.
 
+use crate::debug_aliases::{push_meant, word_of_alias};
 use plain_text::push_plain;
 use std::alloc::AllocError;
 
@@ -34,6 +35,14 @@ pub(crate) enum DebugWord {
     Why,
     /// A step of a stream in place of the schedule's.
     Try,
+    /// The last such step taken back.
+    Undo,
+    /// From the start on to the first stop.
+    Run,
+    /// How far the run is, and what comes next.
+    Where,
+    /// Words from an address on.
+    Examine,
     /// The schedule into a file.
     Save,
     /// What the words are.
@@ -43,7 +52,7 @@ pub(crate) enum DebugWord {
 }
 
 /// The words, in the order in which `help` tells them.
-const WORDS: [DebugWord; 17] = [
+const WORDS: [DebugWord; 21] = [
     DebugWord::Step,
     DebugWord::Next,
     DebugWord::Back,
@@ -58,6 +67,10 @@ const WORDS: [DebugWord; 17] = [
     DebugWord::List,
     DebugWord::Why,
     DebugWord::Try,
+    DebugWord::Undo,
+    DebugWord::Run,
+    DebugWord::Where,
+    DebugWord::Examine,
     DebugWord::Save,
     DebugWord::Help,
     DebugWord::Quit,
@@ -74,11 +87,15 @@ until PLACE         on until a stream is to step at a label, a label and a numbe
 break [P] PLACE     a stop where a stream, or one of processor P, is to step at such a place
 watch [A]           a stop where the word at this byte address has changed; watch [A] tags: its full/empty bit or other tags
 delete N            takes the point of this number away
-info WHAT           streams: who runs and where; points: the stops; waiting: who waits for what
-print WHAT          r1 of the stream that comes next, 2.0.r1 of another, [A] a word, 2.0 where a stream stands
+info WHAT           streams: who runs and where; points: the stops; waiting: who waits for what; registers [P.S]: of a stream
+print WHAT          r1 of the stream that comes next, 2.0.r1 of another, [A] a word, 2.0 where a stream stands and its registers
 list [P.S]          the program around a stream
 why [P.S]           what a stream waits for, and which step filled or emptied the word last
 try P.S             a step of this stream now; the schedule from here on is yours
+undo                takes the last try back, and what it dropped of the schedule comes back
+run                 from the start on to the first stop, or to the end
+where               how far the run is, and what comes next
+x/N A               N words from this byte address on, as x/4 8
 save FILE           writes the schedule, as it is now, into a file
 help [WORD]         what the words do; a word may be cut where its beginning is clear, and s is step, b is break
 quit                ends the session, as the end of the input does
@@ -102,6 +119,10 @@ impl DebugWord {
             DebugWord::List => "list",
             DebugWord::Why => "why",
             DebugWord::Try => "try",
+            DebugWord::Undo => "undo",
+            DebugWord::Run => "run",
+            DebugWord::Where => "where",
+            DebugWord::Examine => "x",
             DebugWord::Save => "save",
             DebugWord::Help => "help",
             DebugWord::Quit => "quit",
@@ -109,19 +130,27 @@ impl DebugWord {
     }
 }
 
-/// The word that a text is, or is short for: a word itself, `s` or `b`, or the beginning of one word alone.
+impl DebugWord {
+    /// Whether a text is a beginning of it by which it may be called; some words are to be written whole.
+    fn begins_with(self, text: &str) -> bool {
+        match self {
+            DebugWord::Run | DebugWord::Where | DebugWord::Examine => false,
+            _ => self.name().starts_with(text),
+        }
+    }
+}
+
+/// The word that a text is, or is short for: a word itself, one of other debuggers, or the beginning of one word alone.
 pub(crate) fn debug_word(text: &str) -> Option<DebugWord> {
-    match text {
-        "s" => return Some(DebugWord::Step),
-        "b" => return Some(DebugWord::Break),
-        _ => {}
+    if let Some(word) = word_of_alias(text) {
+        return Some(word);
     }
     let mut found = None;
     for word in WORDS.iter() {
         if word.name() == text {
             return Some(*word);
         }
-        if word.name().starts_with(text) {
+        if word.begins_with(text) {
             if found.is_some() {
                 return None;
             }
@@ -137,14 +166,14 @@ pub(crate) fn push_no_word(out: &mut String, text: &str) -> Result<(), AllocErro
     out.push_str(": ")?;
     let mut count: usize = 0;
     for word in WORDS.iter() {
-        if word.name().starts_with(text) {
+        if word.begins_with(text) {
             out.push_str(if count == 0 { "" } else { " or " })?;
             out.push_str(word.name())?;
             count = count.saturating_add(1);
         }
     }
     if count == 0 {
-        out.push_str("no such word; help lists them")?;
+        push_meant(out, text)?;
     } else {
         out.push_str("?")?;
     }
@@ -157,10 +186,18 @@ pub(crate) fn push_help(out: &mut String, text: &str) -> Result<(), AllocError> 
         return out.push_str(HELP);
     };
     for line in HELP.lines() {
-        if line.split(' ').next() == Some(word.name()) {
+        if is_line_of(line, word.name()) {
             out.push_str(line)?;
             out.push_str("\n")?;
         }
     }
     Ok(())
+}
+
+/// Whether a line of the help begins with this word.
+fn is_line_of(line: &str, name: &str) -> bool {
+    match line.strip_prefix(name) {
+        Some(rest) => rest.starts_with(' ') || rest.starts_with('/'),
+        None => false,
+    }
 }

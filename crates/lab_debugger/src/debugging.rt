@@ -59,6 +59,7 @@ fn debug_on<const S: usize, F: Files, R: Read, W: Write, E: Write>(
         named: named_of::<S>(alloc, program, steps)?,
         names: &names,
         columns,
+        tried: Vec::new(alloc),
     };
     talk(alloc, inputs, &mut desk, screen)?;
     Ok(Status::Done)

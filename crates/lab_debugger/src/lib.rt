@@ -1,10 +1,14 @@
 //! The command `debug`: to and fro in a run, by the lines of standard input.
 #![tactic(auto)]
 
+mod debug_aliases;
 mod debug_desk;
+mod debug_ends;
 mod debug_lines;
 mod debug_points;
+mod debug_registers;
 mod debug_shows;
+mod debug_tries;
 mod debug_words;
 mod debugging;
 mod sessions;

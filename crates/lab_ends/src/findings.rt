@@ -21,6 +21,53 @@ fn actions_of<const S: usize>(
     run_actions(alloc, &mut machine, steps)
 }
 
+/// The findings of a run, and what its steps did.
+#[derive(Drop)]
+pub struct RunFindings {
+    found: FindingsOfRun,
+    actions: Vec<Action>,
+}
+
+impl RunFindings {
+    /// The findings of an image's run by these steps.
+    pub fn of<const S: usize>(
+        alloc: Global,
+        image: &Image,
+        steps: &[Step],
+    ) -> Result<RunFindings, AllocError> {
+        let actions = actions_of::<S>(alloc, image, steps)?;
+        let found = FindingsOfRun::of(alloc, &actions)?;
+        Ok(RunFindings { found, actions })
+    }
+
+    /// The numbers of the steps, from 1, that the lines of [`RunFindings::push`] name.
+    pub fn numbers_named(&self, alloc: Global) -> Result<Vec<usize>, AllocError> {
+        self.found.numbers_named(alloc)
+    }
+
+    /// Adds the findings, a line each, and where torn reads were not looked for that.
+    pub fn push(
+        &self,
+        out: &mut String,
+        names: &ProgramNames<'_>,
+        style: NumberStyle,
+    ) -> Result<(), AllocError> {
+        let telling = Telling {
+            names,
+            style,
+            actions: &self.actions,
+        };
+        push_findings(out, &telling, &self.found)?;
+        if self.found.is_torn_sought {
+            return Ok(());
+        }
+        write!(
+            out,
+            "torn reads are looked for in runs of at most {MOST_STEPS_OF_TORN} steps\n"
+        )
+    }
+}
+
 /// Adds the findings of an image's run by these steps, a line each, and where torn reads were not looked for that.
 pub fn push_findings_of_run<const S: usize>(
     alloc: Global,
@@ -30,21 +77,7 @@ pub fn push_findings_of_run<const S: usize>(
     image: &Image,
     steps: &[Step],
 ) -> Result<(), AllocError> {
-    let actions = actions_of::<S>(alloc, image, steps)?;
-    let found = FindingsOfRun::of(alloc, &actions)?;
-    let telling = Telling {
-        names,
-        style,
-        actions: &actions,
-    };
-    push_findings(out, &telling, &found)?;
-    if !found.is_torn_sought {
-        write!(
-            out,
-            "torn reads are looked for in runs of at most {MOST_STEPS_OF_TORN} steps\n"
-        )?;
-    }
-    Ok(())
+    RunFindings::of::<S>(alloc, image, steps)?.push(out, names, style)
 }
 
 /// The first finding of an image's run by these steps, and how many more there are; empty where there is none.

@@ -24,7 +24,7 @@ pub use claim_lines::{ClaimLine, is_claim_word};
 pub use end_words::{EndWords, end_words_of};
 pub use every_end::{SpaceEnd, SpaceEndKind, space_ends};
 pub use expected_traps::is_expected_trap;
-pub use findings::{first_finding, push_findings_of_run};
+pub use findings::{RunFindings, first_finding, push_findings_of_run};
 pub use links::links_of;
 pub use rule_lines::{RuleFault, RuleLine, are_rules_kept, first_broken_rule, is_rule_word};
 pub use wishes::{WishFault, Wishes};

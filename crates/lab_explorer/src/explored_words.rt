@@ -1,11 +1,11 @@
 //! What is told of a search: its head and its ends, in words or as objects.
 
+use crate::end_columns::{EndCells, EndColumns, end_line};
 use crate::expectation_texts::push_expectation;
 use crate::expected_lines::ExpectedLines;
 use crate::explored_objects::push_objects;
 use crate::exploring::Explored;
 use crate::unkept::{push_unkept, push_unkept_objects};
-use crate::widths::digits_of;
 use command_parts::Answer;
 use end_kinds::EndKind;
 use expectations::Expectation;
@@ -13,6 +13,10 @@ use image_file::Image;
 use lab_ends::{SpaceEnd, SpaceEndKind, Wishes};
 use plain_text::push_plain;
 use std::alloc::{AllocError, Global};
+use trace_text::write_schedule;
+
+/// The most turns of a schedule that are told of a claim that it breaks.
+const MOST_TURNS: usize = 40;
 
 /// What is told of a search among the schedules of an image, of which these lines say what is expected.
 pub(crate) fn answer_of(
@@ -28,13 +32,14 @@ pub(crate) fn answer_of(
         push_objects(alloc, &mut output, image, lines, found)?;
         push_unkept_objects(alloc, &mut output, lines.text, wishes, found.unkept())?;
     } else {
-        push_lines(&mut output, lines, wishes, found)?;
+        push_lines(alloc, &mut output, lines, wishes, found)?;
     }
     Ok(Answer::printed(alloc, output, found.status()))
 }
 
 /// Adds how much was found, what is not so of the program as a whole, and the lines of the ends.
 fn push_lines(
+    alloc: Global,
     out: &mut String,
     lines: ExpectedLines,
     wishes: &Wishes,
@@ -42,16 +47,29 @@ fn push_lines(
 ) -> Result<(), AllocError> {
     push_head_line(out, found)?;
     push_unkept(out, lines.text, wishes, found.unkept(), true)?;
-    let width = digits_of(widest(&found.ends));
+    let columns = columns_of(alloc, found)?;
+    if !found.ends.is_empty() {
+        columns.push_names(out)?;
+    }
     for end in found.ends.iter() {
-        push_end_line(out, width, lines.expected, found, end)?;
+        push_end_line(alloc, out, columns, lines.expected, found, end)?;
     }
     Ok(())
 }
 
-/// The greatest count of worlds of an end.
-fn widest(ends: &[SpaceEnd]) -> usize {
-    ends.iter().map(|end| end.worlds()).max().unwrap_or(0)
+/// The columns of the ends that a search found.
+fn columns_of(alloc: Global, found: &Explored) -> Result<EndColumns, AllocError> {
+    let mut columns = EndColumns::named("states", "reached in");
+    for end in found.ends.iter() {
+        let kind = kind_words(alloc, end)?;
+        let reached = reached_words(alloc, found, end)?;
+        columns.widen(EndCells {
+            count: end.worlds(),
+            kind: &kind,
+            reached: &reached,
+        });
+    }
+    Ok(columns)
 }
 
 /// Adds how much was found, in words.
@@ -99,22 +117,44 @@ fn plural(count: usize) -> &'static str {
 
 /// Adds the line of an end.
 fn push_end_line(
+    alloc: Global,
     out: &mut String,
-    width: usize,
+    columns: EndColumns,
     expected: &[Expectation],
     found: &Explored,
     end: &SpaceEnd,
 ) -> Result<(), AllocError> {
-    let worlds = end.worlds();
+    let kind = kind_words(alloc, end)?;
+    let reached = reached_words(alloc, found, end)?;
+    let cells = EndCells {
+        count: end.worlds(),
+        kind: &kind,
+        reached: &reached,
+    };
+    columns.push_cells(out, cells)?;
+    push_plain(out, &end.text)?;
+    push_missed(out, expected, end)?;
+    end_line(out)?;
+    columns.push_note(out, &end.finding)?;
+    columns.push_note(out, &end.round_words)?;
+    columns.push_note(out, &broken_words(alloc, end)?)
+}
+
+/// The kind of an end, and of how many sets it is where worlds spin.
+fn kind_words(alloc: Global, end: &SpaceEnd) -> Result<String, AllocError> {
     let kind = end.kind.name();
+    if end.kind != SpaceEndKind::End(EndKind::Spinning) {
+        return String::from_str(alloc, kind);
+    }
+    let sets = end.sets;
+    let some_sets = plural(sets);
+    format!(in alloc; "{kind} in {sets} set{some_sets}")
+}
+
+/// In how many steps an end is reached, and from how many worlds.
+fn reached_words(alloc: Global, found: &Explored, end: &SpaceEnd) -> Result<String, AllocError> {
     let steps = end.schedule.len();
     let sources = end.sources;
-    write!(out, "{worlds:>width$}  {kind}")?;
-    if end.kind == SpaceEndKind::End(EndKind::Spinning) {
-        let sets = end.sets;
-        let some_sets = plural(sets);
-        write!(out, " in {sets} set{some_sets}")?;
-    }
     let some_steps = plural(steps);
     let some_sources = plural(sources);
     let by = if found.is_shortest(end) {
@@ -122,26 +162,25 @@ fn push_end_line(
     } else {
         "a schedule of "
     };
-    write!(
-        out,
-        "  {by}{steps} step{some_steps}, from {sources} state{some_sources}"
-    )?;
-    if !end.text.is_empty() {
-        out.push_str("   ")?;
-        push_plain(out, &end.text)?;
-    }
-    push_missed(out, expected, end)?;
-    out.push_str("\n")?;
-    push_note(out, width, &end.finding)?;
-    push_note(out, width, &end.round_words)
+    format!(in alloc; "{by}{steps} step{some_steps}, from {sources} state{some_sources}")
 }
 
-/// Adds a line below that of an end, unless it is empty.
-fn push_note(out: &mut String, width: usize, note: &str) -> Result<(), AllocError> {
-    if note.is_empty() {
-        return Ok(());
+/// The schedule that breaks a claim, where one is broken after some step, as `by 0 0 3, 1 0 2`; empty of other ends.
+fn broken_words(alloc: Global, end: &SpaceEnd) -> Result<String, AllocError> {
+    let mut words = String::new(alloc);
+    if end.kind != SpaceEndKind::Broken || end.schedule.is_empty() {
+        return Ok(words);
     }
-    write!(out, "{:>width$}  {note}\n", "")
+    let schedule = write_schedule(alloc, &end.schedule)?;
+    for (index, line) in schedule.trim().split('\n').enumerate() {
+        if index == MOST_TURNS {
+            words.push_str(", ..")?;
+            break;
+        }
+        words.push_str(if index == 0 { "by " } else { ", " })?;
+        words.push_str(line)?;
+    }
+    Ok(words)
 }
 
 /// Adds in what an end is not as expected, where something is.
@@ -153,7 +192,7 @@ fn push_missed(
     if expected.is_empty() || !end.is_trapped && end.missed.is_none() {
         return Ok(());
     }
-    out.push_str("   NOT as expected")?;
+    push_missed_head(out, &end.text)?;
     match missed_of(expected, end) {
         Some(expectation) => {
             out.push_str(": ")?;
@@ -161,6 +200,12 @@ fn push_missed(
         }
         None => Ok(()),
     }
+}
+
+/// Adds that an end is not as expected, apart from what is told of it before.
+fn push_missed_head(out: &mut String, text: &str) -> Result<(), AllocError> {
+    out.push_str(if text.is_empty() { "" } else { "   " })?;
+    out.push_str("NOT as expected")
 }
 
 /// The first expectation that an end does not meet.

@@ -2,6 +2,7 @@
 #![tactic(auto)]
 
 mod claim_texts;
+mod end_columns;
 mod end_folders;
 mod end_pages;
 mod expectation_texts;
@@ -17,11 +18,11 @@ mod widths;
 mod wished;
 
 pub use claim_texts::claim_words;
+pub use end_columns::{EndCells, EndColumns, end_line};
 pub use expectation_texts::push_expectation;
 pub use expected_lines::ExpectedLines;
 pub use explored_objects::put_bound;
 pub use exploring::{Explored, Search, explore_program, show_every_end};
 pub use unkept::{Unkept, push_unkept, push_unkept_objects};
 pub use watching::{Console, SearchBound, Watcher};
-pub use widths::digits_of;
 pub use wished::{expectations_of, wish_fault, wishes_of};

@@ -4,7 +4,7 @@
 const MOST_DIGITS: usize = 20;
 
 /// How many digits a number has.
-pub fn digits_of(number: usize) -> usize {
+pub(crate) fn digits_of(number: usize) -> usize {
     let mut digits: usize = 1;
     let mut rest = number / 10;
     for _ in 0..MOST_DIGITS {

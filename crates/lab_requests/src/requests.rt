@@ -72,6 +72,8 @@ pub struct ViewRequest<'a> {
     pub word: Option<u64>,
     /// A column a stream.
     pub columns: bool,
+    /// Whether each step has a line, also where a loop repeats.
+    pub are_all: bool,
     /// How it is printed.
     pub shown: Shown,
 }

@@ -4,8 +4,8 @@ use crate::survey_objects::{Surveyed, push_coverage, push_outcome_objects};
 use command_parts::{Answer, Inputs, LabFault, Program, Status, read_program, style_of};
 use lab_ends::{SpaceEnd, SpaceEndKind, Wishes, first_broken_rule};
 use lab_explorer::{
-    Console, Explored, Search, Unkept, Watcher, digits_of, explore_program, push_expectation,
-    push_unkept, push_unkept_objects, wishes_of,
+    Console, EndCells, EndColumns, Explored, Search, Unkept, Watcher, end_line, explore_program,
+    push_expectation, push_unkept, push_unkept_objects, wishes_of,
 };
 use lab_requests::{Bounds, SurveyRequest};
 use lab_texts::{NumberStyle, ProgramNames};
@@ -68,7 +68,7 @@ fn survey_of<X: Threads + Sync, C: Clock, E: Write>(
     if is_json {
         push_outcome_objects(alloc, &mut output, surveyed, &outcomes)?;
     } else {
-        push_outcomes(&mut output, surveyed.wishes, &outcomes)?;
+        push_outcomes(alloc, &mut output, surveyed.wishes, &outcomes)?;
     }
     let status = worst_status(&outcomes);
     let Some(bounds) = request.explored else {
@@ -133,16 +133,38 @@ fn push_whole(
 
 /// Adds the lines of the outcomes.
 fn push_outcomes(
+    alloc: Global,
     out: &mut String,
     wishes: &Wishes,
     outcomes: &[Outcome],
 ) -> Result<(), AllocError> {
-    let most_runs = outcomes.iter().map(|outcome| outcome.runs).max();
-    let width = digits_of(most_runs.unwrap_or(0));
+    let mut columns = EndColumns::named("runs", "first by");
     for outcome in outcomes {
-        push_outcome(out, width, wishes, outcome)?;
+        let seed = seed_words(alloc, outcome)?;
+        columns.widen(cells_of(outcome, &seed));
+    }
+    if !outcomes.is_empty() {
+        columns.push_names(out)?;
+    }
+    for outcome in outcomes {
+        push_outcome(alloc, out, columns, wishes, outcome)?;
     }
     Ok(())
+}
+
+/// The seed that came to an outcome first, in words.
+fn seed_words(alloc: Global, outcome: &Outcome) -> Result<String, AllocError> {
+    let seed = outcome.seed;
+    format!(in alloc; "seed {seed}")
+}
+
+/// The cells of an outcome that a seed came to first.
+fn cells_of<'a>(outcome: &Outcome, seed: &'a str) -> EndCells<'a> {
+    EndCells {
+        count: outcome.runs,
+        kind: outcome.kind.name(),
+        reached: seed,
+    }
 }
 
 /// The ends of every schedule of a program.
@@ -215,27 +237,18 @@ fn is_met_by(end: &SpaceEnd, outcome: &Outcome) -> bool {
 
 /// Adds the line of an outcome, which is judged where something is expected.
 fn push_outcome(
+    alloc: Global,
     out: &mut String,
-    width: usize,
+    columns: EndColumns,
     wishes: &Wishes,
     outcome: &Outcome,
 ) -> Result<(), AllocError> {
-    let runs = outcome.runs;
-    let kind = outcome.kind.name();
-    let text = outcome.text.as_str();
-    let seed = outcome.seed;
-    write!(out, "{runs:>width$}  {kind}  seed {seed}")?;
-    if !text.is_empty() {
-        out.push_str("   ")?;
-        push_plain(out, text)?;
-    }
+    let seed = seed_words(alloc, outcome)?;
+    columns.push_cells(out, cells_of(outcome, &seed))?;
+    push_plain(out, outcome.text.as_str())?;
     push_judgement(out, wishes, outcome)?;
-    out.push_str("\n")?;
-    if outcome.finding.is_empty() {
-        return Ok(());
-    }
-    let finding = outcome.finding.as_str();
-    write!(out, "{:>width$}  {finding}\n", "")
+    end_line(out)?;
+    columns.push_note(out, outcome.finding.as_str())
 }
 
 /// Adds that an outcome is not as expected, and the first line that it misses, or that is broken on the way.
@@ -244,7 +257,8 @@ fn push_judgement(out: &mut String, wishes: &Wishes, outcome: &Outcome) -> Resul
     if !is_judged || outcome.is_as_expected() {
         return Ok(());
     }
-    out.push_str("   NOT as expected")?;
+    out.push_str(if outcome.text.is_empty() { "" } else { "   " })?;
+    out.push_str("NOT as expected")?;
     if let Some(expectation) = outcome.missed.and_then(|place| wishes.ends.get(place)) {
         out.push_str(": ")?;
         return push_expectation(out, expectation);

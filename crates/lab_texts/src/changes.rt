@@ -1,11 +1,12 @@
 //! What a step changed, in words.
 
 use crate::names::ProgramNames;
-use crate::words::{NumberStyle, push_content, push_stream};
+use crate::words::{NumberStyle, push_content, push_stream, push_value};
 use processor::Step;
 use std::alloc::AllocError;
 use step_views::{Change, Content, Place, StepView, StreamPart};
 use stream_core::{Outcome, Status, StatusWord};
+use tag_memory::{MemOp, Reply};
 
 /// What stands between two things that a step did.
 const BETWEEN: &str = "; ";
@@ -64,6 +65,23 @@ pub fn push_changes(
         }
     }
     Ok(())
+}
+
+/// Adds a part of a stream and what stands in it, as `r1 16` and `t0 no handler`.
+pub fn push_stream_part(
+    out: &mut String,
+    names: &ProgramNames,
+    style: NumberStyle,
+    part: StreamPart,
+    content: Content,
+) -> Result<(), AllocError> {
+    push_part(out, part)?;
+    let writer = ChangeWriter {
+        names,
+        style,
+        begin: 0,
+    };
+    writer.push_content(out, content)
 }
 
 /// Adds something that a step did, behind what stands there since `begin`.
@@ -230,10 +248,26 @@ impl ChangeWriter<'_, '_> {
         } else {
             push_part_of(out, self.begin, "")?;
             write!(out, "[{address}] ")?;
+            self.push_value_read(out, view, address)?;
         }
         self.push_content(out, change.before)?;
         out.push_str(" -> ")?;
         self.push_content(out, change.after)
+    }
+
+    /// Adds the value that a step read of a word, where it read one, and what goes on behind it.
+    fn push_value_read(
+        self,
+        out: &mut String,
+        view: &StepView,
+        address: u64,
+    ) -> Result<(), AllocError> {
+        let Some(value) = value_read(view, address) else {
+            return Ok(());
+        };
+        out.push_str("is ")?;
+        push_value(out, self.style, value)?;
+        out.push_str(", ")
     }
 
     /// Adds what stands in a place; a target register as the place where it is a pc alone.
@@ -243,6 +277,16 @@ impl ChangeWriter<'_, '_> {
             Content::Target(word) if is_place(word) => self.names.push_place(out, word.pc),
             _ => push_content(out, self.style, content),
         }
+    }
+}
+
+/// The value that a step read of the word at a byte address; None where it read none.
+fn value_read(view: &StepView, address: u64) -> Option<u64> {
+    let reference = view.reference?;
+    let reads = matches!(reference.request.op, MemOp::Load | MemOp::Fadd);
+    match reference.reply {
+        Reply::Done(value) if reads && reference.address == address => Some(value),
+        _ => None,
     }
 }
 

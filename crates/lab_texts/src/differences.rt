@@ -29,33 +29,65 @@ pub fn push_differing_words<const S: usize>(
     Ok(())
 }
 
-/// Adds the words of the memory that are not the image's in one line, as `[0] 0 -> 4, [8] 0 -> 2`, and the comment
-/// where there is one word alone.
+/// Adds the words of the memory that are not the image's in one line, as `[0] 0 -> 4 (the sum), [8] 0 -> 2 (the count)`:
+/// the comment of a line stands after the last of its words, behind blanks where there is one word alone.
 pub fn push_changed_words<const S: usize>(
     out: &mut String,
     names: &ProgramNames,
     style: NumberStyle,
     machine: &Machine<'_, S>,
 ) -> Result<(), AllocError> {
-    let mut only = None;
+    let mut last = None;
     let mut count: usize = 0;
     for (index, cell) in machine.image().cells().iter().enumerate() {
         let address = index as u64 * 8;
         if let Some(word) = machine.word(address)
             && word != *cell
         {
+            push_comment_between(out, names, last, address)?;
             if !out.is_empty() {
                 out.push_str(", ")?;
             }
             push_word_change(out, style, address, *cell, word)?;
-            only = Some(address);
+            last = Some(address);
             count = count.saturating_add(1);
         }
     }
-    match only {
+    match last {
         Some(address) if count == 1 => push_comment(out, names, address),
+        Some(address) => push_comment_in_brackets(out, names, address),
+        None => Ok(()),
+    }
+}
+
+/// Adds the comment of the word before another, where the other has not the same.
+fn push_comment_between(
+    out: &mut String,
+    names: &ProgramNames,
+    before: Option<u64>,
+    address: u64,
+) -> Result<(), AllocError> {
+    match before {
+        Some(before) if names.comment(before) != names.comment(address) => {
+            push_comment_in_brackets(out, names, before)
+        }
         _ => Ok(()),
     }
+}
+
+/// Adds the comment of a word in brackets as the text has it, where it has one.
+fn push_comment_in_brackets(
+    out: &mut String,
+    names: &ProgramNames,
+    address: u64,
+) -> Result<(), AllocError> {
+    let comment = names.comment(address);
+    if comment.is_empty() {
+        return Ok(());
+    }
+    out.push_str(" (")?;
+    out.push_str(comment)?;
+    out.push_str(")")
 }
 
 /// Adds the comment of a word as the text has it, where it has one.

@@ -2,6 +2,7 @@
 
 use crate::names::ProgramNames;
 use crate::words::{NumberStyle, push_stream, push_value};
+use plain_text::push_plain;
 use run_findings::{Access, Action, Deed, Findings, LostUpdate, TornRead, UnreadStore, torn_reads};
 use std::alloc::{AllocError, Global};
 
@@ -58,6 +59,27 @@ impl FindingsOfRun {
             .len()
             .saturating_add(self.torn.len())
             .saturating_add(self.unread.len())
+    }
+}
+
+impl FindingsOfRun {
+    /// The numbers of the steps, from 1, that [`push_findings`] names.
+    pub fn numbers_named(&self, alloc: Global) -> Result<Vec<usize>, AllocError> {
+        let mut steps = Vec::new(alloc);
+        for update in self.lost.iter().take(MOST_OF_A_KIND) {
+            steps.extend_from_slice(&[update.read, update.over, update.stored])?;
+        }
+        for read in self.torn.iter().take(MOST_OF_A_KIND) {
+            steps.extend_from_slice(&[read.stale_read, read.fresh_read])?;
+            steps.extend_from_slice(&[read.stale_write, read.fresh_write])?;
+        }
+        for store in self.unread.iter().take(MOST_OF_A_KIND) {
+            steps.extend_from_slice(&[store.over, store.stored])?;
+        }
+        for step in steps.iter_mut() {
+            *step = step.saturating_add(1);
+        }
+        Ok(steps)
     }
 }
 
@@ -189,7 +211,13 @@ impl Telling<'_, '_> {
     fn push_torn(&self, out: &mut String, torn: &TornRead) -> Result<(), AllocError> {
         let stale = torn.stale;
         let fresh = torn.fresh;
-        write!(out, "torn read of [{stale}] and [{fresh}]: ")?;
+        write!(out, "torn read of [{stale}]")?;
+        if self.names.comment(stale) != self.names.comment(fresh) {
+            self.push_name(out, stale)?;
+        }
+        write!(out, " and [{fresh}]")?;
+        self.push_name(out, fresh)?;
+        out.push_str(": ")?;
         self.push_pair(
             out,
             "read",
@@ -266,6 +294,17 @@ impl Telling<'_, '_> {
     fn access(&self, step: usize) -> Option<Access> {
         let action = self.actions.get(step)?;
         action.access
+    }
+
+    /// Adds the comment of a word in brackets, where it has one.
+    fn push_name(&self, out: &mut String, word: u64) -> Result<(), AllocError> {
+        let comment = self.names.comment(word);
+        if comment.is_empty() {
+            return Ok(());
+        }
+        out.push_str(" (")?;
+        push_plain(out, comment)?;
+        out.push_str(")")
     }
 
     /// Adds the comment of a word, and ends the line.

@@ -11,11 +11,14 @@ mod step_lines;
 mod waits;
 mod words;
 
-pub use changes::{push_changes, push_part_of};
+pub use changes::{push_changes, push_part_of, push_stream_part};
 pub use differences::{push_changed_words, push_differences, push_differing_words};
 pub use ends::{RunEnd, StoppedStream, end_of, push_end, stopped_streams};
 pub use findings::{FindingsOfRun, MOST_STEPS_OF_TORN, Telling, push_findings, push_first_finding};
 pub use names::ProgramNames;
-pub use step_lines::{Columns, push_lane_head, push_lane_line, push_step_line};
+pub use step_lines::{
+    Columns, push_lane_head, push_lane_text, push_step_head, push_step_line, push_step_number,
+    push_step_text,
+};
 pub use waits::{full_word, turned_word, wanted_word};
 pub use words::{NumberStyle, push_stream, push_trap, push_value, push_word};

@@ -128,6 +128,13 @@ impl<'t> ProgramNames<'t> {
         }
     }
 
+    /// Whether some word of the memory has a comment.
+    pub fn has_comments(&self) -> bool {
+        self.data.iter().any(|line| !self
+            .comment((line.first as u64).saturating_mul(8))
+            .is_empty())
+    }
+
     /// Adds that comment as a terminal may have it, behind blanks, where there is one.
     pub(crate) fn push_comment(&self, out: &mut String, address: u64) -> Result<(), AllocError> {
         let comment = self.comment(address);

@@ -16,6 +16,9 @@ use waiting::wait_of;
 /// The widest column of a step's number.
 const NUMBER_WIDTH: usize = 8;
 
+/// The name of the column that says what a step did.
+const WHAT_IT_DID: &str = "what it did";
+
 /// The columns of lines that show steps.
 #[derive(Clone, Copy, Debug)]
 pub struct Columns {
@@ -59,8 +62,29 @@ pub fn push_step_line<const S: usize>(
     view: &StepView,
     machine: &Machine<'_, S>,
 ) -> Result<(), AllocError> {
+    push_step_number(out, columns, number)?;
+    push_step_text(out, names, style, columns, view, machine)
+}
+
+/// Adds the number of a step, with which its line begins.
+pub fn push_step_number(
+    out: &mut String,
+    columns: Columns,
+    number: usize,
+) -> Result<(), AllocError> {
     let width = columns.number;
-    write!(out, "{number:>width$}  ")?;
+    write!(out, "{number:>width$}  ")
+}
+
+/// Adds what stands after the number in the line of a step, with the line's end.
+pub fn push_step_text<const S: usize>(
+    out: &mut String,
+    names: &ProgramNames,
+    style: NumberStyle,
+    columns: Columns,
+    view: &StepView,
+    machine: &Machine<'_, S>,
+) -> Result<(), AllocError> {
     let begin = out.len();
     push_stream(out, view.step.p, view.step.s)?;
     pad(out, begin, 7)?;
@@ -84,19 +108,41 @@ pub fn push_step_line<const S: usize>(
     end_line(out)
 }
 
-/// Adds the line of a step with a column for each of these streams, in which its instruction stands.
-pub fn push_lane_line<const S: usize>(
+/// Adds the head of such lines: the name of each column. That of comments stands there where a word has one.
+pub fn push_step_head(
+    out: &mut String,
+    names: &ProgramNames,
+    columns: Columns,
+) -> Result<(), AllocError> {
+    push_head(out, "step", columns.number.saturating_add(2))?;
+    push_head(out, "stream", 7)?;
+    push_head(out, "at", columns.place)?;
+    push_head(out, "  instruction", columns.statement.saturating_add(4))?;
+    push_head(out, WHAT_IT_DID, columns.changes.saturating_add(2))?;
+    if names.has_comments() {
+        out.push_str("comment")?;
+    }
+    end_line(out)
+}
+
+/// Adds the name of a column of this width.
+fn push_head(out: &mut String, name: &str, width: usize) -> Result<(), AllocError> {
+    let begin = out.len();
+    out.push_str(name)?;
+    pad(out, begin, width)
+}
+
+/// Adds what stands after the number in the line of a step, with the line's end: a column for each of these streams, in
+/// which its instruction stands, and what the step did.
+pub fn push_lane_text<const S: usize>(
     out: &mut String,
     names: &ProgramNames,
     style: NumberStyle,
     columns: Columns,
     lanes: &[Step],
-    number: usize,
     view: &StepView,
     machine: &Machine<'_, S>,
 ) -> Result<(), AllocError> {
-    let width = columns.number;
-    write!(out, "{number:>width$}  ")?;
     for lane in lanes {
         let begin = out.len();
         if *lane == view.step {
@@ -114,13 +160,13 @@ pub fn push_lane_head(
     columns: Columns,
     lanes: &[Step],
 ) -> Result<(), AllocError> {
-    let begin = out.len();
-    pad(out, begin, columns.number.saturating_add(2))?;
+    push_head(out, "step", columns.number.saturating_add(2))?;
     for lane in lanes {
         let begin = out.len();
         push_stream(out, lane.p, lane.s)?;
         pad(out, begin, columns.statement.saturating_add(2))?;
     }
+    out.push_str(WHAT_IT_DID)?;
     end_line(out)
 }
 

@@ -2,6 +2,7 @@
 #![tactic(auto)]
 
 mod comparing;
+mod folding;
 mod run_status;
 mod viewing;
 

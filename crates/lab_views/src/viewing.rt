@@ -1,17 +1,18 @@
 //! The command `view`.
 
+use crate::folding::StepLines;
 use crate::run_status::status_of_run;
 use command_parts::{
     Answer, Inputs, LabFault, Program, Status, loaded, push_object, read_program, steps_of,
     style_of,
 };
 use image_file::Image;
-use lab_ends::push_findings_of_run;
+use lab_ends::RunFindings;
 use lab_json::{RunTitle, end_value, head_value, step_value};
 use lab_requests::{RunChoice, ViewRequest};
 use lab_texts::{
-    Columns, ProgramNames, end_of, push_differing_words, push_end, push_lane_head, push_lane_line,
-    push_step_line,
+    Columns, ProgramNames, RunEnd, end_of, push_differing_words, push_end, push_lane_head,
+    push_lane_text, push_step_head, push_step_text,
 };
 use machine::Machine;
 use processor::Step;
@@ -19,6 +20,7 @@ use std::alloc::{AllocError, Global};
 use std::io::Read;
 use std::rt::Files;
 use step_views::{Place, StepView, take_step};
+use whole_runs::run_views;
 
 /// Shows a run.
 pub fn view<F: Files, R: Read>(
@@ -109,7 +111,11 @@ fn view_on<const S: usize>(
         lanes: lanes_of(alloc, request, steps)?,
     };
     let mut out = String::new(alloc);
-    let status = layout.push_run::<S>(alloc, &mut out, program, steps)?;
+    let status = if request.shown.json {
+        layout.push_objects::<S>(alloc, &mut out, program, steps)?
+    } else {
+        layout.push_words::<S>(alloc, &mut out, program, steps)?
+    };
     Ok((out, status))
 }
 
@@ -164,6 +170,41 @@ fn meets(view: &StepView, address: u64) -> bool {
         })
 }
 
+/// Adds that no step is shown, and of which none is: of a stream, that meets a word, between steps.
+fn push_no_step(
+    out: &mut String,
+    request: &ViewRequest,
+    only: Option<Step>,
+) -> Result<(), AllocError> {
+    out.push_str("there is no step")?;
+    if let Some(Step { p, s }) = only {
+        write!(out, " of {p}.{s}")?;
+    }
+    if let Some(address) = request.word {
+        write!(out, " that uses [{address}]")?;
+    }
+    let (from, to) = (request.from, request.to);
+    match (from, to) {
+        (0..=1, usize::MAX) => {}
+        (0..=1, _) => write!(out, " up to step {to}")?,
+        (_, usize::MAX) => write!(out, " from step {from} on")?,
+        _ => write!(out, " from step {from} to step {to}")?,
+    }
+    out.push_str("\n")
+}
+
+/// The steps, from 1, that the words of an end name: since when streams wait, and who filled or emptied a word.
+fn steps_of_end(alloc: Global, end: &RunEnd) -> Result<Vec<usize>, AllocError> {
+    let mut steps = Vec::new(alloc);
+    for wait in &end.waits {
+        steps.push(wait.since)?;
+        if let Some(turn) = wait.turn {
+            steps.push(turn.number)?;
+        }
+    }
+    Ok(steps)
+}
+
 /// How a run is shown.
 #[derive(Drop)]
 struct Layout<'a, 't> {
@@ -175,8 +216,8 @@ struct Layout<'a, 't> {
 }
 
 impl Layout<'_, '_> {
-    /// Adds a run on a machine with room for `S` streams a processor, and says how it ended.
-    fn push_run<const S: usize>(
+    /// Adds a run on a machine with room for `S` streams a processor as JSON, and says how it ended.
+    fn push_objects<const S: usize>(
         &self,
         alloc: Global,
         out: &mut String,
@@ -184,45 +225,66 @@ impl Layout<'_, '_> {
         steps: &[Step],
     ) -> Result<Status, AllocError> {
         let mut machine = loaded::<S>(alloc, &program.image)?;
-        self.push_head(alloc, out, program, &machine)?;
-        let views = self.push_steps(alloc, out, &mut machine, steps)?;
-        let status = self.push_run_end(alloc, out, &machine, &views, steps)?;
-        if !self.request.shown.json {
-            let style = style_of(self.request.shown);
-            push_findings_of_run::<S>(alloc, out, self.names, style, &program.image, steps)?;
-        }
-        Ok(status)
-    }
-
-    /// Adds what stands above the steps: the program and the world at the start as JSON, or the heads of the columns.
-    fn push_head<const S: usize>(
-        &self,
-        alloc: Global,
-        out: &mut String,
-        program: &Program,
-        machine: &Machine<'_, S>,
-    ) -> Result<(), AllocError> {
-        if !self.request.shown.json {
-            return if self.lanes.is_empty() {
-                Ok(())
-            } else {
-                push_lane_head(out, self.columns, &self.lanes)
-            };
-        }
         let title = RunTitle {
             object: "run",
             program: self.request.program,
             schedule: schedule_name(self.request.run),
         };
-        let head = head_value(alloc, title, &program.text, self.names, machine)?;
-        push_object(alloc, out, &head)
+        let head = head_value(alloc, title, &program.text, self.names, &machine)?;
+        push_object(alloc, out, &head)?;
+        let views = run_views(alloc, &mut machine, steps)?;
+        self.push_step_objects(alloc, out, &views)?;
+        let end = end_of(alloc, &machine, &views)?;
+        let value = end_value(alloc, &end, &machine, steps)?;
+        push_object(alloc, out, &value)?;
+        Ok(status_of_run(&end))
     }
 
-    /// Takes the steps, adds those that are shown, and gives what each did.
-    fn push_steps<const S: usize>(
+    /// Adds the steps that are shown as JSON.
+    fn push_step_objects(
         &self,
         alloc: Global,
         out: &mut String,
+        views: &[StepView],
+    ) -> Result<(), AllocError> {
+        for (index, view) in views.iter().enumerate() {
+            let number = index.saturating_add(1);
+            if is_shown(&self.request, self.only, number, view) {
+                let value = step_value(alloc, view)?;
+                push_object(alloc, out, &value)?;
+            }
+        }
+        Ok(())
+    }
+
+    /// Adds a run on a machine with room for `S` streams a processor in words, and says how it ended.
+    fn push_words<const S: usize>(
+        &self,
+        alloc: Global,
+        out: &mut String,
+        program: &Program,
+        steps: &[Step],
+    ) -> Result<Status, AllocError> {
+        let mut machine = loaded::<S>(alloc, &program.image)?;
+        let mut lines = StepLines::new(alloc);
+        let views = self.note_steps(alloc, &mut lines, &mut machine, steps)?;
+        let end = end_of(alloc, &machine, &views)?;
+        let found = RunFindings::of::<S>(alloc, &program.image, steps)?;
+        lines.keep(&steps_of_end(alloc, &end)?)?;
+        lines.keep(&found.numbers_named(alloc)?)?;
+        self.push_lines(out, &lines, steps.len())?;
+        let style = style_of(self.request.shown);
+        push_end(out, self.names, views.len(), &end)?;
+        push_differing_words(out, self.names, style, &machine)?;
+        found.push(out, self.names, style)?;
+        Ok(status_of_run(&end))
+    }
+
+    /// Takes the steps, notes the lines of those that are shown, and gives what each did.
+    fn note_steps<const S: usize>(
+        &self,
+        alloc: Global,
+        lines: &mut StepLines,
         machine: &mut Machine<'_, S>,
         steps: &[Step],
     ) -> Result<Vec<StepView>, AllocError> {
@@ -231,61 +293,53 @@ impl Layout<'_, '_> {
             let view = take_step(alloc, machine, *step)?;
             let number = index.saturating_add(1);
             if is_shown(&self.request, self.only, number, &view) {
-                self.push_step(alloc, out, number, &view, machine)?;
+                self.push_step(lines.next_text(), &view, machine)?;
+                lines.end_line(number)?;
             }
             views.push(view)?;
         }
         Ok(views)
     }
 
-    /// Adds a step, as text or as JSON.
+    /// Adds the line of a step behind its number.
     fn push_step<const S: usize>(
         &self,
-        alloc: Global,
         out: &mut String,
-        number: usize,
         view: &StepView,
         machine: &Machine<'_, S>,
     ) -> Result<(), AllocError> {
         let style = style_of(self.request.shown);
-        if self.request.shown.json {
-            let value = step_value(alloc, view)?;
-            return push_object(alloc, out, &value);
+        let (names, columns, lanes) = (self.names, self.columns, &self.lanes);
+        if lanes.is_empty() {
+            push_step_text(out, names, style, columns, view, machine)
+        } else {
+            push_lane_text(out, names, style, columns, lanes, view, machine)
         }
-        if self.lanes.is_empty() {
-            return push_step_line(out, self.names, style, self.columns, number, view, machine);
-        }
-        let lanes = &self.lanes;
-        push_lane_line(
-            out,
-            self.names,
-            style,
-            self.columns,
-            lanes,
-            number,
-            view,
-            machine,
-        )
     }
 
-    /// Adds how the run of these steps ended, and the words that it changed.
-    fn push_run_end<const S: usize>(
+    /// Adds the lines of steps of a run of so many, behind the heads of their columns.
+    fn push_lines(
         &self,
-        alloc: Global,
         out: &mut String,
-        machine: &Machine<'_, S>,
-        views: &[StepView],
-        steps: &[Step],
-    ) -> Result<Status, AllocError> {
-        let end = end_of(alloc, machine, views)?;
-        let shown = self.request.shown;
-        if shown.json {
-            let value = end_value(alloc, &end, machine, steps)?;
-            push_object(alloc, out, &value)?;
-        } else {
-            push_end(out, self.names, views.len(), &end)?;
-            push_differing_words(out, self.names, style_of(shown), machine)?;
+        lines: &StepLines,
+        steps: usize,
+    ) -> Result<(), AllocError> {
+        if lines.is_empty() {
+            return if steps == 0 {
+                Ok(())
+            } else {
+                push_no_step(out, &self.request, self.only)
+            };
         }
-        Ok(status_of_run(&end))
+        if self.lanes.is_empty() {
+            push_step_head(out, self.names, self.columns)?;
+        } else {
+            push_lane_head(out, self.columns, &self.lanes)?;
+        }
+        if self.request.are_all {
+            return lines.push_all(out, self.columns);
+        }
+        let is_each = self.only.is_none() && self.request.word.is_none();
+        lines.push_folded(out, self.columns, is_each)
     }
 }

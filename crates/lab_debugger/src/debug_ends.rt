@@ -1,0 +1,63 @@
+//! How the run of a session ends.
+
+use crate::debug_desk::Desk;
+use command_parts::LabFault;
+use debug_commands::Command;
+use end_kinds::EndKind;
+use lab_ends::RunFindings;
+use lab_texts::{NumberStyle, end_of, push_differing_words, push_end};
+use machine::Machine;
+use step_views::StepView;
+use whole_runs::run_views;
+
+/// The run of a session from its start to its position.
+#[derive(Drop)]
+struct RunHere<'i, const S: usize> {
+    machine: Machine<'i, S>,
+    views: Vec<StepView>,
+}
+
+impl<'a, 'i, 't, const S: usize> Desk<'a, 'i, 't, S> {
+    /// Goes where a command leads, and where that is the end of the schedule, tells how the run ends.
+    pub(crate) fn go(&mut self, command: &Command, out: &mut String) -> Result<(), LabFault> {
+        self.move_by(command, out)?;
+        self.push_end_here(true, out)
+    }
+
+    /// Adds how the run ends, the words that it changed, and its findings, where the session is at the schedule's end; of
+    /// a run that could go on only where that is told too.
+    pub(crate) fn push_end_here(
+        &mut self,
+        is_unfinished_told: bool,
+        out: &mut String,
+    ) -> Result<(), LabFault> {
+        if self.named.session.next_step().is_some() {
+            return Ok(());
+        }
+        let run = self.run_here()?;
+        let end = end_of(self.alloc, &run.machine, &run.views)?;
+        if end.kind == EndKind::OutOfSteps && !is_unfinished_told {
+            return Ok(());
+        }
+        let style = NumberStyle::Decimal;
+        push_end(out, self.names, run.views.len(), &end)?;
+        push_differing_words(out, self.names, style, &run.machine)?;
+        self.push_findings(style, out)
+    }
+
+    /// Adds the findings of the run by the whole schedule.
+    fn push_findings(&self, style: NumberStyle, out: &mut String) -> Result<(), LabFault> {
+        let session = &self.named.session;
+        let (image, steps) = (session.machine().image(), session.schedule());
+        let found = RunFindings::of::<S>(self.alloc, image, steps)?;
+        Ok(found.push(out, self.names, style)?)
+    }
+
+    /// The run by the whole schedule.
+    fn run_here(&mut self) -> Result<RunHere<'i, S>, LabFault> {
+        let position = self.named.session.position();
+        let mut machine = self.machine_at(0, position)?;
+        let views = run_views(self.alloc, &mut machine, self.named.session.schedule())?;
+        Ok(RunHere { machine, views })
+    }
+}

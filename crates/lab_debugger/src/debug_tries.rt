@@ -1,0 +1,91 @@
+//! Steps in place of the schedule's, and how they are taken back.
+
+use crate::debug_desk::{Desk, refuse};
+use command_parts::LabFault;
+use debug_commands::Command;
+use lab_texts::push_stream;
+use named_session::{UserName, read_name};
+use processor::Step;
+use stream_core::Status;
+
+/// What a try dropped.
+#[derive(Drop)]
+pub(crate) struct Dropped {
+    /// The position of the session before it.
+    position: u64,
+    /// The steps of the schedule that came next.
+    steps: Vec<Step>,
+}
+
+impl<'a, 'i, 't, const S: usize> Desk<'a, 'i, 't, S> {
+    /// A step of a stream in place of the schedule's next; the schedule from there on goes.
+    pub(crate) fn take(&mut self, rest: &str, out: &mut String) -> Result<(), LabFault> {
+        let Some(UserName::Stream(step)) = read_name(rest) else {
+            return Ok(out.push_str("try takes a stream, as 2.0\n")?);
+        };
+        if !self.runs(step) {
+            push_stream(out, step.p, step.s)?;
+            return Ok(out.push_str(" does not run\n")?);
+        }
+        let dropped = self.steps_to_come()?;
+        let position = dropped.position;
+        match self.named.session.replace_schedule_from(position, &[step]) {
+            Ok(()) => self.go_on_from(dropped, out),
+            Err(fault) => refuse(fault, out),
+        }
+    }
+
+    /// Takes the step that is tried, and says what it dropped.
+    fn go_on_from(&mut self, dropped: Dropped, out: &mut String) -> Result<(), LabFault> {
+        push_dropped(dropped.steps.len(), out)?;
+        self.tried.push(dropped)?;
+        self.move_by(&Command::Forward(1), out)?;
+        self.push_end_here(false, out)
+    }
+
+    /// The steps of the schedule that come next.
+    fn steps_to_come(&self) -> Result<Dropped, LabFault> {
+        let session = &self.named.session;
+        let position = session.position();
+        let next = session.schedule().get(position as usize..);
+        Ok(Dropped {
+            position,
+            steps: Vec::from_slice(self.alloc, next.unwrap_or(&[]))?,
+        })
+    }
+
+    /// Takes the last try back: the schedule and the position are those before it.
+    pub(crate) fn undo(&mut self, out: &mut String) -> Result<(), LabFault> {
+        let Some(Dropped { position, steps }) = self.tried.pop() else {
+            return Ok(out.push_str("there is no try to take back\n")?);
+        };
+        match self.named.session.replace_schedule_from(position, &steps) {
+            Ok(()) => {
+                let count = self.named.session.schedule().len();
+                writeln!(out, "the try is taken back: the schedule has {count} steps")?;
+                self.move_by(&Command::Go(position), out)
+            }
+            Err(fault) => refuse(fault, out),
+        }
+    }
+
+    /// Whether a stream runs.
+    fn runs(&self, step: Step) -> bool {
+        match self.named.session.machine().stream(step.p, step.s) {
+            Some(stream) => matches!(stream.status(), Status::Running),
+            None => false,
+        }
+    }
+}
+
+/// Adds how many steps a try dropped, if any.
+fn push_dropped(count: usize, out: &mut String) -> Result<(), LabFault> {
+    Ok(match count {
+        0 => {}
+        1 => out.push_str("1 step of the schedule is dropped; undo takes it back\n")?,
+        _ => writeln!(
+            out,
+            "{count} steps of the schedule are dropped; undo takes them back"
+        )?,
+    })
+}
