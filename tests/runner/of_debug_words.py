@@ -8,12 +8,16 @@ import re
 
 import checks
 import of_lab
+import table
 import tool
+from table import unescaped
 
 LINES = 120
 NO_PLACE = b"until takes a label, as eat or eat+1, or a line\n"
 NO_BREAK = b"break takes a label, as eat or eat+1, or a line, perhaps after a processor\n"
 AT = re.compile(rb"after (\d+) of (\d+) steps")
+# words that stand behind info or watch
+BEHIND_ANOTHER = {"streams", "threads", "points", "waiting", "registers", "tags"}
 WORD = re.compile(rb"\[(\d+)\] (-?\d+), (full|empty)")
 
 
@@ -83,6 +87,28 @@ def long_lines():
         goes_on = b"after 2 of 2 steps" in last.removeprefix(tried + answer)
         yield f"{length} bytes", (True, True), (last.startswith(tried + answer), goes_on)
         yield f"{length} bytes at the end", answer, behind_the_first_line(line, end="")
+
+
+@checks.each("lab/debug.tsv")
+def answered(fields):
+    """A session: what stands there first, and each line that is typed behind > and a blank, with its answer."""
+    _, source, schedule, session = fields
+    typed = [line[2:] for line in unescaped(session).decode().split("\n") if line.startswith("> ")]
+    with tool.made_files(source=unescaped(source), schedule=unescaped(schedule)) as paths:
+        said = of_lab.lab("debug", paths["source"], paths["schedule"], given="\n--\n".join(typed).encode())
+    first, *answers = said.out.split(b"\n", 1)[0:1] + re.split(rb"(?m)^--: .*\n", said.out.split(b"\n", 1)[1])
+    got = first + b"\n" + b"".join(b"> %s\n%s" % (line.encode(), answer) for line, answer in zip(typed, answers))
+    return (unescaped(session), 0, b""), (got, said.status, said.err)
+
+
+@checks.others("lab/debug_completions")
+def completions():
+    """The words that rlwrap completes: all that help names, and each is known, but for those behind another word."""
+    words = {*tool.read(os.path.join(table.ROOT, "share/completions/mta_lab.rlwrap")).decode().split()}
+    helped = {re.split("[ /]", line)[0] for line in behind_the_first_line("help").decode().splitlines()}
+    yield "the words of help", set(), helped - words
+    for word in sorted(words - BEHIND_ANOTHER):
+        yield word, False, b"no such word" in behind_the_first_line(word)
 
 
 def behind_the_first_line(line, end="\n"):
