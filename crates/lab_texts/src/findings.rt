@@ -153,7 +153,7 @@ pub fn push_findings(
     push_more(out, found.lost.len(), "lost updates")?;
     for read in found.torn.iter().take(MOST_OF_A_KIND) {
         telling.push_torn(out, read)?;
-        out.push_str("\n")?;
+        telling.end_torn(out, read)?;
     }
     push_more(out, found.torn.len(), "torn reads")?;
     for store in found.unread.iter().take(MOST_OF_A_KIND) {
@@ -211,13 +211,7 @@ impl Telling<'_, '_> {
     fn push_torn(&self, out: &mut String, torn: &TornRead) -> Result<(), AllocError> {
         let stale = torn.stale;
         let fresh = torn.fresh;
-        write!(out, "torn read of [{stale}]")?;
-        if self.names.comment(stale) != self.names.comment(fresh) {
-            self.push_name(out, stale)?;
-        }
-        write!(out, " and [{fresh}]")?;
-        self.push_name(out, fresh)?;
-        out.push_str(": ")?;
+        write!(out, "torn read of [{stale}] and [{fresh}]: ")?;
         self.push_pair(
             out,
             "read",
@@ -296,15 +290,19 @@ impl Telling<'_, '_> {
         action.access
     }
 
-    /// Adds the comment of a word in brackets, where it has one.
-    fn push_name(&self, out: &mut String, word: u64) -> Result<(), AllocError> {
-        let comment = self.names.comment(word);
-        if comment.is_empty() {
-            return Ok(());
+    /// Adds the comments of the words of a torn read, each behind its address, and ends the line.
+    fn end_torn(&self, out: &mut String, torn: &TornRead) -> Result<(), AllocError> {
+        let (first, second) = (torn.stale.min(torn.fresh), torn.stale.max(torn.fresh));
+        let mut between = "   ";
+        for word in [first, second] {
+            let comment = self.names.comment(word);
+            if !comment.is_empty() {
+                write!(out, "{between}[{word}] ")?;
+                push_plain(out, comment)?;
+                between = "; ";
+            }
         }
-        out.push_str(" (")?;
-        push_plain(out, comment)?;
-        out.push_str(")")
+        out.push_str("\n")
     }
 
     /// Adds the comment of a word, and ends the line.
