@@ -24,8 +24,8 @@ impl<'a, 'i, 't, const S: usize> Desk<'a, 'i, 't, S> {
         self.push_end_here(true, out)
     }
 
-    /// Adds how the run ends, the words that it changed, and its findings, where the session is at the schedule's end; of
-    /// a run that could go on only where that is told too.
+    /// Adds how the run ends, the words that it changed, and its findings, where the session is at the schedule's end;
+    /// of a run that could go on only where that is told too.
     pub(crate) fn push_end_here(
         &mut self,
         is_unfinished_told: bool,

@@ -87,8 +87,8 @@ until PLACE         on until a stream is to step at a label, a label and a numbe
 break [P] PLACE     a stop where a stream, or one of processor P, is to step at such a place
 watch [A]           a stop where the word at this byte address has changed; watch [A] tags: its full/empty bit or other tags
 delete N            takes the point of this number away
-info WHAT           streams: who runs and where; points: the stops; waiting: who waits for what; registers [P.S]: of a stream
-print WHAT          r1 of the stream that comes next, 2.0.r1 of another, [A] a word, 2.0 where a stream stands and its registers
+info WHAT           streams: who runs and where; points: the stops; waiting: who waits; registers [P.S]: a stream's
+print WHAT          r1 of the stream that comes next, 2.0.r1 of another, [A] a word, 2.0 a stream with all registers
 list [P.S]          the program around a stream
 why [P.S]           what a stream waits for, and which step filled or emptied the word last
 try P.S             a step of this stream now; the schedule from here on is yours

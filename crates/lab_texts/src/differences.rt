@@ -29,7 +29,7 @@ pub fn push_differing_words<const S: usize>(
     Ok(())
 }
 
-/// Adds the words of the memory that are not the image's in one line, as `[0] 0 -> 4 (the sum), [8] 0 -> 2 (the count)`:
+/// Adds the words of the memory that are not the image's in one line, as `[0] 0 -> 4 (the sum), [8] 0 -> 2 (the max)`:
 /// the comment of a line stands after the last of its words, behind blanks where there is one word alone.
 pub fn push_changed_words<const S: usize>(
     out: &mut String,

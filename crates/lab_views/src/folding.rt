@@ -122,7 +122,7 @@ impl StepLines {
     fn loop_at(&self, place: usize, shown: usize) -> Option<Loop> {
         let most = place.saturating_sub(shown).min(LONGEST_LOOP);
         for lines in 1..=most {
-            let times = self.repeated(place, lines) / lines;
+            let times = self.repeated(place, lines).checked_div(lines).unwrap_or(0);
             if times >= FEWEST_TIMES {
                 return Some(Loop { lines, times });
             }
