@@ -170,7 +170,7 @@ fn meets(view: &StepView, address: u64) -> bool {
         })
 }
 
-/// Adds that no step is shown, and of which none is: of a stream, that meets a word, between steps.
+/// Adds that there is no step of a stream, or none that uses a word, and between which steps.
 fn push_no_step(
     out: &mut String,
     request: &ViewRequest,
@@ -324,8 +324,9 @@ impl Layout<'_, '_> {
         lines: &StepLines,
         steps: usize,
     ) -> Result<(), AllocError> {
+        let is_each = self.only.is_none() && self.request.word.is_none();
         if lines.is_empty() {
-            return if steps == 0 {
+            return if steps == 0 || is_each {
                 Ok(())
             } else {
                 push_no_step(out, &self.request, self.only)
@@ -339,7 +340,6 @@ impl Layout<'_, '_> {
         if self.request.are_all {
             return lines.push_all(out, self.columns);
         }
-        let is_each = self.only.is_none() && self.request.word.is_none();
         lines.push_folded(out, self.columns, is_each)
     }
 }
