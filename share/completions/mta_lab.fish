@@ -35,7 +35,7 @@ complete -c mta_lab -n '__fish_seen_subcommand_from schedule view debug compare 
 complete -c mta_lab -n '__fish_seen_subcommand_from view picture' -l from -x -d 'the first step that is shown'
 complete -c mta_lab -n '__fish_seen_subcommand_from view picture' -l to -x -d 'the last step that is shown'
 complete -c mta_lab -n '__fish_seen_subcommand_from view' -l only -x -d 'only the steps of this stream, as 1.0'
-complete -c mta_lab -n '__fish_seen_subcommand_from view' -l word -x -d 'the steps that use the word at this byte address'
+complete -c mta_lab -n '__fish_seen_subcommand_from view' -l word -x -d 'the steps that use the word at this byte address, or of this name'
 complete -c mta_lab -n '__fish_seen_subcommand_from view' -l columns -f -d 'a column a stream'
 complete -c mta_lab -n '__fish_seen_subcommand_from view' -l all -f -d 'a line for each step, also where a loop repeats'
 complete -c mta_lab -n '__fish_seen_subcommand_from survey grade' -l seeds -x -d 'how many random schedules'

@@ -5,7 +5,6 @@ use crate::json_text::Json;
 use crate::refusals::Refusal;
 use crate::requests::Request;
 use debug_commands::{Answer, Command};
-use named_session::{UserName, read_name};
 use serde_json::Value;
 
 /// The most breakpoints of a kind; each may be a point a processor.
@@ -184,15 +183,14 @@ impl<'a, 'i, 't> Adapter<'a, 'i, 't> {
         Ok(())
     }
 
-    /// What watches the word of a text: `[8]` for its value and tags, `[8] full/empty` for its tags.
+    /// What watches the word of a text: `[8]`, `[8] total` or `total` for its value and tags, with `full/empty` behind it for
+    /// its tags.
     fn watch_of(&self, text: &str) -> Option<Command> {
         let (name, is_tags) = match text.trim().strip_suffix("full/empty") {
             Some(name) => (name.trim(), true),
             None => (text.trim(), false),
         };
-        let Some(UserName::Word(address)) = read_name(name) else {
-            return None;
-        };
+        let address = self.names.address_of(in_brackets(name))?;
         let _there = self.named.session.machine().word(address)?;
         Some(if is_tags {
             Command::WatchTags(address)
@@ -238,7 +236,9 @@ impl<'a, 'i, 't> Adapter<'a, 'i, 't> {
         let name = request.text("name").unwrap_or("");
         let text = self.word_name_of(request, name)?;
         body.open();
-        if self.watch_of(&text).is_none() {
+        let is_of_list = request.number("variablesReference").unwrap_or(0) > 0;
+        let is_word = text.starts_with('[') || !is_of_list;
+        if !is_word || self.watch_of(&text).is_none() {
             body.null_of("dataId");
             body.text_of("description", "only words of the memory are watched");
             body.close();
@@ -252,6 +252,16 @@ impl<'a, 'i, 't> Adapter<'a, 'i, 't> {
         body.truth_of("canPersist", true);
         body.close();
         Ok(())
+    }
+}
+
+/// The part of a text in brackets that it begins with, where it does, as of `[8] total`; else all.
+fn in_brackets(text: &str) -> &str {
+    match text.split_once(']') {
+        Some((front, _)) if text.starts_with('[') => {
+            text.get(..front.len().saturating_add(1)).unwrap_or(text)
+        }
+        _ => text,
     }
 }
 

@@ -37,10 +37,16 @@ impl<'a, 'i, 't> Adapter<'a, 'i, 't> {
             Some(UserName::Line(line)) => {
                 self.push_program_word(&mut out, self.named.word_of_line(line))?;
             }
-            Some(UserName::Label(name)) => {
-                self.push_program_word(&mut out, self.named.word_of_label(name))?;
-            }
-            None => return Err(Refusal::Words("r1, 2.0.r1, [8], 2.0, a label or a line is shown")),
+            Some(UserName::Label(name)) => match self.names.address_named(name) {
+                Some(address) => self.push_word_at(&mut out, style, address)?,
+                None => self.push_program_word(&mut out, self.named.word_of_label(name))?,
+            },
+            None => match self.names.address_of(text) {
+                Some(address) => self.push_word_at(&mut out, style, address)?,
+                None => return Err(Refusal::Words(
+                    "r1, 2.0.r1, [8], the name of a word, 2.0, a label or a line is shown",
+                )),
+            },
         }
         body.open();
         body.text_of("result", &out);

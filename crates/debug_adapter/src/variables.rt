@@ -81,8 +81,9 @@ impl<'a, 'i, 't> Adapter<'a, 'i, 't> {
         }
         if let Some(wait) = self.named.wait(step.p, step.s) {
             let wanted = wanted_word(wait.wanted);
-            let address = wait.address;
-            let text = format!(in self.alloc; "for [{address}] to be {wanted}")?;
+            let mut text = String::from_str(self.alloc, "for ")?;
+            self.names.push_address(&mut text, wait.address)?;
+            write!(text, " to be {wanted}")?;
             push_variable(body, "waits", &text, 0);
         }
         Ok(())
@@ -176,10 +177,12 @@ impl<'a, 'i, 't> Adapter<'a, 'i, 't> {
         let Some(word) = self.named.session.machine().word(address) else {
             return Ok(());
         };
-        let name = format!(in self.alloc; "[{address}]")?;
+        let place = format!(in self.alloc; "[{address}]")?;
+        let mut name = String::new(self.alloc);
+        self.names.push_address(&mut name, address)?;
         let mut text = String::new(self.alloc);
         push_word(&mut text, style, word)?;
-        let comment = self.names.comment(address);
+        let comment = self.names.remark(address);
         if !comment.is_empty() {
             text.push_str("   ")?;
             text.push_str(comment)?;
@@ -187,7 +190,7 @@ impl<'a, 'i, 't> Adapter<'a, 'i, 't> {
         body.open();
         body.text_of("name", &name);
         body.text_of("value", &text);
-        body.text_of("evaluateName", &name);
+        body.text_of("evaluateName", &place);
         body.reference_of("memoryReference", address);
         body.number_of("variablesReference", word_reference(index));
         body.number_of("namedVariables", 5);

@@ -1,6 +1,7 @@
 //! The command `check`.
 
 use crate::messages::push_message_object;
+use crate::names::add_names;
 use crate::slips::add_slips;
 use command_parts::{
     Answer, Inputs, LabFault, SourceText, Status, check_loose_schedule, is_image, read_program,
@@ -139,6 +140,7 @@ fn judge(
             let source = SourceText::of(alloc, bytes)?;
             let mut messages = source.messages(alloc)?;
             add_slips(alloc, source.ascii(), &mut messages)?;
+            add_names(alloc, source.ascii(), &mut messages)?;
             let text = source.into_written();
             Ok(Judged { text, messages })
         }

@@ -6,6 +6,7 @@ mod assembling;
 mod checking;
 mod layouts;
 mod messages;
+mod names;
 mod new_programs;
 mod scheduling;
 mod slips;

@@ -222,7 +222,7 @@ fn view_of<'a>(found: &ArgMatches<'a>) -> ViewRequest<'a> {
         from: count(found, "from", 1),
         to: count(found, "to", usize::MAX),
         only: text(found, "only"),
-        word: found.get_one::<u64>("word"),
+        word: text(found, "word"),
         columns: found.get_flag("columns"),
         are_all: found.get_flag("all"),
         shown: shown_of(found),

@@ -44,8 +44,8 @@ pub(crate) const VIEW_ARGUMENTS: [Argument; 13] = [
     ),
     Argument(
         "word",
-        "shows the steps that use the word at this byte address",
-        Form::Number("A", 0, u64::MAX),
+        "shows the steps that use the word at this byte address, or of this name",
+        Form::Option("A"),
     ),
     Argument("columns", "a column a stream", Form::Flag(&["json"])),
     Argument(

@@ -3,7 +3,6 @@
 use crate::debug_desk::{Desk, refuse};
 use command_parts::LabFault;
 use debug_commands::{Answer, Command};
-use named_session::{UserName, read_name};
 use replay_debugger::Point;
 
 impl<'a, 'i, 't, const S: usize> Desk<'a, 'i, 't, S> {
@@ -49,12 +48,19 @@ impl<'a, 'i, 't, const S: usize> Desk<'a, 'i, 't, S> {
             Some((name, what)) => (name, what.trim()),
             None => (rest, ""),
         };
-        let command = match (read_name(name), what) {
-            (Some(UserName::Word(address)), "") => Command::Watch(address),
-            (Some(UserName::Word(address)), "tags") => Command::WatchTags(address),
+        let command = match (self.names.address_of(name), what) {
+            (Some(address), "") => Command::Watch(address),
+            (Some(address), "tags") => Command::WatchTags(address),
+            (None, "" | "tags") if is_named_word(name) => return self.push_no_address(name, out),
             _ => return Ok(out.push_str("watch takes a word, as [8], or [8] tags\n")?),
         };
         self.add_point(&command, out)
+    }
+
+    /// Adds why a text says no word.
+    pub(crate) fn push_no_address(&self, text: &str, out: &mut String) -> Result<(), LabFault> {
+        self.names.push_no_address(self.alloc, out, text)?;
+        Ok(out.push_str("\n")?)
     }
 
     /// A point less.
@@ -84,8 +90,14 @@ impl<'a, 'i, 't, const S: usize> Desk<'a, 'i, 't, S> {
                 write!(out, "processor {p} at ")?;
                 self.names.push_place(out, word)?;
             }
-            Point::Watch(address) => write!(out, "a change of [{address}]")?,
-            Point::WatchTags(address) => write!(out, "a change of the tags of [{address}]")?,
+            Point::Watch(address) => {
+                out.push_str("a change of ")?;
+                self.names.push_address(out, address)?;
+            }
+            Point::WatchTags(address) => {
+                out.push_str("a change of the tags of ")?;
+                self.names.push_address(out, address)?;
+            }
         }
         Ok(out.push_str("\n")?)
     }
@@ -112,6 +124,11 @@ impl<'a, 'i, 't, const S: usize> Desk<'a, 'i, 't, S> {
             }
         }
     }
+}
+
+/// Whether a text is in brackets, or begins as a name does.
+pub(crate) fn is_named_word(text: &str) -> bool {
+    text.starts_with(|letter: char| letter == '[' || letter == '_' || letter.is_ascii_alphabetic())
 }
 
 /// The processor that stands before a place, where a number does, and the place.

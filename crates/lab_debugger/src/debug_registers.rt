@@ -1,9 +1,9 @@
 //! The registers and the words that `debug` shows.
 
 use crate::debug_desk::Desk;
+use crate::debug_points::is_named_word;
 use command_parts::LabFault;
 use lab_texts::{NumberStyle, push_stream_part, push_word};
-use named_session::{UserName, read_name};
 use processor::Step;
 use step_views::{Content, Place, StreamPart};
 
@@ -72,7 +72,10 @@ impl<'a, 'i, 't, const S: usize> Desk<'a, 'i, 't, S> {
 
     /// Adds so many words as the size behind `x/` says, from a byte address on.
     pub(crate) fn examine(&self, size: &str, rest: &str, out: &mut String) -> Result<(), LabFault> {
-        let Some(first) = self.address_of(rest)? else {
+        let Some(first) = self.names.address_of(rest) else {
+            if is_named_word(rest) && !rest.contains(' ') {
+                return self.push_no_address(rest, out);
+            }
             return Ok(out.push_str("x takes a byte address, as x 8, or x/4 8 for 4 words\n")?);
         };
         for index in 0..words_of(size).min(MOST_WORDS) {
@@ -82,16 +85,6 @@ impl<'a, 'i, 't, const S: usize> Desk<'a, 'i, 't, S> {
             }
         }
         Ok(())
-    }
-
-    /// The byte address that a text names, as `8` or as `[8]`.
-    fn address_of(&self, text: &str) -> Result<Option<u64>, LabFault> {
-        let name = format!(in self.alloc; "[{text}]")?;
-        let asked = if text.starts_with('[') { text } else { &name };
-        Ok(match read_name(asked) {
-            Some(UserName::Word(address)) => Some(address),
-            _ => None,
-        })
     }
 
     /// Adds the word at a byte address, and says whether there is one.
@@ -104,7 +97,8 @@ impl<'a, 'i, 't, const S: usize> Desk<'a, 'i, 't, S> {
             out.push_str("there is no word at this address\n")?;
             return Ok(false);
         };
-        write!(out, "[{address}] ")?;
+        self.names.push_address(out, address)?;
+        out.push_str(" ")?;
         push_word(out, NumberStyle::Decimal, word)?;
         out.push_str("\n")?;
         Ok(true)

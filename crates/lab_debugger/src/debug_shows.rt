@@ -1,6 +1,7 @@
 //! What `debug` shows of a world.
 
 use crate::debug_desk::{Desk, refuse};
+use crate::debug_points::is_named_word;
 use command_parts::LabFault;
 use lab_texts::{NumberStyle, push_stream, push_value};
 use named_session::{UserName, read_name};
@@ -72,7 +73,7 @@ impl<'a, 'i, 't, const S: usize> Desk<'a, 'i, 't, S> {
     fn push_waits(&self, out: &mut String) -> Result<(), LabFault> {
         for stream in running_streams(self.alloc, self.named.session.machine())?.iter() {
             if let Some(wait) = self.named.wait(stream.p, stream.s) {
-                push_wait(*stream, wait, out)?;
+                self.push_wait(*stream, wait, out)?;
                 out.push_str("\n")?;
             }
         }
@@ -92,10 +93,34 @@ impl<'a, 'i, 't, const S: usize> Desk<'a, 'i, 't, S> {
             }
             Some(UserName::Stream(step)) => self.push_registers(step, out),
             None if rest.is_empty() => self.push_registers(self.stream_here(), out),
-            _ => Ok(out.push_str(
+            _ => self.print_named(rest, out),
+        }
+    }
+
+    /// Adds the word that a text without brackets, or with a name in them, says.
+    fn print_named(&self, text: &str, out: &mut String) -> Result<(), LabFault> {
+        match self.names.address_of(text) {
+            Some(address) => {
+                let _ = self.push_memory_word(address, out)?;
+                Ok(())
+            }
+            None if is_named_word(text) && !text.contains(' ') => self.push_no_address(text, out),
+            None => Ok(out.push_str(
                 "print takes a register, a stream or a word, as r1, 2.0.r1, 2.0 or [8]\n",
             )?),
         }
+    }
+
+    /// Adds what a stream waits for.
+    fn push_wait(&self, step: Step, wait: Wait, out: &mut String) -> Result<(), AllocError> {
+        push_stream(out, step.p, step.s)?;
+        let wanted = match wait.wanted {
+            Wanted::Full => "full",
+            Wanted::Empty => "empty",
+        };
+        out.push_str(" waits for ")?;
+        self.names.push_address(out, wait.address)?;
+        write!(out, " to be {wanted}")
     }
 
     /// Adds a register of a stream.
@@ -154,7 +179,7 @@ impl<'a, 'i, 't, const S: usize> Desk<'a, 'i, 't, S> {
             push_stream(out, step.p, step.s)?;
             return Ok(out.push_str(" does not wait\n")?);
         };
-        push_wait(step, wait, out)?;
+        self.push_wait(step, wait, out)?;
         match self.named.last_turn(wait.address) {
             Ok(Some(position)) => {
                 write!(out, "; step {position}")?;
@@ -173,14 +198,4 @@ impl<'a, 'i, 't, const S: usize> Desk<'a, 'i, 't, S> {
             Err(fault) => refuse(fault, out),
         }
     }
-}
-
-/// Adds what a stream waits for.
-fn push_wait(step: Step, wait: Wait, out: &mut String) -> Result<(), AllocError> {
-    push_stream(out, step.p, step.s)?;
-    let wanted = match wait.wanted {
-        Wanted::Full => "full",
-        Wanted::Empty => "empty",
-    };
-    write!(out, " waits for [{}] to be {wanted}", wait.address)
 }

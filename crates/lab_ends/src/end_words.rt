@@ -27,7 +27,7 @@ pub fn end_words_of<const S: usize>(
     let stopped = stopped_streams(alloc, machine)?;
     let mut text = String::new(alloc);
     push_stopped(&mut text, &stopped)?;
-    push_waiting(alloc, &mut text, machine)?;
+    push_waiting(alloc, &mut text, names, machine)?;
     push_changed_words(&mut text, names, style, machine)?;
     Ok(EndWords { text, stopped })
 }
@@ -47,14 +47,15 @@ fn push_stopped(text: &mut String, stopped: &[StoppedStream]) -> Result<(), Allo
 fn push_waiting<const S: usize>(
     alloc: Global,
     text: &mut String,
+    names: &ProgramNames<'_>,
     machine: &Machine<'_, S>,
 ) -> Result<(), AllocError> {
     for stream in &running_streams(alloc, machine)? {
         if let Some(wait) = wait_of(machine, stream.p, stream.s) {
             push_part_of(text, 0, "")?;
             push_stream(text, stream.p, stream.s)?;
-            let address = wait.address;
-            write!(text, " waits for [{address}]")?;
+            text.push_str(" waits for ")?;
+            names.push_address(text, wait.address)?;
         }
     }
     Ok(())

@@ -117,9 +117,9 @@ pub(crate) fn set_told<const S: usize>(
     }
     let changing = changing_words(alloc, &seen.is_changing)?;
     let mut text = String::new(alloc);
-    push_streams(&mut text, &seen.streams)?;
+    push_streams(&mut text, names, &seen.streams)?;
     push_changed_words(&mut text, names, style, &machine)?;
-    push_changing(&mut text, &changing)?;
+    push_changing(&mut text, names, &changing)?;
     Ok(SetTold {
         text,
         running: running_of(alloc, &seen.streams)?,
@@ -150,13 +150,20 @@ fn changing_words(alloc: Global, is_changing: &[bool]) -> Result<Vec<u64>, Alloc
 }
 
 /// Adds the streams, and how they go on.
-fn push_streams(text: &mut String, streams: &[GoingStream]) -> Result<(), AllocError> {
+fn push_streams(
+    text: &mut String,
+    names: &ProgramNames<'_>,
+    streams: &[GoingStream],
+) -> Result<(), AllocError> {
     for GoingStream { stream, going } in streams {
         push_part_of(text, 0, "")?;
         push_stream(text, stream.p, stream.s)?;
         match going {
             Going::Runs => text.push_str(" runs")?,
-            Going::WaitsFor(address) => write!(text, " waits for [{address}]")?,
+            Going::WaitsFor(address) => {
+                text.push_str(" waits for ")?;
+                names.push_address(text, *address)?;
+            }
             Going::Waits => text.push_str(" waits")?,
         }
     }
@@ -164,10 +171,15 @@ fn push_streams(text: &mut String, streams: &[GoingStream]) -> Result<(), AllocE
 }
 
 /// Adds the words at these byte addresses, as ones that change.
-fn push_changing(text: &mut String, changing: &[u64]) -> Result<(), AllocError> {
+fn push_changing(
+    text: &mut String,
+    names: &ProgramNames<'_>,
+    changing: &[u64],
+) -> Result<(), AllocError> {
     for address in changing {
         push_part_of(text, 0, "")?;
-        write!(text, "[{address}] keeps changing")?;
+        names.push_address(text, *address)?;
+        text.push_str(" keeps changing")?;
     }
     Ok(())
 }

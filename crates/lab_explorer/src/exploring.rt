@@ -17,7 +17,7 @@ use crate::graphs::{graph_asked, write_graph};
 use crate::spaces::space_of;
 use crate::unkept::Unkept;
 use crate::watching::{Console, SearchBound, Watcher};
-use crate::wished::wishes_of;
+use crate::wished::{addressed, wishes_of};
 use command_parts::{
     Answer, Inputs, LabFault, Program, Status, read_program, read_steps, style_of,
 };
@@ -143,7 +143,7 @@ pub fn show_every_end<C: Clock, F: Files, R: Read, E: Write>(
 ) -> Result<Answer, LabFault> {
     let program = read_program(alloc, inputs, request.program)?;
     let names = ProgramNames::of(alloc, &program.text)?;
-    let text = text_asked(alloc, inputs, request.expected)?;
+    let text = text_asked(alloc, inputs, request.expected, &names)?;
     let wishes = wishes_asked(alloc, request.expected, &text, &program, &names)?;
     let begin = begin_asked(alloc, inputs, request, &program)?;
     let made = make_folders(alloc, inputs, request);
@@ -190,14 +190,15 @@ fn begin_asked<F: Files, R: Read>(
     }
 }
 
-/// The text of the file that says what is wished; empty where none is named.
+/// The text of the file that says what is wished, with addresses for names; empty where none is named.
 fn text_asked<F: Files, R: Read>(
     alloc: Global,
     inputs: &mut Inputs<'_, F, R>,
     path: Option<&str>,
+    names: &ProgramNames<'_>,
 ) -> Result<Vec<u8>, LabFault> {
     match path {
-        Some(path) => inputs.read(alloc, path),
+        Some(path) => addressed(alloc, path, &inputs.read(alloc, path)?, names),
         None => Ok(Vec::new(alloc)),
     }
 }

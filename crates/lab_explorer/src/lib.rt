@@ -25,4 +25,4 @@ pub use explored_objects::put_bound;
 pub use exploring::{Explored, Search, explore_program, show_every_end};
 pub use unkept::{Unkept, push_unkept, push_unkept_objects};
 pub use watching::{Console, SearchBound, Watcher};
-pub use wished::{expectations_of, wish_fault, wishes_of};
+pub use wished::{addressed, expectations_of, wish_fault, wishes_of};

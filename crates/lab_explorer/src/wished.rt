@@ -4,7 +4,7 @@ use crate::claim_texts::claim_words;
 use command_parts::LabFault;
 use expectations::{Expectation, ExpectationFault, ExpectationFaultKind, read_expectations};
 use image_file::Image;
-use lab_ends::{RuleFault, WishFault, Wishes};
+use lab_ends::{NamedText, RuleFault, UnknownName, WishFault, Wishes, with_addresses};
 use lab_texts::ProgramNames;
 use plain_text::plain;
 use std::alloc::{AllocError, Global};
@@ -19,6 +19,27 @@ pub fn expectations_of(
         Ok(expected) => Ok(expected),
         Err(fault) => Err(expectation_fault(alloc, path, fault)?),
     }
+}
+
+/// The text of a path with addresses in place of the names of a program's data words.
+pub fn addressed(
+    alloc: Global,
+    path: &str,
+    text: &[u8],
+    names: &ProgramNames<'_>,
+) -> Result<Vec<u8>, LabFault> {
+    match with_addresses(alloc, names, text)? {
+        NamedText::Plain(plain) => Ok(plain),
+        NamedText::Unknown(unknown) => Err(unknown_name(alloc, path, &unknown)?),
+    }
+}
+
+/// What is said of a file that names a word which the program has not.
+fn unknown_name(alloc: Global, path: &str, unknown: &UnknownName) -> Result<LabFault, AllocError> {
+    let path = plain(alloc, path)?;
+    let line = unknown.line;
+    let words = unknown.words.as_str();
+    Ok(LabFault::Lines(format!(in alloc; "{path}:{line}:1: error: {words}\n")?))
 }
 
 /// The wishes of the text of a path of a program, by its names and its image.

@@ -4,7 +4,7 @@ use crate::cases::Case;
 use crate::wish_lines::WishLines;
 use command_parts::{LabFault, Program};
 use grade_reports::{Verdict, VerdictKind, WishLine};
-use lab_ends::{ClaimFault, WishFault, Wishes};
+use lab_ends::{ClaimFault, NamedText, WishFault, Wishes, with_addresses};
 use lab_explorer::{claim_words, wish_fault};
 use lab_requests::GradeRequest;
 use lab_texts::{NumberStyle, ProgramNames};
@@ -36,14 +36,21 @@ pub(crate) struct Judged<'a, 't> {
     pub lines: &'a WishLines,
 }
 
-/// What a case wants of a submission, or what is said of one that has not all that a claim speaks of.
+/// What a case wants of a submission, or what is said of one that has not all that a claim speaks of, or not a word of a
+/// name.
 pub(crate) fn wishes_for(
     alloc: Global,
     case: &Case,
     program: &Program,
     names: &ProgramNames<'_>,
 ) -> Result<Result<Wishes, Verdict>, LabFault> {
-    match Wishes::of(alloc, &case.wishes, names, &program.image) {
+    let text = match with_addresses(alloc, names, &case.wishes)? {
+        NamedText::Plain(text) => text,
+        NamedText::Unknown(name) => {
+            return Ok(Err(verdict_without(alloc, case, name.line, &name.words)?));
+        }
+    };
+    match Wishes::of(alloc, &text, names, &program.image) {
         Ok(wishes) => Ok(Ok(wishes)),
         Err(WishFault::Claim { line, fault }) if fault.is_of_program() => Ok(Err(
             verdict_without_parts(alloc, case, program, line, fault)?,
@@ -60,8 +67,18 @@ fn verdict_without_parts(
     line: usize,
     fault: ClaimFault,
 ) -> Result<Verdict, AllocError> {
-    let path = case.path.as_str();
     let reason = claim_words(alloc, fault, &program.image)?;
+    verdict_without(alloc, case, line, &reason)
+}
+
+/// The same for a reason.
+fn verdict_without(
+    alloc: Global,
+    case: &Case,
+    line: usize,
+    reason: &str,
+) -> Result<Verdict, AllocError> {
+    let path = case.path.as_str();
     let words = format!(in alloc; "{path}:{line}: {reason}")?;
     let mut verdict = Verdict::of_no_program(alloc, VerdictKind::Wrong, words);
     verdict.missed = line_of_number(alloc, &case.wishes, line)?;
@@ -74,7 +91,8 @@ fn line_of_number(
     text: &[u8],
     number: usize,
 ) -> Result<Option<WishLine>, AllocError> {
-    for line in WishLines::of(alloc, text)?.claims.iter() {
+    let lines = WishLines::of(alloc, text)?;
+    for line in lines.claims.iter().chain(lines.ends.iter()) {
         if line.number == number {
             return Ok(Some(line.copy(alloc)?));
         }

@@ -4,7 +4,7 @@ use crate::goals::{Judging, goal_place};
 use crate::opened_pages::opened_after;
 use command_parts::{Answer, Inputs, LabFault, Program, read_program, read_steps};
 use lab_ends::{Wishes, are_rules_kept, space_ends};
-use lab_explorer::{Console, Watcher, push_expectation, wishes_of};
+use lab_explorer::{Console, Watcher, addressed, push_expectation, wishes_of};
 use lab_requests::{Bounds, PlayRequest};
 use lab_texts::{NumberStyle, ProgramNames};
 use machine::LoadFault;
@@ -29,7 +29,7 @@ pub fn write_play_page<C: Clock, F: Files, R: Read, E: Write>(
     let names = ProgramNames::of(alloc, &program.text)?;
     let wishes = match request.expected {
         Some(path) => {
-            let text = inputs.read(alloc, path)?;
+            let text = addressed(alloc, path, &inputs.read(alloc, path)?, &names)?;
             wishes_of(alloc, path, &text, &names, &program.image)?
         }
         None => Wishes::none(alloc),

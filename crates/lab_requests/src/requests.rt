@@ -68,8 +68,8 @@ pub struct ViewRequest<'a> {
     pub to: usize,
     /// The only stream that is shown, as it was given.
     pub only: Option<&'a str>,
-    /// The byte address of the only word whose steps are shown.
-    pub word: Option<u64>,
+    /// The only word whose steps are shown, as it was given: its byte address or its name.
+    pub word: Option<&'a str>,
     /// A column a stream.
     pub columns: bool,
     /// Whether each step has a line, also where a loop repeats.

@@ -4,8 +4,8 @@ use crate::survey_objects::{Surveyed, push_coverage, push_outcome_objects};
 use command_parts::{Answer, Inputs, LabFault, Program, Status, read_program, style_of};
 use lab_ends::{SpaceEnd, SpaceEndKind, Wishes, first_broken_rule};
 use lab_explorer::{
-    Console, EndCells, EndColumns, Explored, Search, Unkept, Watcher, end_line, explore_program,
-    push_expectation, push_unkept, push_unkept_objects, wishes_of,
+    Console, EndCells, EndColumns, Explored, Search, Unkept, Watcher, addressed, end_line,
+    explore_program, push_expectation, push_unkept, push_unkept_objects, wishes_of,
 };
 use lab_requests::{Bounds, SurveyRequest};
 use lab_texts::{NumberStyle, ProgramNames};
@@ -32,6 +32,9 @@ pub fn survey<X: Threads + Sync, C: Clock, F: Files, R: Read, E: Write>(
     }
     let program = read_program(alloc, inputs, request.program)?;
     let names = ProgramNames::of(alloc, &program.text)?;
+    if let Some(path) = request.expected {
+        text = addressed(alloc, path, &text, &names)?;
+    }
     let wishes = match request.expected {
         Some(path) => wishes_of(alloc, path, &text, &names, &program.image)?,
         None => Wishes::none(alloc),

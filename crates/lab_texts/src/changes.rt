@@ -225,7 +225,8 @@ impl ChangeWriter<'_, '_> {
         change: &Change,
     ) -> Result<(), AllocError> {
         push_part_of(out, self.begin, "")?;
-        write!(out, "[{address}] ")?;
+        self.names.push_address(out, address)?;
+        out.push_str(" ")?;
         self.push_content(out, change.before)?;
         out.push_str(" -> ")?;
         self.push_content(out, change.after)
@@ -247,7 +248,8 @@ impl ChangeWriter<'_, '_> {
             out.push_str(", ")?;
         } else {
             push_part_of(out, self.begin, "")?;
-            write!(out, "[{address}] ")?;
+            self.names.push_address(out, address)?;
+            out.push_str(" ")?;
             self.push_value_read(out, view, address)?;
         }
         self.push_content(out, change.before)?;

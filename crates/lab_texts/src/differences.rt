@@ -21,7 +21,7 @@ pub fn push_differing_words<const S: usize>(
         if let Some(word) = machine.word(address)
             && word != *cell
         {
-            push_word_change(out, style, address, *cell, word)?;
+            push_word_change(out, names, style, address, *cell, word)?;
             names.push_comment(out, address)?;
             out.push_str("\n")?;
         }
@@ -48,7 +48,7 @@ pub fn push_changed_words<const S: usize>(
             if !out.is_empty() {
                 out.push_str(", ")?;
             }
-            push_word_change(out, style, address, *cell, word)?;
+            push_word_change(out, names, style, address, *cell, word)?;
             last = Some(address);
             count = count.saturating_add(1);
         }
@@ -81,7 +81,7 @@ fn push_comment_in_brackets(
     names: &ProgramNames,
     address: u64,
 ) -> Result<(), AllocError> {
-    let comment = names.comment(address);
+    let comment = names.remark(address);
     if comment.is_empty() {
         return Ok(());
     }
@@ -92,7 +92,7 @@ fn push_comment_in_brackets(
 
 /// Adds the comment of a word as the text has it, where it has one.
 fn push_comment(out: &mut String, names: &ProgramNames, address: u64) -> Result<(), AllocError> {
-    let comment = names.comment(address);
+    let comment = names.remark(address);
     if !comment.is_empty() {
         out.push_str("   ")?;
         out.push_str(comment)?;
@@ -103,12 +103,14 @@ fn push_comment(out: &mut String, names: &ProgramNames, address: u64) -> Result<
 /// Adds a word that differs: the value and, where they differ, the tags, before and after.
 fn push_word_change(
     out: &mut String,
+    names: &ProgramNames,
     style: NumberStyle,
     address: u64,
     before: Word,
     after: Word,
 ) -> Result<(), AllocError> {
-    write!(out, "[{address}] ")?;
+    names.push_address(out, address)?;
+    out.push_str(" ")?;
     let values = before.value() != after.value();
     let tags = before.tags() != after.tags();
     if values {

@@ -192,9 +192,10 @@ fn push_wait(out: &mut String, names: &ProgramNames, wait: &StreamWait) -> Resul
     if since > 0 {
         write!(out, " since step {since}")?;
     }
-    let address = wait.wait.address;
     let wanted = wanted_word(wait.wait.wanted);
-    write!(out, " for [{address}] to be {wanted}, which ")?;
+    out.push_str(" for ")?;
+    names.push_address(out, wait.wait.address)?;
+    write!(out, " to be {wanted}, which ")?;
     match wait.turn {
         Some(turn) => {
             let number = turn.number;

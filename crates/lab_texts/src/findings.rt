@@ -189,8 +189,9 @@ pub fn push_first_finding(
 impl Telling<'_, '_> {
     /// Adds a lost update.
     fn push_lost(&self, out: &mut String, update: &LostUpdate) -> Result<(), AllocError> {
-        let word = update.word;
-        write!(out, "lost update of [{word}]: ")?;
+        out.push_str("lost update of ")?;
+        self.names.push_address(out, update.word)?;
+        out.push_str(": ")?;
         self.push_read(out, update.read)?;
         out.push_str(", ")?;
         self.push_write(out, update.over, "wrote", "")?;
@@ -200,8 +201,9 @@ impl Telling<'_, '_> {
 
     /// Adds an unread store.
     fn push_unread(&self, out: &mut String, store: &UnreadStore) -> Result<(), AllocError> {
-        let word = store.word;
-        write!(out, "unread store to [{word}]: ")?;
+        out.push_str("unread store to ")?;
+        self.names.push_address(out, store.word)?;
+        out.push_str(": ")?;
         self.push_write(out, store.over, "stored", "")?;
         out.push_str(", ")?;
         self.push_write(out, store.stored, "stored", " over it")
@@ -211,7 +213,11 @@ impl Telling<'_, '_> {
     fn push_torn(&self, out: &mut String, torn: &TornRead) -> Result<(), AllocError> {
         let stale = torn.stale;
         let fresh = torn.fresh;
-        write!(out, "torn read of [{stale}] and [{fresh}]: ")?;
+        out.push_str("torn read of ")?;
+        self.names.push_address(out, stale)?;
+        out.push_str(" and ")?;
+        self.names.push_address(out, fresh)?;
+        out.push_str(": ")?;
         self.push_pair(
             out,
             "read",
@@ -268,11 +274,11 @@ impl Telling<'_, '_> {
             (other, one)
         };
         self.push_stream_of(out, first.1)?;
-        let address = first.0;
-        write!(out, " {deed} [{address}]")?;
+        write!(out, " {deed} ")?;
+        self.names.push_address(out, first.0)?;
         push_step(out, first.1)?;
-        let address = second.0;
-        write!(out, " and [{address}]")?;
+        out.push_str(" and ")?;
+        self.names.push_address(out, second.0)?;
         push_step(out, second.1)
     }
 
@@ -295,7 +301,7 @@ impl Telling<'_, '_> {
         let (first, second) = (torn.stale.min(torn.fresh), torn.stale.max(torn.fresh));
         let mut between = "   ";
         for word in [first, second] {
-            let comment = self.names.comment(word);
+            let comment = self.names.remark(word);
             if !comment.is_empty() {
                 write!(out, "{between}[{word}] ")?;
                 push_plain(out, comment)?;

@@ -2,6 +2,7 @@
 //! ended, and its findings (docs/LAB_REFERENCE.md).
 #![tactic(auto)]
 
+mod addresses;
 mod changes;
 mod differences;
 mod ends;

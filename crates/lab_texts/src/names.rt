@@ -1,5 +1,6 @@
 //! The names that a program's text gives its places.
 
+use crate::addresses::DataNames;
 use image_file::MAX_PROGRAM_WORDS;
 use plain_text::push_plain;
 use source_places::{DataLine, SourceLabel, SourcePlaces, comment_of};
@@ -24,6 +25,7 @@ struct WordName<'t> {
 pub struct ProgramNames<'t> {
     words: Vec<WordName<'t>>,
     data: Vec<DataLine<'t>>,
+    pub(crate) data_names: DataNames<'t>,
     place_width: usize,
     statement_width: usize,
 }
@@ -42,6 +44,7 @@ impl<'t> ProgramNames<'t> {
         Ok(ProgramNames {
             words,
             data: Vec::from_slice(alloc, places.data_lines())?,
+            data_names: DataNames::of(alloc, places.data_names())?,
             place_width,
             statement_width,
         })
@@ -128,16 +131,16 @@ impl<'t> ProgramNames<'t> {
         }
     }
 
-    /// Whether some word of the memory has a comment.
+    /// Whether some word of the memory has a comment, besides its name.
     pub fn has_comments(&self) -> bool {
         self.data.iter().any(|line| !self
-            .comment((line.first as u64).saturating_mul(8))
+            .remark((line.first as u64).saturating_mul(8))
             .is_empty())
     }
 
-    /// Adds that comment as a terminal may have it, behind blanks, where there is one.
+    /// Adds that comment as a terminal may have it, without the word's name and behind blanks, where there is one.
     pub(crate) fn push_comment(&self, out: &mut String, address: u64) -> Result<(), AllocError> {
-        let comment = self.comment(address);
+        let comment = self.remark(address);
         if comment.is_empty() {
             return Ok(());
         }

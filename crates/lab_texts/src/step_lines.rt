@@ -98,7 +98,7 @@ pub fn push_step_text<const S: usize>(
     let begin = out.len();
     push_what(out, names, style, view, machine)?;
     if let Some(address) = met_word(view) {
-        let comment = names.comment(address);
+        let comment = names.remark(address);
         if !comment.is_empty() {
             pad(out, begin, columns.changes)?;
             out.push_str("  ")?;
@@ -210,9 +210,9 @@ fn push_what<const S: usize>(
     let begin = out.len();
     match view.outcome {
         Outcome::Skipped => return push_skipped(out, view, machine),
-        Outcome::Trapped(trap) | Outcome::Stopped(trap) => push_trapped(out, trap, view)?,
-        Outcome::Blocked => push_blocked(out, view, machine)?,
-        Outcome::Done => push_unchanged_word(out, style, view, machine)?,
+        Outcome::Trapped(trap) | Outcome::Stopped(trap) => push_trapped(out, names, trap, view)?,
+        Outcome::Blocked => push_blocked(out, names, view, machine)?,
+        Outcome::Done => push_unchanged_word(out, names, style, view, machine)?,
     }
     push_changes(out, names, style, view, begin)
 }
@@ -232,10 +232,16 @@ fn push_skipped<const S: usize>(
 }
 
 /// Adds a trap, with the address where the memory refused it.
-fn push_trapped(out: &mut String, trap: TrapKind, view: &StepView) -> Result<(), AllocError> {
+fn push_trapped(
+    out: &mut String,
+    names: &ProgramNames,
+    trap: TrapKind,
+    view: &StepView,
+) -> Result<(), AllocError> {
     push_trap(out, trap)?;
     if let Some(Reference { address, .. }) = view.reference {
-        write!(out, " at [{address}]")?;
+        out.push_str(" at ")?;
+        names.push_address(out, address)?;
     }
     out.push_str(": ")?;
     out.push_str(trap_words(trap))
@@ -244,14 +250,16 @@ fn push_trapped(out: &mut String, trap: TrapKind, view: &StepView) -> Result<(),
 /// Adds what a blocked step waits for.
 fn push_blocked<const S: usize>(
     out: &mut String,
+    names: &ProgramNames,
     view: &StepView,
     machine: &Machine<'_, S>,
 ) -> Result<(), AllocError> {
     match wait_of(machine, view.step.p, view.step.s) {
         Some(wait) => {
-            let address = wait.address;
             let wanted = wanted_word(wait.wanted);
-            write!(out, "waits for [{address}] to be {wanted}")
+            out.push_str("waits for ")?;
+            names.push_address(out, wait.address)?;
+            write!(out, " to be {wanted}")
         }
         None => out.push_str("is blocked"),
     }
@@ -260,6 +268,7 @@ fn push_blocked<const S: usize>(
 /// Adds the word that a done reference met, where it left it as it was.
 fn push_unchanged_word<const S: usize>(
     out: &mut String,
+    names: &ProgramNames,
     style: NumberStyle,
     view: &StepView,
     machine: &Machine<'_, S>,
@@ -287,6 +296,7 @@ fn push_unchanged_word<const S: usize>(
         MemOp::Load | MemOp::TagGet => "is",
         MemOp::Store | MemOp::Fadd | MemOp::TagSet | MemOp::Purge => "stays",
     };
-    write!(out, "[{address}] {verb} ")?;
+    names.push_address(out, address)?;
+    write!(out, " {verb} ")?;
     push_word(out, style, word)
 }

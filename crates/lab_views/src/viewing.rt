@@ -22,20 +22,33 @@ use std::rt::Files;
 use step_views::{Place, StepView, take_step};
 use whole_runs::run_views;
 
+/// Of which steps alone is shown; of all where nothing is asked.
+#[derive(Clone, Copy)]
+struct Only {
+    /// Those of this stream.
+    stream: Option<Step>,
+    /// Those that use the word at this byte address.
+    word: Option<u64>,
+}
+
 /// Shows a run.
 pub fn view<F: Files, R: Read>(
     alloc: Global,
     inputs: &mut Inputs<'_, F, R>,
     request: &ViewRequest,
 ) -> Result<Answer, LabFault> {
-    let only = match request.only {
+    let stream = match request.only {
         Some(name) => Some(stream_named(alloc, name)?),
         None => None,
     };
     check_range(alloc, request)?;
     let program = read_program(alloc, inputs, request.program)?;
-    check_stream(alloc, only, &program.image)?;
-    check_word(alloc, request.word, &program.image)?;
+    check_stream(alloc, stream, &program.image)?;
+    let word = match request.word {
+        Some(text) => Some(word_named(alloc, text, &program)?),
+        None => None,
+    };
+    let only = Only { stream, word };
     let steps = steps_of(alloc, inputs, &program, request.run)?;
     let (output, status) = if program.image.slim() <= 8 {
         view_on::<8>(alloc, &program, &steps, request, only)?
@@ -80,14 +93,17 @@ fn check_stream(alloc: Global, only: Option<Step>, image: &Image) -> Result<(), 
     )?))
 }
 
-/// Refuses a word that the image has not.
-fn check_word(alloc: Global, word: Option<u64>, image: &Image) -> Result<(), LabFault> {
-    let Some(address) = word else {
-        return Ok(());
+/// The byte address of the word of a program that a text says, by its address or its name.
+fn word_named(alloc: Global, text: &str, program: &Program) -> Result<u64, LabFault> {
+    let names = ProgramNames::of(alloc, &program.text)?;
+    let Some(address) = names.address_of(text) else {
+        let mut words = String::from_str(alloc, "--word: ")?;
+        names.push_no_address(alloc, &mut words, text)?;
+        return Err(LabFault::Words(words));
     };
-    let bytes = (image.cells().len() as u64).saturating_mul(8);
+    let bytes = (program.image.cells().len() as u64).saturating_mul(8);
     if address % 8 == 0 && address < bytes {
-        return Ok(());
+        return Ok(address);
     }
     Err(LabFault::Words(format!(in alloc;
         "--word {address}: the memory has no such word: multiples of 8 below {bytes}"
@@ -100,7 +116,7 @@ fn view_on<const S: usize>(
     program: &Program,
     steps: &[Step],
     request: &ViewRequest,
-    only: Option<Step>,
+    only: Only,
 ) -> Result<(String, Status), AllocError> {
     let names = ProgramNames::of(alloc, &program.text)?;
     let layout = Layout {
@@ -143,16 +159,16 @@ fn schedule_name<'a>(run: RunChoice<'a>) -> &'a str {
 }
 
 /// Whether the step of this number is shown.
-fn is_shown(request: &ViewRequest, only: Option<Step>, number: usize, view: &StepView) -> bool {
+fn is_shown(request: &ViewRequest, only: Only, number: usize, view: &StepView) -> bool {
     if number < request.from || number > request.to {
         return false;
     }
-    if let Some(stream) = only
+    if let Some(stream) = only.stream
         && stream != view.step
     {
         return false;
     }
-    match request.word {
+    match only.word {
         Some(address) => meets(view, address),
         None => true,
     }
@@ -173,15 +189,17 @@ fn meets(view: &StepView, address: u64) -> bool {
 /// Adds that there is no step of a stream, or none that uses a word, and between which steps.
 fn push_no_step(
     out: &mut String,
+    names: &ProgramNames<'_>,
     request: &ViewRequest,
-    only: Option<Step>,
+    only: Only,
 ) -> Result<(), AllocError> {
     out.push_str("there is no step")?;
-    if let Some(Step { p, s }) = only {
+    if let Some(Step { p, s }) = only.stream {
         write!(out, " of {p}.{s}")?;
     }
-    if let Some(address) = request.word {
-        write!(out, " that uses [{address}]")?;
+    if let Some(address) = only.word {
+        out.push_str(" that uses ")?;
+        names.push_address(out, address)?;
     }
     let (from, to) = (request.from, request.to);
     match (from, to) {
@@ -210,7 +228,7 @@ fn steps_of_end(alloc: Global, end: &RunEnd) -> Result<Vec<usize>, AllocError> {
 struct Layout<'a, 't> {
     names: &'a ProgramNames<'t>,
     request: ViewRequest<'a>,
-    only: Option<Step>,
+    only: Only,
     columns: Columns,
     lanes: Vec<Step>,
 }
@@ -324,12 +342,12 @@ impl Layout<'_, '_> {
         lines: &StepLines,
         steps: usize,
     ) -> Result<(), AllocError> {
-        let is_each = self.only.is_none() && self.request.word.is_none();
+        let is_each = self.only.stream.is_none() && self.only.word.is_none();
         if lines.is_empty() {
             return if steps == 0 || is_each {
                 Ok(())
             } else {
-                push_no_step(out, &self.request, self.only)
+                push_no_step(out, self.names, &self.request, self.only)
             };
         }
         if self.lanes.is_empty() {

@@ -31,7 +31,7 @@ impl Severity {
 pub struct Message {
     /// Whether the text is refused for it.
     pub severity: Severity,
-    /// Its number: of a fault of a source text 1 to 10, of a warning 101 to 113; None where it has none.
+    /// Its number: of a fault of a source text 1 to 10, of a warning 101 to 114; None where it has none.
     pub number: Option<u8>,
     /// The line, from 1.
     pub line: usize,

@@ -82,7 +82,10 @@ fn note_missing_label(
     operand: Token,
 ) -> Result<(), AllocError> {
     let alloc = notes.alloc();
-    let help = missing_label_help(notes, reader, operand.bytes)?;
+    let help = match data_help(notes, reader, Form::Value, operand.bytes)? {
+        Some(help) => Some(help),
+        None => missing_label_help(notes, reader, operand.bytes)?,
+    };
     let text = shown(alloc, operand.bytes)?;
     let words = format!(in alloc; "no line has the label {text}")?;
     notes.number(Fault::LabelMissing.number());

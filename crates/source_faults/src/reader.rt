@@ -9,6 +9,7 @@ use crate::token::Token;
 use asm_line::{Fault, Item, Place, SourceLine, read_line};
 use asm_text::{Outline, outline_of};
 use insn_word::Profile;
+use source_places::SourcePlaces;
 use std::alloc::{AllocError, Global};
 
 /// What is known of a text before its lines are read.
@@ -101,6 +102,21 @@ impl<'s, 't> Reader<'s, 't> {
     /// Where the data words of the text stand in memory.
     pub(crate) fn data_lines(&self, alloc: Global) -> Result<DataLines, AllocError> {
         DataLines::of(alloc, self.source, self.source.text)
+    }
+
+    /// The address of the first data word of a line whose comment is this name; None where there is none.
+    pub(crate) fn address_named(
+        &self,
+        alloc: Global,
+        name: &[u8],
+    ) -> Result<Option<usize>, AllocError> {
+        let places = SourcePlaces::of(alloc, self.source.text)?;
+        for known in places.data_names() {
+            if known.name == name {
+                return Ok(Some(known.first.saturating_mul(8)));
+            }
+        }
+        Ok(None)
     }
 
     /// Where a label stands first.

@@ -90,4 +90,9 @@ What to do: .data 0 begins full, .data 0, 0 empty. STORE.S fills a word, LOAD.S 
 
 = 113
 Warning 113: a result or number goes to r0, which is always 0. Write r1 to r31, or .T to make a code.
+
+= 114
+Warning 114: a comment is the name of its data word, and another line has the name too: so it names no word.
+
+What to do: .data 0 ; total names a word for mta_lab. Take another name, or more words of comment.
 ";

@@ -1,0 +1,168 @@
+//! Lines of expectations and claims that name data words ("Expectations", docs/FORMATS.md).
+
+use lab_texts::ProgramNames;
+use std::alloc::{AllocError, Global};
+use std::str;
+
+/// A name that stands for an address, and that no word of the program has.
+#[derive(Drop)]
+pub struct UnknownName {
+    /// The line, counted from 1.
+    pub line: usize,
+    /// What is to be said of it.
+    pub words: String,
+}
+
+/// A text with addresses in place of the names of data words, or what is wrong with its first name of none.
+#[derive(Drop)]
+pub enum NamedText {
+    /// The text. A line that has no name is as it was.
+    Plain(Vec<u8>),
+    /// A name of no word.
+    Unknown(UnknownName),
+}
+
+/// A text of expectations and claims with the address of each data word in place of its name, in brackets or not.
+pub fn with_addresses(
+    alloc: Global,
+    names: &ProgramNames<'_>,
+    text: &[u8],
+) -> Result<NamedText, AllocError> {
+    let mut plain = Vec::with_capacity(alloc, text.len())?;
+    for (index, line) in text.split(|byte| *byte == b'\n').enumerate() {
+        if index > 0 {
+            plain.push(b'\n')?;
+        }
+        let mut said = Said::new(alloc);
+        said.read(alloc, names, statement_of(line))?;
+        if let Some(words) = said.unknown {
+            return Ok(NamedText::Unknown(UnknownName {
+                line: index.saturating_add(1),
+                words,
+            }));
+        }
+        if said.is_named {
+            plain.extend_from_slice(said.text.as_bytes())?;
+        } else {
+            plain.extend_from_slice(line)?;
+        }
+    }
+    Ok(NamedText::Plain(plain))
+}
+
+/// What stands on a line before its comment, where the line says something of data words; else nothing.
+fn statement_of(line: &[u8]) -> &str {
+    let text = str::from_utf8(line).unwrap_or("");
+    let said = match text.split_once('#') {
+        Some((before, _)) => before,
+        None => text,
+    };
+    match said.split_whitespace().next() {
+        Some("word" | "words" | "sum" | "always" | "never" | "some") => said,
+        _ => "",
+    }
+}
+
+/// What the next word of a line is.
+#[derive(Clone, Copy, PartialEq, Eq)]
+enum Expected {
+    /// An address.
+    Address,
+    /// Two addresses with two points between them.
+    Range,
+    /// Neither.
+    Other,
+}
+
+/// What a line says, so far as it was read.
+#[derive(Drop)]
+struct Said {
+    /// Its words, with a space between them and addresses for names.
+    text: String,
+    /// Whether it has a name.
+    is_named: bool,
+    /// What is wrong with its first name of no word, where it has one.
+    unknown: Option<String>,
+}
+
+impl Said {
+    /// Nothing.
+    fn new(alloc: Global) -> Said {
+        Said {
+            text: String::new(alloc),
+            is_named: false,
+            unknown: None,
+        }
+    }
+
+    /// Adds the words of a line.
+    fn read(
+        &mut self,
+        alloc: Global,
+        names: &ProgramNames<'_>,
+        line: &str,
+    ) -> Result<(), AllocError> {
+        let mut next = Expected::Other;
+        for word in line.split_whitespace() {
+            if !self.text.is_empty() {
+                self.text.push_str(" ")?;
+            }
+            match next {
+                Expected::Address => self.add_address(alloc, names, word)?,
+                Expected::Range => self.add_range(alloc, names, word)?,
+                Expected::Other => self.text.push_str(word)?,
+            }
+            next = match (next, word) {
+                (Expected::Other, "word") => Expected::Address,
+                (Expected::Other, "words" | "sum") => Expected::Range,
+                _ => Expected::Other,
+            };
+        }
+        Ok(())
+    }
+
+    /// Adds a range.
+    fn add_range(
+        &mut self,
+        alloc: Global,
+        names: &ProgramNames<'_>,
+        range: &str,
+    ) -> Result<(), AllocError> {
+        match range.split_once("..") {
+            Some((first, last)) => {
+                self.add_address(alloc, names, first)?;
+                self.text.push_str("..")?;
+                self.add_address(alloc, names, last)
+            }
+            None => self.text.push_str(range),
+        }
+    }
+
+    /// Adds an address.
+    fn add_address(
+        &mut self,
+        alloc: Global,
+        names: &ProgramNames<'_>,
+        word: &str,
+    ) -> Result<(), AllocError> {
+        if !is_name(word) {
+            return self.text.push_str(word);
+        }
+        self.is_named = true;
+        match names.address_of(word) {
+            Some(address) => write!(self.text, "{address}"),
+            None if self.unknown.is_some() => Ok(()),
+            None => {
+                let mut words = String::new(alloc);
+                names.push_no_address(alloc, &mut words, word)?;
+                self.unknown = Some(words);
+                Ok(())
+            }
+        }
+    }
+}
+
+/// Whether a word is in brackets, or begins as a name does.
+fn is_name(word: &str) -> bool {
+    word.starts_with(|letter: char| letter == '[' || letter == '_' || letter.is_ascii_alphabetic())
+}

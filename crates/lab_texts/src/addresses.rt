@@ -1,0 +1,228 @@
+//! Addresses of data words, by numbers and by names.
+
+use crate::names::ProgramNames;
+use plain_text::push_plain;
+use source_places::DataName;
+use std::alloc::{AllocError, Global};
+use std::collections::HashMap;
+use std::str;
+use strsim::osa_distance;
+
+/// The most letters by which a name may differ from one that is offered in its place.
+const MOST_EDITS: usize = 2;
+
+/// The most names that are listed where another one is none.
+const MOST_TOLD: usize = 6;
+
+/// The names of data words.
+#[derive(Drop)]
+pub(crate) struct DataNames<'t> {
+    /// In the order of the words.
+    by_word: Vec<DataName<'t>>,
+    /// Each by its bytes.
+    by_name: HashMap<&'t [u8], DataName<'t>>,
+}
+
+impl<'t> DataNames<'t> {
+    /// The names of a program's text.
+    pub(crate) fn of(alloc: Global, names: &[DataName<'t>]) -> Result<DataNames<'t>, AllocError> {
+        let mut by_name = HashMap::new(alloc);
+        for name in names {
+            let _ = by_name.insert(name.name, *name)?;
+        }
+        Ok(DataNames {
+            by_word: Vec::from_slice(alloc, names)?,
+            by_name,
+        })
+    }
+
+    /// The name whose line made a data word; None where it has no name.
+    fn of_word(&self, word: usize) -> Option<&DataName<'t>> {
+        let behind = self.by_word.partition_point(|name| name.first <= word);
+        let name = self.by_word.get(behind.checked_sub(1)?)?;
+        let place = word.checked_sub(name.first)?;
+        if place < name.count { Some(name) } else { None }
+    }
+
+    /// The name that is this text; None where none is.
+    fn called(&self, text: &str) -> Option<&DataName<'t>> {
+        self.by_name.get(text.as_bytes())
+    }
+
+    /// The name that is nearest to a text, where one is near enough.
+    fn nearest(&self, alloc: Global, text: &str) -> Result<Option<&'t str>, AllocError> {
+        let most = MOST_EDITS.min(text.len() / 2);
+        let mut nearest = None;
+        let mut least = most.saturating_add(1);
+        for name in self.by_word.iter() {
+            if name.name.len().abs_diff(text.len()) > most {
+                continue;
+            }
+            let known = text_of(name);
+            let edits = osa_distance(alloc, known, text)?;
+            if edits < least {
+                least = edits;
+                nearest = Some(known);
+            }
+        }
+        Ok(nearest)
+    }
+
+    /// Adds which names there are, or how words get names where there is none.
+    fn push_known(&self, out: &mut String) -> Result<(), AllocError> {
+        if self.by_word.is_empty() {
+            return out.push_str(
+                ": names need a source text with a comment that is a name, as .data 0 ; total",
+            );
+        }
+        out.push_str(": the names are ")?;
+        for (index, name) in self.by_word.iter().take(MOST_TOLD).enumerate() {
+            out.push_str(if index == 0 { "" } else { ", " })?;
+            out.push_str(text_of(name))?;
+        }
+        out.push_str(if self.by_word.len() > MOST_TOLD {
+            ", .."
+        } else {
+            ""
+        })
+    }
+}
+
+impl<'t> ProgramNames<'t> {
+    /// The byte address that a text says: a number, as `8` or `0x8`, or a name, as `total`, or `ring+1` for a word behind
+    /// the first of its line; each perhaps in brackets. None where it is neither; a number need be no word's address.
+    pub fn address_of(&self, text: &str) -> Option<u64> {
+        let text = without_brackets(text);
+        match number_of(text) {
+            Some(address) => Some(address),
+            None => self.address_named(text),
+        }
+    }
+
+    /// The byte address of the word that has a name.
+    pub fn address_named(&self, text: &str) -> Option<u64> {
+        let (name, behind) = match text.split_once('+') {
+            Some((name, digits)) => (name, digits.parse::<usize>().ok()?),
+            None => (text, 0),
+        };
+        let found = self.data_names.called(name)?;
+        if behind < found.count {
+            let word = found.first.saturating_add(behind) as u64;
+            Some(word.saturating_mul(8))
+        } else {
+            None
+        }
+    }
+
+    /// Adds why a text says no address: no word has this name, and which may be meant, which there are, or how words get
+    /// names.
+    pub fn push_no_address(
+        &self,
+        alloc: Global,
+        out: &mut String,
+        text: &str,
+    ) -> Result<(), AllocError> {
+        let text = without_brackets(text);
+        let name = match text.split_once('+') {
+            Some((name, _)) => name,
+            None => text,
+        };
+        if let Some(found) = self.data_names.called(name) {
+            return push_beyond(out, text, name, found.count);
+        }
+        out.push_str("no word is named ")?;
+        push_plain(out, text)?;
+        match self.data_names.nearest(alloc, text)? {
+            Some(name) => write!(out, ": did you mean {name}?"),
+            None => self.data_names.push_known(out),
+        }
+    }
+
+    /// Adds a byte address in brackets, and behind them the name of its word, where it has one: `[8] total`.
+    pub fn push_address(&self, out: &mut String, address: u64) -> Result<(), AllocError> {
+        write!(out, "[{address}]")?;
+        if self.has_name(address) {
+            out.push_str(" ")?;
+        }
+        self.push_data_name(out, address)
+    }
+
+    /// Whether the word at a byte address has a name.
+    pub fn has_name(&self, address: u64) -> bool {
+        self.name_at(address).is_some()
+    }
+
+    /// Adds the name of the word at a byte address, as `total`, or `ring+1` where it is not the first of its line; nothing
+    /// where it has none.
+    pub fn push_data_name(&self, out: &mut String, address: u64) -> Result<(), AllocError> {
+        let Some(name) = self.name_at(address) else {
+            return Ok(());
+        };
+        out.push_str(text_of(name))?;
+        let behind = word_of(address).saturating_sub(name.first);
+        if behind > 0 {
+            write!(out, "+{behind}")?;
+        }
+        Ok(())
+    }
+
+    /// The comment of the line that made the word at a byte address, without the name that it begins with.
+    pub fn remark(&self, address: u64) -> &'t str {
+        let comment = self.comment(address);
+        let Some(name) = self.name_at(address) else {
+            return comment;
+        };
+        let name = text_of(name);
+        match comment.split_once(':') {
+            Some((front, words)) if front.trim_end() == name => words.trim(),
+            _ if comment == name => "",
+            _ => comment,
+        }
+    }
+
+    /// The name of the word at a byte address.
+    fn name_at(&self, address: u64) -> Option<&DataName<'t>> {
+        if address % 8 == 0 {
+            self.data_names.of_word(word_of(address))
+        } else {
+            None
+        }
+    }
+}
+
+/// Adds that a text is past the words of a name.
+fn push_beyond(out: &mut String, text: &str, name: &str, count: usize) -> Result<(), AllocError> {
+    let plural = if count == 1 { "" } else { "s" };
+    write!(out, "{name} names {count} word{plural}, and ")?;
+    push_plain(out, text)?;
+    out.push_str(" is none of them")
+}
+
+/// Which data word stands at a byte address.
+fn word_of(address: u64) -> usize {
+    (address / 8) as usize
+}
+
+/// A text without brackets around it.
+fn without_brackets(text: &str) -> &str {
+    match text.strip_prefix("[") {
+        Some(rest) => match rest.strip_suffix("]") {
+            Some(inner) => inner.trim(),
+            None => text,
+        },
+        None => text,
+    }
+}
+
+/// A number, decimal or behind `0x` hexadecimal.
+fn number_of(text: &str) -> Option<u64> {
+    match text.strip_prefix("0x") {
+        Some(digits) => u64::from_str_radix(digits, 16).ok(),
+        None => text.parse::<u64>().ok(),
+    }
+}
+
+/// A name as text.
+fn text_of<'t>(name: &DataName<'t>) -> &'t str {
+    str::from_utf8(name.name).unwrap_or("")
+}

@@ -1,0 +1,155 @@
+"""Names of data words: an address by its name means in each command what its number means, and a comment names a word only
+where the rules say so."""
+
+import os
+import tempfile
+
+import checks
+import tool
+
+# a comment that is a name, one with words behind a colon, a label, and a line of two words
+SOURCE = b""" .entry a
+ .entry b
+ .data 0 ; total
+ .data 7 ; number: what is added
+box: .data 0, 0 ; the box
+ .fill 2, 0, 1 ; ring
+a: LOAD.N r1, r0, 0
+ LOAD.N r2, r0, 1
+ ADD r1, r1, r2
+ STORE.N r1, r0, 0
+ STORE.S r1, r0, 2
+ STORE.N r1, r0, 4
+ QUIT
+b: LOAD.N r1, r0, 0
+ LOAD.N r2, r0, 1
+ ADD r1, r1, r2
+ STORE.N r1, r0, 0
+ LOAD.S r1, r0, 2
+ QUIT
+"""
+ADDRESSES = {
+    0: ("[0]", "0x0", "[0x0]", "total", "[total]", "total+0"), 8: ("[8]", "number", "[number]"), 16: ("[16]", "box", "[box]"),
+    24: ("[24]", "ring", "[ring]"), 32: ("[32]", "ring+1", "[ring+1]"),
+}
+# lines of expectations and claims by numbers, and the same by names
+WISHES = (
+    ("word 0 14", "word total 14"), ("word 0 14", "word [total] 14"), ("word 0 14", "  word\t[total] 14"),
+    ("words 24..32 0", "words ring..ring+1 0"), ("words 24..32 0", "words [ring]..32 0"), ("sum 0..32 35", "sum total..[ring+1] 35"),
+    ("word 0 is word 8 + 7", "word total is word number + 7 # twice"), ("word 16 7 empty", "word box 7 empty"),
+    ("always word 0 below 9", "always word total below 9"), ("never word 16 full", "never word [box] full"),
+    ("some word 32 is 14", "some word ring+1 is 14"), ("finished\nword 0 14", "finished\nword total 14"),
+)
+NO_NAME = b"names need a source text with a comment that is a name, as .data 0 ; total"
+KNOWN = b"the names are total, number, box, ring"
+# what is no name, and what is said of it
+UNKNOWN = (
+    ("totl", b"no word is named totl: did you mean total?"), ("[Number]", b"no word is named Number: did you mean number?"),
+    ("ring+2", b"ring names 2 words, and ring+2 is none of them"), ("total+1", b"total names 1 word, and total+1 is none of them"),
+    ("a", b"no word is named a: " + KNOWN), ("[elsewhere]", b"no word is named elsewhere: " + KNOWN),
+    ("\x1b[2K", b"no word is named \\x1b[2K: " + KNOWN),
+)
+# comments of two words of data, and the names that they get
+LONG = "n" * 32
+COMMENTS = (
+    (" ; one", " ; two", ("one", "two")), (" ; one", " ; one", (None, None)), (" ; one", " ; One", ("one", "One")),
+    (" ; 8", " ; 8x", (None, None)), (" ;", " ; ", (None, None)), ("", " ;\tlast \t", (None, "last")),
+    (" ; go", " ; go on", (None, None)), (" ; r1", " ; _", ("r1", "_")), (" ; the sum", " ; word 1: the sum", (None, None)),
+    (" ; sum: so far", " ; sum", (None, None)), (" ; sum : so far", " ; max; and more", (None, "max")),
+    (f" ; {LONG}", f" ; {LONG}n", (LONG, None)), (" ; z\u00e4hler", " ; gr\u00f6\u00dfe: so", (None, None)),
+    (" ; [one]", " ; one,", (None, None)), (" ; one:", " ; : one", ("one", None)),
+)
+
+
+def lab(folder, *words, given=b""):
+    return tool.call(*words, given=given, folder=folder, program=tool.LAB)
+
+
+def with_folder(check, **files):
+    """Calls a check with a folder that has these files."""
+    with tempfile.TemporaryDirectory(prefix="mta-names-") as folder:
+        for name, data in files.items():
+            tool.write(os.path.join(folder, name.replace("_", ".")), data)
+        return check(folder)
+
+
+def told(ended):
+    return ended.status, ended.out, ended.err
+
+
+@checks.others("lab/names_of_words")
+def words_shown():
+    """`view --word` and `debug` by each way to say an address."""
+    for address, ways in ADDRESSES.items():
+        for way in ways:
+            def check(folder, address=address, way=way):
+                lines = "print {0}\nwatch {0}\nwatch {0} tags\nx/2 {0}\n"
+                both = []
+                for text, brackets in ((str(address), f"[{address}]"), (way, way)):
+                    viewed = lab(folder, "view", "p.asm", "--seed", "1", "--word", text)
+                    said = lab(folder, "debug", "p.asm", "--seed", "1", given=lines.format(brackets).encode())
+                    both.append((told(viewed), told(said)))
+                return both[0], both[1]
+            yield f"{address} as {way}", lambda check=check: with_folder(check, p_asm=SOURCE)
+
+
+@checks.others("lab/names_in_wishes")
+def wishes():
+    """Expectations and claims by names judge as those by numbers."""
+    for plain, named in WISHES:
+        def check(folder):
+            calls = (("survey", "p.asm", "--seeds", "20"), ("explore", "p.asm"), ("survey", "p.asm", "--seeds", "3", "--json"))
+            both = [[told(lab(folder, *words, "--expect", file)) for words in calls] for file in ("1.x", "2.x")]
+            verdicts = [lab(folder, "grade", "--seeds", "20", "--expect", file, "p.asm").status for file in ("1.x", "2.x")]
+            return (both[0], verdicts[0]), (both[1], verdicts[1])
+        yield named, lambda check=check, plain=plain, named=named: with_folder(
+            check, **{"p_asm": SOURCE, "1_x": plain.encode() + b"\n", "2_x": named.encode() + b"\n"})
+
+
+@checks.others("lab/names_unknown")
+def unknown():
+    """Names of no word."""
+    for name, said in UNKNOWN:
+        def check(folder, name=name, said=said):
+            viewed = told(lab(folder, "view", "p.asm", "--word", name))
+            debugged = lab(folder, "debug", "p.asm", given=f"watch {name}\n".encode()).out.split(b"\n")[1]
+            wanted = said if "\x1b" not in name else b"watch takes a word, as [8], or [8] tags"
+            return ((1, b"", b"mta_lab: --word: " + said + b"\n"), wanted), (viewed, debugged)
+        yield name, lambda check=check: with_folder(check, p_asm=SOURCE)
+    for name in ("totl", "[a]"):
+        def check(folder, name=name):
+            shown = name.strip("[]").encode()
+            said = lab(folder, "explore", "p.asm", "--expect", "w.x")
+            graded = lab(folder, "grade", "--seeds", "2", "--expect", "w.x", "p.asm")
+            reason = b"no word is named totl: did you mean total?" if shown == b"totl" else b"no word is named a: " + KNOWN
+            return ((1, b"", b"w.x:2:1: error: " + reason + b"\n"), True, True), (
+                told(said), b"wrong" in graded.out, reason in graded.out)
+        yield f"expected {name}", lambda check=check, name=name: with_folder(
+            check, p_asm=SOURCE, w_x=f"finished\nword {name} 0\n".encode())
+
+    def of_image(folder):
+        made = lab(folder, "asm", "p.asm", "--out", "p.img").status
+        return (0, 1, b"", b"mta_lab: --word: no word is named total: " + NO_NAME + b"\n"), (
+            made, *told(lab(folder, "view", "p.img", "--word", "total")))
+    yield "of an image", lambda: with_folder(of_image, p_asm=SOURCE)
+
+
+@checks.others("lab/names_of_comments")
+def comments():
+    """Which comments name their words: `debug` shows the names, and `check` warns of those that two lines have."""
+    for one, two, names in COMMENTS:
+        def check(folder, names=names):
+            said = lab(folder, "debug", "p.asm", given=b"print [0]\nprint [8]\n").out.decode().split("\n")[1:3]
+            shown = tuple(line.removeprefix(f"[{at}]").removesuffix(" 0, full").strip() or None for at, line in zip((0, 8), said))
+            return names, shown
+        source = f" .entry go\n .data 0{one}\n .data 0{two}\ngo: QUIT\n".encode()
+        yield f"{one} {two}", lambda check=check, source=source: with_folder(check, p_asm=source)
+    twice = b" .entry go\n .data 0 ; go\n .data 0 ; one\n .data 0 ;   one: so\ngo: QUIT\n"
+
+    def warned(folder):
+        said = lab(folder, "check", "p.asm").err.decode().split("\n")
+        found = [line for line in said if "warning" in line]
+        return ["p.asm:2:11: warning: go names no word: line 5 has this name too (explain 114)",
+                "p.asm:3:11: warning: one names no word: line 4 has this name too (explain 114)",
+                "p.asm:4:13: warning: one names no word: line 3 has this name too (explain 114)"], found
+    yield "warnings", lambda: with_folder(warned, p_asm=twice)
