@@ -4,6 +4,7 @@ where the rules say so."""
 import os
 import tempfile
 
+import adapters
 import checks
 import tool
 
@@ -149,7 +150,28 @@ def comments():
     def warned(folder):
         said = lab(folder, "check", "p.asm").err.decode().split("\n")
         found = [line for line in said if "warning" in line]
-        return ["p.asm:2:11: warning: go names no word: line 5 has this name too (explain 114)",
-                "p.asm:3:11: warning: one names no word: line 4 has this name too (explain 114)",
-                "p.asm:4:13: warning: one names no word: line 3 has this name too (explain 114)"], found
+        return ["p.asm:2:12: warning: go names no word: line 5 has this name too (explain 114)",
+                "p.asm:3:12: warning: one names no word: line 4 has this name too (explain 114)",
+                "p.asm:4:14: warning: one names no word: line 3 has this name too (explain 114)"], found
     yield "warnings", lambda: with_folder(warned, p_asm=twice)
+
+
+@checks.others("lab/names_in_editors")
+def editors():
+    """An editor shows the words by their names, and takes these for them; a register and a stream's parts go first."""
+    def check(folder):
+        path = os.path.join(folder, "p.asm")
+        with adapters.adapter() as editor:
+            editor.launched(path, None, steps=None)
+            shown = [editor.body("evaluate", expression=name)["result"] for name in ("total", "[number]", "ring+1", "box", "a")]
+            words = editor.body("variables", variablesReference=0x40000, start=0, count=5)["variables"]
+            watched = [editor.body("dataBreakpointInfo", **it)["dataId"] for it in (
+                {"name": "total"}, {"name": "[0] total", "variablesReference": 0x40000}, {"name": "totl"}, {"name": "r1"},
+                {"name": "status", "variablesReference": 1})]
+            points = editor.body("setDataBreakpoints", breakpoints=[{"dataId": it} for it in ("total", "box full/empty", "totl")])
+            return shown, [(it["name"], it["value"]) for it in words], watched, [it["verified"] for it in points["breakpoints"]]
+    names = [("[0] total", "0, full"), ("[8] number", "7, full   what is added"), ("[16] box", "0, empty   the box"),
+             ("[24] ring", "0, full"), ("[32] ring+1", "0, full")]
+    wanted = (["0, full", "7, full", "0, full", "0, empty", "a: LOAD.N r1, r0, 0"], names, ["total", "[0] total", None, None, None],
+              [True, True, False])
+    yield "words", lambda: (wanted, with_folder(check, p_asm=SOURCE))
