@@ -1,10 +1,10 @@
 //! Where two runs part, and in what their worlds differ.
 
-use crate::fields::{object_of, put_number, put_text};
 use crate::steps::changes_value;
 use crate::streams::stream_value;
+use crate::values::Object;
 use lab_texts::ProgramNames;
-use serde_json::{Map, Value};
+use serde_json::Value;
 use std::alloc::{AllocError, Global};
 use step_views::{Change, StepView};
 
@@ -16,16 +16,11 @@ pub fn parting_value(
     one: Option<&StepView>,
     other: Option<&StepView>,
 ) -> Result<Value, AllocError> {
-    let mut fields = object_of(alloc, "parting")?;
-    put_number(alloc, &mut fields, "step", number as u64)?;
-    serde_json::put(&mut fields, alloc, "one", taken_value(alloc, names, one)?)?;
-    serde_json::put(
-        &mut fields,
-        alloc,
-        "other",
-        taken_value(alloc, names, other)?,
-    )?;
-    Ok(Value::Object(fields))
+    let mut parting = Object::of_kind(alloc, "parting");
+    parting.put_number("step", number as u64);
+    parting.put("one", taken_value(alloc, names, one));
+    parting.put("other", taken_value(alloc, names, other));
+    parting.whole()
 }
 
 /// The stream of a step, and the place of the program where it stands; null where the run has no such step.
@@ -39,17 +34,12 @@ fn taken_value(
     };
     let mut place = String::new(alloc);
     names.push_place(&mut place, view.pc)?;
-    let mut fields = Map::new(alloc);
-    serde_json::put(
-        &mut fields,
-        alloc,
-        "stream",
-        stream_value(alloc, view.step)?,
-    )?;
-    put_number(alloc, &mut fields, "pc", u64::from(view.pc))?;
-    serde_json::put(&mut fields, alloc, "place", Value::String(place))?;
-    put_text(alloc, &mut fields, "statement", names.statement(view.pc))?;
-    Ok(Value::Object(fields))
+    let mut taken = Object::new(alloc);
+    taken.put("stream", stream_value(alloc, view.step));
+    taken.put_number("pc", u64::from(view.pc));
+    taken.put("place", Ok(Value::String(place)));
+    taken.put_text("statement", names.statement(view.pc));
+    taken.whole()
 }
 
 /// The first position at which the worlds of two runs differ, and the places in which they do: each with what stands there
@@ -59,8 +49,8 @@ pub fn difference_value(
     position: usize,
     places: &[Change],
 ) -> Result<Value, AllocError> {
-    let mut fields = object_of(alloc, "difference")?;
-    put_number(alloc, &mut fields, "position", position as u64)?;
-    serde_json::put(&mut fields, alloc, "differ", changes_value(alloc, places)?)?;
-    Ok(Value::Object(fields))
+    let mut difference = Object::of_kind(alloc, "difference");
+    difference.put_number("position", position as u64);
+    difference.put("differ", changes_value(alloc, places));
+    difference.whole()
 }

@@ -1,8 +1,9 @@
 //! The end of a run.
 
-use crate::fields::{Fields, object_of, put_number, put_text};
+use crate::fields::{Fields, object_of, put_text};
 use crate::findings::put_findings;
 use crate::streams::{put_streams, stream_value};
+use crate::values::Object;
 use crate::words::put_words;
 use lab_texts::{RunEnd, StoppedStream, wanted_word};
 use machine::Machine;
@@ -69,36 +70,33 @@ fn put_stopped(
 
 /// A stream that waits: for which word, for which state, since which try, and who left the word so in which step.
 fn wait_value(alloc: Global, wait: &StreamWait) -> Result<Value, AllocError> {
-    let wanted = wanted_word(wait.wait.wanted);
-    let (made, by) = match wait.turn {
-        Some(turn) => (turn.number, stream_value(alloc, turn.step)?),
-        None => (0, Value::Null),
+    let made = match wait.turn {
+        Some(turn) => turn.number,
+        None => 0,
     };
-    let mut fields = Map::new(alloc);
-    serde_json::put(
-        &mut fields,
-        alloc,
-        "stream",
-        stream_value(alloc, wait.stream)?,
-    )?;
-    put_number(alloc, &mut fields, "word", wait.wait.address)?;
-    put_text(alloc, &mut fields, "for", wanted)?;
-    put_number(alloc, &mut fields, "since", wait.since as u64)?;
-    put_number(alloc, &mut fields, "made", made as u64)?;
-    serde_json::put(&mut fields, alloc, "by", by)?;
-    Ok(Value::Object(fields))
+    let mut fields = Object::new(alloc);
+    fields.put("stream", stream_value(alloc, wait.stream));
+    fields.put_number("word", wait.wait.address);
+    fields.put_text("for", wanted_word(wait.wait.wanted));
+    fields.put_number("since", wait.since as u64);
+    fields.put_number("made", made as u64);
+    fields.put("by", turner_value(alloc, wait));
+    fields.whole()
+}
+
+/// The stream that left the word of a wait as it is; null if the program began so.
+fn turner_value(alloc: Global, wait: &StreamWait) -> Result<Value, AllocError> {
+    match wait.turn {
+        Some(turn) => stream_value(alloc, turn.step),
+        None => Ok(Value::Null),
+    }
 }
 
 /// A stream that a trap stopped.
 fn stopped_value(alloc: Global, stopped: &StoppedStream) -> Result<Value, AllocError> {
-    let mut fields = Map::new(alloc);
-    serde_json::put(
-        &mut fields,
-        alloc,
-        "stream",
-        stream_value(alloc, stopped.stream)?,
-    )?;
-    put_number(alloc, &mut fields, "trap", u64::from(stopped.trap.number()))?;
-    put_number(alloc, &mut fields, "address", stopped.address)?;
-    Ok(Value::Object(fields))
+    let mut fields = Object::new(alloc);
+    fields.put("stream", stream_value(alloc, stopped.stream));
+    fields.put_number("trap", u64::from(stopped.trap.number()));
+    fields.put_number("address", stopped.address);
+    fields.whole()
 }

@@ -1,12 +1,13 @@
 //! Findings.
 
 use crate::fields::{Fields, put_number};
+use crate::values::{List, Object};
 use image_file::Image;
 use image_machines::loaded;
 use lab_texts::FindingsOfRun;
 use processor::Step;
 use run_findings::{Action, LostUpdate, TornRead, UnreadStore};
-use serde_json::{Value, json};
+use serde_json::Value;
 use std::alloc::{AllocError, Global};
 use whole_runs::run_actions;
 
@@ -43,6 +44,17 @@ fn first_findings(
     most: usize,
 ) -> Result<Vec<Value>, AllocError> {
     let mut findings = Vec::new(alloc);
+    push_findings(alloc, &mut findings, found, most)?;
+    Ok(findings)
+}
+
+/// Adds of each kind of findings the first ones, so many at most.
+fn push_findings(
+    alloc: Global,
+    findings: &mut Vec<Value>,
+    found: &FindingsOfRun,
+    most: usize,
+) -> Result<(), AllocError> {
     for lost in found.lost.iter().take(most) {
         findings.push(lost_value(alloc, lost)?)?;
     }
@@ -52,45 +64,56 @@ fn first_findings(
     for unread in found.unread.iter().take(most) {
         findings.push(unread_value(alloc, unread)?)?;
     }
-    Ok(findings)
+    Ok(())
 }
 
 /// A lost update.
 fn lost_value(alloc: Global, lost: &LostUpdate) -> Result<Value, AllocError> {
-    let word = lost.word;
-    let read = number_of(lost.read);
-    let over = number_of(lost.over);
-    let stored = number_of(lost.stored);
-    json!(in alloc; {"kind": "lost", "word": word, "read": read, "over": over, "stored": stored})
+    let mut fields = Object::new(alloc);
+    fields.put_text("kind", "lost");
+    fields.put_number("word", lost.word);
+    fields.put_number("read", number_of(lost.read));
+    fields.put_number("over", number_of(lost.over));
+    fields.put_number("stored", number_of(lost.stored));
+    fields.whole()
 }
 
 /// A torn read: the steps of the word that was read before it was written, and of the other one.
 fn torn_value(alloc: Global, torn: &TornRead) -> Result<Value, AllocError> {
-    let stale = torn.stale;
-    let fresh = torn.fresh;
-    let reads = numbers_value(alloc, torn.stale_read, torn.fresh_read)?;
-    let writes = numbers_value(alloc, torn.stale_write, torn.fresh_write)?;
-    json!(in alloc; {
-        "kind": "torn", "stale": stale, "fresh": fresh, "reads": reads, "writes": writes
-    })
+    let mut fields = Object::new(alloc);
+    fields.put_text("kind", "torn");
+    fields.put_number("stale", torn.stale);
+    fields.put_number("fresh", torn.fresh);
+    fields.put(
+        "reads",
+        numbers_value(alloc, torn.stale_read, torn.fresh_read),
+    );
+    fields.put(
+        "writes",
+        numbers_value(alloc, torn.stale_write, torn.fresh_write),
+    );
+    fields.whole()
 }
 
 /// The numbers of two steps.
 fn numbers_value(alloc: Global, one: usize, other: usize) -> Result<Value, AllocError> {
-    let one = number_of(one);
-    let other = number_of(other);
-    json!(in alloc; [one, other])
+    let mut numbers = List::new(alloc);
+    numbers.put_number(number_of(one));
+    numbers.put_number(number_of(other));
+    numbers.whole()
 }
 
 /// An unread store.
 fn unread_value(alloc: Global, unread: &UnreadStore) -> Result<Value, AllocError> {
-    let word = unread.word;
-    let over = number_of(unread.over);
-    let stored = number_of(unread.stored);
-    json!(in alloc; {"kind": "unread", "word": word, "over": over, "stored": stored})
+    let mut fields = Object::new(alloc);
+    fields.put_text("kind", "unread");
+    fields.put_number("word", unread.word);
+    fields.put_number("over", number_of(unread.over));
+    fields.put_number("stored", number_of(unread.stored));
+    fields.whole()
 }
 
 /// The number of the step in a place of the run: the first is step 1.
-fn number_of(place: usize) -> usize {
-    place.saturating_add(1)
+fn number_of(place: usize) -> u64 {
+    (place as u64).saturating_add(1)
 }

@@ -1,10 +1,10 @@
 //! The head of a run: its program and the world at the start.
 
-use crate::fields::{object_of, put_text};
 use crate::places::{content_value, digits, place_name};
+use crate::values::{List, Object, text_value};
 use lab_texts::ProgramNames;
 use machine::Machine;
-use serde_json::{Map, Value, json};
+use serde_json::{Map, Value};
 use std::alloc::{AllocError, Global};
 use std::str;
 use step_views::{Content, Place, StreamPart, content_of};
@@ -30,14 +30,14 @@ pub fn head_value<const S: usize>(
     names: &ProgramNames,
     machine: &Machine<'_, S>,
 ) -> Result<Value, AllocError> {
-    let mut fields = object_of(alloc, title.object)?;
-    put_text(alloc, &mut fields, "name", title.program)?;
-    put_text(alloc, &mut fields, "schedule", title.schedule)?;
-    serde_json::put(&mut fields, alloc, "source", source_value(alloc, text)?)?;
-    serde_json::put(&mut fields, alloc, "program", program_value(alloc, names)?)?;
-    serde_json::put(&mut fields, alloc, "data", data_value(alloc, names)?)?;
-    serde_json::put(&mut fields, alloc, "start", start_value(alloc, machine)?)?;
-    Ok(Value::Object(fields))
+    let mut head = Object::of_kind(alloc, title.object);
+    head.put_text("name", title.program);
+    head.put_text("schedule", title.schedule);
+    head.put("source", source_value(alloc, text));
+    head.put("program", program_value(alloc, names));
+    head.put("data", data_value(alloc, names));
+    head.put("start", start_value(alloc, machine));
+    head.whole()
 }
 
 /// The world at the start.
@@ -45,11 +45,10 @@ fn start_value<const S: usize>(
     alloc: Global,
     machine: &Machine<'_, S>,
 ) -> Result<Value, AllocError> {
-    let mut fields = Map::new(alloc);
-    serde_json::put(&mut fields, alloc, "places", places_value(alloc, machine)?)?;
-    let memory = memory_value(alloc, machine.image().cells())?;
-    serde_json::put(&mut fields, alloc, "memory", memory)?;
-    Ok(Value::Object(fields))
+    let mut start = Object::new(alloc);
+    start.put("places", places_value(alloc, machine));
+    start.put("memory", memory_value(alloc, machine.image().cells()));
+    start.whole()
 }
 
 /// The lines of a text; a line that is no UTF-8 is empty.
@@ -67,28 +66,54 @@ fn source_value(alloc: Global, text: &[u8]) -> Result<Value, AllocError> {
 
 /// Of each program word its line, its place and its instruction.
 fn program_value(alloc: Global, names: &ProgramNames) -> Result<Value, AllocError> {
-    let mut words = Vec::new(alloc);
+    let mut words = List::new(alloc);
     for word in 0..names.words() {
-        let mut place = String::new(alloc);
-        names.push_place(&mut place, word)?;
-        let line = names.line(word);
-        let statement = names.statement(word);
-        words.push(json!(in alloc; [line, place, statement])?)?;
+        words.put(program_word_value(alloc, names, word));
     }
-    Ok(Value::Array(words))
+    words.whole()
+}
+
+/// A program word.
+fn program_word_value(alloc: Global, names: &ProgramNames, word: u32) -> Result<Value, AllocError> {
+    let mut parts = List::new(alloc);
+    parts.put_number(names.line(word) as u64);
+    parts.put(place_value(alloc, names, word));
+    parts.put(text_value(alloc, names.statement(word)));
+    parts.whole()
+}
+
+/// The place of a program word.
+fn place_value(alloc: Global, names: &ProgramNames, word: u32) -> Result<Value, AllocError> {
+    let mut place = String::new(alloc);
+    names.push_place(&mut place, word)?;
+    Ok(Value::String(place))
 }
 
 /// Of each line of data the address of its first word, how many it adds, its number, and its comment.
 fn data_value(alloc: Global, names: &ProgramNames) -> Result<Value, AllocError> {
-    let mut lines = Vec::new(alloc);
+    let mut lines = List::new(alloc);
     for line in names.data_lines() {
         let address = (line.first as u64).saturating_mul(8);
-        let count = line.count;
-        let number = line.number.saturating_add(1);
         let comment = names.comment(address);
-        lines.push(json!(in alloc; [address, count, number, comment])?)?;
+        lines.put(data_line_value(alloc, address, line.count, line.number, comment));
     }
-    Ok(Value::Array(lines))
+    lines.whole()
+}
+
+/// A line of data that adds so many words from an address on; its number counts from 0.
+fn data_line_value(
+    alloc: Global,
+    address: u64,
+    count: usize,
+    number: usize,
+    comment: &str,
+) -> Result<Value, AllocError> {
+    let mut parts = List::new(alloc);
+    parts.put_number(address);
+    parts.put_number(count as u64);
+    parts.put_number((number as u64).saturating_add(1));
+    parts.put(text_value(alloc, comment));
+    parts.whole()
 }
 
 /// What stands in the places of streams and counts, where it is not zero.
@@ -143,7 +168,7 @@ fn put_place<const S: usize>(
 
 /// The words of a memory as runs: how many, value, tags.
 fn memory_value(alloc: Global, cells: &[Word]) -> Result<Value, AllocError> {
-    let mut runs = Vec::new(alloc);
+    let mut runs = List::new(alloc);
     let mut at: usize = 0;
     for _ in 0..cells.len() {
         let Some(first) = cells.get(at) else {
@@ -151,10 +176,17 @@ fn memory_value(alloc: Global, cells: &[Word]) -> Result<Value, AllocError> {
         };
         let rest = cells.get(at..).unwrap_or(&[]);
         let count = rest.iter().take_while(|word| **word == *first).count();
-        let value = digits(alloc, first.value())?;
-        let tags = u64::from(first.tag_number());
-        runs.push(json!(in alloc; [count, value, tags])?)?;
+        runs.put(memory_run_value(alloc, count, *first));
         at = at.saturating_add(count.max(1));
     }
-    Ok(Value::Array(runs))
+    runs.whole()
+}
+
+/// So many words that are as this one.
+fn memory_run_value(alloc: Global, count: usize, word: Word) -> Result<Value, AllocError> {
+    let mut parts = List::new(alloc);
+    parts.put_number(count as u64);
+    parts.put(digits(alloc, word.value()));
+    parts.put_number(u64::from(word.tag_number()));
+    parts.whole()
 }

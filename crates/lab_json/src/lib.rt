@@ -14,6 +14,7 @@ mod runs;
 mod steps;
 mod streams;
 mod turns;
+mod values;
 mod words;
 
 pub use differences::{difference_value, parting_value};
@@ -27,6 +28,7 @@ pub use runs::put_run;
 pub use steps::{reference_value, step_part, step_value};
 pub use streams::{put_streams, stream_value};
 pub use turns::{put_turns, turns_value};
+pub use values::{List, Object, text_value};
 
 /// The version of the objects.
 pub const VERSION: u64 = 2;

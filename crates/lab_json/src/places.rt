@@ -18,17 +18,30 @@ pub fn place_name(alloc: Global, place: Place) -> Result<String, AllocError> {
 
 /// The name of a place of a stream.
 fn stream_place_name(alloc: Global, p: u8, s: u8, part: StreamPart) -> Result<String, AllocError> {
+    let mut name = format!(in alloc; "{p}.{s}.")?;
+    push_part(&mut name, part)?;
+    Ok(name)
+}
+
+/// Adds the name of a part of a stream.
+fn push_part(name: &mut String, part: StreamPart) -> Result<(), AllocError> {
     match part {
-        StreamPart::Pc => format!(in alloc; "{p}.{s}.pc"),
-        StreamPart::Codes => format!(in alloc; "{p}.{s}.codes"),
-        StreamPart::Mask => format!(in alloc; "{p}.{s}.mask"),
-        StreamPart::InTrap => format!(in alloc; "{p}.{s}.trap"),
-        StreamPart::TrapRegister => format!(in alloc; "{p}.{s}.xr"),
-        StreamPart::Retries => format!(in alloc; "{p}.{s}.retries"),
-        StreamPart::Status => format!(in alloc; "{p}.{s}.status"),
-        StreamPart::Register(number) => format!(in alloc; "{p}.{s}.r{number}"),
-        StreamPart::Target(number) => format!(in alloc; "{p}.{s}.t{number}"),
+        StreamPart::Pc => name.push_str("pc"),
+        StreamPart::Codes => name.push_str("codes"),
+        StreamPart::Mask => name.push_str("mask"),
+        StreamPart::InTrap => name.push_str("trap"),
+        StreamPart::TrapRegister => name.push_str("xr"),
+        StreamPart::Retries => name.push_str("retries"),
+        StreamPart::Status => name.push_str("status"),
+        StreamPart::Register(number) => push_numbered(name, "r", number),
+        StreamPart::Target(number) => push_numbered(name, "t", number),
     }
+}
+
+/// Adds a letter with a number.
+fn push_numbered(name: &mut String, letter: &str, number: u8) -> Result<(), AllocError> {
+    write!(name, "{letter}{number}")?;
+    Ok(())
 }
 
 /// What stands in a place.

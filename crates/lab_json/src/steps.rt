@@ -1,74 +1,90 @@
 //! Steps.
 
-use crate::fields::{Fields, object_of, put_number};
 use crate::places::{content_value, digits, outcome_name, place_name};
-use serde_json::{Map, Value, json};
+use crate::values::{List, Object, text_value};
+use serde_json::Value;
 use std::alloc::{AllocError, Global};
 use step_views::{Change, Reference, StepView};
-use tag_memory::{Acc, MemOp, Reply};
+use stream_core::Outcome;
+use tag_memory::{Acc, MemOp, Reply, Request};
 
 /// A step.
 pub fn step_value(alloc: Global, view: &StepView) -> Result<Value, AllocError> {
-    let mut fields = object_of(alloc, "step")?;
-    put_step(alloc, &mut fields, view)?;
-    Ok(Value::Object(fields))
+    let mut step = Object::of_kind(alloc, "step");
+    put_step(alloc, &mut step, view);
+    step.whole()
 }
 
 /// A step as a part of the object of a whole run.
 pub fn step_part(alloc: Global, view: &StepView) -> Result<Value, AllocError> {
-    let mut fields = Map::new(alloc);
-    put_step(alloc, &mut fields, view)?;
-    Ok(Value::Object(fields))
+    let mut step = Object::new(alloc);
+    put_step(alloc, &mut step, view);
+    step.whole()
 }
 
 /// Puts `p`, `s`, `pc`, the outcome `o`, `ref` where the memory was asked, and the changes `ch`.
-fn put_step(alloc: Global, fields: &mut Fields, view: &StepView) -> Result<(), AllocError> {
-    put_number(alloc, fields, "p", u64::from(view.step.p))?;
-    put_number(alloc, fields, "s", u64::from(view.step.s))?;
-    put_number(alloc, fields, "pc", u64::from(view.pc))?;
-    let outcome = Value::String(outcome_name(alloc, view.outcome)?);
-    serde_json::put(fields, alloc, "o", outcome)?;
+fn put_step(alloc: Global, fields: &mut Object, view: &StepView) {
+    fields.put_number("p", u64::from(view.step.p));
+    fields.put_number("s", u64::from(view.step.s));
+    fields.put_number("pc", u64::from(view.pc));
+    fields.put("o", outcome_value(alloc, view.outcome));
     if let Some(reference) = view.reference {
-        let asked = reference_value(alloc, &reference)?;
-        serde_json::put(fields, alloc, "ref", asked)?;
+        fields.put("ref", reference_value(alloc, &reference));
     }
-    serde_json::put(fields, alloc, "ch", changes_value(alloc, &view.changes)?)
+    fields.put("ch", changes_value(alloc, &view.changes));
+}
+
+/// How a step came out.
+fn outcome_value(alloc: Global, outcome: Outcome) -> Result<Value, AllocError> {
+    Ok(Value::String(outcome_name(alloc, outcome)?))
 }
 
 /// Changes, a list a change.
 pub(crate) fn changes_value(alloc: Global, changes: &[Change]) -> Result<Value, AllocError> {
-    let mut values = Vec::with_capacity(alloc, changes.len())?;
+    let mut values = List::new(alloc);
     for change in changes {
-        values.push(change_value(alloc, change)?)?;
+        values.put(change_value(alloc, change));
     }
-    Ok(Value::Array(values))
+    values.whole()
 }
 
 /// A change: the place, what was, what is.
 fn change_value(alloc: Global, change: &Change) -> Result<Value, AllocError> {
-    let mut parts = Vec::with_capacity(alloc, 3)?;
-    parts.push(Value::String(place_name(alloc, change.place)?))?;
-    parts.push(content_value(alloc, change.place, change.before)?)?;
-    parts.push(content_value(alloc, change.place, change.after)?)?;
-    Ok(Value::Array(parts))
+    let name = place_name(alloc, change.place)?;
+    let mut parts = List::new(alloc);
+    parts.put(Ok(Value::String(name)));
+    parts.put(content_value(alloc, change.place, change.before));
+    parts.put(content_value(alloc, change.place, change.after));
+    parts.whole()
 }
 
 /// A reference: operation, control, the address asked, that of the word that answered, the value given, the reply.
 pub fn reference_value(alloc: Global, reference: &Reference) -> Result<Value, AllocError> {
     let request = reference.request;
-    let operation = operation_name(request.op);
-    let control = control_name(request.acc);
-    let asked = request.pointer.address();
-    let given = match request.op {
-        MemOp::Load | MemOp::TagGet => Value::Null,
-        MemOp::Store | MemOp::Fadd | MemOp::TagSet | MemOp::Purge => digits(alloc, request.value)?,
-    };
-    let reply = match reference.reply {
-        Reply::Done(value) => digits(alloc, value)?,
-        Reply::Blocked(_) | Reply::Trap(_, _) => Value::Null,
-    };
-    let address = reference.address;
-    json!(in alloc; [operation, control, asked, address, given, reply])
+    let mut parts = List::new(alloc);
+    parts.put(text_value(alloc, operation_name(request.op)));
+    parts.put(text_value(alloc, control_name(request.acc)));
+    parts.put_number(request.pointer.address());
+    parts.put_number(reference.address);
+    parts.put(given_value(alloc, &request));
+    parts.put(reply_value(alloc, reference.reply));
+    parts.whole()
+}
+
+/// The value that a request gives; null if it gives none.
+fn given_value(alloc: Global, request: &Request) -> Result<Value, AllocError> {
+    match request.op {
+        MemOp::Load | MemOp::TagGet => Ok(Value::Null),
+        MemOp::Store | MemOp::Fadd | MemOp::TagSet | MemOp::Purge => digits(alloc, request.value),
+    }
+}
+
+/// The value of a reply; null if it has none.
+fn reply_value(alloc: Global, reply: Reply) -> Result<Value, AllocError> {
+    match reply {
+        Reply::Done(value) => digits(alloc, value),
+        Reply::Blocked(_) | Reply::Trap(_, _) => Ok(Value::Null),
+    }
 }
 
 /// The name of a memory operation.

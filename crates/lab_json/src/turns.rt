@@ -1,6 +1,7 @@
 //! Schedules.
 
 use crate::fields::Fields;
+use crate::values::List;
 use processor::Step;
 use serde_json::Value;
 use std::alloc::{AllocError, Global};
@@ -17,7 +18,7 @@ pub fn put_turns(
 
 /// A schedule, a list for each turn.
 pub fn turns_value(alloc: Global, steps: &[Step]) -> Result<Value, AllocError> {
-    let mut turns = Vec::new(alloc);
+    let mut turns = List::new(alloc);
     let mut at: usize = 0;
     for _ in 0..steps.len() {
         let Some(first) = steps.get(at) else {
@@ -25,17 +26,17 @@ pub fn turns_value(alloc: Global, steps: &[Step]) -> Result<Value, AllocError> {
         };
         let rest = steps.get(at..).unwrap_or(&[]);
         let count = rest.iter().take_while(|step| **step == *first).count();
-        turns.push(turn_value(alloc, *first, count)?)?;
+        turns.put(turn_value(alloc, *first, count));
         at = at.saturating_add(count.max(1));
     }
-    Ok(Value::Array(turns))
+    turns.whole()
 }
 
 /// So many steps of a stream.
 fn turn_value(alloc: Global, step: Step, count: usize) -> Result<Value, AllocError> {
-    let mut parts = Vec::with_capacity(alloc, 3)?;
-    parts.push(Value::from(step.p))?;
-    parts.push(Value::from(step.s))?;
-    parts.push(Value::from(count))?;
-    Ok(Value::Array(parts))
+    let mut parts = List::new(alloc);
+    parts.put_number(u64::from(step.p));
+    parts.put_number(u64::from(step.s));
+    parts.put_number(count as u64);
+    parts.whole()
 }
