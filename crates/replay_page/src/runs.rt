@@ -5,12 +5,13 @@ use crate::waits::RunWait;
 use crate::whole_run::WholeRun;
 use image_file::Image;
 use lab_json::{
-    RunTitle, difference_value, end_part, findings_value, head_value, step_part, stream_value,
+    List, Object, RunTitle, difference_value, end_part, findings_value, head_value, step_part,
+    stream_value,
 };
 use lab_texts::{ProgramNames, wanted_word};
 use machine::{LoadFault, Machine};
 use processor::Step;
-use serde_json::{Value, json};
+use serde_json::Value;
 use std::alloc::{AllocError, Global};
 use step_views::StepView;
 use whole_runs::first_difference;
@@ -182,27 +183,27 @@ fn push_steps(alloc: Global, run: &mut String, views: &[StepView]) -> Result<(),
 
 /// The waits of a run.
 fn waits_value(alloc: Global, waits: &[RunWait]) -> Result<Value, AllocError> {
-    let mut values = Vec::with_capacity(alloc, waits.len())?;
+    let mut values = List::new(alloc);
     for wait in waits {
-        values.push(wait_value(alloc, wait)?)?;
+        values.put(wait_value(alloc, wait));
     }
-    Ok(Value::Array(values))
+    values.whole()
 }
 
 /// A wait.
 fn wait_value(alloc: Global, wait: &RunWait) -> Result<Value, AllocError> {
-    let stream = stream_value(alloc, wait.stream)?;
-    let word = wait.wait.address;
-    let wanted = wanted_word(wait.wait.wanted);
-    let from = wait.from;
-    let tries = wait.tries;
-    let made = wait.made;
     let to = match wait.to {
         Some(number) => Value::from(number),
         None => Value::Null,
     };
-    let met = wait.met;
-    json!(in alloc; {
-        "stream": stream, "word": word, "for": wanted, "from": from, "tries": tries, "made": made, "to": to, "met": met
-    })
+    let mut fields = Object::new(alloc);
+    fields.put("stream", stream_value(alloc, wait.stream));
+    fields.put_number("word", wait.wait.address);
+    fields.put_text("for", wanted_word(wait.wait.wanted));
+    fields.put_number("from", wait.from as u64);
+    fields.put_number("tries", wait.tries as u64);
+    fields.put_number("made", wait.made as u64);
+    fields.put("to", Ok(to));
+    fields.put_number("met", wait.met as u64);
+    fields.whole()
 }
