@@ -6,7 +6,7 @@ use std::alloc::{AllocError, Global};
 const DIGITS: &[u8; 64] = b"0123456789ABCDEFGHIJKLMNOPQRSTUVWXYZabcdefghijklmnopqrstuvwxyz-_";
 
 /// Numbers as text.
-#[derive(Debug, Drop)]
+#[derive(Drop)]
 pub(crate) struct Column {
     /// How many digits each number has, 1 to 6: as many as the greatest needs.
     pub width: u32,

@@ -1,6 +1,7 @@
 //! What a stream holds, as JSON: of the numbers of its row (world_keys).
 
-use serde_json::{Map, Value};
+use lab_json::{Object, digits, text_value};
+use serde_json::Value;
 use std::alloc::{AllocError, Global};
 
 /// How many registers a stream has.
@@ -30,62 +31,65 @@ pub(crate) fn is_running(numbers: &[u32]) -> bool {
 /// What the stream of these numbers holds: its status and its pc, and by their names all other parts that are not zero, but for
 /// a target that names no handler.
 pub(crate) fn content_json(alloc: Global, numbers: &[u32]) -> Result<Value, AllocError> {
-    let mut fields = Map::new(alloc);
-    let status = match word_at(numbers, STATUS) {
-        0 => String::from_str(alloc, "idle")?,
-        1 => String::from_str(alloc, "running")?,
+    let mut content = Object::new(alloc);
+    content.put("status", status_json(alloc, word_at(numbers, STATUS)));
+    let word = word_at(numbers, STATUS_WORD);
+    content.put_number("pc", word & 0xFFFF_FFFF);
+    put_small(&mut content, "codes", word >> 32 & 0xFFFF);
+    put_small(&mut content, "mask", word >> 48 & 7);
+    put_small(&mut content, "trap", word >> 56 & 1);
+    put_small(&mut content, "retries", word_at(numbers, RETRIES));
+    put_large(alloc, &mut content, "xr", word_at(numbers, TRAP_REGISTER));
+    put_registers(alloc, &mut content, numbers)?;
+    put_targets(alloc, &mut content, numbers)?;
+    content.whole()
+}
+
+/// A status: `idle`, `running`, or `stopped` and the number of the trap.
+fn status_json(alloc: Global, status: u64) -> Result<Value, AllocError> {
+    match status {
+        0 => text_value(alloc, "idle"),
+        1 => text_value(alloc, "running"),
         code => {
             let trap = code.saturating_sub(1);
-            format!(in alloc; "stopped {trap}")?
+            Ok(Value::String(format!(in alloc; "stopped {trap}")?))
         }
-    };
-    serde_json::put(&mut fields, alloc, "status", Value::String(status))?;
-    let word = word_at(numbers, STATUS_WORD);
-    serde_json::put(&mut fields, alloc, "pc", Value::from(word & 0xFFFF_FFFF))?;
-    put_small(alloc, &mut fields, "codes", word >> 32 & 0xFFFF)?;
-    put_small(alloc, &mut fields, "mask", word >> 48 & 7)?;
-    put_small(alloc, &mut fields, "trap", word >> 56 & 1)?;
-    put_small(alloc, &mut fields, "retries", word_at(numbers, RETRIES))?;
-    put_large(alloc, &mut fields, "xr", word_at(numbers, TRAP_REGISTER))?;
+    }
+}
+
+/// Puts the registers that are not zero.
+fn put_registers(alloc: Global, content: &mut Object, numbers: &[u32]) -> Result<(), AllocError> {
     for number in 0..REGISTERS {
         let name = format!(in alloc; "r{number}")?;
-        put_large(alloc, &mut fields, &name, word_at(numbers, number))?;
+        put_large(alloc, content, &name, word_at(numbers, number));
     }
+    Ok(())
+}
+
+/// Puts the targets that are not zero, but for those that name no handler.
+fn put_targets(alloc: Global, content: &mut Object, numbers: &[u32]) -> Result<(), AllocError> {
     for number in 0..TARGETS {
         let target = word_at(numbers, REGISTERS + number);
         if target != NO_HANDLER {
             let name = format!(in alloc; "t{number}")?;
-            put_large(alloc, &mut fields, &name, target)?;
+            put_large(alloc, content, &name, target);
         }
     }
-    Ok(Value::Object(fields))
+    Ok(())
 }
 
 /// Puts a number of few bits, if it is not zero.
-fn put_small(
-    alloc: Global,
-    fields: &mut Map<String, Value>,
-    name: &str,
-    number: u64,
-) -> Result<(), AllocError> {
-    if number == 0 {
-        return Ok(());
+fn put_small(content: &mut Object, name: &str, number: u64) {
+    if number != 0 {
+        content.put_number(name, number);
     }
-    serde_json::put(fields, alloc, name, Value::from(number))
 }
 
 /// Puts a number of 64 bits as its decimal digits, if it is not zero.
-fn put_large(
-    alloc: Global,
-    fields: &mut Map<String, Value>,
-    name: &str,
-    number: u64,
-) -> Result<(), AllocError> {
-    if number == 0 {
-        return Ok(());
+fn put_large(alloc: Global, content: &mut Object, name: &str, number: u64) {
+    if number != 0 {
+        content.put(name, digits(alloc, number));
     }
-    let text = format!(in alloc; "{number}")?;
-    serde_json::put(fields, alloc, name, Value::String(text))
 }
 
 /// The number of 64 bits at a place, of which there are two of 32, the lower first; 0 if there is none.

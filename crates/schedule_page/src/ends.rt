@@ -2,8 +2,9 @@
 
 use end_kinds::EndKind;
 use lab_ends::{SpaceEnd, SpaceEndKind};
+use lab_json::{List, Object, text_value};
 use processor::Step;
-use serde_json::{Value, json};
+use serde_json::Value;
 use std::alloc::{AllocError, Global};
 use trace_text::write_schedule;
 
@@ -25,14 +26,14 @@ pub(crate) fn ends_json(
     begin: usize,
     judging: Judging<'_>,
 ) -> Result<Value, AllocError> {
-    let mut values = Vec::with_capacity(alloc, ends.len())?;
+    let mut values = List::new(alloc);
     for end in ends {
         let right = judging
             .is_judged
             .then_some(judging.are_rules_kept && is_right_end(end, ends));
-        values.push(end_json(alloc, end, right, begin, judging)?)?;
+        values.put(end_json(alloc, end, right, begin, judging));
     }
-    Ok(Value::Array(values))
+    values.whole()
 }
 
 /// An end as JSON, right or not; None if nothing is judged.
@@ -44,22 +45,25 @@ fn end_json(
     judging: Judging<'_>,
 ) -> Result<Value, AllocError> {
     let steps = end.schedule.get(begin..).unwrap_or(&[]);
-    let kind = end.kind.json_name();
-    let text = end.text.as_str();
-    let right = match right {
+    let mut fields = Object::new(alloc);
+    fields.put_text("kind", end.kind.json_name());
+    fields.put_text("text", &end.text);
+    fields.put("right", Ok(right_value(right)));
+    fields.put("missed", missed_value(alloc, end, judging));
+    fields.put("states", numbers_json(alloc, &end.places));
+    fields.put_number("sets", end.sets as u64);
+    fields.put_number("shortest", steps.len() as u64);
+    fields.put("schedule", schedule_text(alloc, steps));
+    fields.put("findings", findings_json(alloc, end));
+    fields.whole()
+}
+
+/// Whether an end is right; null if nothing is judged.
+fn right_value(right: Option<bool>) -> Value {
+    match right {
         Some(right) => Value::Bool(right),
         None => Value::Null,
-    };
-    let missed = missed_value(alloc, end, judging)?;
-    let states = numbers_json(alloc, &end.places)?;
-    let sets = end.sets;
-    let shortest = steps.len();
-    let schedule = schedule_text(alloc, steps)?;
-    let findings = findings_json(alloc, end)?;
-    json!(in alloc; {
-        "kind": kind, "text": text, "right": right, "missed": missed, "states": states, "sets": sets,
-        "shortest": shortest, "schedule": schedule, "findings": findings
-    })
+    }
 }
 
 /// Whether an end of a space with these ends is as everything that is expected says, and breaks no claim.
@@ -84,18 +88,18 @@ fn breaks_claim(end: &SpaceEnd, ends: &[SpaceEnd]) -> bool {
 /// The first line of the expectations that an end does not meet; null if there is none.
 fn missed_value(alloc: Global, end: &SpaceEnd, judging: Judging<'_>) -> Result<Value, AllocError> {
     match end.missed.and_then(|place| judging.expected.get(place)) {
-        Some(text) => Ok(Value::String(String::from_str(alloc, text)?)),
+        Some(text) => text_value(alloc, text),
         None => Ok(Value::Null),
     }
 }
 
 /// The finding of an end's schedule, in a list.
 fn findings_json(alloc: Global, end: &SpaceEnd) -> Result<Value, AllocError> {
-    let mut findings = Vec::new(alloc);
+    let mut findings = List::new(alloc);
     if !end.finding.is_empty() {
-        findings.push(Value::String(String::from_str(alloc, &end.finding)?))?;
+        findings.put(text_value(alloc, &end.finding));
     }
-    Ok(Value::Array(findings))
+    findings.whole()
 }
 
 /// Steps as the text of a schedule; nothing if there are none.
@@ -108,18 +112,18 @@ pub(crate) fn schedule_text(alloc: Global, steps: &[Step]) -> Result<Value, Allo
 
 /// Numbers as JSON.
 pub(crate) fn numbers_json(alloc: Global, numbers: &[usize]) -> Result<Value, AllocError> {
-    let mut values = Vec::with_capacity(alloc, numbers.len())?;
+    let mut values = List::new(alloc);
     for number in numbers {
-        values.push(Value::from(*number as u64))?;
+        values.put_number(*number as u64);
     }
-    Ok(Value::Array(values))
+    values.whole()
 }
 
 /// Texts as JSON.
 pub(crate) fn texts_json(alloc: Global, texts: &[String]) -> Result<Value, AllocError> {
-    let mut values: Vec<Value> = Vec::with_capacity(alloc, texts.len())?;
+    let mut values = List::new(alloc);
     for text in texts {
-        values.push(Value::String(String::from_str(alloc, text)?))?;
+        values.put(text_value(alloc, text));
     }
-    Ok(Value::Array(values))
+    values.whole()
 }

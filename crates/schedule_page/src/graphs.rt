@@ -1,15 +1,16 @@
 //! The data of a page: a program, its states, the steps between them, and the ends that can still be reached.
 
-use crate::columns::column_of;
-use crate::ends::{Judging, ends_json, numbers_json, schedule_text, texts_json};
+use crate::columns::{Column, column_of};
+use crate::ends::{Judging, ends_json, schedule_text, texts_json};
 use crate::numbers::number_of;
-use crate::page_tables::PageTables;
+use crate::page_tables::{HeldContents, PageTables};
 use crate::records::Records;
 use lab_ends::SpaceEnd;
-use lab_json::{RunTitle, head_value};
+use lab_json::{List, Object, RunTitle, head_value, stream_value};
 use lab_texts::ProgramNames;
+use processor::Step;
 use schedule_space::Space;
-use serde_json::{Map, Value, json};
+use serde_json::Value;
 use space_graphs::ends_ahead;
 use state_tables::{NumberSets, depths_of, machine_at, rows_of, sets_of, targets_of};
 use std::alloc::{AllocError, Global};
@@ -40,79 +41,68 @@ pub fn graph_json<const S: usize>(
     space: &Space<'_>,
     ends: &[SpaceEnd],
 ) -> Result<String, AllocError> {
-    let mut fields = head_fields::<S>(alloc, asked, text, names, space)?;
-    let judging = Judging {
-        expected: asked.expected,
-        is_judged: asked.is_judged,
-        are_rules_kept: asked.are_rules_kept,
-    };
-    let begin = space.begin().len();
-    put(
-        alloc,
-        &mut fields,
-        "ends",
-        ends_json(alloc, ends, begin, judging)?,
-    )?;
-    put(
-        alloc,
-        &mut fields,
-        "expected",
-        texts_json(alloc, asked.expected)?,
-    )?;
-    put(
-        alloc,
-        &mut fields,
-        "begin",
-        schedule_text(alloc, space.begin())?,
-    )?;
-    put(alloc, &mut fields, "goal", goal_json(asked.goal))?;
-    put_states::<S>(alloc, &mut fields, space, ends)?;
-    Value::Object(fields).to_string(alloc)
-}
-
-/// Puts a field.
-fn put(
-    alloc: Global,
-    fields: &mut Map<String, Value>,
-    name: &str,
-    value: Value,
-) -> Result<(), AllocError> {
-    serde_json::put(fields, alloc, name, value)
+    let mut graph = head_of::<S>(alloc, asked, text, names, space)?;
+    put_ends(alloc, &mut graph, asked, space, ends);
+    put_states::<S>(alloc, &mut graph, space, ends)?;
+    graph.whole()?.to_string(alloc)
 }
 
 /// The program, and the image's start.
-fn head_fields<const S: usize>(
+fn head_of<const S: usize>(
     alloc: Global,
     asked: GraphNames<'_>,
     text: &[u8],
     names: &ProgramNames<'_>,
     space: &Space<'_>,
-) -> Result<Map<String, Value>, AllocError> {
+) -> Result<Object, AllocError> {
     let machine = machine_at::<S>(alloc, space, 0)?;
     let title = RunTitle {
         object: "graph",
         program: asked.program,
         schedule: "",
     };
-    match head_value(alloc, title, text, names, &machine)? {
-        Value::Object(mut fields) => {
-            let code = code_json(alloc, machine.image().program())?;
-            put(alloc, &mut fields, "code", code)?;
-            Ok(fields)
-        }
-        _ => Ok(Map::new(alloc)),
-    }
+    let mut head = match head_value(alloc, title, text, names, &machine)? {
+        Value::Object(fields) => Object::of(alloc, fields),
+        _ => Object::new(alloc),
+    };
+    head.put("code", code_json(alloc, machine.image().program()));
+    Ok(head)
 }
 
 /// Each word of the program, in 16 hexadecimal digits.
 fn code_json(alloc: Global, program: &[u64]) -> Result<Value, AllocError> {
-    let mut words = Vec::with_capacity(alloc, program.len())?;
+    let mut words = List::new(alloc);
     for word in program {
-        let mut digits = String::new(alloc);
-        push_hexadecimal_16(&mut digits, *word)?;
-        words.push(Value::String(digits))?;
+        words.put(digits_json(alloc, *word));
     }
-    Ok(Value::Array(words))
+    words.whole()
+}
+
+/// A word of the program.
+fn digits_json(alloc: Global, word: u64) -> Result<Value, AllocError> {
+    let mut digits = String::new(alloc);
+    push_hexadecimal_16(&mut digits, word)?;
+    Ok(Value::String(digits))
+}
+
+/// Puts the ends, what they are judged by, the steps that all schedules begin with, and the first goal.
+fn put_ends(
+    alloc: Global,
+    graph: &mut Object,
+    asked: GraphNames<'_>,
+    space: &Space<'_>,
+    ends: &[SpaceEnd],
+) {
+    let judging = Judging {
+        expected: asked.expected,
+        is_judged: asked.is_judged,
+        are_rules_kept: asked.are_rules_kept,
+    };
+    let begin = space.begin();
+    graph.put("ends", ends_json(alloc, ends, begin.len(), judging));
+    graph.put("expected", texts_json(alloc, asked.expected));
+    graph.put("begin", schedule_text(alloc, begin));
+    graph.put("goal", Ok(goal_json(asked.goal)));
 }
 
 /// The place of the end that is the first goal; null if there is none.
@@ -126,54 +116,97 @@ fn goal_json(goal: Option<usize>) -> Value {
 /// Puts the states, what their numbers count in, and the sets of ends that can still be reached.
 fn put_states<const S: usize>(
     alloc: Global,
-    fields: &mut Map<String, Value>,
+    graph: &mut Object,
     space: &Space<'_>,
     ends: &[SpaceEnd],
 ) -> Result<(), AllocError> {
-    let states = space.len();
-    let steps = space.step_count();
-    let counted = json!(in alloc; { "states": states, "steps": steps })?;
-    put(alloc, fields, "counted", counted)?;
+    graph.put("counted", counted_json(alloc, space));
+    let tables = tables_of::<S>(alloc, space)?;
+    put_columns(alloc, graph, space, ends, &tables)?;
+    let records = records_of::<S>(alloc, space, &tables)?;
+    let does = records.does_json(alloc, tables.contents.len());
+    graph.put("contents", Ok(Value::Array(tables.contents)));
+    graph.put("shared", Ok(Value::Array(tables.shared)));
+    graph.put("steps", Ok(records.into_json()));
+    graph.put("does", does);
+    Ok(())
+}
+
+/// How many states and how many steps there are.
+fn counted_json(alloc: Global, space: &Space<'_>) -> Result<Value, AllocError> {
+    let mut counted = Object::new(alloc);
+    counted.put_number("states", space.len() as u64);
+    counted.put_number("steps", space.step_count() as u64);
+    counted.whole()
+}
+
+/// The states by streams, and the tables that their numbers count in.
+fn tables_of<const S: usize>(alloc: Global, space: &Space<'_>) -> Result<PageTables, AllocError> {
     let rows = rows_of::<S>(alloc, space)?;
-    let tables = PageTables::of(alloc, &rows)?;
+    PageTables::of(alloc, &rows)
+}
+
+/// The records of the steps of all states.
+fn records_of<const S: usize>(
+    alloc: Global,
+    space: &Space<'_>,
+    tables: &PageTables,
+) -> Result<Records, AllocError> {
     let mut records = Records::new(alloc);
-    records.add_all::<S>(alloc, space, &tables)?;
+    records.add_all::<S>(alloc, space, tables)?;
+    Ok(records)
+}
+
+/// The sets of ends that can still be reached from the states.
+fn sets_ahead(
+    alloc: Global,
+    space: &Space<'_>,
+    ends: &[SpaceEnd],
+) -> Result<NumberSets, AllocError> {
     let ahead = ends_ahead(alloc, space, ends)?;
-    let sets = sets_of(alloc, &ahead)?;
-    put(alloc, fields, "sets", sets_json(alloc, &sets)?)?;
-    let columns = columns_json(alloc, space, &tables, &sets)?;
-    put(alloc, fields, "states", columns)?;
-    put(alloc, fields, "streams", streams_json(alloc, &tables)?)?;
-    let count = tables.contents.len();
-    let (records, does) = records.into_json(alloc, count)?;
-    put(alloc, fields, "contents", Value::Array(tables.contents))?;
-    put(alloc, fields, "shared", Value::Array(tables.shared))?;
-    put(alloc, fields, "steps", records)?;
-    put(alloc, fields, "does", does)
+    sets_of(alloc, &ahead)
+}
+
+/// Puts the sets of ends that can still be reached, the columns, and the names of the streams.
+fn put_columns(
+    alloc: Global,
+    graph: &mut Object,
+    space: &Space<'_>,
+    ends: &[SpaceEnd],
+    tables: &PageTables,
+) -> Result<(), AllocError> {
+    let sets = sets_ahead(alloc, space, ends)?;
+    graph.put("sets", sets_json(alloc, &sets));
+    graph.put("states", columns_json(alloc, space, tables, &sets));
+    graph.put("streams", streams_json(alloc, tables));
+    Ok(())
 }
 
 /// The names of the streams that are not idle in some state.
 fn streams_json(alloc: Global, tables: &PageTables) -> Result<Value, AllocError> {
-    let mut names = Vec::with_capacity(alloc, tables.streams.len())?;
+    let mut names = List::new(alloc);
     for held in &tables.streams {
-        let p = held.stream.p;
-        let s = held.stream.s;
-        names.push(Value::String(format!(in alloc; "{p}.{s}")?))?;
+        names.put(stream_value(alloc, held.stream));
     }
-    Ok(Value::Array(names))
+    names.whole()
 }
 
 /// The distinct sets of ends, as places in the list of ends, which the numbers of the ends count from 1.
 fn sets_json(alloc: Global, sets: &NumberSets) -> Result<Value, AllocError> {
-    let mut values = Vec::with_capacity(alloc, sets.table.len())?;
+    let mut values = List::new(alloc);
     for place in 0..sets.table.len() {
-        let mut places = Vec::new(alloc);
-        for number in sets.table.list(place).unwrap_or(&[]) {
-            places.push((*number as usize).saturating_sub(1))?;
-        }
-        values.push(numbers_json(alloc, &places)?)?;
+        values.put(set_json(alloc, sets.table.list(place).unwrap_or(&[])));
     }
-    Ok(Value::Array(values))
+    values.whole()
+}
+
+/// A set of ends.
+fn set_json(alloc: Global, numbers: &[u32]) -> Result<Value, AllocError> {
+    let mut places = List::new(alloc);
+    for number in numbers {
+        places.put_number(u64::from(*number).saturating_sub(1));
+    }
+    places.whole()
 }
 
 /// The columns: a number of each state.
@@ -183,37 +216,59 @@ fn columns_json(
     tables: &PageTables,
     sets: &NumberSets,
 ) -> Result<Value, AllocError> {
-    let mut held = Vec::with_capacity(alloc, tables.streams.len())?;
-    let mut to = Vec::with_capacity(alloc, tables.streams.len())?;
+    let mut columns = Object::new(alloc);
+    columns.put("shared", column_json(alloc, &tables.shared_of));
+    columns.put("streams", held_columns(alloc, space, tables));
+    columns.put("to", target_columns(alloc, space, tables));
+    columns.put("depth", depth_column(alloc, space));
+    columns.put("ahead", column_json(alloc, &sets.set_of));
+    columns.whole()
+}
+
+/// Of each stream the column of what it holds.
+fn held_columns(
+    alloc: Global,
+    space: &Space<'_>,
+    tables: &PageTables,
+) -> Result<Value, AllocError> {
+    let mut columns = List::new(alloc);
     for stream in &tables.streams {
-        let mut numbers = Vec::from_slice(alloc, &stream.numbers)?;
-        numbers.resize(space.len(), 0)?;
-        held.push(column_json(alloc, &numbers)?)?;
-        let targets = targets_of(alloc, space.len(), space.edges(), stream.stream)?;
-        to.push(column_json(alloc, &targets)?)?;
+        columns.put(held_column(alloc, space.len(), stream));
     }
-    let mut fields = Map::new(alloc);
-    put(
-        alloc,
-        &mut fields,
-        "shared",
-        column_json(alloc, &tables.shared_of)?,
-    )?;
-    put(alloc, &mut fields, "streams", Value::Array(held))?;
-    put(alloc, &mut fields, "to", Value::Array(to))?;
-    put(
-        alloc,
-        &mut fields,
-        "depth",
-        column_json(alloc, &narrowed(alloc, &depths_of(alloc, space)?)?)?,
-    )?;
-    put(
-        alloc,
-        &mut fields,
-        "ahead",
-        column_json(alloc, &sets.set_of)?,
-    )?;
-    Ok(Value::Object(fields))
+    columns.whole()
+}
+
+/// The column of what a stream holds in so many states.
+fn held_column(alloc: Global, states: usize, stream: &HeldContents) -> Result<Value, AllocError> {
+    let mut numbers = Vec::from_slice(alloc, &stream.numbers)?;
+    numbers.resize(states, 0)?;
+    column_json(alloc, &numbers)
+}
+
+/// Of each stream the column of the states that its steps lead to.
+fn target_columns(
+    alloc: Global,
+    space: &Space<'_>,
+    tables: &PageTables,
+) -> Result<Value, AllocError> {
+    let mut columns = List::new(alloc);
+    for stream in &tables.streams {
+        columns.put(target_column(alloc, space, stream.stream));
+    }
+    columns.whole()
+}
+
+/// The column of the states that a stream's steps lead to.
+fn target_column(alloc: Global, space: &Space<'_>, stream: Step) -> Result<Value, AllocError> {
+    let targets = targets_of(alloc, space.len(), space.edges(), stream)?;
+    column_json(alloc, &targets)
+}
+
+/// The column of how many steps lead to the states.
+fn depth_column(alloc: Global, space: &Space<'_>) -> Result<Value, AllocError> {
+    let depths = depths_of(alloc, space)?;
+    let numbers = narrowed(alloc, &depths)?;
+    column_json(alloc, &numbers)
 }
 
 /// Numbers of 32 bits.
@@ -227,8 +282,9 @@ fn narrowed(alloc: Global, numbers: &[usize]) -> Result<Vec<u32>, AllocError> {
 
 /// Numbers as a column: how many digits each has, and all digits.
 fn column_json(alloc: Global, numbers: &[u32]) -> Result<Value, AllocError> {
-    let column = column_of(alloc, numbers)?;
-    let width = column.width;
-    let text = column.text.as_str();
-    json!(in alloc; [width, text])
+    let Column { width, text } = column_of(alloc, numbers)?;
+    let mut parts = List::new(alloc);
+    parts.put_number(u64::from(width));
+    parts.put(Ok(Value::String(text)));
+    parts.whole()
 }

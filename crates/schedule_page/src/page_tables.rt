@@ -3,6 +3,7 @@
 use crate::contents::{content_json, is_running};
 use crate::numbers::number_of;
 use crate::shared_states::shared_json;
+use lab_json::Object;
 use processor::Step;
 use serde_json::Value;
 use state_tables::StateRows;
@@ -38,33 +39,39 @@ pub(crate) struct PageTables {
 impl PageTables {
     /// The tables of rows.
     pub(crate) fn of(alloc: Global, rows: &StateRows) -> Result<PageTables, AllocError> {
-        let mut tables = PageTables::new(alloc)?;
-        for (place, row) in rows.rows.iter().enumerate() {
-            tables.add_row(alloc, &rows.table, place, row)?;
-        }
-        tables
-            .streams
-            .sort_by_key(|held: &HeldContents| stream_order(held.stream))?;
+        let mut tables = PageTables::new(alloc);
+        tables.add_idle(alloc)?;
+        tables.add_rows(alloc, rows)?;
         Ok(tables)
     }
 
-    /// The tables of no state, in which an idle stream has the first content.
-    fn new(alloc: Global) -> Result<PageTables, AllocError> {
-        let mut content_table = Table::new(alloc);
-        content_table.place(&[])?;
-        let mut contents = Vec::new(alloc);
-        contents.push(Value::Object(serde_json::Map::new(alloc)))?;
-        let mut running = Vec::new(alloc);
-        running.push(false)?;
-        Ok(PageTables {
-            contents,
-            running,
+    /// Empty tables.
+    fn new(alloc: Global) -> PageTables {
+        PageTables {
+            contents: Vec::new(alloc),
+            running: Vec::new(alloc),
             shared: Vec::new(alloc),
             streams: Vec::new(alloc),
             shared_of: Vec::new(alloc),
-            content_table,
+            content_table: Table::new(alloc),
             shared_table: Table::new(alloc),
-        })
+        }
+    }
+
+    /// Adds the content of an idle stream, the first.
+    fn add_idle(&mut self, alloc: Global) -> Result<(), AllocError> {
+        self.content_table.place(&[])?;
+        self.contents.push(Object::new(alloc).whole()?)?;
+        Ok(self.running.push(false)?)
+    }
+
+    /// Adds the rows of all states, and puts the streams into their order.
+    fn add_rows(&mut self, alloc: Global, rows: &StateRows) -> Result<(), AllocError> {
+        for (place, row) in rows.rows.iter().enumerate() {
+            self.add_row(alloc, &rows.table, place, row)?;
+        }
+        self.streams
+            .sort_by_key(|held: &HeldContents| stream_order(held.stream))
     }
 
     /// Adds the row of the state at a place: first the place in the table of what its memory holds, then those of what its

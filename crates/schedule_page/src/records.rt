@@ -3,7 +3,7 @@
 
 use crate::numbers::number_of;
 use crate::page_tables::PageTables;
-use lab_json::{outcome_name, reference_value};
+use lab_json::{List, outcome_name, reference_value};
 use processor::Step;
 use schedule_space::Space;
 use serde_json::Value;
@@ -116,32 +116,50 @@ impl Records {
         Ok(number_of(number))
     }
 
-    /// The records as JSON, and of each of so many contents which record its step has: -1 if no stream that holds it runs,
-    /// the record's number if it has the same whatever is shared, else pairs of what is shared and the record.
-    pub(crate) fn into_json(
-        self,
-        alloc: Global,
-        contents: usize,
-    ) -> Result<(Value, Value), AllocError> {
+    /// Of each of so many contents which record its step has: -1 if no stream that holds it runs, the record's number if it has
+    /// the same whatever is shared, else pairs of what is shared and the record.
+    pub(crate) fn does_json(&self, alloc: Global, contents: usize) -> Result<Value, AllocError> {
+        let rows = self.rows(alloc, contents)?;
+        let mut does = List::new(alloc);
+        for row in &rows {
+            does.put(row_json(alloc, row));
+        }
+        does.whole()
+    }
+
+    /// Of each of so many contents the pairs of what is shared and the record.
+    fn rows(&self, alloc: Global, contents: usize) -> Result<Vec<Vec<(u32, u32)>>, AllocError> {
         let mut rows: Vec<Vec<(u32, u32)>> = Vec::with_capacity(alloc, contents)?;
         for _ in 0..contents {
             rows.push(Vec::new(alloc))?;
         }
+        self.fill_rows(&mut rows)?;
+        Ok(rows)
+    }
+
+    /// Adds the pairs to the rows of their contents.
+    fn fill_rows(&self, rows: &mut [Vec<(u32, u32)>]) -> Result<(), AllocError> {
         for (place, record) in self.of_pairs.iter().enumerate() {
-            let Some(pair) = self.pairs.list(place) else {
-                continue;
-            };
-            let content = pair.first().copied().unwrap_or(0);
-            let shared = pair.get(1).copied().unwrap_or(0);
-            if let Some(row) = rows.get_mut(content as usize) {
-                row.push((shared, *record))?;
+            if let Some(pair) = self.pairs.list(place) {
+                push_record(rows, pair, *record)?;
             }
         }
-        let mut does = Vec::with_capacity(alloc, contents)?;
-        for row in &rows {
-            does.push(row_json(alloc, row)?)?;
-        }
-        Ok((Value::Array(self.values), Value::Array(does)))
+        Ok(())
+    }
+
+    /// The records as JSON.
+    pub(crate) fn into_json(self) -> Value {
+        Value::Array(self.values)
+    }
+}
+
+/// Adds a record to the row of its content, with what is shared: these are a pair.
+fn push_record(rows: &mut [Vec<(u32, u32)>], pair: &[u32], record: u32) -> Result<(), AllocError> {
+    let content = pair.first().copied().unwrap_or(0);
+    let shared = pair.get(1).copied().unwrap_or(0);
+    match rows.get_mut(content as usize) {
+        Some(row) => Ok(row.push((shared, record))?),
+        None => Ok(()),
     }
 }
 
@@ -167,10 +185,10 @@ fn row_json(alloc: Global, row: &[(u32, u32)]) -> Result<Value, AllocError> {
     if row.iter().all(|(_, record)| *record == first) {
         return Ok(Value::from(u64::from(first)));
     }
-    let mut numbers = Vec::with_capacity(alloc, row.len().saturating_mul(2))?;
+    let mut numbers = List::new(alloc);
     for (shared, record) in row {
-        numbers.push(Value::from(u64::from(*shared)))?;
-        numbers.push(Value::from(u64::from(*record)))?;
+        numbers.put_number(u64::from(*shared));
+        numbers.put_number(u64::from(*record));
     }
-    Ok(Value::Array(numbers))
+    numbers.whole()
 }

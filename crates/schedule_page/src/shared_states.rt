@@ -1,6 +1,7 @@
 //! What no stream has for itself, as JSON: the words that are not as at the start, and the counts of the processors.
 
-use serde_json::{Map, Value, json};
+use lab_json::{List, Object, digits};
+use serde_json::Value;
 use std::alloc::{AllocError, Global};
 
 /// What no stream has for itself: `words`, of each that is not as at the start its address, value and tags, and `places`, of
@@ -12,29 +13,46 @@ pub(crate) fn shared_json(
     memory: &[u32],
     counts: &[u32],
 ) -> Result<Value, AllocError> {
-    let mut words = Vec::new(alloc);
+    let mut shared = Object::new(alloc);
+    shared.put("words", words_json(alloc, memory));
+    shared.put("places", places_json(alloc, counts));
+    shared.whole()
+}
+
+/// The words.
+fn words_json(alloc: Global, memory: &[u32]) -> Result<Value, AllocError> {
+    let mut words = List::new(alloc);
     for change in memory.chunks(4) {
-        words.push(word_json(alloc, change)?)?;
+        words.put(word_json(alloc, change));
     }
-    let mut places = Vec::new(alloc);
-    for pair in counts.chunks(2) {
-        let reserved = number_at(pair, 0);
-        let current = number_at(pair, 1);
-        places.push(json!(in alloc; [current, reserved])?)?;
-    }
-    let mut fields = Map::new(alloc);
-    serde_json::put(&mut fields, alloc, "words", Value::Array(words))?;
-    serde_json::put(&mut fields, alloc, "places", Value::Array(places))?;
-    Ok(Value::Object(fields))
+    words.whole()
 }
 
 /// A word: its address, value and tags.
 fn word_json(alloc: Global, change: &[u32]) -> Result<Value, AllocError> {
-    let address = number_at(change, 0).saturating_mul(8);
-    let tags = number_at(change, 1);
     let value = number_at(change, 2) | number_at(change, 3) << 32;
-    let text = format!(in alloc; "{value}")?;
-    json!(in alloc; [address, text, tags])
+    let mut parts = List::new(alloc);
+    parts.put_number(number_at(change, 0).saturating_mul(8));
+    parts.put(digits(alloc, value));
+    parts.put_number(number_at(change, 1));
+    parts.whole()
+}
+
+/// The counts of the processors.
+fn places_json(alloc: Global, counts: &[u32]) -> Result<Value, AllocError> {
+    let mut places = List::new(alloc);
+    for pair in counts.chunks(2) {
+        places.put(place_json(alloc, pair));
+    }
+    places.whole()
+}
+
+/// How many streams of a processor are current, and how many are reserved.
+fn place_json(alloc: Global, pair: &[u32]) -> Result<Value, AllocError> {
+    let mut parts = List::new(alloc);
+    parts.put_number(number_at(pair, 1));
+    parts.put_number(number_at(pair, 0));
+    parts.whole()
 }
 
 /// The number at a place; 0 if there is none.
