@@ -13,7 +13,7 @@ use trace_text::{ScheduleFault, ScheduleFaultKind, read_schedule};
 const MOST_STARS_TOLD: usize = 100_000;
 
 /// Where a line stands in its text.
-#[derive(Clone, Copy, Debug)]
+#[derive(Clone, Copy)]
 struct LinePlace {
     /// Its number, from 1.
     number: usize,
@@ -227,7 +227,7 @@ fn place_of(kept: &[Kept], index: usize) -> usize {
 }
 
 /// A byte of a line's strict form.
-#[derive(Clone, Copy, Debug)]
+#[derive(Clone, Copy)]
 struct Kept {
     /// The byte.
     byte: u8,

@@ -13,7 +13,7 @@ use trace_text::{ScheduleFault, ScheduleFaultKind};
 pub(crate) const MOST_STEPS_OF_STAR: usize = 10_000;
 
 /// What a line of a schedule says.
-#[derive(Clone, Copy, Debug)]
+#[derive(Clone, Copy)]
 pub(crate) struct SaidSteps {
     /// Whose steps.
     pub stream: Step,
@@ -22,7 +22,7 @@ pub(crate) struct SaidSteps {
 }
 
 /// Why a star stands for no more steps.
-#[derive(Clone, Copy, Debug, PartialEq, Eq)]
+#[derive(Clone, Copy, PartialEq, Eq)]
 pub(crate) enum StarEnd {
     /// The last of them was blocked.
     Blocked,
@@ -35,7 +35,7 @@ pub(crate) enum StarEnd {
 }
 
 /// What a star stands for.
-#[derive(Clone, Copy, Debug)]
+#[derive(Clone, Copy)]
 pub(crate) struct Star {
     /// Which line of the schedule it is, from 0.
     pub line: usize,

@@ -23,7 +23,7 @@ pub(crate) struct Desk<'a, 'i, 't, const S: usize> {
 }
 
 /// What comes behind an answer.
-#[derive(Clone, Copy, Debug)]
+#[derive(Clone, Copy)]
 pub(crate) enum Turn<'l> {
     /// The next line.
     On,

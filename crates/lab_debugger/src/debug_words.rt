@@ -5,7 +5,7 @@ use plain_text::push_plain;
 use std::alloc::AllocError;
 
 /// What a line of `debug` asks for.
-#[derive(Clone, Copy, Debug, PartialEq, Eq)]
+#[derive(Clone, Copy, PartialEq, Eq)]
 pub(crate) enum DebugWord {
     /// So many steps of the schedule.
     Step,

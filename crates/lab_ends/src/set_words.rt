@@ -10,7 +10,7 @@ use tag_memory::Word;
 use waiting::{is_stuck, running_streams, wait_of};
 
 /// How a stream goes on in worlds.
-#[derive(Clone, Copy, Debug, PartialEq, Eq)]
+#[derive(Clone, Copy, PartialEq, Eq)]
 enum Going {
     /// It can go on in some of them.
     Runs,
@@ -34,7 +34,7 @@ impl Going {
 }
 
 /// A stream, and how it goes on.
-#[derive(Clone, Copy, Debug)]
+#[derive(Clone, Copy)]
 struct GoingStream {
     /// The stream.
     stream: Step,

@@ -8,7 +8,7 @@ use std::alloc::{AllocError, Global};
 use std::str;
 
 /// A word of the program, by the text.
-#[derive(Clone, Copy, Debug)]
+#[derive(Clone, Copy)]
 struct WordName<'t> {
     /// Its line, from 1.
     line: usize,
