@@ -40,8 +40,7 @@ fn push_part(name: &mut String, part: StreamPart) -> Result<(), AllocError> {
 
 /// Adds a letter with a number.
 fn push_numbered(name: &mut String, letter: &str, number: u8) -> Result<(), AllocError> {
-    write!(name, "{letter}{number}")?;
-    Ok(())
+    write!(name, "{letter}{number}")
 }
 
 /// What stands in a place.
