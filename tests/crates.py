@@ -2,7 +2,7 @@
 """The table "Crates, lowest first" of docs/ARCHITECTURE.md, made of crates.txt and of what the crates' own documents say.
 
   crates.py table   writes it
-  crates.py check   says where the document has another one
+  crates.py check   says where the document has another one, and which edges of crates.txt no source of the lab names
 
 crates.txt has headings, lines "# == HEADING"; each becomes a part of the table. What a crate does is the first sentence
 of its README.md. A crate that `mta_sim` needs is marked so."""
@@ -13,6 +13,8 @@ import sys
 
 ROOT = os.path.dirname(os.path.dirname(os.path.abspath(__file__)))
 DOCUMENT = f"{ROOT}/docs/ARCHITECTURE.md"
+# the heading from which on crates are not part of the proved core
+FIRST_OF_LAB = "What the lab says and shows"
 TABLE = re.compile(r"(?s)(## Crates, lowest first\n\n).*?(?=\n\n## )")
 
 
@@ -63,12 +65,37 @@ def table():
     return "\n".join(lines)
 
 
+def sources(crate):
+    """What a crate's sources, definitions and lemmas say, but for comments."""
+    lines = []
+    for folder in ("src", "specs", "proofs"):
+        for at, _, names in os.walk(f"{ROOT}/crates/{crate}/{folder}"):
+            for name in names:
+                lines += read(f"{at}/{name}").splitlines()
+    return "\n".join(line for line in lines if not line.lstrip().startswith(("//", "--")))
+
+
+def unnamed():
+    """The edges of crates.txt that no source names, of the crates that stand after the proved core. Those with lemmas of
+    their own are left out: the prover may find lemmas of a library that no source names."""
+    headings = [heading for heading, _ in parts()]
+    for heading, crates in parts()[headings.index(FIRST_OF_LAB):]:
+        for name, used in crates:
+            if os.path.isdir(f"{ROOT}/crates/{name}/proofs"):
+                continue
+            text = sources(name)
+            for it in used:
+                if not re.search(rf"\b{it}::|\bRattle\.{it}\.|#\[derive\([^)]*\b{it}\b", text):
+                    yield f"crates.txt: no source of {name} names {it}"
+
+
 def main():
     text = read(DOCUMENT)
     made = TABLE.sub(lambda found: found[1] + table(), text)
     if sys.argv[1:] == ["check"]:
         if made != text:
             print("docs/ARCHITECTURE.md has another table of crates: make crates writes it")
+        print(*unnamed(), sep="\n", end="")
     elif sys.argv[1:] == ["table"]:
         with open(DOCUMENT, "w", encoding="utf-8") as file:
             file.write(made)

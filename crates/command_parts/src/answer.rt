@@ -6,7 +6,7 @@ use std::alloc::Global;
 
 /// What a command prints, and how it ended.
 #[derive(Drop)]
-pub struct Answer {
+pub struct CommandAnswer {
     /// For standard output.
     pub output: String,
     /// For standard error.
@@ -17,10 +17,10 @@ pub struct Answer {
     pub fault: Option<LabFault>,
 }
 
-impl Answer {
+impl CommandAnswer {
     /// An answer that has nothing for standard error.
-    pub fn printed(alloc: Global, output: String, status: Status) -> Answer {
-        Answer {
+    pub fn printed(alloc: Global, output: String, status: Status) -> CommandAnswer {
+        CommandAnswer {
             output,
             errors: String::new(alloc),
             status,
@@ -29,7 +29,7 @@ impl Answer {
     }
 
     /// An answer that prints nothing, and all is done.
-    pub fn silent(alloc: Global) -> Answer {
-        Answer::printed(alloc, String::new(alloc), Status::Done)
+    pub fn silent(alloc: Global) -> CommandAnswer {
+        CommandAnswer::printed(alloc, String::new(alloc), Status::Done)
     }
 }

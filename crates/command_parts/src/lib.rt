@@ -16,7 +16,7 @@ mod star_words;
 mod stars;
 mod written;
 
-pub use answer::Answer;
+pub use answer::CommandAnswer;
 pub use end_kinds::Status;
 pub use folder_names::{folder_names, slash_after};
 pub use image_machines::loaded;
@@ -25,7 +25,7 @@ pub use json_lines::push_object;
 pub use lab_fault::LabFault;
 pub use loose_schedules::check_loose_schedule;
 pub use number_styles::style_of;
-pub use programs::{Program, is_image, program_of, read_program};
+pub use programs::{Program, ProgramFault, is_image, program_in, program_of, read_program};
 pub use runs::{made_by, read_steps, steps_of};
 pub use sources::SourceText;
 pub use written::{write_out, written};

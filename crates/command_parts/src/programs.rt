@@ -6,8 +6,8 @@ use crate::sources::SourceText;
 use asm_text::{AsmFault, Fault, assemble, listing};
 use image_file::{Image, ImageFault, read_image};
 use plain_text::plain;
-use source_faults::{image_fault_words, push_message};
-use std::alloc::Global;
+use source_faults::{Message, image_fault_words, push_message};
+use std::alloc::{AllocError, AllocFailed, Global};
 use std::io::Read;
 use std::rt::Files;
 
@@ -38,10 +38,47 @@ pub fn read_program<F: Files, R: Read>(
     program_of(alloc, path, bytes)
 }
 
+/// Why bytes are no program.
+#[derive(Drop)]
+pub enum ProgramFault {
+    /// For what is said of this text.
+    Messages {
+        /// The text, as it was written; empty for an image.
+        text: Vec<u8>,
+        /// What is said, an error at least.
+        messages: Vec<Message>,
+    },
+    /// Memory was refused.
+    NoMemory,
+}
+
+impl From<AllocError> for ProgramFault {
+    fn from(_error: AllocError) -> ProgramFault {
+        ProgramFault::NoMemory
+    }
+}
+
+impl<T: Drop> From<AllocFailed<T>> for ProgramFault {
+    fn from(_error: AllocFailed<T>) -> ProgramFault {
+        ProgramFault::NoMemory
+    }
+}
+
 /// The program of the bytes of a path.
 pub fn program_of(alloc: Global, path: &str, bytes: Vec<u8>) -> Result<Program, LabFault> {
+    match program_in(alloc, bytes) {
+        Ok(program) => Ok(program),
+        Err(ProgramFault::NoMemory) => Err(LabFault::NoMemory),
+        Err(ProgramFault::Messages { text, messages }) => {
+            Err(LabFault::Lines(lines_of(alloc, path, &text, &messages)?))
+        }
+    }
+}
+
+/// The program of a file's bytes: a source text is assembled, an image is read.
+pub fn program_in(alloc: Global, bytes: Vec<u8>) -> Result<Program, ProgramFault> {
     if is_image(&bytes) {
-        return program_of_image(alloc, path, &bytes);
+        return program_of_image(alloc, &bytes);
     }
     let source = SourceText::of(alloc, bytes)?;
     match assemble(alloc, source.ascii()) {
@@ -54,13 +91,16 @@ pub fn program_of(alloc: Global, path: &str, bytes: Vec<u8>) -> Result<Program, 
                 kind: Fault::NoMemory,
                 ..
             },
-        ) => Err(LabFault::NoMemory),
-        Err(_) => Err(LabFault::Lines(source_messages(alloc, path, &source)?)),
+        ) => Err(ProgramFault::NoMemory),
+        Err(_) => Err(ProgramFault::Messages {
+            messages: source.messages(alloc)?,
+            text: source.into_written(),
+        }),
     }
 }
 
 /// The program of an image's bytes.
-fn program_of_image(alloc: Global, path: &str, bytes: &[u8]) -> Result<Program, LabFault> {
+fn program_of_image(alloc: Global, bytes: &[u8]) -> Result<Program, ProgramFault> {
     match read_image(alloc, bytes) {
         Ok(image) => {
             let text = listing(alloc, &image)?;
@@ -69,22 +109,29 @@ fn program_of_image(alloc: Global, path: &str, bytes: &[u8]) -> Result<Program, 
                 image,
             })
         }
-        Err(ImageFault::NoMemory) => Err(LabFault::NoMemory),
+        Err(ImageFault::NoMemory) => Err(ProgramFault::NoMemory),
         Err(fault) => {
-            let message = image_fault_words(alloc, bytes, fault)?;
-            let mut lines = String::new(alloc);
-            push_message(&mut lines, &plain(alloc, path)?, b"", &message)?;
-            Err(LabFault::Lines(lines))
+            let mut messages = Vec::new(alloc);
+            messages.push(image_fault_words(alloc, bytes, fault)?)?;
+            Err(ProgramFault::Messages {
+                text: Vec::new(alloc),
+                messages,
+            })
         }
     }
 }
 
-/// What is wrong with a source text, in lines.
-fn source_messages(alloc: Global, path: &str, source: &SourceText) -> Result<String, LabFault> {
+/// What is said of the text of a path, in lines.
+fn lines_of(
+    alloc: Global,
+    path: &str,
+    text: &[u8],
+    messages: &[Message],
+) -> Result<String, AllocError> {
     let mut lines = String::new(alloc);
     let path = plain(alloc, path)?;
-    for message in &source.messages(alloc)? {
-        push_message(&mut lines, &path, source.written(), message)?;
+    for message in messages {
+        push_message(&mut lines, &path, text, message)?;
     }
     Ok(lines)
 }

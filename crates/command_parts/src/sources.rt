@@ -43,11 +43,6 @@ impl SourceText {
         })
     }
 
-    /// The text as it was written.
-    pub(crate) fn written(&self) -> &[u8] {
-        &self.written
-    }
-
     /// The text as it was written, for good.
     pub fn into_written(self) -> Vec<u8> {
         self.written

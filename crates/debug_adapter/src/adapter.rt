@@ -3,14 +3,14 @@
 ghost use Rattle.std.specs.Prelude.{◌≡◌, ◌+◌, OnOk};
 
 use crate::breaking::KnownPoint;
-use crate::commands::{DapCommand, dap_command};
+use crate::commands::{DapCommand, MoveCommand, PointCommand, ViewCommand};
 use crate::connection::{Connection, Events};
 use crate::greeting::{Client, no_command};
 use crate::json_text::Json;
 use crate::refusals::Refusal;
-use crate::requests::Request;
-use crate::scanning::Wanted;
+use crate::requests::DapRequest;
 use crate::searching::Search;
+use crate::stop_conditions::StopConditions;
 use lab_texts::{Columns, ProgramNames};
 use named_session::NamedSession;
 use processor::Step;
@@ -34,7 +34,7 @@ pub struct Origin<'a> {
 
 /// What comes behind a request.
 #[derive(Clone, Copy, PartialEq, Eq)]
-pub enum Turn {
+pub enum Flow {
     /// The next request.
     On,
     /// The end.
@@ -54,11 +54,11 @@ pub struct Adapter<'a, 'i, 't> {
     /// The number of the breakpoint that is made next.
     pub(crate) next_breakpoint: u64,
     /// At what the session stops beside its points.
-    pub(crate) wanted: Wanted,
+    pub(crate) conditions: StopConditions,
     /// What is under way.
     pub(crate) search: Option<Search>,
     /// The stream of the last stop.
-    pub(crate) told: Step,
+    pub(crate) last_stream: Step,
 }
 
 impl<'a, 'i, 't> Adapter<'a, 'i, 't> {
@@ -78,9 +78,9 @@ impl<'a, 'i, 't> Adapter<'a, 'i, 't> {
             origin,
             points: Vec::new(alloc),
             next_breakpoint: 1,
-            wanted: Wanted::nothing(),
+            conditions: StopConditions::nothing(),
             search: None,
-            told: Step { p: 0, s: 0 },
+            last_stream: Step { p: 0, s: 0 },
         }
     }
 
@@ -93,8 +93,8 @@ impl<'a, 'i, 't> Adapter<'a, 'i, 't> {
     pub fn handle(
         &mut self,
         connection: &mut Connection,
-        request: &Request,
-    ) -> Result<Turn, AllocError>
+        request: &DapRequest,
+    ) -> Result<Flow, AllocError>
         ensures one { OnOk result (connection.new.answered ≡ connection.old.answered + 1) }
         ensures whom { OnOk result (connection.new.last_answered ≡ request.now.seq) }
     {
@@ -110,7 +110,7 @@ impl<'a, 'i, 't> Adapter<'a, 'i, 't> {
             }
             Err(refusal) => {
                 connection.refuse(alloc, request.seq, command, refusal.words())?;
-                Turn::On
+                Flow::On
             }
         };
         connection.outbox.tell_all(alloc, &events)?;
@@ -129,101 +129,87 @@ impl<'a, 'i, 't> Adapter<'a, 'i, 't> {
         connection.outbox.tell_all(alloc, &events)
     }
 
-    /// Does what a request asks for, and writes the body of its response and the events behind it.
+    /// Does what a request asks for, and writes the body of its response and the events after it.
     fn answer(
         &mut self,
-        request: &Request,
+        request: &DapRequest,
         body: &mut Json,
         events: &mut Events,
-    ) -> Result<Turn, Refusal> {
-        let Some(command) = dap_command(request.command.as_str()) else {
-            return Err(Refusal::Words(no_command(request.command.as_str())));
-        };
-        if command.is_move() && self.search.is_some() {
-            return Err(Refusal::Words("a search is under way: pause it first"));
-        }
-        if command == DapCommand::Disconnect {
-            return Ok(Turn::End);
-        }
-        match command {
-            DapCommand::SetBreakpoints
-            | DapCommand::SetFunctionBreakpoints
-            | DapCommand::SetDataBreakpoints
-            | DapCommand::SetExceptionBreakpoints
-            | DapCommand::DataBreakpointInfo => self.answer_points(command, request, body)?,
-            DapCommand::Threads
-            | DapCommand::StackTrace
-            | DapCommand::Scopes
-            | DapCommand::Variables
-            | DapCommand::Evaluate
-            | DapCommand::ExceptionInfo
-            | DapCommand::Source
-            | DapCommand::Disassemble
-            | DapCommand::ReadMemory
-            | DapCommand::GotoTargets => self.answer_views(command, request, body)?,
-            _ => self.answer_moves(command, request, body, events)?,
+    ) -> Result<Flow, Refusal> {
+        match request.kind {
+            None => return Err(Refusal::Words(no_command(request.command.as_str()))),
+            Some(DapCommand::Initialize | DapCommand::Launch) => {
+                return Err(Refusal::Words("a program is launched already"));
+            }
+            Some(DapCommand::Disconnect) => return Ok(Flow::End),
+            Some(DapCommand::Points(command)) => self.answer_points(command, request, body)?,
+            Some(DapCommand::View(command)) => self.answer_view(command, request, body)?,
+            Some(DapCommand::Move(command)) => self.answer_move(command, request, body, events)?,
         }
         let _ = body.whole()?;
-        Ok(Turn::On)
+        Ok(Flow::On)
     }
 
-    /// Answers what sets breakpoints.
+    /// Answers what is asked of breakpoints.
     fn answer_points(
         &mut self,
-        command: DapCommand,
-        request: &Request,
+        command: PointCommand,
+        request: &DapRequest,
         body: &mut Json,
     ) -> Result<(), Refusal> {
         match command {
-            DapCommand::SetBreakpoints => self.set_breakpoints(request, body),
-            DapCommand::SetFunctionBreakpoints => self.set_function_breakpoints(request, body),
-            DapCommand::SetDataBreakpoints => self.set_data_breakpoints(request, body),
-            DapCommand::SetExceptionBreakpoints => self.set_exception_breakpoints(request, body),
-            _ => self.data_breakpoint_info(request, body),
+            PointCommand::SetBreakpoints => self.set_breakpoints(request, body),
+            PointCommand::SetFunctionBreakpoints => self.set_function_breakpoints(request, body),
+            PointCommand::SetDataBreakpoints => self.set_data_breakpoints(request, body),
+            PointCommand::SetExceptionBreakpoints => self.set_exception_breakpoints(request, body),
+            PointCommand::DataBreakpointInfo => self.data_breakpoint_info(request, body),
         }
     }
 
     /// Answers what looks at the world.
-    fn answer_views(
+    fn answer_view(
         &mut self,
-        command: DapCommand,
-        request: &Request,
+        command: ViewCommand,
+        request: &DapRequest,
         body: &mut Json,
     ) -> Result<(), Refusal> {
         match command {
-            DapCommand::Threads => self.threads(body),
-            DapCommand::StackTrace => self.stack_trace(request, body),
-            DapCommand::Scopes => self.scopes(request, body),
-            DapCommand::Variables => self.variables(request, body),
-            DapCommand::Evaluate => self.evaluate(request, body),
-            DapCommand::ExceptionInfo => self.exception_info(body),
-            DapCommand::Source => self.source(body),
-            DapCommand::Disassemble => self.disassemble(request, body),
-            DapCommand::ReadMemory => self.read_memory(request, body),
-            _ => self.goto_targets(request, body),
+            ViewCommand::Threads => self.threads(body),
+            ViewCommand::StackTrace => self.stack_trace(request, body),
+            ViewCommand::Scopes => self.scopes(request, body),
+            ViewCommand::Variables => self.variables(request, body),
+            ViewCommand::Evaluate => self.evaluate(request, body),
+            ViewCommand::ExceptionInfo => self.exception_info(body),
+            ViewCommand::Source => self.source(body),
+            ViewCommand::Disassemble => self.disassemble(request, body),
+            ViewCommand::ReadMemory => self.read_memory(request, body),
+            ViewCommand::GotoTargets => self.goto_targets(request, body),
         }
     }
 
     /// Answers what goes to another position.
-    fn answer_moves(
+    fn answer_move(
         &mut self,
-        command: DapCommand,
-        request: &Request,
+        command: MoveCommand,
+        request: &DapRequest,
         body: &mut Json,
         events: &mut Events,
     ) -> Result<(), Refusal> {
+        if command.begins() && self.search.is_some() {
+            return Err(Refusal::Words("a search is under way: pause it first"));
+        }
         match command {
-            DapCommand::ConfigurationDone => self.begin(events),
-            DapCommand::Restart => self.restart(events),
-            DapCommand::Continue => self.go_forward(body),
-            DapCommand::ReverseContinue => self.go_backward(body),
-            DapCommand::Next => self.step_stream(request),
-            DapCommand::StepIn => self.step_once(),
-            DapCommand::StepOut => self.step_out(request),
-            DapCommand::StepBack => self.step_back(request),
-            DapCommand::Goto => self.go_to(request, events),
-            DapCommand::Pause => self.pause(events),
-            _ => self.terminate(events),
+            MoveCommand::ConfigurationDone => self.begin(events),
+            MoveCommand::Restart => self.restart(events),
+            MoveCommand::Continue => self.go_forward(body),
+            MoveCommand::ReverseContinue => self.go_backward(body),
+            MoveCommand::Next => self.step_stream(request),
+            MoveCommand::StepIn => self.step_once(),
+            MoveCommand::StepOut => self.step_out(request),
+            MoveCommand::StepBack => self.step_back(request),
+            MoveCommand::Goto => self.go_to(request, events),
+            MoveCommand::Pause => self.pause(events),
+            MoveCommand::Terminate => self.terminate(events),
         }
     }
 }

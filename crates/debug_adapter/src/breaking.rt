@@ -3,7 +3,7 @@
 use crate::adapter::Adapter;
 use crate::json_text::Json;
 use crate::refusals::Refusal;
-use crate::requests::Request;
+use crate::requests::DapRequest;
 use debug_commands::{Answer, Command};
 use serde_json::Value;
 
@@ -99,7 +99,7 @@ impl<'a, 'i, 't> Adapter<'a, 'i, 't> {
     /// Sets the breakpoints on lines.
     pub(crate) fn set_breakpoints(
         &mut self,
-        request: &Request,
+        request: &DapRequest,
         body: &mut Json,
     ) -> Result<(), Refusal> {
         self.clear_points(PointKind::Line)?;
@@ -127,7 +127,7 @@ impl<'a, 'i, 't> Adapter<'a, 'i, 't> {
     /// Sets the breakpoints on places by name, as `word_of_place` reads them.
     pub(crate) fn set_function_breakpoints(
         &mut self,
-        request: &Request,
+        request: &DapRequest,
         body: &mut Json,
     ) -> Result<(), Refusal> {
         self.clear_points(PointKind::Function)?;
@@ -153,7 +153,7 @@ impl<'a, 'i, 't> Adapter<'a, 'i, 't> {
     /// Sets the breakpoints on words of the memory.
     pub(crate) fn set_data_breakpoints(
         &mut self,
-        request: &Request,
+        request: &DapRequest,
         body: &mut Json,
     ) -> Result<(), Refusal> {
         self.clear_points(PointKind::Data)?;
@@ -202,17 +202,17 @@ impl<'a, 'i, 't> Adapter<'a, 'i, 't> {
     /// Sets which steps are exceptions.
     pub(crate) fn set_exception_breakpoints(
         &mut self,
-        request: &Request,
+        request: &DapRequest,
         body: &mut Json,
     ) -> Result<(), Refusal> {
-        self.wanted.traps = false;
-        self.wanted.blocked = false;
+        self.conditions.traps = false;
+        self.conditions.blocked = false;
         body.open();
         body.open_list("breakpoints");
         for filter in request.list("filters") {
             match filter.as_str() {
-                Some("traps") => self.wanted.traps = true,
-                Some("blocked") => self.wanted.blocked = true,
+                Some("traps") => self.conditions.traps = true,
+                Some("blocked") => self.conditions.blocked = true,
                 _ => {
                     push_unverified(body, "there is no such filter");
                     continue;
@@ -230,7 +230,7 @@ impl<'a, 'i, 't> Adapter<'a, 'i, 't> {
     /// What a data breakpoint on a variable would be.
     pub(crate) fn data_breakpoint_info(
         &self,
-        request: &Request,
+        request: &DapRequest,
         body: &mut Json,
     ) -> Result<(), Refusal> {
         let name = request.text("name").unwrap_or("");

@@ -4,7 +4,7 @@ use crate::adapter::Adapter;
 use crate::json_text::Json;
 use crate::memory::whole_number;
 use crate::refusals::Refusal;
-use crate::requests::Request;
+use crate::requests::DapRequest;
 use plain_text::file_name;
 use serde_json::Value;
 
@@ -26,7 +26,7 @@ impl<'a, 'i, 't> Adapter<'a, 'i, 't> {
     }
 
     /// Whether a request's source is the program's.
-    pub(crate) fn is_our_source(&self, request: &Request) -> bool {
+    pub(crate) fn is_our_source(&self, request: &DapRequest) -> bool {
         let Some(source) = request.argument("source") else {
             return false;
         };
@@ -66,7 +66,11 @@ impl<'a, 'i, 't> Adapter<'a, 'i, 't> {
     }
 
     /// The places that `goto` can go to from a line: the program word on it or behind it.
-    pub(crate) fn goto_targets(&self, request: &Request, body: &mut Json) -> Result<(), Refusal> {
+    pub(crate) fn goto_targets(
+        &self,
+        request: &DapRequest,
+        body: &mut Json,
+    ) -> Result<(), Refusal> {
         body.open();
         body.open_list("targets");
         let line = request.number("line").unwrap_or(0);
@@ -88,7 +92,7 @@ impl<'a, 'i, 't> Adapter<'a, 'i, 't> {
     }
 
     /// Program words around a place. Those that the program doesn't have are told as no instructions.
-    pub(crate) fn disassemble(&self, request: &Request, body: &mut Json) -> Result<(), Refusal> {
+    pub(crate) fn disassemble(&self, request: &DapRequest, body: &mut Json) -> Result<(), Refusal> {
         let Some(place) = request.text("memoryReference").and_then(read_reference) else {
             return Err(Refusal::Words("this is no address of the program"));
         };

@@ -2,68 +2,143 @@
 
 /// What a request asks for.
 #[derive(Clone, Copy, PartialEq, Eq)]
-pub(crate) enum DapCommand {
-    ConfigurationDone,
-    Continue,
-    DataBreakpointInfo,
-    Disassemble,
+pub enum DapCommand {
+    /// What can be asked for here, and what the client says of itself.
+    Initialize,
+    /// A program, and its schedule.
+    Launch,
+    /// The end of the session.
     Disconnect,
-    Evaluate,
-    ExceptionInfo,
-    Goto,
-    GotoTargets,
-    Next,
-    Pause,
-    ReadMemory,
-    Restart,
-    ReverseContinue,
-    Scopes,
+    /// Something of breakpoints.
+    Points(PointCommand),
+    /// A look at the world.
+    View(ViewCommand),
+    /// Another position.
+    Move(MoveCommand),
+}
+
+/// What a request asks for of breakpoints.
+#[derive(Clone, Copy, PartialEq, Eq)]
+pub enum PointCommand {
+    /// Those on lines.
     SetBreakpoints,
-    SetDataBreakpoints,
-    SetExceptionBreakpoints,
+    /// Those on places by name.
     SetFunctionBreakpoints,
-    Source,
-    StackTrace,
-    StepBack,
-    StepIn,
-    StepOut,
-    Terminate,
+    /// Those on words of the memory.
+    SetDataBreakpoints,
+    /// Those on traps and blocked steps.
+    SetExceptionBreakpoints,
+    /// Whether a word can have one.
+    DataBreakpointInfo,
+}
+
+/// What a request asks for of the world.
+#[derive(Clone, Copy, PartialEq, Eq)]
+pub enum ViewCommand {
+    /// The streams.
     Threads,
+    /// The frame of a stream.
+    StackTrace,
+    /// The groups of places of a frame.
+    Scopes,
+    /// The places of a group.
     Variables,
+    /// What is at a name.
+    Evaluate,
+    /// What the last step's trap was.
+    ExceptionInfo,
+    /// The text of a listing.
+    Source,
+    /// Program words.
+    Disassemble,
+    /// Bytes of the memory.
+    ReadMemory,
+    /// The places that a line has.
+    GotoTargets,
+}
+
+/// To which position a request asks to go.
+#[derive(Clone, Copy, PartialEq, Eq)]
+pub enum MoveCommand {
+    /// To the begin of the run.
+    ConfigurationDone,
+    /// Back to the start.
+    Restart,
+    /// On to the next stop.
+    Continue,
+    /// Back to the last stop.
+    ReverseContinue,
+    /// On until a stream has stepped.
+    Next,
+    /// On by one step.
+    StepIn,
+    /// On until a stream no longer runs.
+    StepOut,
+    /// Back to before a stream's last step.
+    StepBack,
+    /// To where a stream is at a program word.
+    Goto,
+    /// To where what is under way is now.
+    Pause,
+    /// To no other one: what is under way ends.
+    Terminate,
 }
 
 /// The commands by their names.
-const COMMANDS: [(&str, DapCommand); 27] = [
-    ("configurationDone", DapCommand::ConfigurationDone),
-    ("continue", DapCommand::Continue),
-    ("dataBreakpointInfo", DapCommand::DataBreakpointInfo),
-    ("disassemble", DapCommand::Disassemble),
+const COMMANDS: [(&str, DapCommand); 29] = [
+    ("initialize", DapCommand::Initialize),
+    ("launch", DapCommand::Launch),
     ("disconnect", DapCommand::Disconnect),
-    ("evaluate", DapCommand::Evaluate),
-    ("exceptionInfo", DapCommand::ExceptionInfo),
-    ("goto", DapCommand::Goto),
-    ("gotoTargets", DapCommand::GotoTargets),
-    ("next", DapCommand::Next),
-    ("pause", DapCommand::Pause),
-    ("readMemory", DapCommand::ReadMemory),
-    ("restart", DapCommand::Restart),
-    ("reverseContinue", DapCommand::ReverseContinue),
-    ("scopes", DapCommand::Scopes),
-    ("setBreakpoints", DapCommand::SetBreakpoints),
-    ("setDataBreakpoints", DapCommand::SetDataBreakpoints),
+    (
+        "setBreakpoints",
+        DapCommand::Points(PointCommand::SetBreakpoints),
+    ),
+    (
+        "setFunctionBreakpoints",
+        DapCommand::Points(PointCommand::SetFunctionBreakpoints),
+    ),
+    (
+        "setDataBreakpoints",
+        DapCommand::Points(PointCommand::SetDataBreakpoints),
+    ),
     (
         "setExceptionBreakpoints",
-        DapCommand::SetExceptionBreakpoints,
+        DapCommand::Points(PointCommand::SetExceptionBreakpoints),
     ),
-    ("setFunctionBreakpoints", DapCommand::SetFunctionBreakpoints),
-    ("source", DapCommand::Source),
-    ("stackTrace", DapCommand::StackTrace),
-    ("stepBack", DapCommand::StepBack),
-    ("stepIn", DapCommand::StepIn),
-    ("stepOut", DapCommand::StepOut),
-    ("terminate", DapCommand::Terminate),
-    ("threads", DapCommand::Threads),
-    ("variables", DapCommand::Variables),
+    (
+        "dataBreakpointInfo",
+        DapCommand::Points(PointCommand::DataBreakpointInfo),
+    ),
+    ("threads", DapCommand::View(ViewCommand::Threads)),
+    ("stackTrace", DapCommand::View(ViewCommand::StackTrace)),
+    ("scopes", DapCommand::View(ViewCommand::Scopes)),
+    ("variables", DapCommand::View(ViewCommand::Variables)),
+    ("evaluate", DapCommand::View(ViewCommand::Evaluate)),
+    (
+        "exceptionInfo",
+        DapCommand::View(ViewCommand::ExceptionInfo),
+    ),
+    ("source", DapCommand::View(ViewCommand::Source)),
+    ("disassemble", DapCommand::View(ViewCommand::Disassemble)),
+    ("readMemory", DapCommand::View(ViewCommand::ReadMemory)),
+    ("gotoTargets", DapCommand::View(ViewCommand::GotoTargets)),
+    (
+        "configurationDone",
+        DapCommand::Move(MoveCommand::ConfigurationDone),
+    ),
+    ("restart", DapCommand::Move(MoveCommand::Restart)),
+    ("continue", DapCommand::Move(MoveCommand::Continue)),
+    (
+        "reverseContinue",
+        DapCommand::Move(MoveCommand::ReverseContinue),
+    ),
+    ("next", DapCommand::Move(MoveCommand::Next)),
+    ("stepIn", DapCommand::Move(MoveCommand::StepIn)),
+    ("stepOut", DapCommand::Move(MoveCommand::StepOut)),
+    ("stepBack", DapCommand::Move(MoveCommand::StepBack)),
+    ("goto", DapCommand::Move(MoveCommand::Goto)),
+    ("pause", DapCommand::Move(MoveCommand::Pause)),
+    ("terminate", DapCommand::Move(MoveCommand::Terminate)),
 ];
 
 /// The command of a name; None where nothing is called so here.
@@ -76,18 +151,21 @@ pub(crate) fn dap_command(name: &str) -> Option<DapCommand> {
     None
 }
 
-impl DapCommand {
+impl MoveCommand {
     /// Whether it begins a move, so that nothing else may be under way.
-    pub(crate) fn is_move(self) -> bool {
-        matches!(
-            self,
-            DapCommand::Continue
-                | DapCommand::ReverseContinue
-                | DapCommand::Next
-                | DapCommand::StepIn
-                | DapCommand::StepOut
-                | DapCommand::StepBack
-                | DapCommand::Goto
-        )
+    pub(crate) fn begins(self) -> bool {
+        match self {
+            MoveCommand::Continue
+            | MoveCommand::ReverseContinue
+            | MoveCommand::Next
+            | MoveCommand::StepIn
+            | MoveCommand::StepOut
+            | MoveCommand::StepBack
+            | MoveCommand::Goto => true,
+            MoveCommand::ConfigurationDone
+            | MoveCommand::Restart
+            | MoveCommand::Pause
+            | MoveCommand::Terminate => false,
+        }
     }
 }

@@ -3,7 +3,7 @@
 use crate::adapter::Adapter;
 use crate::json_text::Json;
 use crate::refusals::Refusal;
-use crate::requests::Request;
+use crate::requests::DapRequest;
 use crate::variables::style_of;
 use lab_texts::{NumberStyle, push_word};
 use named_session::{UserName, read_name};
@@ -12,10 +12,10 @@ use step_views::{Place, StreamPart};
 
 impl<'a, 'i, 't> Adapter<'a, 'i, 't> {
     /// What stands behind an expression: a register, a word, a stream, a label or a line.
-    pub(crate) fn evaluate(&self, request: &Request, body: &mut Json) -> Result<(), Refusal> {
+    pub(crate) fn evaluate(&self, request: &DapRequest, body: &mut Json) -> Result<(), Refusal> {
         let stream = match request.number("frameId") {
             Some(id) => self.stream_of(id)?,
-            None => self.told,
+            None => self.last_stream,
         };
         let style = style_of(request);
         let text = request.text("expression").unwrap_or("").trim();

@@ -2,11 +2,11 @@
 
 ghost use Rattle.std.specs.Prelude.{◌≡◌, ◌+◌, OnOk};
 
-use crate::adapter::Turn;
-use crate::commands::dap_command;
+use crate::adapter::Flow;
+use crate::commands::DapCommand;
 use crate::connection::Connection;
 use crate::json_text::Json;
-use crate::requests::Request;
+use crate::requests::DapRequest;
 use std::alloc::{AllocError, Global};
 
 /// What the client says of itself.
@@ -33,36 +33,33 @@ pub fn greet(
     alloc: Global,
     connection: &mut Connection,
     client: &mut Client,
-    request: &Request,
-) -> Result<Turn, AllocError>
+    request: &DapRequest,
+) -> Result<Flow, AllocError>
     ensures one { OnOk result (connection.new.answered ≡ connection.old.answered + 1) }
     ensures whom { OnOk result (connection.new.last_answered ≡ request.now.seq) }
 {
     let command = request.command.as_str();
-    match command {
-        "initialize" => {
+    match request.kind {
+        Some(DapCommand::Initialize) => {
             *client = client_of(request);
             let body = capabilities(alloc);
             connection.respond(alloc, request.seq, command, &body)?;
-            Ok(Turn::On)
+            Ok(Flow::On)
         }
-        "disconnect" => {
+        Some(DapCommand::Disconnect) => {
             connection.respond(alloc, request.seq, command, &Json::new(alloc))?;
-            Ok(Turn::End)
+            Ok(Flow::End)
         }
-        _ => {
-            connection.refuse(alloc, request.seq, command, not_yet(command))?;
-            Ok(Turn::On)
+        Some(
+            DapCommand::Launch | DapCommand::Points(_) | DapCommand::View(_) | DapCommand::Move(_),
+        ) => {
+            connection.refuse(alloc, request.seq, command, "no program is launched")?;
+            Ok(Flow::On)
         }
-    }
-}
-
-/// Why a command is refused before a program is launched.
-fn not_yet(command: &str) -> &'static str {
-    if dap_command(command).is_some() {
-        "no program is launched"
-    } else {
-        no_command(command)
+        None => {
+            connection.refuse(alloc, request.seq, command, no_command(command))?;
+            Ok(Flow::On)
+        }
     }
 }
 
@@ -72,14 +69,13 @@ pub(crate) fn no_command(command: &str) -> &'static str {
         "" => "this is no request",
         "setVariable" | "setExpression" | "writeMemory" =>
             "what a schedule comes to is not changed by hand",
-        "initialize" | "launch" => "a program is launched already",
         "attach" => "there is nothing to attach to: launch a program",
         _ => "there is no such request here",
     }
 }
 
 /// What a client says of itself.
-fn client_of(request: &Request) -> Client {
+fn client_of(request: &DapRequest) -> Client {
     let first = |name: &str| -> u64 {
         if request.truth(name) == Some(false) {
             0

@@ -1,6 +1,6 @@
 //! What a request to launch asks for.
 
-use crate::requests::Request;
+use crate::requests::DapRequest;
 use processor::MAX_STEPS;
 
 /// How many steps a made schedule has at most, where none are said.
@@ -35,7 +35,7 @@ pub struct LaunchRequest<'r> {
 }
 
 /// What a request to launch asks for; or why that can't be launched.
-pub fn launch_of(request: &Request) -> Result<LaunchRequest<'_>, &'static str> {
+pub fn launch_of(request: &DapRequest) -> Result<LaunchRequest<'_>, &'static str> {
     let Some(program) = request.text("program") else {
         return Err("launch takes a program: the path of a source text or an image");
     };
@@ -54,7 +54,7 @@ pub fn launch_of(request: &Request) -> Result<LaunchRequest<'_>, &'static str> {
 }
 
 /// By which schedule the program is to run.
-fn schedule_asked(request: &Request) -> Result<ScheduleChoice<'_>, &'static str> {
+fn schedule_asked(request: &DapRequest) -> Result<ScheduleChoice<'_>, &'static str> {
     match request.text_or("schedule", "fair") {
         Some("fair" | "") => Ok(ScheduleChoice::Fair),
         Some("rounds") => Ok(ScheduleChoice::Rounds),
@@ -75,7 +75,7 @@ fn named_schedule(text: &str) -> Result<ScheduleChoice<'_>, &'static str> {
 }
 
 /// How many steps a made schedule has at most.
-fn steps_asked(request: &Request) -> Result<usize, &'static str> {
+fn steps_asked(request: &DapRequest) -> Result<usize, &'static str> {
     match request.number_or("steps", USUAL_STEPS) {
         Some(steps) if steps >= 1 && steps <= MAX_STEPS as u64 => Ok(steps as usize),
         _ => Err("steps takes a number from 1 to 1000000"),

@@ -4,7 +4,7 @@ use crate::adapter::Adapter;
 use crate::code::read_reference;
 use crate::json_text::Json;
 use crate::refusals::Refusal;
-use crate::requests::Request;
+use crate::requests::DapRequest;
 use base64::engine::general_purpose::STANDARD;
 
 /// The most bytes that are told at once: all of the largest memory.
@@ -12,7 +12,7 @@ const MOST_BYTES: u64 = 2_097_152;
 
 impl<'a, 'i, 't> Adapter<'a, 'i, 't> {
     /// Bytes of the memory. A word's eight bytes begin with the highest.
-    pub(crate) fn read_memory(&self, request: &Request, body: &mut Json) -> Result<(), Refusal> {
+    pub(crate) fn read_memory(&self, request: &DapRequest, body: &mut Json) -> Result<(), Refusal> {
         let Some(place) = request.text("memoryReference").and_then(read_reference) else {
             return Err(Refusal::Words("this is no address of the memory"));
         };
@@ -48,7 +48,7 @@ impl<'a, 'i, 't> Adapter<'a, 'i, 't> {
 }
 
 /// How many bytes are asked for.
-fn bytes_asked(request: &Request) -> Result<u64, Refusal> {
+fn bytes_asked(request: &DapRequest) -> Result<u64, Refusal> {
     match request.number_or("count", 0) {
         Some(count) if count <= MOST_BYTES => Ok(count),
         Some(_) => Err(Refusal::Words("at most 2097152 bytes are shown at once")),
@@ -57,7 +57,7 @@ fn bytes_asked(request: &Request) -> Result<u64, Refusal> {
 }
 
 /// An argument that is a whole number, 0 where it is left out.
-pub(crate) fn whole_number(request: &Request, name: &str) -> Result<i64, Refusal> {
+pub(crate) fn whole_number(request: &DapRequest, name: &str) -> Result<i64, Refusal> {
     match request.integer(name) {
         Some(number) => Ok(number),
         None => Err(Refusal::Words("offsets and counts are whole numbers within 2^63 of 0")),

@@ -4,9 +4,9 @@ use crate::adapter::Adapter;
 use crate::connection::Events;
 use crate::json_text::Json;
 use crate::refusals::Refusal;
-use crate::requests::Request;
-use crate::scanning::{Wanted, first_found, last_found, runs};
+use crate::requests::DapRequest;
 use crate::searching::{Search, Stop};
+use crate::stop_conditions::{StopConditions, first_found, last_found, runs};
 use processor::Step;
 
 impl<'a, 'i, 't> Adapter<'a, 'i, 't> {
@@ -18,7 +18,7 @@ impl<'a, 'i, 't> Adapter<'a, 'i, 't> {
         if self.origin.stops_on_entry {
             return self.tell("entry", None, events);
         }
-        self.search = Some(Search::forward(self.end(), None, self.wanted));
+        self.search = Some(Search::forward(self.end(), None, self.conditions));
         Ok(())
     }
 
@@ -48,7 +48,7 @@ impl<'a, 'i, 't> Adapter<'a, 'i, 't> {
 
     /// On to the next stop, or to the end.
     pub(crate) fn go_forward(&mut self, body: &mut Json) -> Result<(), Refusal> {
-        self.search = Some(Search::forward(self.end(), None, self.wanted));
+        self.search = Some(Search::forward(self.end(), None, self.conditions));
         push_all_go_on(body);
         Ok(())
     }
@@ -56,7 +56,7 @@ impl<'a, 'i, 't> Adapter<'a, 'i, 't> {
     /// Back to the last stop, or to the start.
     pub(crate) fn go_backward(&mut self, body: &mut Json) -> Result<(), Refusal> {
         let position = self.named.session.position();
-        self.search = Some(Search::backward(position, 0, None, self.wanted));
+        self.search = Some(Search::backward(position, 0, None, self.conditions));
         push_all_go_on(body);
         Ok(())
     }
@@ -64,40 +64,40 @@ impl<'a, 'i, 't> Adapter<'a, 'i, 't> {
     /// On by one step, whoever's.
     pub(crate) fn step_once(&mut self) -> Result<(), Refusal> {
         let goal = self.named.session.position().saturating_add(1);
-        self.search = Some(Search::forward(goal.min(self.end()), None, self.wanted));
+        self.search = Some(Search::forward(goal.min(self.end()), None, self.conditions));
         Ok(())
     }
 
     /// On until the stream has stepped.
-    pub(crate) fn step_stream(&mut self, request: &Request) -> Result<(), Refusal> {
+    pub(crate) fn step_stream(&mut self, request: &DapRequest) -> Result<(), Refusal> {
         let stream = self.thread_of(request)?;
         let goal = self
             .named
             .session
             .next_of(stream.p, stream.s)
             .unwrap_or(self.end());
-        self.search = Some(Search::forward(goal, Some(stream), self.wanted));
+        self.search = Some(Search::forward(goal, Some(stream), self.conditions));
         Ok(())
     }
 
     /// On until the stream no longer runs.
-    pub(crate) fn step_out(&mut self, request: &Request) -> Result<(), Refusal> {
+    pub(crate) fn step_out(&mut self, request: &DapRequest) -> Result<(), Refusal> {
         let stream = self.thread_of(request)?;
         let goal = if runs(self.named.session.machine(), stream) {
             self.end()
         } else {
             self.named.session.position()
         };
-        let wanted = Wanted {
+        let conditions = StopConditions {
             end_of: Some(stream),
-            ..self.wanted
+            ..self.conditions
         };
-        self.search = Some(Search::forward(goal, Some(stream), wanted));
+        self.search = Some(Search::forward(goal, Some(stream), conditions));
         Ok(())
     }
 
     /// Back to before the stream's last step, or to the start.
-    pub(crate) fn step_back(&mut self, request: &Request) -> Result<(), Refusal> {
+    pub(crate) fn step_back(&mut self, request: &DapRequest) -> Result<(), Refusal> {
         let stream = self.thread_of(request)?;
         let position = self.named.session.position();
         let mut goal: u64 = 0;
@@ -106,46 +106,50 @@ impl<'a, 'i, 't> Adapter<'a, 'i, 't> {
                 goal = place as u64;
             }
         }
-        self.search = Some(Search::backward(position, goal, Some(stream), self.wanted));
+        self.search = Some(Search::backward(position, goal, Some(stream), self.conditions));
         Ok(())
     }
 
     /// To the next position, else the last before, at which the stream stands at a program word.
-    pub(crate) fn go_to(&mut self, request: &Request, events: &mut Events) -> Result<(), Refusal> {
+    pub(crate) fn go_to(
+        &mut self,
+        request: &DapRequest,
+        events: &mut Events,
+    ) -> Result<(), Refusal> {
         let stream = self.thread_of(request)?;
         let target = request.number("targetId").unwrap_or(u64::MAX);
         let Ok(word) = u32::try_from(target) else {
             return Err(Refusal::Words("there is no such target"));
         };
-        let wanted = Wanted {
+        let conditions = StopConditions {
             place: Some((stream, word)),
-            ..Wanted::nothing()
+            ..StopConditions::nothing()
         };
-        match self.place_ahead(&wanted)? {
+        match self.next_match(&conditions)? {
             Some(position) => self.to(position)?,
-            None => self.go_to_behind(&wanted)?,
+            None => self.go_to_last_match(&conditions)?,
         }
         self.tell("goto", Some(stream), events)
     }
 
-    /// The next position behind a wanted step.
-    fn place_ahead(&self, wanted: &Wanted) -> Result<Option<u64>, Refusal> {
+    /// The position after the next step that meets the conditions.
+    fn next_match(&self, conditions: &StopConditions) -> Result<Option<u64>, Refusal> {
         let position = self.named.session.position();
         let mut machine = self.named.session.machine().try_clone()?;
         let steps = self.steps(position, self.end());
-        match first_found(&mut machine, steps, wanted) {
+        match first_found(&mut machine, steps, conditions) {
             Some((count, _)) => Ok(Some(position.saturating_add(count as u64))),
             None => Ok(None),
         }
     }
 
-    /// Goes to the last position before that is behind a wanted step, or refuses and stays.
-    fn go_to_behind(&mut self, wanted: &Wanted) -> Result<(), Refusal> {
+    /// Goes back to the last position after a step that meets the conditions, or refuses and stays.
+    fn go_to_last_match(&mut self, conditions: &StopConditions) -> Result<(), Refusal> {
         let position = self.named.session.position();
         self.to(0)?;
         let mut machine = self.named.session.machine().try_clone()?;
         let steps = self.steps(0, position.saturating_sub(1));
-        let found = last_found(&mut machine, steps, wanted);
+        let found = last_found(&mut machine, steps, conditions);
         match found {
             Some((count, _)) => self.to(count as u64),
             None => {

@@ -1,6 +1,7 @@
 //! Why a request is refused.
 
 use debug_commands::DebugFault;
+use named_session::fault_words;
 use std::alloc::{AllocError, AllocFailed};
 
 /// Why a request is refused.
@@ -36,13 +37,9 @@ impl<T: Drop> From<AllocFailed<T>> for Refusal {
 
 impl From<DebugFault> for Refusal {
     fn from(fault: DebugFault) -> Refusal {
-        match fault {
-            DebugFault::Syntax => Refusal::Words("this cannot be read"),
-            DebugFault::NoSuchStream => Refusal::Words("there is no such stream"),
-            DebugFault::NoSuchWord => Refusal::Words("there is no word at this address"),
-            DebugFault::NoSuchPoint => Refusal::Words("there is no such breakpoint"),
-            DebugFault::Past => Refusal::Words("the schedule has no such position"),
-            DebugFault::NoMemory => Refusal::NoMemory,
+        match fault_words(fault) {
+            Some(words) => Refusal::Words(words),
+            None => Refusal::NoMemory,
         }
     }
 }

@@ -1,5 +1,6 @@
 //! Requests, read from the bytes of messages.
 
+use crate::commands::{DapCommand, dap_command};
 use serde_json::Value;
 use std::alloc::{AllocError, Global};
 
@@ -8,22 +9,27 @@ const MOST_VALUES: usize = 20_000;
 
 /// A request of the client.
 #[derive(Drop)]
-pub struct Request {
+pub struct DapRequest {
     /// Its number.
     pub seq: u64,
     /// What it asks for; empty where it doesn't say so.
     pub command: String,
+    /// The same as a command; None where there is no such one here.
+    pub kind: Option<DapCommand>,
     message: Value,
 }
 
 /// The request of a message. A message that is none has an empty command, and 0 for a number that it lacks.
-pub fn read_request(alloc: Global, bytes: &[u8]) -> Result<Request, AllocError> {
+pub fn read_request(alloc: Global, bytes: &[u8]) -> Result<DapRequest, AllocError> {
     let message = read_message(alloc, bytes)?;
     let seq = message.get("seq").and_then(Value::as_u64).unwrap_or(0);
-    let command = String::from_str(alloc, command_in(&message))?;
-    Ok(Request {
+    let name = command_in(&message);
+    let kind = dap_command(name);
+    let command = String::from_str(alloc, name)?;
+    Ok(DapRequest {
         seq,
         command,
+        kind,
         message,
     })
 }
@@ -64,7 +70,7 @@ fn values_in(text: &[u8]) -> usize {
     count
 }
 
-impl Request {
+impl DapRequest {
     /// An argument; None where there is none of this name.
     pub fn argument(&self, name: &str) -> Option<&Value> {
         self.message.get("arguments")?.get(name)

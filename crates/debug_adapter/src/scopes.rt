@@ -3,7 +3,7 @@
 use crate::adapter::Adapter;
 use crate::json_text::Json;
 use crate::refusals::Refusal;
-use crate::requests::Request;
+use crate::requests::DapRequest;
 use crate::streams::{stream_of_id, thread_id};
 use processor::Step;
 
@@ -61,7 +61,7 @@ pub(crate) fn word_reference(word: u64) -> u64 {
 
 impl<'a, 'i, 't> Adapter<'a, 'i, 't> {
     /// The scopes of a frame.
-    pub(crate) fn scopes(&self, request: &Request, body: &mut Json) -> Result<(), Refusal> {
+    pub(crate) fn scopes(&self, request: &DapRequest, body: &mut Json) -> Result<(), Refusal> {
         let step = self.stream_of(request.number("frameId").unwrap_or(0))?;
         let id = thread_id(step);
         let words = self.named.session.machine().image().cells().len() as u64;

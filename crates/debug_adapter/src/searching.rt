@@ -3,8 +3,8 @@
 use crate::adapter::Adapter;
 use crate::connection::Events;
 use crate::refusals::Refusal;
-use crate::scanning::{Found, Wanted, first_found, last_found};
-use debug_commands::{Command, Why};
+use crate::stop_conditions::{Match, StopConditions, first_found, last_found};
+use debug_commands::Why;
 use processor::Step;
 
 /// How many steps a slice takes at first.
@@ -20,7 +20,7 @@ pub(crate) struct Search {
     /// The stream that is told there; None for that of the next step.
     stream: Option<Step>,
     /// What is looked for beside the points.
-    wanted: Wanted,
+    conditions: StopConditions,
     /// On the way back: no exception is looked for from this position on.
     high: u64,
     /// On the way back: how many steps a slice takes at most.
@@ -40,24 +40,29 @@ pub(crate) enum Stop {
 
 impl Search {
     /// A move forward to a position.
-    pub(crate) fn forward(goal: u64, stream: Option<Step>, wanted: Wanted) -> Search {
+    pub(crate) fn forward(goal: u64, stream: Option<Step>, conditions: StopConditions) -> Search {
         Search {
             is_back: false,
             goal,
             stream,
-            wanted,
+            conditions,
             high: 0,
             budget: SLICE,
         }
     }
 
     /// A move back from a position to another.
-    pub(crate) fn backward(from: u64, goal: u64, stream: Option<Step>, wanted: Wanted) -> Search {
+    pub(crate) fn backward(
+        from: u64,
+        goal: u64,
+        stream: Option<Step>,
+        conditions: StopConditions,
+    ) -> Search {
         Search {
             is_back: true,
             goal,
             stream,
-            wanted,
+            conditions,
             high: from,
             budget: SLICE,
         }
@@ -88,7 +93,7 @@ impl<'a, 'i, 't> Adapter<'a, 'i, 't> {
     fn slice_forward(&mut self, search: Search) -> Result<Option<Stop>, Refusal> {
         let position = self.named.session.position();
         let slice = search.goal.saturating_sub(position).min(SLICE);
-        let found = self.found_ahead(slice, &search.wanted)?;
+        let found = self.found_ahead(slice, &search.conditions)?;
         let count = match found {
             Some((steps, _)) => steps as u64,
             None => slice,
@@ -99,22 +104,26 @@ impl<'a, 'i, 't> Adapter<'a, 'i, 't> {
             return Ok(Some(Stop::Point));
         }
         match found {
-            Some((_, Found::Exception)) => Ok(Some(Stop::Exception)),
-            Some((_, Found::Goal)) => Ok(Some(Stop::Goal)),
+            Some((_, Match::Exception)) => Ok(Some(Stop::Exception)),
+            Some((_, Match::Goal)) => Ok(Some(Stop::Goal)),
             None if here >= search.goal || why == Some(Why::End) => Ok(Some(Stop::Goal)),
             None => Ok(None),
         }
     }
 
     /// What is found within so many steps ahead.
-    fn found_ahead(&self, count: u64, wanted: &Wanted) -> Result<Option<(usize, Found)>, Refusal> {
-        if !wanted.is_any() {
+    fn found_ahead(
+        &self,
+        count: u64,
+        conditions: &StopConditions,
+    ) -> Result<Option<(usize, Match)>, Refusal> {
+        if !conditions.is_any() {
             return Ok(None);
         }
         let position = self.named.session.position();
         let steps = self.steps(position, position.saturating_add(count));
         let mut machine = self.named.session.machine().try_clone()?;
-        Ok(first_found(&mut machine, steps, wanted))
+        Ok(first_found(&mut machine, steps, conditions))
     }
 
     /// The steps of the schedule between two positions.
@@ -126,7 +135,7 @@ impl<'a, 'i, 't> Adapter<'a, 'i, 't> {
 
     /// A slice back; why it ends there, or None where it goes on.
     fn slice_back(&mut self, search: Search) -> Result<Option<Stop>, Refusal> {
-        if self.points.is_empty() && !search.wanted.is_any() {
+        if self.points.is_empty() && !search.conditions.is_any() {
             self.to(search.goal)?;
             return Ok(Some(Stop::Goal));
         }
@@ -161,15 +170,15 @@ impl<'a, 'i, 't> Adapter<'a, 'i, 't> {
         }
     }
 
-    /// The last position above the session's, and below where this slice began, that is behind a wanted step.
+    /// The last position above the session's, and below where this slice began, after a step that meets the conditions.
     fn found_behind(&self, search: Search) -> Result<Option<u64>, Refusal> {
-        if !search.wanted.is_any() {
+        if !search.conditions.is_any() {
             return Ok(None);
         }
         let here = self.named.session.position();
         let steps = self.steps(here, search.high.saturating_sub(1));
         let mut machine = self.named.session.machine().try_clone()?;
-        match last_found(&mut machine, steps, &search.wanted) {
+        match last_found(&mut machine, steps, &search.conditions) {
             Some((count, _)) => Ok(Some(here.saturating_add(count as u64))),
             None => Ok(None),
         }
@@ -177,7 +186,6 @@ impl<'a, 'i, 't> Adapter<'a, 'i, 't> {
 
     /// Goes to a position.
     pub(crate) fn to(&mut self, position: u64) -> Result<(), Refusal> {
-        let _ = self.named.session.command(&Command::Go(position))?;
-        Ok(())
+        Ok(self.named.go_to(position)?)
     }
 }

@@ -7,8 +7,9 @@ use crate::json_text::Json;
 use crate::refusals::Refusal;
 use crate::streams::thread_id;
 use lab_texts::{NumberStyle, push_step_line, push_trap};
+use named_session::LastStep;
 use processor::Step;
-use step_views::{StepView, take_step};
+use step_views::StepView;
 use stream_core::Outcome;
 
 impl<'a, 'i, 't> Adapter<'a, 'i, 't> {
@@ -54,7 +55,7 @@ impl<'a, 'i, 't> Adapter<'a, 'i, 't> {
     ) -> Result<(), Refusal> {
         self.tell_last_step(events)?;
         let stream = stream.unwrap_or(self.usual_stream());
-        self.told = stream;
+        self.last_stream = stream;
         let position = self.named.session.position();
         let steps = self.named.session.schedule().len();
         let end = if self.named.session.next_step().is_none() {
@@ -82,7 +83,7 @@ impl<'a, 'i, 't> Adapter<'a, 'i, 't> {
     pub(crate) fn usual_stream(&self) -> Step {
         match self.named.session.next_step() {
             Some(step) => step,
-            None => self.named.session.last_step().unwrap_or(self.told),
+            None => self.named.session.last_step().unwrap_or(self.last_stream),
         }
     }
 
@@ -101,14 +102,10 @@ impl<'a, 'i, 't> Adapter<'a, 'i, 't> {
 
     /// What the step did that led to the position, and its line: it is taken once more. None at the start.
     fn last_view(&mut self) -> Result<Option<(StepView, String)>, Refusal> {
-        let Some(step) = self.named.session.last_step() else {
+        let Some(LastStep { view, machine }) = self.named.last_view(self.alloc)? else {
             return Ok(None);
         };
         let position = self.named.session.position();
-        self.to(position.saturating_sub(1))?;
-        let mut machine = self.named.session.machine().try_clone()?;
-        self.to(position)?;
-        let view = take_step(self.alloc, &mut machine, step)?;
         let mut line = String::new(self.alloc);
         let style = NumberStyle::Decimal;
         let number = position as usize;

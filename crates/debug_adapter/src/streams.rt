@@ -3,7 +3,7 @@
 use crate::adapter::Adapter;
 use crate::json_text::Json;
 use crate::refusals::Refusal;
-use crate::requests::Request;
+use crate::requests::DapRequest;
 use lab_texts::push_stream;
 use processor::Step;
 use stream_core::Status;
@@ -24,7 +24,7 @@ pub(crate) fn stream_of_id(id: u64) -> Option<Step> {
 
 impl<'a, 'i, 't> Adapter<'a, 'i, 't> {
     /// The stream of a request's thread.
-    pub(crate) fn thread_of(&self, request: &Request) -> Result<Step, Refusal> {
+    pub(crate) fn thread_of(&self, request: &DapRequest) -> Result<Step, Refusal> {
         self.stream_of(request.number("threadId").unwrap_or(0))
     }
 
@@ -56,7 +56,7 @@ impl<'a, 'i, 't> Adapter<'a, 'i, 't> {
                     p: p as u8,
                     s: s as u8,
                 };
-                if self.status(step) != Some(Status::Idle) || step == self.told {
+                if self.status(step) != Some(Status::Idle) || step == self.last_stream {
                     self.push_thread(step, body)?;
                 }
             }
@@ -90,7 +90,7 @@ impl<'a, 'i, 't> Adapter<'a, 'i, 't> {
     }
 
     /// The frame of a stream.
-    pub(crate) fn stack_trace(&self, request: &Request, body: &mut Json) -> Result<(), Refusal> {
+    pub(crate) fn stack_trace(&self, request: &DapRequest, body: &mut Json) -> Result<(), Refusal> {
         let step = self.thread_of(request)?;
         body.open();
         body.open_list("stackFrames");

@@ -3,11 +3,9 @@
 use crate::adapter::Adapter;
 use crate::json_text::Json;
 use crate::refusals::Refusal;
-use crate::requests::Request;
+use crate::requests::DapRequest;
 use crate::scopes::{Container, container_of, word_reference};
-use lab_texts::{
-    NumberStyle, full_word, push_stream, push_trap, push_value, push_word, wanted_word,
-};
+use lab_texts::{NumberStyle, full_word, push_trap, push_value, push_word, wanted_word};
 use processor::Step;
 use serde_json::Value;
 use step_views::{Content, Place, StreamPart};
@@ -30,7 +28,7 @@ const PARTS: [(&str, StreamPart); 7] = [
 
 impl<'a, 'i, 't> Adapter<'a, 'i, 't> {
     /// The variables of a reference.
-    pub(crate) fn variables(&self, request: &Request, body: &mut Json) -> Result<(), Refusal> {
+    pub(crate) fn variables(&self, request: &DapRequest, body: &mut Json) -> Result<(), Refusal> {
         let reference = request.number("variablesReference").unwrap_or(0);
         let Some(container) = container_of(reference) else {
             return Err(Refusal::Words("there is nothing of this reference"));
@@ -146,7 +144,7 @@ impl<'a, 'i, 't> Adapter<'a, 'i, 't> {
     /// Adds a page of the memory's words.
     fn push_memory(
         &self,
-        request: &Request,
+        request: &DapRequest,
         style: NumberStyle,
         body: &mut Json,
     ) -> Result<(), Refusal> {
@@ -219,7 +217,7 @@ impl<'a, 'i, 't> Adapter<'a, 'i, 't> {
     }
 
     /// What a variable's name means as a word: of a part of a word, its address is put before.
-    pub(crate) fn word_name_of(&self, request: &Request, name: &str) -> Result<String, Refusal> {
+    pub(crate) fn word_name_of(&self, request: &DapRequest, name: &str) -> Result<String, Refusal> {
         let reference = request.number("variablesReference").unwrap_or(0);
         let Some(Container::Word(index)) = container_of(reference) else {
             return Ok(String::from_str(self.alloc, name)?);
@@ -264,7 +262,7 @@ fn push_variable(body: &mut Json, name: &str, value: &str, reference: u64) {
 }
 
 /// How a request wants numbers.
-pub(crate) fn style_of(request: &Request) -> NumberStyle {
+pub(crate) fn style_of(request: &DapRequest) -> NumberStyle {
     let hex = match request.argument("format") {
         Some(format) => format.get("hex").and_then(Value::as_bool) == Some(true),
         None => false,

@@ -10,4 +10,5 @@ mod tsv_report;
 mod verdicts;
 
 pub use reports::report_of;
+pub use text_report::reason_of;
 pub use verdicts::{CountedEnd, Known, Verdict, VerdictKind, WishLine, Witness};

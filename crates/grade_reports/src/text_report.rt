@@ -2,7 +2,7 @@
 
 use crate::reports::Judgement;
 use crate::verdicts::{CountedEnd, Known, Verdict, VerdictKind, WishLine, Witness};
-use plain_text::push_plain;
+use plain_text::{plain, push_plain};
 use processor::Step;
 use std::alloc::{AllocError, Global};
 use trace_text::write_schedule;
@@ -20,6 +20,16 @@ pub(crate) fn push_row(
     push_plain(out, &why_of(alloc, judgement)?)?;
     out.push_str("\n")?;
     push_ends(alloc, out, &verdict.ends)
+}
+
+/// Why a submission that was judged by so many cases is what it is said to be, in words without control bytes.
+pub fn reason_of(alloc: Global, verdict: &Verdict, cases: usize) -> Result<String, AllocError> {
+    let judgement = Judgement {
+        submission: "",
+        verdict,
+        cases,
+    };
+    plain(alloc, &why_of(alloc, &judgement)?)
 }
 
 /// Why a submission is what it is said to be, in words, which may have control bytes of its comments.

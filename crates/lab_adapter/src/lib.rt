@@ -1,7 +1,7 @@
 //! The command `dap`: the debugger in editors.
 #![tactic(auto)]
 
-mod adapting;
 mod second_thread;
+mod serving;
 
-pub use adapting::adapt;
+pub use serving::adapt;

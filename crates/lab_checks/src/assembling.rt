@@ -1,6 +1,6 @@
 //! The command `asm`.
 
-use command_parts::{Answer, Inputs, LabFault, Status, is_image, program_of};
+use command_parts::{CommandAnswer, Inputs, LabFault, Status, is_image, program_of};
 use image_file::write_image;
 use std::alloc::Global;
 use std::fs;
@@ -14,7 +14,7 @@ pub fn assemble_file<F: Files, R: Read>(
     inputs: &mut Inputs<'_, F, R>,
     source: &str,
     image: Option<&str>,
-) -> Result<Answer, LabFault> {
+) -> Result<CommandAnswer, LabFault> {
     let bytes = inputs.read(alloc, source)?;
     if is_image(&bytes) {
         return Err(LabFault::Words(format!(in alloc;
@@ -28,7 +28,7 @@ pub fn assemble_file<F: Files, R: Read>(
     };
     let written = write_image(alloc, &program.image)?;
     inputs.write(alloc, &place, &written)?;
-    Ok(Answer::silent(alloc))
+    Ok(CommandAnswer::silent(alloc))
 }
 
 /// The path of a source's image: its name with `.image` in place of `.asm`.

@@ -4,7 +4,8 @@ use crate::messages::push_message_object;
 use crate::names::add_names;
 use crate::slips::add_slips;
 use command_parts::{
-    Answer, Inputs, LabFault, SourceText, Status, check_loose_schedule, is_image, read_program,
+    CommandAnswer, Inputs, LabFault, SourceText, Status, check_loose_schedule, is_image,
+    read_program,
 };
 use image_file::{Image, ImageFault, read_image};
 use lab_requests::{CheckRequest, FileKind};
@@ -19,7 +20,7 @@ pub fn check<F: Files, R: Read>(
     alloc: Global,
     inputs: &mut Inputs<'_, F, R>,
     request: &CheckRequest,
-) -> Result<Answer, LabFault> {
+) -> Result<CommandAnswer, LabFault> {
     if request.program.is_some() && !has_schedule(request) {
         return Err(LabFault::Words(String::from_str(
             alloc,
@@ -37,9 +38,9 @@ pub fn check<F: Files, R: Read>(
         status = status.worse(found);
     }
     if request.json {
-        return Ok(Answer::printed(alloc, told, status));
+        return Ok(CommandAnswer::printed(alloc, told, status));
     }
-    Ok(Answer {
+    Ok(CommandAnswer {
         output: String::new(alloc),
         errors: told,
         status,

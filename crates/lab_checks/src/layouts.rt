@@ -1,6 +1,6 @@
 //! The command `fmt`.
 
-use command_parts::{Answer, Inputs, LabFault, SourceText, Status, is_image, program_of};
+use command_parts::{CommandAnswer, Inputs, LabFault, SourceText, Status, is_image, program_of};
 use lab_requests::LayoutRequest;
 use plain_text::push_plain;
 use source_layout::laid_out;
@@ -22,7 +22,7 @@ pub fn lay_out<F: Files, R: Read>(
     alloc: Global,
     inputs: &mut Inputs<'_, F, R>,
     request: &LayoutRequest,
-) -> Result<Answer, LabFault> {
+) -> Result<CommandAnswer, LabFault> {
     let mut changed = Vec::new(alloc);
     for path in &request.files {
         if *path == "-" {
@@ -47,13 +47,13 @@ fn write_layouts<F: Files, R: Read>(
     alloc: Global,
     inputs: &Inputs<'_, F, R>,
     changed: &[NewLayout],
-) -> Result<Answer, LabFault> {
+) -> Result<CommandAnswer, LabFault> {
     let mut out = String::new(alloc);
     for layout in changed {
         match inputs.write(alloc, layout.path, &layout.text) {
             Ok(()) => push_file(&mut out, layout.path, "laid out")?,
             Err(fault) => {
-                return Ok(Answer {
+                return Ok(CommandAnswer {
                     output: out,
                     errors: String::new(alloc),
                     status: Status::Fault,
@@ -62,7 +62,7 @@ fn write_layouts<F: Files, R: Read>(
             }
         }
     }
-    Ok(Answer::printed(alloc, out, Status::Done))
+    Ok(CommandAnswer::printed(alloc, out, Status::Done))
 }
 
 /// Lays standard input out to standard output, or says whether it would change.
@@ -70,7 +70,7 @@ fn lay_out_input<F: Files, R: Read>(
     alloc: Global,
     inputs: &mut Inputs<'_, F, R>,
     request: &LayoutRequest,
-) -> Result<Answer, LabFault> {
+) -> Result<CommandAnswer, LabFault> {
     if request.files.len() > 1 {
         return Err(LabFault::Words(String::from_str(
             alloc,
@@ -83,11 +83,11 @@ fn lay_out_input<F: Files, R: Read>(
     if request.checks {
         return match layout {
             Some(text) => would_change(alloc, &[NewLayout { path: "-", text }]),
-            None => Ok(Answer::silent(alloc)),
+            None => Ok(CommandAnswer::silent(alloc)),
         };
     }
     match String::from_utf8(layout.unwrap_or(given)) {
-        Ok(text) => Ok(Answer::printed(alloc, text, Status::Done)),
+        Ok(text) => Ok(CommandAnswer::printed(alloc, text, Status::Done)),
         Err(_) => Err(LabFault::Words(String::from_str(
             alloc,
             "-: a comment is not UTF-8; name the file, whose comments stay as they are",
@@ -116,7 +116,7 @@ fn new_layout(alloc: Global, path: &str, bytes: Vec<u8>) -> Result<Option<Vec<u8
 }
 
 /// Says which files would change: it is a fault where there is one.
-fn would_change(alloc: Global, changed: &[NewLayout]) -> Result<Answer, LabFault> {
+fn would_change(alloc: Global, changed: &[NewLayout]) -> Result<CommandAnswer, LabFault> {
     let mut out = String::new(alloc);
     for layout in changed {
         push_file(&mut out, layout.path, "the layout would change")?;
@@ -126,7 +126,7 @@ fn would_change(alloc: Global, changed: &[NewLayout]) -> Result<Answer, LabFault
     } else {
         Status::Fault
     };
-    Ok(Answer::printed(alloc, out, status))
+    Ok(CommandAnswer::printed(alloc, out, status))
 }
 
 /// Adds a line about a file.

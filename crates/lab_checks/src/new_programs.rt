@@ -1,6 +1,6 @@
 //! The command `new`.
 
-use command_parts::{Answer, Inputs, LabFault, Status};
+use command_parts::{CommandAnswer, Inputs, LabFault, Status};
 use std::alloc::Global;
 use std::io::Read;
 use std::rt::Files;
@@ -29,7 +29,7 @@ pub fn start_program<F: Files, R: Read>(
     alloc: Global,
     inputs: &mut Inputs<'_, F, R>,
     name: &str,
-) -> Result<Answer, LabFault> {
+) -> Result<CommandAnswer, LabFault> {
     let stem = name.strip_suffix(".asm").unwrap_or(name);
     let source = format!(in alloc; "{stem}.asm")?;
     let expected = format!(in alloc; "{stem}.expect")?;
@@ -43,5 +43,5 @@ pub fn start_program<F: Files, R: Read>(
     let told = format!(in alloc;
         "{source}: a program of two processors\n{expected}: what each of its ends has to be\nnext: mta_lab explore {source} --expect {expected}\n"
     )?;
-    Ok(Answer::printed(alloc, told, Status::Done))
+    Ok(CommandAnswer::printed(alloc, told, Status::Done))
 }

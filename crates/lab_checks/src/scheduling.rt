@@ -1,6 +1,6 @@
 //! The command `schedule`.
 
-use command_parts::{Answer, Inputs, LabFault, Status, made_by, read_program};
+use command_parts::{CommandAnswer, Inputs, LabFault, Status, made_by, read_program};
 use end_kinds::EndKind;
 use lab_requests::Maker;
 use schedule_makers::MadeEnd;
@@ -16,13 +16,13 @@ pub fn make_schedule<F: Files, R: Read>(
     path: &str,
     maker: Maker,
     most: usize,
-) -> Result<Answer, LabFault> {
+) -> Result<CommandAnswer, LabFault> {
     let program = read_program(alloc, inputs, path)?;
     let made = made_by(alloc, &program.image, maker, most)?;
     let steps = made.steps.len();
     let plural = if steps == 1 { "" } else { "s" };
     let why = sentence_of(made.end);
-    Ok(Answer {
+    Ok(CommandAnswer {
         output: write_schedule(alloc, &made.steps)?,
         errors: format!(in alloc; "after {steps} step{plural}: {why}\n")?,
         status: Status::Done,

@@ -1,12 +1,12 @@
 //! The commands `explain` and `word`.
 
-use command_parts::{Answer, LabFault, Status};
+use command_parts::{CommandAnswer, LabFault, Status};
 use lab_words::{explained, instruction_told, source_of};
 use source_faults::{Severity, check_source, push_message};
 use std::alloc::{AllocError, Global};
 
 /// What a word of a program, of a run or of a message means; without one, all words that have a page.
-pub fn explain(alloc: Global, word: Option<&str>) -> Result<Answer, LabFault> {
+pub fn explain(alloc: Global, word: Option<&str>) -> Result<CommandAnswer, LabFault> {
     let text = explained(alloc, word)?;
     if text.is_empty() {
         let word = word.unwrap_or("");
@@ -14,18 +14,18 @@ pub fn explain(alloc: Global, word: Option<&str>) -> Result<Answer, LabFault> {
             "no page is called {word}; explain alone lists them all, as ADD, .S, EQ, .data, 6, E2; 0x806 is a trap register"
         )?));
     }
-    Ok(Answer::printed(alloc, text, Status::Done))
+    Ok(CommandAnswer::printed(alloc, text, Status::Done))
 }
 
 /// What an instruction word says, by its hexadecimal digits or by its text, whose words these are.
-pub fn show_word(alloc: Global, words: &[&str]) -> Result<Answer, LabFault> {
+pub fn show_word(alloc: Global, words: &[&str]) -> Result<CommandAnswer, LabFault> {
     let mut text = String::new(alloc);
     for (place, word) in words.iter().enumerate() {
         text.push_str(if place == 0 { "" } else { " " })?;
         text.push_str(word)?;
     }
     match instruction_told(alloc, text.as_str())? {
-        Some(told) => Ok(Answer::printed(alloc, told, Status::Done)),
+        Some(told) => Ok(CommandAnswer::printed(alloc, told, Status::Done)),
         None => Err(LabFault::Lines(faults_of(alloc, text.as_str())?)),
     }
 }

@@ -1,6 +1,6 @@
 //! How the run of a session ends.
 
-use crate::debug_desk::Desk;
+use crate::debug_repl::DebugRepl;
 use command_parts::LabFault;
 use debug_commands::Command;
 use end_kinds::EndKind;
@@ -17,7 +17,7 @@ struct RunHere<'i, const S: usize> {
     views: Vec<StepView>,
 }
 
-impl<'a, 'i, 't, const S: usize> Desk<'a, 'i, 't, S> {
+impl<'a, 'i, 't, const S: usize> DebugRepl<'a, 'i, 't, S> {
     /// Goes where a command leads, and where that is the end of the schedule, tells how the run ends.
     pub(crate) fn go(&mut self, command: &Command, out: &mut String) -> Result<(), LabFault> {
         self.move_by(command, out)?;
@@ -55,8 +55,10 @@ impl<'a, 'i, 't, const S: usize> Desk<'a, 'i, 't, S> {
 
     /// The run by the whole schedule.
     fn run_here(&mut self) -> Result<RunHere<'i, S>, LabFault> {
-        let position = self.named.session.position();
-        let mut machine = self.machine_at(0, position)?;
+        let mut machine = match self.named.machine_at(0) {
+            Ok(machine) => machine,
+            Err(_) => return Err(LabFault::NoMemory),
+        };
         let views = run_views(self.alloc, &mut machine, self.named.session.schedule())?;
         Ok(RunHere { machine, views })
     }

@@ -1,11 +1,11 @@
 //! The points of `debug`.
 
-use crate::debug_desk::{Desk, refuse};
+use crate::debug_repl::{DebugRepl, refuse};
 use command_parts::LabFault;
 use debug_commands::{Answer, Command};
 use replay_debugger::Point;
 
-impl<'a, 'i, 't, const S: usize> Desk<'a, 'i, 't, S> {
+impl<'a, 'i, 't, const S: usize> DebugRepl<'a, 'i, 't, S> {
     /// On until a stream is to step at a place.
     pub(crate) fn until(&mut self, rest: &str, out: &mut String) -> Result<(), LabFault> {
         let Some(word) = self.named.word_of_place(rest) else {

@@ -1,7 +1,7 @@
 //! The registers and the words that `debug` shows.
 
-use crate::debug_desk::Desk;
 use crate::debug_points::is_named_word;
+use crate::debug_repl::DebugRepl;
 use command_parts::LabFault;
 use lab_texts::{NumberStyle, push_stream_part, push_word};
 use processor::Step;
@@ -19,7 +19,7 @@ const STATES: [StreamPart; 5] = [
     StreamPart::Retries,
 ];
 
-impl<'a, 'i, 't, const S: usize> Desk<'a, 'i, 't, S> {
+impl<'a, 'i, 't, const S: usize> DebugRepl<'a, 'i, 't, S> {
     /// Adds where a stream stands, and all its registers.
     pub(crate) fn push_registers(&self, step: Step, out: &mut String) -> Result<(), LabFault> {
         if self.named.pc(step.p, step.s).is_none() {

@@ -1,19 +1,19 @@
 //! What `debug` shows of a world.
 
-use crate::debug_desk::{Desk, refuse};
 use crate::debug_points::is_named_word;
+use crate::debug_repl::{DebugRepl, refuse};
 use command_parts::LabFault;
-use lab_texts::{NumberStyle, push_stream, push_value};
+use lab_texts::{NumberStyle, push_stream, push_value, turned_word};
 use named_session::{UserName, read_name};
 use processor::Step;
 use std::alloc::AllocError;
 use step_views::{Content, Place, StreamPart};
-use waiting::{Wait, Wanted, running_streams};
+use waiting::{Wait, running_streams};
 
 /// How many program words `list` shows before and behind the stream's.
 const AROUND: u32 = 4;
 
-impl<'a, 'i, 't, const S: usize> Desk<'a, 'i, 't, S> {
+impl<'a, 'i, 't, const S: usize> DebugRepl<'a, 'i, 't, S> {
     /// Adds the session's position and the step that comes there.
     pub(crate) fn push_where(&self, out: &mut String) -> Result<(), LabFault> {
         let session = &self.named.session;
@@ -188,10 +188,7 @@ impl<'a, 'i, 't, const S: usize> Desk<'a, 'i, 't, S> {
                     out.push_str(", of ")?;
                     push_stream(out, by.p, by.s)?;
                 }
-                let turned = match wait.wanted {
-                    Wanted::Full => "emptied",
-                    Wanted::Empty => "filled",
-                };
+                let turned = turned_word(wait.wanted);
                 Ok(write!(out, ", {turned} it last\n")?)
             }
             Ok(None) => Ok(out.push_str("; it never was\n")?),

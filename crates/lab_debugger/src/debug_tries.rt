@@ -1,6 +1,6 @@
 //! Steps in place of the schedule's, and how they are taken back.
 
-use crate::debug_desk::{Desk, refuse};
+use crate::debug_repl::{DebugRepl, refuse};
 use command_parts::LabFault;
 use debug_commands::Command;
 use lab_texts::push_stream;
@@ -17,7 +17,7 @@ pub(crate) struct Dropped {
     steps: Vec<Step>,
 }
 
-impl<'a, 'i, 't, const S: usize> Desk<'a, 'i, 't, S> {
+impl<'a, 'i, 't, const S: usize> DebugRepl<'a, 'i, 't, S> {
     /// A step of a stream in place of the schedule's next; the schedule from there on goes.
     pub(crate) fn take(&mut self, rest: &str, out: &mut String) -> Result<(), LabFault> {
         let Some(UserName::Stream(step)) = read_name(rest) else {

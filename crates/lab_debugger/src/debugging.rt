@@ -1,15 +1,16 @@
 //! The command `debug`.
 
-use crate::debug_desk::{Desk, Turn};
 use crate::debug_lines::{LINE_LIMIT, Lines, NextLine};
+use crate::debug_repl::{AfterLine, DebugRepl};
 use crate::sessions::named_of;
-use command_parts::{Inputs, LabFault, Program, Status, read_program, steps_of};
+use command_parts::{Inputs, LabFault, Program, Status, read_program, steps_of, write_out};
+use image_machines::by_room;
 use lab_requests::RunChoice;
 use lab_texts::{Columns, ProgramNames};
 use plain_text::push_plain;
 use processor::Step;
 use std::alloc::Global;
-use std::io::{ErrorKind, Read, Write};
+use std::io::{Read, Write};
 use std::rt::Files;
 use trace_text::write_schedule;
 
@@ -37,15 +38,14 @@ pub fn debug<F: Files, R: Read, W: Write, E: Write>(
 ) -> Result<Status, LabFault> {
     let program = read_program(alloc, inputs, program)?;
     let steps = steps_of(alloc, inputs, &program, run)?;
-    if program.image.slim() <= 8 {
-        debug_on::<8, F, R, W, E>(alloc, inputs, &program, steps, screen)
-    } else {
-        debug_on::<128, F, R, W, E>(alloc, inputs, &program, steps, screen)
-    }
+    by_room!(
+        program.image,
+        debug_on::<F, R, W, E>(alloc, inputs, &program, steps, screen)
+    )
 }
 
 /// The same in a session with room for `S` streams a processor.
-fn debug_on<const S: usize, F: Files, R: Read, W: Write, E: Write>(
+fn debug_on<F: Files, R: Read, W: Write, E: Write, const S: usize>(
     alloc: Global,
     inputs: &mut Inputs<'_, F, R>,
     program: &Program,
@@ -54,28 +54,28 @@ fn debug_on<const S: usize, F: Files, R: Read, W: Write, E: Write>(
 ) -> Result<Status, LabFault> {
     let names = ProgramNames::of(alloc, &program.text)?;
     let columns = Columns::of(&names, steps.len());
-    let mut desk = Desk {
+    let mut repl = DebugRepl {
         alloc,
         named: named_of::<S>(alloc, program, steps)?,
         names: &names,
         columns,
         tried: Vec::new(alloc),
     };
-    talk(alloc, inputs, &mut desk, screen)?;
+    talk(alloc, inputs, &mut repl, screen)?;
     Ok(Status::Done)
 }
 
-/// Answers the lines of standard input at a desk, up to one that asks for the end, or to the last.
+/// Answers the lines of standard input in a session, up to one that asks for the end, or to the last.
 fn talk<const S: usize, F: Files, R: Read, W: Write, E: Write>(
     alloc: Global,
     inputs: &mut Inputs<'_, F, R>,
-    desk: &mut Desk<'_, '_, '_, S>,
+    repl: &mut DebugRepl<'_, '_, '_, S>,
     screen: &mut Screen<'_, W, E>,
 ) -> Result<(), LabFault> {
     let mut lines = Lines::new(alloc);
     let mut line = String::new(alloc);
     let mut out = String::new(alloc);
-    desk.push_where(&mut out)?;
+    repl.push_where(&mut out)?;
     for _ in 0..u64::MAX {
         screen.show(&out)?;
         out.clear();
@@ -87,10 +87,10 @@ fn talk<const S: usize, F: Files, R: Read, W: Write, E: Write>(
             }
             Heard::End => return Ok(()),
         }
-        match desk.answer(line.as_str(), &mut out)? {
-            Turn::On => {}
-            Turn::Save(path) => save(alloc, inputs, path, desk, &mut out)?,
-            Turn::Quit => return Ok(()),
+        match repl.answer(line.as_str(), &mut out)? {
+            AfterLine::On => {}
+            AfterLine::Save(path) => save(alloc, inputs, path, repl, &mut out)?,
+            AfterLine::Quit => return Ok(()),
         }
     }
     Ok(())
@@ -139,16 +139,16 @@ fn save<const S: usize, F: Files, R: Read>(
     alloc: Global,
     inputs: &Inputs<'_, F, R>,
     path: &str,
-    desk: &Desk<'_, '_, '_, S>,
+    repl: &DebugRepl<'_, '_, '_, S>,
     out: &mut String,
 ) -> Result<(), LabFault> {
     if path.is_empty() {
         return Ok(out.push_str("save takes a file\n")?);
     }
-    let schedule = write_schedule(alloc, desk.named.session.schedule())?;
+    let schedule = write_schedule(alloc, repl.named.session.schedule())?;
     match inputs.write(alloc, path, schedule.as_bytes()) {
         Ok(()) => {
-            let steps = desk.named.session.schedule().len();
+            let steps = repl.named.session.schedule().len();
             push_plain(out, path)?;
             Ok(writeln!(out, " has the {steps} steps of the schedule")?)
         }
@@ -163,17 +163,10 @@ fn save<const S: usize, F: Files, R: Read>(
 impl<W: Write, E: Write> Screen<'_, W, E> {
     /// Writes an answer, and a prompt where a person types, before the next line is read.
     fn show(&mut self, text: &String) -> Result<(), LabFault> {
-        let wrote = self
-            .output
-            .write_all(text.as_bytes())
-            .and_then(|()| self.output.flush());
+        let wrote = write_out(self.output, text.as_bytes());
         if self.is_prompted {
             let _ = write!(self.errors, "{PROMPT}").and_then(|()| self.errors.flush());
         }
-        match wrote {
-            Ok(()) => Ok(()),
-            Err(error) if error.kind() == ErrorKind::BrokenPipe => Err(LabFault::Closed),
-            Err(_) => Err(LabFault::Write),
-        }
+        wrote
     }
 }

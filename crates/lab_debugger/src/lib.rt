@@ -2,11 +2,11 @@
 #![tactic(auto)]
 
 mod debug_aliases;
-mod debug_desk;
 mod debug_ends;
 mod debug_lines;
 mod debug_points;
 mod debug_registers;
+mod debug_repl;
 mod debug_shows;
 mod debug_tries;
 mod debug_words;

@@ -3,7 +3,7 @@
 ghost use Rattle.std.specs.Prelude.{◌≡◌, ◌++◌, IfOk, OnOk, length, map, string_bytes};
 ghost use Rattle.lab_ends.specs.BrokenClaims.{broken_places, broken_before, broken_end, broken_end_of, broken_ends, value_of};
 
-use crate::every_end::{EndTold, SpaceEnd, SpaceEndKind, new_end};
+use crate::every_end::{EndKey, SpaceEnd, SpaceEndKind, new_end};
 use crate::machines::machine_at;
 use crate::wishes::Wishes;
 use claims::Claim;
@@ -63,7 +63,7 @@ fn end_that_is_broken(
     ensures { IfOk result (λ e. value_of e ≡ broken_end (string_bytes text) places.items (length before.now)) }
 {
     let first = places.first().copied().unwrap_or(0);
-    let told = EndTold::of(SpaceEndKind::Broken, text);
+    let told = EndKey::of(SpaceEndKind::Broken, text);
     let mut end = new_end(alloc, space, first, told)?;
     end.sets = places.len();
     end.places = places;

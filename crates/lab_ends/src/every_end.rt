@@ -4,7 +4,7 @@ ghost use Rattle.std.specs.Prelude.{◌≡◌, IfOk, OnOk, map, string_bytes};
 ghost use Rattle.lab_ends.specs.BrokenClaims.{value_of, HasBrokenEnds};
 
 use crate::broken_claims::add_broken;
-use crate::end_words::{EndWords, end_words_of};
+use crate::end_texts::{EndText, end_text_of};
 use crate::expected_traps::is_expected_trap;
 use crate::findings::first_finding;
 use crate::machines::machine_at;
@@ -73,9 +73,9 @@ pub struct SpaceEnd {
     pub finding: String,
     /// The steps of a way round from there to a world for which that one stands, along the steps that were looked at a
     /// shortest one; empty where it does not go round.
-    pub round: Vec<Step>,
+    pub cycle: Vec<Step>,
     /// The same in words.
-    pub round_words: String,
+    pub cycle_words: String,
     /// The streams that can go on in some world of a set that spins; none of other ends.
     pub running: Vec<Step>,
     /// The byte addresses of the words that change in a set that spins; none of other ends.
@@ -166,8 +166,8 @@ fn add_end<const S: usize>(
     space: &Space<'_>,
     place: usize,
 ) -> Result<(), AllocError> {
-    let told = told_at::<S>(alloc, names, style, expected, space, place)?;
-    match ends.iter_mut().find(|end| is_told_alike(end, &told)) {
+    let told = key_at::<S>(alloc, names, style, expected, space, place)?;
+    match ends.iter_mut().find(|end| has_key(end, &told)) {
         Some(end) => {
             end.sets = end.sets.saturating_add(1);
             Ok(end.places.push(place)?)
@@ -178,7 +178,7 @@ fn add_end<const S: usize>(
 
 /// What ends are told by.
 #[derive(Drop)]
-pub(crate) struct EndTold {
+pub(crate) struct EndKey {
     /// The kind.
     pub kind: SpaceEndKind,
     /// Who was stopped, who waits or goes on for ever, and the words that changed. The claim, where it is broken.
@@ -189,13 +189,13 @@ pub(crate) struct EndTold {
     pub is_trapped: bool,
 }
 
-impl EndTold {
+impl EndKey {
     /// Of this kind and text, and nothing is missed.
-    pub(crate) fn of(kind: SpaceEndKind, text: String) -> EndTold
+    pub(crate) fn of(kind: SpaceEndKind, text: String) -> EndKey
         ensures kind { result.kind ≡ kind }
         ensures text { result.text ≡ text }
     {
-        EndTold {
+        EndKey {
             kind,
             text,
             missed: None,
@@ -205,22 +205,22 @@ impl EndTold {
 }
 
 /// Whether an end is one that is told by these.
-fn is_told_alike(end: &SpaceEnd, told: &EndTold) -> bool {
+fn has_key(end: &SpaceEnd, told: &EndKey) -> bool {
     end.kind == told.kind && end.missed == told.missed && end.text == told.text
 }
 
 /// What the end at a place is told by.
-fn told_at<const S: usize>(
+fn key_at<const S: usize>(
     alloc: Global,
     names: &ProgramNames<'_>,
     style: NumberStyle,
     expected: &[Expectation],
     space: &Space<'_>,
     place: usize,
-) -> Result<EndTold, AllocError> {
+) -> Result<EndKey, AllocError> {
     let machine = machine_at::<S>(alloc, space, place)?;
-    let EndWords { text, stopped } = end_words_of(alloc, &machine, names, style)?;
-    Ok(EndTold {
+    let EndText { text, stopped } = end_text_of(alloc, &machine, names, style)?;
+    Ok(EndKey {
         kind: SpaceEndKind::End(end_kind_of(&machine)),
         text,
         missed: first_missed(&machine, expected),
@@ -235,7 +235,7 @@ pub(crate) fn new_end(
     alloc: Global,
     space: &Space<'_>,
     place: usize,
-    told: EndTold,
+    told: EndKey,
 ) -> Result<SpaceEnd, AllocError>
     ensures kind { IfOk result (λ e. e.kind ≡ told.kind) }
     ensures text { IfOk result (λ e. e.text ≡ told.text) }
@@ -251,8 +251,8 @@ pub(crate) fn new_end(
         sources: 0,
         schedule: Vec::new(alloc),
         finding: String::new(alloc),
-        round: Vec::new(alloc),
-        round_words: String::new(alloc),
+        cycle: Vec::new(alloc),
+        cycle_words: String::new(alloc),
         running: Vec::new(alloc),
         changing: Vec::new(alloc),
     };

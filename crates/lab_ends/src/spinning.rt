@@ -1,10 +1,10 @@
 //! Sets of worlds that no step leads out of, and in which it goes on for ever.
 
-use crate::every_end::{EndTold, SpaceEnd, SpaceEndKind, new_end};
+use crate::cycles::{cycle_of, push_cycle};
+use crate::every_end::{EndKey, SpaceEnd, SpaceEndKind, new_end};
 use crate::links::links_of;
 use crate::machines::machine_at;
-use crate::rounds::{push_round, round_of};
-use crate::set_words::{SetTold, set_told};
+use crate::set_summaries::{SetSummary, set_summary};
 use closed_sets::closed_sets;
 use end_kinds::EndKind;
 use lab_texts::{NumberStyle, ProgramNames};
@@ -102,7 +102,7 @@ fn add_set<const S: usize>(
     let Some((first, others)) = places.split_first() else {
         return Ok(());
     };
-    let told = set_told::<S>(alloc, names, style, space, *first, others)?;
+    let told = set_summary::<S>(alloc, names, style, space, *first, others)?;
     match ends
         .iter_mut()
         .find(|end| end.kind == SPINNING && end.text == told.text)
@@ -131,18 +131,18 @@ fn new_set<const S: usize>(
     names: &ProgramNames<'_>,
     space: &Space<'_>,
     first: usize,
-    told: SetTold,
+    told: SetSummary,
 ) -> Result<SpaceEnd, AllocError> {
-    let SetTold {
+    let SetSummary {
         text,
         running,
         changing,
     } = told;
-    let mut end = new_end(alloc, space, first, EndTold::of(SPINNING, text))?;
+    let mut end = new_end(alloc, space, first, EndKey::of(SPINNING, text))?;
     end.running = running;
     end.changing = changing;
     let mut machine = machine_at::<S>(alloc, space, first)?;
-    end.round = round_of(alloc, space, &machine, first)?;
-    push_round(&mut end.round_words, names, &mut machine, &end.round)?;
+    end.cycle = cycle_of(alloc, space, &machine, first)?;
+    push_cycle(&mut end.cycle_words, names, &mut machine, &end.cycle)?;
     Ok(end)
 }

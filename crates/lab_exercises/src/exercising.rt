@@ -6,7 +6,7 @@ use crate::hints::push_hint;
 use crate::judging::{QUICK, THOROUGH, judge};
 use crate::listing::{push_line, widest};
 use crate::telling::push_told;
-use command_parts::{Answer, Inputs, LabFault, Status};
+use command_parts::{CommandAnswer, Inputs, LabFault, Status};
 use lab_explorer::Console;
 use lab_requests::ExerciseRequest;
 use plain_text::plain;
@@ -27,7 +27,7 @@ pub fn exercise<X: Threads + Sync + Clock, F: Files, R: Read, E: Write>(
     inputs: &mut Inputs<'_, F, R>,
     request: &ExerciseRequest,
     console: &mut Console<'_, X, E>,
-) -> Result<Answer, LabFault> {
+) -> Result<CommandAnswer, LabFault> {
     let exercises = read_exercises(alloc, inputs, request.folder)?;
     let Some(word) = request.which else {
         return list(rt, alloc, inputs, request, &exercises, console);
@@ -60,7 +60,7 @@ fn list<X: Threads + Sync + Clock, F: Files, R: Read, E: Write>(
     request: &ExerciseRequest,
     exercises: &[Exercise],
     console: &mut Console<'_, X, E>,
-) -> Result<Answer, LabFault> {
+) -> Result<CommandAnswer, LabFault> {
     let mut out = String::new(alloc);
     let width = widest(exercises);
     let mut done: usize = 0;
@@ -77,7 +77,7 @@ fn list<X: Threads + Sync + Clock, F: Files, R: Read, E: Write>(
     let count = exercises.len();
     write!(out, "{done} of {count} are done.\n")?;
     push_next(alloc, &mut out, request, open)?;
-    Ok(Answer::printed(alloc, out, Status::Done))
+    Ok(CommandAnswer::printed(alloc, out, Status::Done))
 }
 
 /// What is said of the program of an exercise, after which another one comes.
@@ -89,7 +89,7 @@ fn tell<X: Threads + Sync + Clock, F: Files, R: Read, E: Write>(
     exercise: &Exercise,
     next: Option<&Exercise>,
     console: &mut Console<'_, X, E>,
-) -> Result<Answer, LabFault> {
+) -> Result<CommandAnswer, LabFault> {
     let judgement = judge(rt, alloc, inputs, exercise, THOROUGH, console)?;
     let mut out = String::new(alloc);
     if judgement.is_right() {
@@ -98,11 +98,11 @@ fn tell<X: Threads + Sync + Clock, F: Files, R: Read, E: Write>(
     } else {
         let path = exercise.file(alloc, "advice")?;
         let advice = inputs.read(alloc, &path)?;
-        let sentence = sentence_on(&advice, &judgement.verdict, &judgement.why);
+        let sentence = sentence_on(&advice, judgement.verdict.kind.word(), &judgement.why);
         push_told(alloc, &mut out, exercise, &judgement, sentence)?;
         push_hint_command(alloc, &mut out, request, exercise, 1)?;
     }
-    Ok(Answer::printed(alloc, out, judgement.status))
+    Ok(CommandAnswer::printed(alloc, out, judgement.verdict.status))
 }
 
 /// A hint of an exercise, by its number from 1.
@@ -112,7 +112,7 @@ fn show_hint<F: Files, R: Read>(
     request: &ExerciseRequest,
     exercise: &Exercise,
     hint: usize,
-) -> Result<Answer, LabFault> {
+) -> Result<CommandAnswer, LabFault> {
     let path = exercise.file(alloc, "hints.md")?;
     let bytes = inputs.read(alloc, &path)?;
     let mut out = String::new(alloc);
@@ -123,7 +123,7 @@ fn show_hint<F: Files, R: Read>(
     if hint < count {
         push_hint_command(alloc, &mut out, request, exercise, hint.saturating_add(1))?;
     }
-    Ok(Answer::printed(alloc, out, Status::Done))
+    Ok(CommandAnswer::printed(alloc, out, Status::Done))
 }
 
 /// Adds which exercise comes next, if there is one.

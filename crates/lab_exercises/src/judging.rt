@@ -1,11 +1,12 @@
 //! What `grade` says of the program of an exercise.
 
 use crate::folders::Exercise;
-use command_parts::{Answer, Inputs, LabFault, Status};
+use command_parts::{Inputs, LabFault};
+use grade_reports::{Verdict, VerdictKind, reason_of};
 use lab_explorer::Console;
-use lab_grades::grade;
+use lab_grades::grades_of;
 use lab_requests::{Bounds, GradeCases, GradeFormat, GradeRequest};
-use std::alloc::{AllocError, Global};
+use std::alloc::Global;
 use std::io::{Read, Write};
 use std::rt::Files;
 use std::thread::Threads;
@@ -39,23 +40,21 @@ pub(crate) const QUICK: Reach = Reach {
 /// What is said of a program.
 #[derive(Drop)]
 pub(crate) struct Judgement {
-    /// The word of its verdict.
-    pub verdict: String,
-    /// What was looked at, or what shows that it is not right.
+    /// The verdict.
+    pub verdict: Verdict,
+    /// What was looked at, or what shows that it is not right, in words without control bytes.
     pub why: String,
-    /// What it means for the exit status.
-    pub status: Status,
 }
 
 impl Judgement {
     /// Whether it says that the program is right.
     pub(crate) fn is_right(&self) -> bool {
-        self.verdict.as_str() == "right"
+        self.verdict.kind == VerdictKind::Right
     }
 
     /// Whether it says that it is no program.
     pub(crate) fn is_source_fault(&self) -> bool {
-        self.verdict.as_str() == "source fault"
+        self.verdict.kind == VerdictKind::SourceFault
     }
 }
 
@@ -89,16 +88,10 @@ pub(crate) fn judge<X: Threads + Sync + Clock, F: Files, R: Read, E: Write>(
         format: GradeFormat::Text,
         hexadecimal: false,
     };
-    let answer = grade(rt, alloc, inputs, &request, console)?;
-    Ok(judgement_of(alloc, &answer)?)
-}
-
-/// What the row of a table of `grade` says: the submission, its verdict and why, apart by tabs.
-fn judgement_of(alloc: Global, answer: &Answer) -> Result<Judgement, AllocError> {
-    let mut fields = answer.output.trim_end().splitn(3, '\t').skip(1);
-    Ok(Judgement {
-        verdict: String::from_str(alloc, fields.next().unwrap_or(""))?,
-        why: String::from_str(alloc, fields.next().unwrap_or(""))?,
-        status: answer.status,
-    })
+    let mut grades = grades_of(rt, alloc, inputs, &request, console)?;
+    let Some(verdict) = grades.verdicts.pop() else {
+        return Err(LabFault::NoMemory);
+    };
+    let why = reason_of(alloc, &verdict, grades.cases)?;
+    Ok(Judgement { verdict, why })
 }

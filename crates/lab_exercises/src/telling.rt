@@ -2,19 +2,10 @@
 
 use crate::folders::Exercise;
 use crate::judging::Judgement;
+use grade_reports::{Verdict, Witness};
 use plain_text::{plain, push_plain};
 use std::alloc::{AllocError, Global};
-
-/// What shows that a program is not right.
-#[derive(Clone, Copy)]
-struct Shown<'a> {
-    /// The name of the case.
-    case: Option<&'a str>,
-    /// The turns of the schedule, apart by commas.
-    turns: Option<&'a str>,
-    /// Or the digits of the seed.
-    seed: Option<&'a str>,
-}
+use trace_text::write_schedule;
 
 /// Adds what is said of a program: the verdict, what shows it or what was looked at, the sentence on it, and commands that
 /// show the run.
@@ -27,7 +18,7 @@ pub(crate) fn push_told(
 ) -> Result<(), AllocError> {
     let path = plain(alloc, &exercise.path)?;
     let (number, title) = (exercise.number, exercise.title.as_str());
-    let (verdict, why) = (judgement.verdict.as_str(), judgement.why.as_str());
+    let (verdict, why) = (judgement.verdict.kind.word(), judgement.why.as_str());
     write!(
         out,
         "exercise {number}, {title}: {verdict}\n{path}/start.asm: {why}\n"
@@ -39,65 +30,51 @@ pub(crate) fn push_told(
     if judgement.is_source_fault() {
         write!(out, "All messages: mta_lab check {path}/start.asm\n")?;
     }
-    push_commands(out, &path, shown_by(why))
+    push_commands(alloc, out, &path, &judgement.verdict)
 }
 
-/// Adds commands that show a run of the program in the folder of this path, if there is one to show.
-fn push_commands(out: &mut String, path: &str, shown: Shown<'_>) -> Result<(), AllocError> {
-    if let Some(turns) = shown.turns {
-        out.push_str("To look at this run:\n  printf '")?;
-        for turn in turns.split(", ") {
-            write!(out, "{turn}\\n")?;
+/// Adds commands that show the run by which a program in the folder of this path is not right, if there is one.
+fn push_commands(
+    alloc: Global,
+    out: &mut String,
+    path: &str,
+    verdict: &Verdict,
+) -> Result<(), AllocError> {
+    match &verdict.witness {
+        Witness::None => return Ok(()),
+        Witness::Schedule(steps) if steps.is_empty() => return Ok(()),
+        Witness::Schedule(steps) => {
+            let schedule = write_schedule(alloc, steps)?;
+            out.push_str("To look at this run:\n  printf '")?;
+            for line in schedule.trim().split('\n') {
+                write!(out, "{line}\\n")?;
+            }
+            write!(
+                out,
+                "' > found.schedule\n  mta_lab view {path}/start.asm found.schedule\n"
+            )?;
         }
-        write!(
-            out,
-            "' > found.schedule\n  mta_lab view {path}/start.asm found.schedule\n"
-        )?;
-    } else if let Some(seed) = shown.seed {
-        write!(
+        Witness::Seed(seed) => write!(
             out,
             "To look at this run:\n  mta_lab view {path}/start.asm --seed {seed}\n"
-        )?;
-    } else {
+        )?,
+    }
+    push_words_of_case(alloc, out, path, verdict)
+}
+
+/// Adds that a run has the words of a case, if it has.
+fn push_words_of_case(
+    alloc: Global,
+    out: &mut String,
+    path: &str,
+    verdict: &Verdict,
+) -> Result<(), AllocError> {
+    let Some(case) = &verdict.case else {
         return Ok(());
-    }
-    match shown.case {
-        Some(case) => write!(
-            out,
-            "It has the words of {path}/cases/{case}.data: if your .data lines differ, put these there.\n"
-        ),
-        None => Ok(()),
-    }
-}
-
-/// What words of `grade` name: `case two: schedule 0 0 2, 1 0 2: ..`, `case two: seed 7: ..`.
-fn shown_by(why: &str) -> Shown<'_> {
-    let (case, rest) = match case_in(why) {
-        Some((case, rest)) => (Some(case), rest),
-        None => (None, why),
     };
-    let run = match rest.split_once(": ") {
-        Some((run, _)) => run,
-        None => rest,
-    };
-    Shown {
-        case,
-        turns: run.strip_prefix("schedule "),
-        seed: seed_in(run),
-    }
-}
-
-/// The case that words begin with, and what stands after it.
-fn case_in(why: &str) -> Option<(&str, &str)> {
-    why.strip_prefix("case ")?.split_once(": ")
-}
-
-/// The digits of the seed that words end with.
-fn seed_in(run: &str) -> Option<&str> {
-    let (_, digits) = run.rsplit_once("seed ")?;
-    if digits.bytes().all(|byte| byte.is_ascii_digit()) {
-        Some(digits)
-    } else {
-        None
-    }
+    let case = plain(alloc, case)?;
+    write!(
+        out,
+        "It has the words of {path}/cases/{case}.data: if your .data lines differ, put these there.\n"
+    )
 }

@@ -2,7 +2,7 @@
 
 use crate::expectation_texts::push_expectation;
 use crate::explored_objects::is_as_expected;
-use crate::explored_words::missed_of;
+use crate::explored_text::missed_of;
 use crate::exploring::Explored;
 use command_parts::{Inputs, LabFault, Program};
 use lab_ends::{SpaceEnd, SpaceEndKind, Wishes};

@@ -122,7 +122,7 @@ pub(crate) fn is_as_expected(end: &SpaceEnd) -> bool {
 /// Puts what is told of a set that spins alone: the steps of a way round, the streams that go on in it, and the words
 /// that change.
 fn put_set(alloc: Global, fields: &mut Fields, end: &SpaceEnd) -> Result<(), AllocError> {
-    put_turns(alloc, fields, "round", &end.round)?;
+    put_turns(alloc, fields, "round", &end.cycle)?;
     put_streams(alloc, fields, "running", &end.running)?;
     let mut changing = Vec::with_capacity(alloc, end.changing.len())?;
     for address in &end.changing {

@@ -12,14 +12,14 @@ ghost use Rattle.schedule_verdicts.specs.ShownClaims.{AreShown, IsRightThroughou
 use crate::end_folders::{make_folders, write_folders};
 use crate::end_pages::FoundProgram;
 use crate::expected_lines::ExpectedLines;
-use crate::explored_words::answer_of;
+use crate::explored_text::answer_of;
 use crate::graphs::{graph_asked, write_graph};
 use crate::spaces::space_of;
 use crate::unkept::Unkept;
 use crate::watching::{Console, SearchBound, Watcher};
 use crate::wished::{addressed, wishes_of};
 use command_parts::{
-    Answer, Inputs, LabFault, Program, Status, read_program, read_steps, style_of,
+    CommandAnswer, Inputs, LabFault, Program, Status, read_program, read_steps, style_of,
 };
 use end_kinds::EndKind;
 use image_file::Image;
@@ -140,7 +140,7 @@ pub fn show_every_end<C: Clock, F: Files, R: Read, E: Write>(
     inputs: &mut Inputs<'_, F, R>,
     request: &ExploreRequest,
     console: &mut Console<'_, C, E>,
-) -> Result<Answer, LabFault> {
+) -> Result<CommandAnswer, LabFault> {
     let program = read_program(alloc, inputs, request.program)?;
     let names = ProgramNames::of(alloc, &program.text)?;
     let text = text_asked(alloc, inputs, request.expected, &names)?;

@@ -1,6 +1,6 @@
 //! The graph of the worlds that were looked at, as a file.
 
-use crate::explored_words::push_head_line;
+use crate::explored_text::push_head_line;
 use crate::exploring::Explored;
 use command_parts::{Inputs, LabFault};
 use lab_ends::SpaceEnd;

@@ -8,7 +8,7 @@ mod end_pages;
 mod expectation_texts;
 mod expected_lines;
 mod explored_objects;
-mod explored_words;
+mod explored_text;
 mod exploring;
 mod graphs;
 mod spaces;

@@ -65,13 +65,13 @@ pub struct Watcher<'w, 'c, C, E> {
     start: Option<Instant>,
     most_time: Option<Duration>,
     most_bytes: usize,
-    told: Option<Told>,
+    last_report: Option<Report>,
     ended: Option<SearchBound>,
 }
 
 /// What was told last.
 #[derive(Clone, Copy)]
-struct Told {
+struct Report {
     at: Duration,
     found: usize,
 }
@@ -102,7 +102,7 @@ impl<'w, 'c, C: Clock, E: Write> Watcher<'w, 'c, C, E> {
                 Some(megabytes) => megabytes.saturating_mul(MEGABYTE),
                 None => usize::MAX,
             },
-            told: None,
+            last_report: None,
             ended: None,
         })
     }
@@ -128,7 +128,7 @@ impl<'w, 'c, C: Clock, E: Write> Watcher<'w, 'c, C, E> {
 
     /// Wipes what it has told.
     pub fn finish(&mut self) {
-        if self.told.is_some() {
+        if self.last_report.is_some() {
             let _ = write!(self.console.errors, "\r\x1b[K");
             let _ = self.console.errors.flush();
         }
@@ -147,13 +147,13 @@ impl<'w, 'c, C: Clock, E: Write> Watcher<'w, 'c, C, E> {
             self.ended = Some(SearchBound::Seconds);
             return false;
         }
-        self.tell(passed, found, waiting, bytes);
+        self.report(passed, found, waiting, bytes);
         true
     }
 
     /// Tells how far the search is, where a second has passed since it last did.
-    fn tell(&mut self, passed: Duration, found: usize, waiting: usize, bytes: usize) {
-        let last = self.told.unwrap_or(Told {
+    fn report(&mut self, passed: Duration, found: usize, waiting: usize, bytes: usize) {
+        let last = self.last_report.unwrap_or(Report {
             at: Duration::ZERO,
             found: 0,
         });
@@ -161,7 +161,7 @@ impl<'w, 'c, C: Clock, E: Write> Watcher<'w, 'c, C, E> {
         if !self.console.is_terminal || since.as_secs() == 0 {
             return;
         }
-        self.told = Some(Told { at: passed, found });
+        self.last_report = Some(Report { at: passed, found });
         let rate = found.saturating_sub(last.found) as u128 * 1000 / since.as_millis().max(1);
         let megabytes = bytes / MEGABYTE;
         let _ = write!(

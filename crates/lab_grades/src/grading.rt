@@ -5,7 +5,7 @@ use crate::judged::Grading;
 use crate::page_folder::PageFolder;
 use crate::side_by_side::{jobs_of, judge_all};
 use crate::submissions::read_submission;
-use command_parts::{Answer, Inputs, LabFault, Program, Status};
+use command_parts::{CommandAnswer, Inputs, LabFault, Program, Status};
 use grade_reports::{Verdict, report_of};
 use lab_explorer::Console;
 use lab_requests::GradeRequest;
@@ -22,32 +22,65 @@ const MOST_READ: usize = 256;
 /// How many bytes their texts and images have then, beside the last one.
 const MOST_BYTES: usize = 16_777_216;
 
-/// Judges submissions, each by the same cases: by the same seeds, or by every schedule.
+/// What is said of submissions.
+#[derive(Drop)]
+pub struct Grades {
+    /// The verdicts, in the order of the submissions.
+    pub verdicts: Vec<Verdict>,
+    /// How many cases they were judged by; 0 if no case has a name.
+    pub cases: usize,
+    /// Why not all of their pages were written.
+    pub fault: Option<LabFault>,
+}
+
+impl Grades {
+    /// The worst status over all of them.
+    pub fn status(&self) -> Status {
+        let mut status = Status::Done;
+        for verdict in self.verdicts.iter() {
+            status = status.worse(verdict.status);
+        }
+        status
+    }
+}
+
+/// Judges submissions, each by the same cases, and reports it as is asked for.
 pub fn grade<X: Threads + Sync + Clock, F: Files, R: Read, E: Write>(
     rt: &X,
     alloc: Global,
     inputs: &mut Inputs<'_, F, R>,
     request: &GradeRequest,
     console: &mut Console<'_, X, E>,
-) -> Result<Answer, LabFault> {
-    let cases = read_cases(alloc, inputs, request.cases)?;
-    let mut pages = PageFolder::open(alloc, inputs, request)?;
-    let verdicts = verdicts_on(rt, alloc, inputs, &*request, &cases, &mut pages, console)?;
-    let mut status = Status::Done;
-    for verdict in verdicts.iter() {
-        status = status.worse(verdict.status);
-    }
-    let count = cases.iter().filter(|case| case.name.is_some()).count();
+) -> Result<CommandAnswer, LabFault> {
+    let grades = grades_of(rt, alloc, inputs, request, console)?;
     let output = report_of(
         alloc,
         request.format,
         &request.submissions,
-        &verdicts,
-        count,
+        &grades.verdicts,
+        grades.cases,
     )?;
-    let mut answer = Answer::printed(alloc, output, status);
-    answer.fault = pages.fault;
+    let mut answer = CommandAnswer::printed(alloc, output, grades.status());
+    answer.fault = grades.fault;
     Ok(answer)
+}
+
+/// What is said of submissions, each by the same cases: by the same seeds, or by every schedule.
+pub fn grades_of<X: Threads + Sync + Clock, F: Files, R: Read, E: Write>(
+    rt: &X,
+    alloc: Global,
+    inputs: &mut Inputs<'_, F, R>,
+    request: &GradeRequest,
+    console: &mut Console<'_, X, E>,
+) -> Result<Grades, LabFault> {
+    let cases = read_cases(alloc, inputs, request.cases)?;
+    let mut pages = PageFolder::open(alloc, inputs, request)?;
+    let verdicts = verdicts_on(rt, alloc, inputs, &*request, &cases, &mut pages, console)?;
+    Ok(Grades {
+        verdicts,
+        cases: cases.iter().filter(|case| case.name.is_some()).count(),
+        fault: pages.fault,
+    })
 }
 
 /// What is said of each submission, in their order. Some are read, judged and let go before the next are read.

@@ -15,4 +15,4 @@ mod submissions;
 mod verdict_pages;
 mod wish_lines;
 
-pub use grading::grade;
+pub use grading::{Grades, grade, grades_of};

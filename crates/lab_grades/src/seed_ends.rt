@@ -3,7 +3,7 @@
 use crate::judged::{Grading, Judged};
 use end_kinds::Status;
 use grade_reports::{CountedEnd, Witness};
-use seed_outcomes::{Outcome, SurveySeeds, outcomes_of, worst_status};
+use seed_outcomes::{SeedOutcome, SurveySeeds, outcomes_of, worst_status};
 use std::alloc::{AllocError, Global};
 use std::thread::Threads;
 
@@ -23,7 +23,7 @@ pub(crate) fn counted_ends<X: Threads + Sync>(
     let image = &judged.program.image;
     let wishes = judged.wishes;
     let mut outcomes = outcomes_of(rt, alloc, image, judged.names, wishes, seeds)?;
-    outcomes.sort_by_key(|outcome: &Outcome| usize::MAX - outcome.runs)?;
+    outcomes.sort_by_key(|outcome: &SeedOutcome| usize::MAX - outcome.runs)?;
     let mut ends = Vec::new(alloc);
     for outcome in outcomes.iter() {
         ends.push(end_of(alloc, judged, outcome)?)?;
@@ -35,7 +35,7 @@ pub(crate) fn counted_ends<X: Threads + Sync>(
 fn end_of(
     alloc: Global,
     judged: &Judged<'_, '_>,
-    outcome: &Outcome,
+    outcome: &SeedOutcome,
 ) -> Result<CountedEnd, AllocError> {
     Ok(CountedEnd {
         kind: Some(outcome.kind),

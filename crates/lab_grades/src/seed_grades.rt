@@ -10,7 +10,7 @@ use end_kinds::{EndKind, end_kind_of, status_of};
 use expectations::first_missed;
 use grade_reports::{Known, Verdict, VerdictKind, Witness};
 use image_machines::{by_room, loaded};
-use lab_ends::{end_words_of, first_finding};
+use lab_ends::{end_text_of, first_finding};
 use machine::LoadFault;
 use schedule_makers::{fair_length, seeded};
 use seed_outcomes::unshown_by_seeds;
@@ -204,7 +204,7 @@ fn shown_by<const S: usize>(
     let made = seeded(alloc, &mut machine, seed, fair_steps, grading.request.most)?;
     Ok(ShownRun {
         kind: end_kind_of(&machine),
-        words: end_words_of(alloc, &machine, judged.names, grading.style)?.text,
+        words: end_text_of(alloc, &machine, judged.names, grading.style)?.text,
         missed: first_missed(&machine, &judged.wishes.ends),
         finding: first_finding::<S>(alloc, judged.names, grading.style, image, &made.steps)?,
     })

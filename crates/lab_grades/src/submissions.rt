@@ -1,8 +1,8 @@
 //! Submissions, read.
 
-use command_parts::{Inputs, LabFault, Program, program_of};
+use command_parts::{Inputs, LabFault, Program, ProgramFault, program_in};
 use grade_reports::{Verdict, VerdictKind};
-use plain_text::plain;
+use source_faults::{Message, Severity};
 use std::alloc::{AllocError, Global};
 use std::io::Read;
 use std::rt::Files;
@@ -20,11 +20,12 @@ pub(crate) fn read_submission<F: Files, R: Read>(
     }
     let bytes = match inputs.read(alloc, path) {
         Ok(bytes) => bytes,
-        Err(fault) => return no_program(alloc, path, VerdictKind::NotRead, fault),
+        Err(fault) => return not_read(alloc, path, fault),
     };
-    match program_of(alloc, path, bytes) {
+    match program_in(alloc, bytes) {
         Ok(program) => Ok(Ok(program)),
-        Err(fault) => no_program(alloc, path, VerdictKind::SourceFault, fault),
+        Err(ProgramFault::NoMemory) => Err(LabFault::NoMemory),
+        Err(ProgramFault::Messages { messages, .. }) => { Ok(Err(source_fault(alloc, &messages)?)) }
     }
 }
 
@@ -57,33 +58,38 @@ fn is_link<F: Files>(files: &F, path: &str) -> bool {
     }
 }
 
-/// What is said of a submission that has this fault; other faults than its own are the command's.
-fn no_program(
+/// What is said of a submission that can't be read; other faults are the command's.
+fn not_read(
     alloc: Global,
     path: &str,
-    kind: VerdictKind,
     fault: LabFault,
 ) -> Result<Result<Program, Verdict>, LabFault> {
     match fault {
         LabFault::Words(why) | LabFault::Lines(why) => {
-            let words = short_fault(alloc, path, &why)?;
-            Ok(Err(Verdict::of_no_program(alloc, kind, words)))
+            let words = without_path(alloc, path, &why)?;
+            Ok(Err(Verdict::of_no_program(alloc, VerdictKind::NotRead, words)))
         }
         other => Err(other),
     }
 }
 
-/// The first line of what is wrong with a file, without its path: `8:9: no operation is called load.N`.
-fn short_fault(alloc: Global, path: &str, lines: &str) -> Result<String, AllocError> {
-    let shown = plain(alloc, path)?;
-    let named = lines.strip_prefix(path);
-    let line = named
-        .or(lines.strip_prefix(shown.as_str()))
-        .unwrap_or(lines);
-    let line = line.strip_prefix(':').unwrap_or(line);
-    let line = line.split('\n').next().unwrap_or("");
-    match line.split_once(" error: ") {
-        Some((place, words)) => format!(in alloc; "{place} {words}"),
-        None => String::from_str(alloc, line.trim()),
+/// Why a file can't be read, without its path before it.
+fn without_path(alloc: Global, path: &str, why: &str) -> Result<String, AllocError> {
+    let words = why.strip_prefix(path).unwrap_or(why);
+    let words = words.strip_prefix(':').unwrap_or(words);
+    String::from_str(alloc, words.trim())
+}
+
+/// What is said of a submission that is no program: the first error, as `8:9: no operation is called load.N`.
+fn source_fault(alloc: Global, messages: &[Message]) -> Result<Verdict, AllocError> {
+    let mut words = String::new(alloc);
+    let first = messages
+        .iter()
+        .find(|message: &&Message| message.severity == Severity::Error);
+    if let Some(message) = first {
+        let (line, column) = (message.line, message.column);
+        let what = message.words.as_str();
+        write!(words, "{line}:{column}: {what}")?;
     }
+    Ok(Verdict::of_no_program(alloc, VerdictKind::SourceFault, words))
 }

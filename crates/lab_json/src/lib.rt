@@ -3,6 +3,7 @@
 //! no value is a sentence.
 #![tactic(auto)]
 
+mod changed_words;
 mod differences;
 mod ends;
 mod fields;
@@ -15,7 +16,6 @@ mod steps;
 mod streams;
 mod turns;
 mod values;
-mod words;
 
 pub use differences::{difference_value, parting_value};
 pub use ends::{end_part, end_value};

@@ -1,6 +1,6 @@
 //! The command `page`.
 
-use command_parts::{Answer, Inputs, LabFault, Program, read_program, steps_of};
+use command_parts::{CommandAnswer, Inputs, LabFault, Program, read_program, steps_of};
 use lab_requests::{Maker, PageRequest, RunChoice};
 use plain_text::{file_name, stem_of};
 use processor::Step;
@@ -16,13 +16,13 @@ pub fn write_page<F: Files, R: Read>(
     alloc: Global,
     inputs: &mut Inputs<'_, F, R>,
     request: &PageRequest,
-) -> Result<Answer, LabFault> {
+) -> Result<CommandAnswer, LabFault> {
     let page = match request.other {
         Some(other) => pair_text(alloc, inputs, request, other)?,
         None => page_text(alloc, inputs, request)?,
     };
     inputs.write(alloc, request.out, page.as_bytes())?;
-    Ok(Answer::silent(alloc))
+    Ok(CommandAnswer::silent(alloc))
 }
 
 /// The page of a run.

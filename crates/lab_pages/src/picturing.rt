@@ -1,7 +1,7 @@
 //! The command `picture`.
 
 use crate::paging::{RunToShow, program_name, run_to_show, schedule_words};
-use command_parts::{Answer, Inputs, LabFault};
+use command_parts::{CommandAnswer, Inputs, LabFault};
 use image_machines::{by_room, loaded};
 use lab_requests::PageRequest;
 use replay_page::{MOST_DRAWN_STEPS, MOST_STEPS, RunNames, picture_of};
@@ -14,7 +14,7 @@ pub fn write_picture<F: Files, R: Read>(
     alloc: Global,
     inputs: &mut Inputs<'_, F, R>,
     request: &PageRequest,
-) -> Result<Answer, LabFault> {
+) -> Result<CommandAnswer, LabFault> {
     if request.from > request.to {
         return Err(none_drawn(alloc, request)?);
     }
@@ -30,7 +30,7 @@ pub fn write_picture<F: Files, R: Read>(
     }
     let picture = picture_text(alloc, request, &run)?;
     inputs.write(alloc, request.out, picture.as_bytes())?;
-    Ok(Answer::silent(alloc))
+    Ok(CommandAnswer::silent(alloc))
 }
 
 /// What is said of steps that end before they begin.

@@ -2,7 +2,7 @@
 
 use crate::goals::{Judging, goal_place};
 use crate::opened_pages::opened_after;
-use command_parts::{Answer, Inputs, LabFault, Program, read_program, read_steps};
+use command_parts::{CommandAnswer, Inputs, LabFault, Program, read_program, read_steps};
 use lab_ends::{Wishes, are_rules_kept, space_ends};
 use lab_explorer::{Console, Watcher, addressed, push_expectation, wishes_of};
 use lab_requests::{Bounds, PlayRequest};
@@ -24,7 +24,7 @@ pub fn write_play_page<C: Clock, F: Files, R: Read, E: Write>(
     inputs: &mut Inputs<'_, F, R>,
     request: &PlayRequest,
     console: &mut Console<'_, C, E>,
-) -> Result<Answer, LabFault> {
+) -> Result<CommandAnswer, LabFault> {
     let program = read_program(alloc, inputs, request.program)?;
     let names = ProgramNames::of(alloc, &program.text)?;
     let wishes = match request.expected {
@@ -49,7 +49,7 @@ pub fn write_play_page<C: Clock, F: Files, R: Read, E: Write>(
         Some(page) => inputs.write(alloc, request.out, page.as_bytes())?,
         None => return Err(too_many(alloc, request)?),
     }
-    Ok(Answer::silent(alloc))
+    Ok(CommandAnswer::silent(alloc))
 }
 
 /// What a page is made of.

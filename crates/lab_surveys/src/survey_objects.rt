@@ -6,13 +6,15 @@ use lab_ends::Wishes;
 use lab_explorer::{ExpectedLines, Explored, put_bound};
 use lab_json::{Fields, digits, object_of, put_flag, put_number, put_run, put_text};
 use lab_requests::Maker;
-use seed_outcomes::Outcome;
+use rayon::prelude::*;
+use seed_outcomes::SeedOutcome;
 use serde_json::Value;
 use std::alloc::{AllocError, Global};
+use std::thread::Threads;
 
 /// Of what the outcomes of a survey are.
 #[derive(Clone, Copy)]
-pub(crate) struct Surveyed<'a> {
+pub(crate) struct SurveyInput<'a> {
     /// The program.
     pub program: &'a Program,
     /// What is wished of it.
@@ -23,7 +25,7 @@ pub(crate) struct Surveyed<'a> {
     pub most: usize,
 }
 
-impl<'a> Surveyed<'a> {
+impl<'a> SurveyInput<'a> {
     /// The lines that say what is expected of ends.
     fn lines(&self) -> ExpectedLines<'a> {
         ExpectedLines {
@@ -33,25 +35,49 @@ impl<'a> Surveyed<'a> {
     }
 }
 
-/// Adds the objects of outcomes. What an outcome's words, streams and findings are is told of the run of its seed.
-pub(crate) fn push_outcome_objects(
+/// Adds the objects of outcomes, made over all cores. What an outcome's words, streams and findings are is told of the run
+/// of its seed, which is taken once more.
+pub(crate) fn push_outcome_objects<X: Threads + Sync>(
+    rt: &X,
     alloc: Global,
     out: &mut String,
-    surveyed: Surveyed,
-    outcomes: &[Outcome],
+    surveyed: SurveyInput,
+    outcomes: &[SeedOutcome],
 ) -> Result<(), AllocError> {
-    for outcome in outcomes {
-        let fields = outcome_fields(alloc, surveyed, outcome)?;
-        push_object(alloc, out, &Value::Object(fields))?;
+    let lines = (0..outcomes.len())
+        .into_par_iter()
+        .map(|place: usize| -> Result<String, AllocError> {
+            let outcome = outcomes.get(place).ok_or(AllocError)?;
+            outcome_line(alloc, surveyed, outcome)
+        })
+        .with_min_len(1)
+        .collect::<Result<Vec<String>, AllocError>>(rt, alloc);
+    let Ok(Ok(lines)) = lines else {
+        return Err(AllocError);
+    };
+    for line in &lines {
+        out.push_str(line)?;
     }
     Ok(())
+}
+
+/// The line with the object of an outcome.
+fn outcome_line(
+    alloc: Global,
+    surveyed: SurveyInput,
+    outcome: &SeedOutcome,
+) -> Result<String, AllocError> {
+    let fields = outcome_fields(alloc, surveyed, outcome)?;
+    let mut line = String::new(alloc);
+    push_object(alloc, &mut line, &Value::Object(fields))?;
+    Ok(line)
 }
 
 /// The object of an outcome.
 fn outcome_fields(
     alloc: Global,
-    surveyed: Surveyed,
-    outcome: &Outcome,
+    surveyed: SurveyInput,
+    outcome: &SeedOutcome,
 ) -> Result<Fields, AllocError> {
     let image = &surveyed.program.image;
     let maker = Maker::Random { seed: outcome.seed };
@@ -73,7 +99,7 @@ fn outcome_fields(
 }
 
 /// Puts the kind of an outcome, how many seeds lead there, and the first of them with the steps of its schedule.
-fn put_counts(alloc: Global, fields: &mut Fields, outcome: &Outcome) -> Result<(), AllocError> {
+fn put_counts(alloc: Global, fields: &mut Fields, outcome: &SeedOutcome) -> Result<(), AllocError> {
     put_text(alloc, fields, "end", outcome.kind.json_name())?;
     put_number(alloc, fields, "runs", outcome.runs as u64)?;
     serde_json::put(fields, alloc, "seed", digits(alloc, outcome.seed)?)?;

@@ -1,7 +1,7 @@
 //! The command `survey`.
 
-use crate::survey_objects::{Surveyed, push_coverage, push_outcome_objects};
-use command_parts::{Answer, Inputs, LabFault, Program, Status, read_program, style_of};
+use crate::survey_objects::{SurveyInput, push_coverage, push_outcome_objects};
+use command_parts::{CommandAnswer, Inputs, LabFault, Program, Status, read_program, style_of};
 use lab_ends::{SpaceEnd, SpaceEndKind, Wishes, first_broken_rule};
 use lab_explorer::{
     Console, EndCells, EndColumns, Explored, Search, Unkept, Watcher, addressed, end_line,
@@ -10,7 +10,7 @@ use lab_explorer::{
 use lab_requests::{Bounds, SurveyRequest};
 use lab_texts::{NumberStyle, ProgramNames};
 use plain_text::push_plain;
-use seed_outcomes::{Outcome, SurveySeeds, outcomes_of, unshown_by_seeds, worst_status};
+use seed_outcomes::{SeedOutcome, SurveySeeds, outcomes_of, unshown_by_seeds, worst_status};
 use seed_verdicts::Seeds;
 use std::alloc::{AllocError, Global};
 use std::io::{Read, Write};
@@ -25,7 +25,7 @@ pub fn survey<X: Threads + Sync, C: Clock, F: Files, R: Read, E: Write>(
     inputs: &mut Inputs<'_, F, R>,
     request: &SurveyRequest,
     console: &mut Console<'_, C, E>,
-) -> Result<Answer, LabFault> {
+) -> Result<CommandAnswer, LabFault> {
     let mut text = Vec::new(alloc);
     if let Some(path) = request.expected {
         text = inputs.read(alloc, path)?;
@@ -39,7 +39,7 @@ pub fn survey<X: Threads + Sync, C: Clock, F: Files, R: Read, E: Write>(
         Some(path) => wishes_of(alloc, path, &text, &names, &program.image)?,
         None => Wishes::none(alloc),
     };
-    let surveyed = Surveyed {
+    let surveyed = SurveyInput {
         program: &program,
         wishes: &wishes,
         text: &text,
@@ -53,10 +53,10 @@ fn survey_of<X: Threads + Sync, C: Clock, E: Write>(
     rt: &X,
     alloc: Global,
     request: &SurveyRequest,
-    surveyed: Surveyed,
+    surveyed: SurveyInput,
     names: &ProgramNames<'_>,
     console: &mut Console<'_, C, E>,
-) -> Result<Answer, LabFault> {
+) -> Result<CommandAnswer, LabFault> {
     let seeds = SurveySeeds {
         first: request.first,
         count: request.seeds,
@@ -65,11 +65,11 @@ fn survey_of<X: Threads + Sync, C: Clock, E: Write>(
     };
     let image = &surveyed.program.image;
     let mut outcomes = outcomes_of(rt, alloc, image, names, surveyed.wishes, seeds)?;
-    outcomes.sort_by_key(|outcome: &Outcome| usize::MAX - outcome.runs)?;
+    outcomes.sort_by_key(|outcome: &SeedOutcome| usize::MAX - outcome.runs)?;
     let is_json = request.shown.json;
     let mut output = String::new(alloc);
     if is_json {
-        push_outcome_objects(alloc, &mut output, surveyed, &outcomes)?;
+        push_outcome_objects(rt, alloc, &mut output, surveyed, &outcomes)?;
     } else {
         push_outcomes(alloc, &mut output, surveyed.wishes, &outcomes)?;
     }
@@ -78,21 +78,21 @@ fn survey_of<X: Threads + Sync, C: Clock, E: Write>(
         let unkept = unkept_by_seeds(alloc, surveyed, seeds)?;
         push_whole(alloc, &mut output, is_json, surveyed, unkept, false)?;
         let status = status.worse(status_of_seeds(unkept));
-        return Ok(Answer::printed(alloc, output, status));
+        return Ok(CommandAnswer::printed(alloc, output, status));
     };
     let found = every_end(alloc, surveyed, names, seeds.style, bounds, console)?;
     push_whole(alloc, &mut output, is_json, surveyed, found.unkept(), true)?;
     push_met(alloc, &mut output, is_json, &found, &outcomes)?;
-    Ok(Answer::printed(alloc, output, status.worse(found.status())))
+    Ok(CommandAnswer::printed(alloc, output, status.worse(found.status())))
 }
 
 /// What of the program as a whole is not so, by the runs of seeds.
 fn unkept_by_seeds(
     alloc: Global,
-    surveyed: Surveyed,
+    surveyed: SurveyInput,
     seeds: SurveySeeds,
 ) -> Result<Unkept, AllocError> {
-    let Surveyed {
+    let SurveyInput {
         program,
         wishes,
         ..
@@ -122,7 +122,7 @@ fn push_whole(
     alloc: Global,
     out: &mut String,
     is_json: bool,
-    surveyed: Surveyed,
+    surveyed: SurveyInput,
     unkept: Unkept,
     is_of_every: bool,
 ) -> Result<(), AllocError> {
@@ -139,7 +139,7 @@ fn push_outcomes(
     alloc: Global,
     out: &mut String,
     wishes: &Wishes,
-    outcomes: &[Outcome],
+    outcomes: &[SeedOutcome],
 ) -> Result<(), AllocError> {
     let mut columns = EndColumns::named("runs", "first by");
     for outcome in outcomes {
@@ -156,13 +156,13 @@ fn push_outcomes(
 }
 
 /// The seed that came to an outcome first, in words.
-fn seed_words(alloc: Global, outcome: &Outcome) -> Result<String, AllocError> {
+fn seed_words(alloc: Global, outcome: &SeedOutcome) -> Result<String, AllocError> {
     let seed = outcome.seed;
     format!(in alloc; "seed {seed}")
 }
 
 /// The cells of an outcome that a seed came to first.
-fn cells_of<'a>(outcome: &Outcome, seed: &'a str) -> EndCells<'a> {
+fn cells_of<'a>(outcome: &SeedOutcome, seed: &'a str) -> EndCells<'a> {
     EndCells {
         count: outcome.runs,
         kind: outcome.kind.name(),
@@ -173,7 +173,7 @@ fn cells_of<'a>(outcome: &Outcome, seed: &'a str) -> EndCells<'a> {
 /// The ends of every schedule of a program.
 fn every_end<C: Clock, E: Write>(
     alloc: Global,
-    surveyed: Surveyed,
+    surveyed: SurveyInput,
     names: &ProgramNames<'_>,
     style: NumberStyle,
     bounds: Bounds,
@@ -200,7 +200,7 @@ fn push_met(
     out: &mut String,
     is_json: bool,
     found: &Explored,
-    outcomes: &[Outcome],
+    outcomes: &[SeedOutcome],
 ) -> Result<(), AllocError> {
     let ends = found.ends.iter().filter(|end| is_end(end)).count();
     let met = found
@@ -233,7 +233,7 @@ fn is_end(end: &SpaceEnd) -> bool {
 }
 
 /// Whether an outcome is an end of all schedules.
-fn is_met_by(end: &SpaceEnd, outcome: &Outcome) -> bool {
+fn is_met_by(end: &SpaceEnd, outcome: &SeedOutcome) -> bool {
     let is_kind = end.kind == SpaceEndKind::End(outcome.kind);
     is_kind && end.missed == outcome.missed && end.text == outcome.text
 }
@@ -244,7 +244,7 @@ fn push_outcome(
     out: &mut String,
     columns: EndColumns,
     wishes: &Wishes,
-    outcome: &Outcome,
+    outcome: &SeedOutcome,
 ) -> Result<(), AllocError> {
     let seed = seed_words(alloc, outcome)?;
     columns.push_cells(out, cells_of(outcome, &seed))?;
@@ -255,7 +255,11 @@ fn push_outcome(
 }
 
 /// Adds that an outcome is not as expected, and the first line that it misses, or that is broken on the way.
-fn push_judgement(out: &mut String, wishes: &Wishes, outcome: &Outcome) -> Result<(), AllocError> {
+fn push_judgement(
+    out: &mut String,
+    wishes: &Wishes,
+    outcome: &SeedOutcome,
+) -> Result<(), AllocError> {
     let is_judged = !wishes.ends.is_empty() || !wishes.claims.is_empty();
     if !is_judged || outcome.is_as_expected() {
         return Ok(());

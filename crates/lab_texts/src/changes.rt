@@ -1,7 +1,7 @@
 //! What a step changed, in words.
 
 use crate::names::ProgramNames;
-use crate::words::{NumberStyle, push_content, push_stream, push_value};
+use crate::values::{NumberStyle, push_content, push_stream, push_value};
 use processor::Step;
 use std::alloc::AllocError;
 use step_views::{Change, Content, Place, StepView, StreamPart};

@@ -2,7 +2,7 @@
 
 use crate::changes::push_part;
 use crate::names::ProgramNames;
-use crate::words::{NumberStyle, push_content, push_stream, push_tags, push_value};
+use crate::values::{NumberStyle, push_content, push_stream, push_tags, push_value};
 use machine::Machine;
 use std::alloc::AllocError;
 use step_views::{Change, Place};

@@ -1,8 +1,8 @@
 //! How a run ended.
 
 use crate::names::ProgramNames;
+use crate::values::{push_stream, push_streams, push_trap};
 use crate::waits::{turned_word, wanted_word};
-use crate::words::{push_stream, push_streams, push_trap};
 use end_kinds::{EndKind, end_kind_of};
 use machine::Machine;
 use processor::Step;

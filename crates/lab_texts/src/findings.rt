@@ -1,7 +1,7 @@
 //! Findings of a run in words.
 
 use crate::names::ProgramNames;
-use crate::words::{NumberStyle, push_stream, push_value};
+use crate::values::{NumberStyle, push_stream, push_value};
 use plain_text::push_plain;
 use run_findings::{Access, Action, Deed, Findings, LostUpdate, TornRead, UnreadStore, torn_reads};
 use std::alloc::{AllocError, Global};
@@ -116,16 +116,16 @@ fn torn_reads_among(
     }
     let mut torn = torn_reads(alloc, &kept)?;
     for read in torn.iter_mut() {
-        read.stale_read = step_at(counted, read.stale_read);
-        read.fresh_read = step_at(counted, read.fresh_read);
-        read.stale_write = step_at(counted, read.stale_write);
-        read.fresh_write = step_at(counted, read.fresh_write);
+        read.stale_read = place_in_run(counted, read.stale_read);
+        read.fresh_read = place_in_run(counted, read.fresh_read);
+        read.stale_write = place_in_run(counted, read.stale_write);
+        read.fresh_write = place_in_run(counted, read.fresh_write);
     }
     Ok(torn)
 }
 
 /// The step at a place of those that count.
-fn step_at(counted: &[usize], place: usize) -> usize {
+fn place_in_run(counted: &[usize], place: usize) -> usize {
     counted.get(place).copied().unwrap_or(place)
 }
 

@@ -9,8 +9,8 @@ mod ends;
 mod findings;
 mod names;
 mod step_lines;
+mod values;
 mod waits;
-mod words;
 
 pub use changes::{push_changes, push_part_of, push_stream_part};
 pub use differences::{push_changed_words, push_differences, push_differing_words};
@@ -21,5 +21,5 @@ pub use step_lines::{
     Columns, push_lane_head, push_lane_text, push_step_head, push_step_line, push_step_number,
     push_step_text,
 };
+pub use values::{NumberStyle, push_stream, push_trap, push_value, push_word};
 pub use waits::{full_word, turned_word, wanted_word};
-pub use words::{NumberStyle, push_stream, push_trap, push_value, push_word};

@@ -161,8 +161,8 @@ impl<'t> ProgramNames<'t> {
 
 /// The line that made a data word; None where there is none.
 fn line_of<'l, 't>(lines: &'l [DataLine<'t>], word: usize) -> Option<&'l DataLine<'t>> {
-    let behind = lines.partition_point(|line| line.first <= word);
-    let line = lines.get(behind.checked_sub(1)?)?;
+    let after = lines.partition_point(|line| line.first <= word);
+    let line = lines.get(after.checked_sub(1)?)?;
     let place = word.checked_sub(line.first)?;
     if place < line.count { Some(line) } else { None }
 }

@@ -2,8 +2,8 @@
 
 use crate::changes::push_changes;
 use crate::names::ProgramNames;
+use crate::values::{NumberStyle, push_stream, push_trap, push_word, trap_words};
 use crate::waits::wanted_word;
-use crate::words::{NumberStyle, push_stream, push_trap, push_word, trap_words};
 use machine::Machine;
 use plain_text::push_plain;
 use processor::Step;

@@ -2,9 +2,9 @@
 
 use crate::run_status::status_of_run;
 use command_parts::{
-    Answer, Inputs, LabFault, Program, Status, loaded, push_object, read_program, steps_of,
-    style_of,
+    CommandAnswer, Inputs, LabFault, Program, Status, push_object, read_program, steps_of, style_of,
 };
+use image_machines::{by_room, loaded};
 use lab_ends::push_findings_of_run;
 use lab_json::{difference_value, end_value, parting_value};
 use lab_requests::{RunChoice, Shown};
@@ -27,16 +27,15 @@ pub fn compare<F: Files, R: Read>(
     one: RunChoice,
     other: RunChoice,
     shown: Shown,
-) -> Result<Answer, LabFault> {
+) -> Result<CommandAnswer, LabFault> {
     let program = read_program(alloc, inputs, path)?;
     let first = steps_of(alloc, inputs, &program, one)?;
     let second = steps_of(alloc, inputs, &program, other)?;
-    let (output, status) = if program.image.slim() <= 8 {
-        compare_on::<8>(alloc, &program, &first, &second, shown)?
-    } else {
-        compare_on::<128>(alloc, &program, &first, &second, shown)?
-    };
-    Ok(Answer::printed(alloc, output, status))
+    let (output, status) = by_room!(
+        program.image,
+        compare_on(alloc, &program, &first, &second, shown)
+    )?;
+    Ok(CommandAnswer::printed(alloc, output, status))
 }
 
 /// The comparison on machines with room for `S` streams a processor.

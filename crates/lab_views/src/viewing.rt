@@ -3,10 +3,10 @@
 use crate::folding::StepLines;
 use crate::run_status::status_of_run;
 use command_parts::{
-    Answer, Inputs, LabFault, Program, Status, loaded, push_object, read_program, steps_of,
-    style_of,
+    CommandAnswer, Inputs, LabFault, Program, Status, push_object, read_program, steps_of, style_of,
 };
 use image_file::Image;
+use image_machines::{by_room, loaded};
 use lab_ends::RunFindings;
 use lab_json::{RunTitle, end_value, head_value, step_value};
 use lab_requests::{RunChoice, ViewRequest};
@@ -36,7 +36,7 @@ pub fn view<F: Files, R: Read>(
     alloc: Global,
     inputs: &mut Inputs<'_, F, R>,
     request: &ViewRequest,
-) -> Result<Answer, LabFault> {
+) -> Result<CommandAnswer, LabFault> {
     let stream = match request.only {
         Some(name) => Some(stream_named(alloc, name)?),
         None => None,
@@ -50,12 +50,11 @@ pub fn view<F: Files, R: Read>(
     };
     let only = Only { stream, word };
     let steps = steps_of(alloc, inputs, &program, request.run)?;
-    let (output, status) = if program.image.slim() <= 8 {
-        view_on::<8>(alloc, &program, &steps, request, only)?
-    } else {
-        view_on::<128>(alloc, &program, &steps, request, only)?
-    };
-    Ok(Answer::printed(alloc, output, status))
+    let (output, status) = by_room!(
+        program.image,
+        view_on(alloc, &program, &steps, request, only)
+    )?;
+    Ok(CommandAnswer::printed(alloc, output, status))
 }
 
 /// The stream that a name such as `2.0` names.

@@ -2,7 +2,7 @@
 
 use crate::painting::Painting;
 use coloured_lines::coloured;
-use command_parts::{Answer, Inputs, LabFault, Status, write_out, written};
+use command_parts::{CommandAnswer, Inputs, LabFault, Status, write_out, written};
 use lab_adapter::adapt;
 use lab_checks::{assemble_file, check, explain, lay_out, make_schedule, show_word, start_program};
 use lab_command_line::read_lab_command;
@@ -170,7 +170,7 @@ fn answer_to<X: Threads + Sync + Clock, F: Files, R: Read, E: Write>(
     inputs: &mut Inputs<'_, F, R>,
     errors: &mut E,
     terminals: Terminals,
-) -> Result<Answer, LabFault> {
+) -> Result<CommandAnswer, LabFault> {
     let mut console = Console {
         clock: rt,
         errors,
@@ -209,12 +209,12 @@ fn answer_to<X: Threads + Sync + Clock, F: Files, R: Read, E: Write>(
 
 /// Writes an answer, and gives its status; or its fault, where a part of it was not done.
 fn tell<W: Write, E: Write>(
-    answer: Answer,
+    answer: CommandAnswer,
     output: &mut W,
     errors: &mut E,
     painting: Painting,
 ) -> Result<Status, LabFault> {
-    let Answer {
+    let CommandAnswer {
         output: text,
         errors: words,
         status,

@@ -1,7 +1,7 @@
 //! A page that shows a run, or two of one program: the runs as JSON, and the page of them (docs/PAGE.md).
 #![tactic(auto)]
 
-mod end_words;
+mod end_texts;
 mod lanes;
 mod marks;
 mod pages;

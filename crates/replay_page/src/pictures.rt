@@ -1,6 +1,6 @@
 //! A picture of a run: a lane a stream and a lane a word over time, as SVG. Colours and shapes are those of the page.
 
-use crate::end_words::{end_words, push_caption};
+use crate::end_texts::{end_texts, push_caption};
 use crate::lanes::Lanes;
 use crate::marks::{STYLE, push_legend};
 use crate::pages::push_escaped;
@@ -27,7 +27,7 @@ pub fn picture_of<const S: usize>(
     let run = WholeRun::of(alloc, start, schedule)?;
     let found = FindingsOfRun::of(alloc, &run.actions)?;
     let lanes = Lanes::of(alloc, &run, before)?;
-    let ended = end_words(alloc, &places, &run, &found)?;
+    let ended = end_texts(alloc, &places, &run, &found)?;
     let mut out = String::new(alloc);
     push_frame(&mut out, &lanes)?;
     push_title(&mut out, names, &ended)?;

@@ -1,6 +1,6 @@
 //! What the runs of outcomes have done that is likely wrong.
 
-use crate::outcomes::Outcome;
+use crate::outcomes::SeedOutcome;
 use crate::surveys::Surveyed;
 use image_machines::loaded;
 use lab_ends::first_finding;
@@ -14,7 +14,7 @@ pub(crate) fn add_findings<X: Threads + Sync, const S: usize>(
     rt: &X,
     alloc: Global,
     surveyed: &Surveyed<'_, '_>,
-    outcomes: &mut [Outcome],
+    outcomes: &mut [SeedOutcome],
 ) -> Result<(), AllocError> {
     let known = &*outcomes;
     let found = (0..known.len())

@@ -6,6 +6,6 @@ mod outcomes;
 mod surveys;
 mod unshown_claims;
 
-pub use outcomes::{Outcome, worst_status};
+pub use outcomes::{SeedOutcome, worst_status};
 pub use surveys::{SurveySeeds, outcomes_of};
 pub use unshown_claims::unshown_by_seeds;

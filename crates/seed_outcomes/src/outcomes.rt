@@ -6,7 +6,7 @@ use std::alloc::AllocError;
 /// Ends that agree in their kind, in the words that changed, in who waits or was stopped, in what is not as expected, and in
 /// what is broken on the way.
 #[derive(Drop)]
-pub struct Outcome {
+pub struct SeedOutcome {
     /// The kind.
     pub kind: EndKind,
     /// Who was stopped, who waits, and the words that changed.
@@ -27,7 +27,7 @@ pub struct Outcome {
     pub finding: String,
 }
 
-impl Outcome {
+impl SeedOutcome {
     /// Whether all expectations are met, no claim is broken, and nobody was stopped of whom that is not expected.
     pub fn is_as_expected(&self) -> bool {
         !self.is_wrong() && !self.is_trapped
@@ -44,14 +44,14 @@ impl Outcome {
     }
 
     /// Whether another one is told alike.
-    fn is_same(&self, other: &Outcome) -> bool {
+    fn is_same(&self, other: &SeedOutcome) -> bool {
         let is_judged_alike = self.missed == other.missed && self.broken == other.broken;
         self.kind == other.kind && is_judged_alike && self.text == other.text
     }
 }
 
 /// The exit status of outcomes: the worst over all of them.
-pub fn worst_status(outcomes: &[Outcome]) -> Status {
+pub fn worst_status(outcomes: &[SeedOutcome]) -> Status {
     let mut status = Status::Done;
     for outcome in outcomes {
         status = status.worse(outcome.status());
@@ -60,7 +60,10 @@ pub fn worst_status(outcomes: &[Outcome]) -> Status {
 }
 
 /// Adds an outcome to those that are known.
-pub(crate) fn add_outcome(outcomes: &mut Vec<Outcome>, outcome: Outcome) -> Result<(), AllocError> {
+pub(crate) fn add_outcome(
+    outcomes: &mut Vec<SeedOutcome>,
+    outcome: SeedOutcome,
+) -> Result<(), AllocError> {
     match outcomes.iter_mut().find(|known| known.is_same(&outcome)) {
         Some(known) => known.runs = known.runs.saturating_add(outcome.runs),
         None => outcomes.push(outcome)?,

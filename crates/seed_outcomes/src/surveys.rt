@@ -1,13 +1,13 @@
 //! The outcomes of seeds.
 
 use crate::findings::add_findings;
-use crate::outcomes::{Outcome, add_outcome};
+use crate::outcomes::{SeedOutcome, add_outcome};
 use claims::Claim;
 use end_kinds::end_kind_of;
 use expectations::first_missed;
 use image_file::Image;
 use image_machines::{by_room, loaded};
-use lab_ends::{Wishes, end_words_of, is_expected_trap};
+use lab_ends::{Wishes, end_text_of, is_expected_trap};
 use lab_texts::{NumberStyle, ProgramNames};
 use machine::LoadFault;
 use processor::Step;
@@ -59,7 +59,7 @@ pub fn outcomes_of<X: Threads + Sync>(
     names: &ProgramNames<'_>,
     wishes: &Wishes,
     seeds: SurveySeeds,
-) -> Result<Vec<Outcome>, AllocError> {
+) -> Result<Vec<SeedOutcome>, AllocError> {
     by_room!(
         image,
         outcomes_on::<X>(rt, alloc, image, names, wishes, seeds)
@@ -74,7 +74,7 @@ fn outcomes_on<'a, 't, X: Threads + Sync, const S: usize>(
     names: &'a ProgramNames<'t>,
     wishes: &'a Wishes,
     seeds: SurveySeeds,
-) -> Result<Vec<Outcome>, AllocError> {
+) -> Result<Vec<SeedOutcome>, AllocError> {
     let fair_steps = fair_length(alloc, &loaded::<S>(alloc, image)?)?;
     let surveyed = Surveyed {
         image,
@@ -101,14 +101,14 @@ fn add_some<X: Threads + Sync, const S: usize>(
     surveyed: &Surveyed<'_, '_>,
     first: u64,
     count: usize,
-    outcomes: &mut Vec<Outcome>,
+    outcomes: &mut Vec<SeedOutcome>,
 ) -> Result<(), AllocError> {
     let ends = match survey::<X, S>(rt, alloc, surveyed.image, first, count, surveyed.most) {
         Ok(ends) => ends,
         Err(LoadFault::NoMemory | LoadFault::Streams) => return Err(AllocError),
     };
     let groups = groups_of(alloc, &ends, surveyed.wishes)?;
-    for outcome in told::<X, S>(rt, alloc, surveyed, &ends, &groups)? {
+    for outcome in outcomes_of_groups::<X, S>(rt, alloc, surveyed, &ends, &groups)? {
         add_outcome(outcomes, outcome)?;
     }
     Ok(())
@@ -131,22 +131,22 @@ fn groups_of(
 }
 
 /// The outcomes of groups of ends, over all cores.
-fn told<X: Threads + Sync, const S: usize>(
+fn outcomes_of_groups<X: Threads + Sync, const S: usize>(
     rt: &X,
     alloc: Global,
     surveyed: &Surveyed<'_, '_>,
     ends: &[SeedEnd],
     groups: &[EndGroup],
-) -> Result<Vec<Outcome>, AllocError> {
+) -> Result<Vec<SeedOutcome>, AllocError> {
     let told = (0..groups.len())
         .into_par_iter()
-        .map(|place: usize| -> Result<Outcome, AllocError> {
+        .map(|place: usize| -> Result<SeedOutcome, AllocError> {
             let group = groups.get(place).ok_or(AllocError)?;
             let end = ends.get(group.first).ok_or(AllocError)?;
             outcome_of::<S>(alloc, surveyed, end.seed, group.runs)
         })
         .with_min_len(1)
-        .collect::<Result<Vec<Outcome>, AllocError>>(rt, alloc);
+        .collect::<Result<Vec<SeedOutcome>, AllocError>>(rt, alloc);
     match told {
         Ok(Ok(told)) => Ok(told),
         Ok(Err(_)) | Err(_) => Err(AllocError),
@@ -159,7 +159,7 @@ fn outcome_of<const S: usize>(
     surveyed: &Surveyed<'_, '_>,
     seed: u64,
     runs: usize,
-) -> Result<Outcome, AllocError> {
+) -> Result<SeedOutcome, AllocError> {
     let mut machine = loaded::<S>(alloc, surveyed.image)?;
     let made = seeded(
         alloc,
@@ -168,12 +168,12 @@ fn outcome_of<const S: usize>(
         surveyed.fair_steps,
         surveyed.most,
     )?;
-    let words = end_words_of(alloc, &machine, surveyed.names, surveyed.style)?;
+    let words = end_text_of(alloc, &machine, surveyed.names, surveyed.style)?;
     let is_trapped = words
         .stopped
         .iter()
         .any(|stream| !is_expected_trap(&surveyed.wishes.ends, stream));
-    Ok(Outcome {
+    Ok(SeedOutcome {
         kind: end_kind_of(&machine),
         text: words.text,
         missed: first_missed(&machine, &surveyed.wishes.ends),

@@ -6,7 +6,7 @@ use stream_core::{Outcome, Status};
 
 /// What is looked for.
 #[derive(Clone, Copy)]
-pub(crate) struct Wanted {
+pub(crate) struct StopConditions {
     /// Steps that trap.
     pub traps: bool,
     /// Steps that are blocked.
@@ -19,17 +19,17 @@ pub(crate) struct Wanted {
 
 /// What was found.
 #[derive(Clone, Copy, PartialEq, Eq)]
-pub(crate) enum Found {
+pub(crate) enum Match {
     /// A step that trapped, or was blocked.
     Exception,
     /// The end of the stream, or the place, that was looked for.
     Goal,
 }
 
-impl Wanted {
+impl StopConditions {
     /// Nothing.
-    pub(crate) fn nothing() -> Wanted {
-        Wanted {
+    pub(crate) fn nothing() -> StopConditions {
+        StopConditions {
             traps: false,
             blocked: false,
             end_of: None,
@@ -43,21 +43,21 @@ impl Wanted {
     }
 
     /// What a step is of this, given the machine behind it.
-    fn find(&self, machine: &Machine<'_, 128>, step: Step, outcome: Outcome) -> Option<Found> {
+    fn find(&self, machine: &Machine<'_, 128>, step: Step, outcome: Outcome) -> Option<Match> {
         let is_exception = match outcome {
             Outcome::Trapped(_) | Outcome::Stopped(_) => self.traps,
             Outcome::Blocked => self.blocked,
             Outcome::Done | Outcome::Skipped => false,
         };
         if is_exception {
-            return Some(Found::Exception);
+            return Some(Match::Exception);
         }
         if self.end_of == Some(step) && !runs(machine, step) {
-            return Some(Found::Goal);
+            return Some(Match::Goal);
         }
         let (stream, word) = self.place?;
         if stands_at(machine, stream, word) {
-            Some(Found::Goal)
+            Some(Match::Goal)
         } else {
             None
         }
@@ -80,35 +80,35 @@ fn stands_at(machine: &Machine<'_, 128>, stream: Step, word: u32) -> bool {
     }
 }
 
-/// Takes steps on a machine up to the first that is wanted: how many those are, and what was found.
+/// Takes steps on a machine up to the first that meets the conditions: how many those are, and what was found.
 pub(crate) fn first_found(
     machine: &mut Machine<'_, 128>,
     steps: &[Step],
-    wanted: &Wanted,
-) -> Option<(usize, Found)> {
+    conditions: &StopConditions,
+) -> Option<(usize, Match)> {
     let mut count: usize = 0;
     for step in steps {
         let outcome = machine.step(step.p, step.s);
         count = count.saturating_add(1);
-        if let Some(found) = wanted.find(machine, *step, outcome) {
+        if let Some(found) = conditions.find(machine, *step, outcome) {
             return Some((count, found));
         }
     }
     None
 }
 
-/// Takes all of the steps on a machine: how many lead up to and with the last that is wanted, and what was found.
+/// Takes all of the steps on a machine: how many lead up to and with the last that meets the conditions, and what was found.
 pub(crate) fn last_found(
     machine: &mut Machine<'_, 128>,
     steps: &[Step],
-    wanted: &Wanted,
-) -> Option<(usize, Found)> {
+    conditions: &StopConditions,
+) -> Option<(usize, Match)> {
     let mut count: usize = 0;
     let mut last = None;
     for step in steps {
         let outcome = machine.step(step.p, step.s);
         count = count.saturating_add(1);
-        if let Some(found) = wanted.find(machine, *step, outcome) {
+        if let Some(found) = conditions.find(machine, *step, outcome) {
             last = Some((count, found));
         }
     }

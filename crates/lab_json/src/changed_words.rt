@@ -20,14 +20,14 @@ pub(crate) fn put_words<const S: usize>(
         if let Some(word) = machine.word(address)
             && word != *cell
         {
-            words.push(change_of_word(alloc, address, *cell, word)?)?;
+            words.push(changed_word(alloc, address, *cell, word)?)?;
         }
     }
     serde_json::put(fields, alloc, "words", Value::Array(words))
 }
 
 /// The address of a word, what it was, and what it is.
-fn change_of_word(
+fn changed_word(
     alloc: Global,
     address: u64,
     before: Word,

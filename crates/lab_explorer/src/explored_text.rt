@@ -6,7 +6,7 @@ use crate::expected_lines::ExpectedLines;
 use crate::explored_objects::push_objects;
 use crate::exploring::Explored;
 use crate::unkept::{push_unkept, push_unkept_objects};
-use command_parts::Answer;
+use command_parts::CommandAnswer;
 use end_kinds::EndKind;
 use expectations::Expectation;
 use image_file::Image;
@@ -26,7 +26,7 @@ pub(crate) fn answer_of(
     lines: ExpectedLines,
     wishes: &Wishes,
     found: &Explored,
-) -> Result<Answer, AllocError> {
+) -> Result<CommandAnswer, AllocError> {
     let mut output = String::new(alloc);
     if is_json {
         push_objects(alloc, &mut output, image, lines, found)?;
@@ -34,7 +34,7 @@ pub(crate) fn answer_of(
     } else {
         push_lines(alloc, &mut output, lines, wishes, found)?;
     }
-    Ok(Answer::printed(alloc, output, found.status()))
+    Ok(CommandAnswer::printed(alloc, output, found.status()))
 }
 
 /// Adds how much was found, what is not so of the program as a whole, and the lines of the ends.
@@ -136,7 +136,7 @@ fn push_end_line(
     push_missed(out, expected, end)?;
     end_line(out)?;
     columns.push_note(out, &end.finding)?;
-    columns.push_note(out, &end.round_words)?;
+    columns.push_note(out, &end.cycle_words)?;
     columns.push_note(out, &broken_words(alloc, end)?)
 }
 

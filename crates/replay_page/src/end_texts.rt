@@ -11,7 +11,7 @@ use std::alloc::{AllocError, Global};
 const LETTER: usize = 7;
 
 /// How a run ended, and the first of its findings.
-pub(crate) fn end_words(
+pub(crate) fn end_texts(
     alloc: Global,
     places: &ProgramNames,
     run: &WholeRun,

@@ -4,8 +4,8 @@ use crate::second_thread::{has_begun, has_second_thread, no_thread};
 use command_parts::{Inputs, LabFault, Program, Status, is_image, program_of, steps_of, write_out};
 use crossbeam_channel::{Receiver, Sender};
 use debug_adapter::{
-    Adapter, Client, Connection, Frame, Frames, Json, LaunchRequest, Origin, Request,
-    ScheduleChoice, Turn, greet, launch_of, read_request,
+    Adapter, Client, Connection, DapCommand, DapRequest, Flow, Frame, Frames, Json, LaunchRequest,
+    Origin, ScheduleChoice, greet, launch_of, read_request,
 };
 use lab_debugger::named_of;
 use lab_requests::{Maker, RunChoice};
@@ -122,7 +122,7 @@ fn pass_on<X: Wait>(
 fn asks_for_end(alloc: Global, frame: &Frame) -> bool {
     match frame {
         Frame::Message(bytes) => match read_request(alloc, bytes) {
-            Ok(request) => request.command.as_str() == "disconnect",
+            Ok(request) => request.kind == Some(DapCommand::Disconnect),
             Err(_) => true,
         },
         Frame::TooLong | Frame::NoMessage => false,
@@ -137,33 +137,33 @@ fn serve_all<X: Wait, F: Files, W: Write>(
     receiver: Receiver<Frame, Global>,
     output: &mut W,
 ) -> Result<Status, LabFault> {
-    let mut line = Line {
+    let mut transport = Transport {
         receiver,
         connection: Connection::new(alloc),
         output,
     };
-    serve(rt, alloc, files, &mut line)
+    serve(rt, alloc, files, &mut transport)
 }
 
-/// The same on a line.
+/// The same over a transport.
 fn serve<X: Wait, F: Files, W: Write>(
     rt: &X,
     alloc: Global,
     files: &F,
-    line: &mut Line<'_, W>,
+    transport: &mut Transport<'_, W>,
 ) -> Result<Status, LabFault> {
     let mut client = Client::usual();
     for _ in rt.forever() {
-        let Some(request) = line.next(rt, alloc)? else {
+        let Some(request) = transport.next(rt, alloc)? else {
             return Ok(Status::Done);
         };
-        let turn = if request.command.as_str() == "launch" {
-            launch_by(rt, alloc, files, &request, client, line)?
+        let flow = if request.kind == Some(DapCommand::Launch) {
+            launch_by(rt, alloc, files, &request, client, transport)?
         } else {
-            greet(alloc, &mut line.connection, &mut client, &request)?
+            greet(alloc, &mut transport.connection, &mut client, &request)?
         };
-        if turn == Turn::End {
-            line.flush()?;
+        if flow == Flow::End {
+            transport.flush()?;
             return Ok(Status::Done);
         }
     }
@@ -175,26 +175,29 @@ fn launch_by<X: Wait, F: Files, W: Write>(
     rt: &X,
     alloc: Global,
     files: &F,
-    request: &Request,
+    request: &DapRequest,
     client: Client,
-    line: &mut Line<'_, W>,
-) -> Result<Turn, LabFault> {
+    transport: &mut Transport<'_, W>,
+) -> Result<Flow, LabFault> {
     let launch = match launch_of(request) {
         Ok(launch) => launch,
         Err(words) => {
-            line.connection.refuse(alloc, request.seq, "launch", words)?;
-            return Ok(Turn::On);
+            transport
+                .connection
+                .refuse(alloc, request.seq, "launch", words)?;
+            return Ok(Flow::On);
         }
     };
     match load(alloc, files, &launch) {
         Ok(loaded) => {
-            launch_on(rt, alloc, &loaded, &launch, client, line)?;
-            Ok(Turn::End)
+            launch_on(rt, alloc, &loaded, &launch, client, transport)?;
+            Ok(Flow::End)
         }
         Err(LabFault::Words(words) | LabFault::Lines(words)) => {
-            line.connection
+            transport
+                .connection
                 .refuse(alloc, launch.seq, "launch", words.trim())?;
-            Ok(Turn::On)
+            Ok(Flow::On)
         }
         Err(fault) => Err(fault),
     }
@@ -207,15 +210,15 @@ fn launch_on<X: Wait, W: Write>(
     loaded: &Loaded,
     launch: &LaunchRequest<'_>,
     client: Client,
-    line: &mut Line<'_, W>,
+    transport: &mut Transport<'_, W>,
 ) -> Result<(), LabFault> {
     let names = ProgramNames::of(alloc, &loaded.program.text)?;
     let steps = Vec::from_slice(alloc, &loaded.steps)?;
     let named = named_of::<128>(alloc, &loaded.program, steps)?;
     let origin = origin_of(loaded, launch, client);
     let mut adapter = Adapter::new(alloc, named, &names, origin);
-    say_launched(alloc, &mut line.connection, launch.seq)?;
-    answer_all(rt, alloc, &mut adapter, line)
+    say_launched(alloc, &mut transport.connection, launch.seq)?;
+    answer_all(rt, alloc, &mut adapter, transport)
 }
 
 /// Where a launched program came from, and how its session begins.
@@ -244,24 +247,24 @@ fn answer_all<X: Wait, W: Write>(
     rt: &X,
     alloc: Global,
     adapter: &mut Adapter<'_, '_, '_>,
-    line: &mut Line<'_, W>,
+    transport: &mut Transport<'_, W>,
 ) -> Result<(), LabFault> {
     for _ in rt.forever() {
         let request = if adapter.is_under_way() {
-            line.next_there(rt, alloc)?
+            transport.next_there(rt, alloc)?
         } else {
-            match line.next(rt, alloc)? {
+            match transport.next(rt, alloc)? {
                 Some(request) => Some(request),
                 None => return Ok(()),
             }
         };
         match request {
             Some(request) => {
-                if adapter.handle(&mut line.connection, &request)? == Turn::End {
-                    return line.flush();
+                if adapter.handle(&mut transport.connection, &request)? == Flow::End {
+                    return transport.flush();
                 }
             }
-            None => adapter.go_on(&mut line.connection)?,
+            None => adapter.go_on(&mut transport.connection)?,
         }
     }
     unreachable!()
@@ -327,13 +330,13 @@ fn run_asked<'r>(launch: &LaunchRequest<'r>) -> RunChoice<'r> {
 
 /// Where messages come from, and where they go.
 #[derive(Drop)]
-struct Line<'a, W> {
+struct Transport<'a, W> {
     receiver: Receiver<Frame, Global>,
     connection: Connection,
     output: &'a mut W,
 }
 
-impl<W: Write> Line<'_, W> {
+impl<W: Write> Transport<'_, W> {
     /// Writes what is to be sent.
     fn flush(&mut self) -> Result<(), LabFault> {
         let wrote = write_out(self.output, self.connection.outbox.out.as_bytes());
@@ -343,7 +346,7 @@ impl<W: Write> Line<'_, W> {
 
     /// Writes what is to be sent, and waits for the next request; None at the end of the input. What is no request is
     /// one of an empty command.
-    fn next<X: Wait>(&mut self, rt: &X, alloc: Global) -> Result<Option<Request>, LabFault> {
+    fn next<X: Wait>(&mut self, rt: &X, alloc: Global) -> Result<Option<DapRequest>, LabFault> {
         self.flush()?;
         match self.receiver.recv(rt) {
             Ok(frame) => Ok(Some(request_of(alloc, &frame)?)),
@@ -352,7 +355,11 @@ impl<W: Write> Line<'_, W> {
     }
 
     /// The same where one has come already, and else None.
-    fn next_there<X: Wait>(&mut self, rt: &X, alloc: Global) -> Result<Option<Request>, LabFault> {
+    fn next_there<X: Wait>(
+        &mut self,
+        rt: &X,
+        alloc: Global,
+    ) -> Result<Option<DapRequest>, LabFault> {
         self.flush()?;
         match self.receiver.try_recv(rt) {
             Ok(frame) => Ok(Some(request_of(alloc, &frame)?)),
@@ -362,7 +369,7 @@ impl<W: Write> Line<'_, W> {
 }
 
 /// The request of a frame.
-fn request_of(alloc: Global, frame: &Frame) -> Result<Request, LabFault> {
+fn request_of(alloc: Global, frame: &Frame) -> Result<DapRequest, LabFault> {
     let bytes = match frame {
         Frame::Message(bytes) => bytes.as_slice(),
         Frame::TooLong | Frame::NoMessage => b"",

@@ -90,7 +90,7 @@ fn going_of<const S: usize>(machine: &Machine<'_, S>, stream: Step) -> Going {
 
 /// What is told of a set of worlds.
 #[derive(Drop)]
-pub(crate) struct SetTold {
+pub(crate) struct SetSummary {
     /// Who runs in it and who waits in each of its worlds, the words that differ from the image in its first one, and
     /// those that change in it.
     pub text: String,
@@ -101,14 +101,14 @@ pub(crate) struct SetTold {
 }
 
 /// What is told of the set of the worlds at these places.
-pub(crate) fn set_told<const S: usize>(
+pub(crate) fn set_summary<const S: usize>(
     alloc: Global,
     names: &ProgramNames<'_>,
     style: NumberStyle,
     space: &Space<'_>,
     first: usize,
     others: &[usize],
-) -> Result<SetTold, AllocError> {
+) -> Result<SetSummary, AllocError> {
     let machine = machine_at::<S>(alloc, space, first)?;
     let mut seen = Seen::of(alloc, &machine)?;
     for place in others {
@@ -120,7 +120,7 @@ pub(crate) fn set_told<const S: usize>(
     push_streams(&mut text, names, &seen.streams)?;
     push_changed_words(&mut text, names, style, &machine)?;
     push_changing(&mut text, names, &changing)?;
-    Ok(SetTold {
+    Ok(SetSummary {
         text,
         running: running_of(alloc, &seen.streams)?,
         changing,

@@ -5,15 +5,13 @@ use crate::debug_words::{DebugWord, debug_word, push_help, push_no_word};
 use command_parts::LabFault;
 use debug_commands::{Answer, Command, DebugFault, Why};
 use lab_texts::{Columns, NumberStyle, ProgramNames, push_step_line};
-use machine::Machine;
-use named_session::{NamedSession, UserName, read_name};
+use named_session::{LastStep, NamedSession, UserName, fault_words, read_name};
 use processor::Step;
 use std::alloc::Global;
-use step_views::take_step;
 
 /// A session with the names that its answers tell.
 #[derive(Drop)]
-pub(crate) struct Desk<'a, 'i, 't, const S: usize> {
+pub(crate) struct DebugRepl<'a, 'i, 't, const S: usize> {
     pub alloc: Global,
     pub named: NamedSession<'i, 't, S>,
     pub names: &'a ProgramNames<'t>,
@@ -24,7 +22,7 @@ pub(crate) struct Desk<'a, 'i, 't, const S: usize> {
 
 /// What comes behind an answer.
 #[derive(Clone, Copy)]
-pub(crate) enum Turn<'l> {
+pub(crate) enum AfterLine<'l> {
     /// The next line.
     On,
     /// The schedule is written into the file of this path.
@@ -33,19 +31,19 @@ pub(crate) enum Turn<'l> {
     Quit,
 }
 
-impl<'a, 'i, 't, const S: usize> Desk<'a, 'i, 't, S> {
+impl<'a, 'i, 't, const S: usize> DebugRepl<'a, 'i, 't, S> {
     /// Adds the answer to a line, and says what comes behind it.
     pub(crate) fn answer<'l>(
         &mut self,
         line: &'l str,
         out: &mut String,
-    ) -> Result<Turn<'l>, LabFault> {
+    ) -> Result<AfterLine<'l>, LabFault> {
         let (first, rest) = match line.trim().split_once(' ') {
             Some((first, rest)) => (first, rest.trim()),
             None => (line.trim(), ""),
         };
         if first.is_empty() {
-            return Ok(Turn::On);
+            return Ok(AfterLine::On);
         }
         let (name, size) = match first.split_once('/') {
             Some(("x", size)) => ("x", size),
@@ -54,11 +52,11 @@ impl<'a, 'i, 't, const S: usize> Desk<'a, 'i, 't, S> {
         match debug_word(name) {
             Some(DebugWord::Examine) => self.examine(size, rest, out)?,
             None => push_no_word(out, first)?,
-            Some(DebugWord::Quit) => return Ok(Turn::Quit),
-            Some(DebugWord::Save) => return Ok(Turn::Save(rest)),
+            Some(DebugWord::Quit) => return Ok(AfterLine::Quit),
+            Some(DebugWord::Save) => return Ok(AfterLine::Save(rest)),
             Some(word) => self.answer_word(word, rest, out)?,
         }
-        Ok(Turn::On)
+        Ok(AfterLine::On)
     }
 
     /// Adds the answer to a word with what stands behind it.
@@ -138,7 +136,7 @@ impl<'a, 'i, 't, const S: usize> Desk<'a, 'i, 't, S> {
 
     /// From the start on to the first stop.
     fn run(&mut self, out: &mut String) -> Result<(), LabFault> {
-        match self.to(0) {
+        match self.named.go_to(0) {
             Ok(_) => self.go(&Command::Continue, out),
             Err(fault) => refuse(fault, out),
         }
@@ -168,12 +166,14 @@ impl<'a, 'i, 't, const S: usize> Desk<'a, 'i, 't, S> {
 
     /// Adds the line of the step that led to the session's position, where there is one: it is taken once more.
     fn push_last_step(&mut self, out: &mut String) -> Result<(), LabFault> {
-        let Some(step) = self.named.session.last_step() else {
+        let last = match self.named.last_view(self.alloc) {
+            Ok(last) => last,
+            Err(_) => return Err(LabFault::NoMemory),
+        };
+        let Some(LastStep { view, machine }) = last else {
             return Ok(());
         };
         let position = self.named.session.position();
-        let mut machine = self.machine_at(position.saturating_sub(1), position)?;
-        let view = take_step(self.alloc, &mut machine, step)?;
         let style = NumberStyle::Decimal;
         let number = position as usize;
         Ok(push_step_line(
@@ -185,26 +185,6 @@ impl<'a, 'i, 't, const S: usize> Desk<'a, 'i, 't, S> {
             &view,
             &machine,
         )?)
-    }
-
-    /// The machine at a position, of a session that stands at another and is to stand there again.
-    pub(crate) fn machine_at(
-        &mut self,
-        asked: u64,
-        position: u64,
-    ) -> Result<Machine<'i, S>, LabFault> {
-        let went = self.to(asked).is_ok();
-        let machine = self.named.session.machine().try_clone()?;
-        if went && self.to(position).is_ok() {
-            Ok(machine)
-        } else {
-            Err(LabFault::NoMemory)
-        }
-    }
-
-    /// Goes to a position.
-    fn to(&mut self, position: u64) -> Result<Answer, DebugFault> {
-        self.named.session.command(&Command::Go(position))
     }
 
     /// Adds why the session came to its position, where a point, the end or the start is the reason.
@@ -241,13 +221,8 @@ fn count_of(text: &str) -> Option<u64> {
 
 /// Adds why a command was refused.
 pub(crate) fn refuse(fault: DebugFault, out: &mut String) -> Result<(), LabFault> {
-    let words = match fault {
-        DebugFault::Syntax => "this cannot be read",
-        DebugFault::NoSuchStream => "there is no such stream",
-        DebugFault::NoSuchWord => "there is no word at this address",
-        DebugFault::NoSuchPoint => "there is no point of this number",
-        DebugFault::Past => "the schedule has no such position",
-        DebugFault::NoMemory => return Err(LabFault::NoMemory),
+    let Some(words) = fault_words(fault) else {
+        return Err(LabFault::NoMemory);
     };
     Ok(writeln!(out, "{words}")?)
 }

@@ -10,7 +10,7 @@ use waiting::{running_streams, wait_of};
 
 /// What is told of a world at which a run ended.
 #[derive(Drop)]
-pub struct EndWords {
+pub struct EndText {
     /// Who was stopped, who waits, and the words that changed.
     pub text: String,
     /// The streams that a trap stopped, in the order of processor and stream.
@@ -18,18 +18,18 @@ pub struct EndWords {
 }
 
 /// What is told of the world of a machine.
-pub fn end_words_of<const S: usize>(
+pub fn end_text_of<const S: usize>(
     alloc: Global,
     machine: &Machine<'_, S>,
     names: &ProgramNames<'_>,
     style: NumberStyle,
-) -> Result<EndWords, AllocError> {
+) -> Result<EndText, AllocError> {
     let stopped = stopped_streams(alloc, machine)?;
     let mut text = String::new(alloc);
     push_stopped(&mut text, &stopped)?;
     push_waiting(alloc, &mut text, names, machine)?;
     push_changed_words(&mut text, names, style, machine)?;
-    Ok(EndWords { text, stopped })
+    Ok(EndText { text, stopped })
 }
 
 /// Adds who was stopped by which trap.

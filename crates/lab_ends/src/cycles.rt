@@ -15,7 +15,7 @@ const MOST_TOLD: usize = 12;
 /// The steps of a shortest way round along the edges of a space from the world at a place, a machine's, back to it, or
 /// to one for which it stands: where none leads back, a step that goes on and leaves such a world. Empty where there is
 /// neither.
-pub(crate) fn round_of<const S: usize>(
+pub(crate) fn cycle_of<const S: usize>(
     alloc: Global,
     space: &Space<'_>,
     machine: &Machine<'_, S>,
@@ -56,7 +56,7 @@ fn staying_step<const S: usize>(
 }
 
 /// Adds these steps of a machine, each by its stream and the place in the program where it stands; nothing of none.
-pub(crate) fn push_round<const S: usize>(
+pub(crate) fn push_cycle<const S: usize>(
     words: &mut String,
     names: &ProgramNames<'_>,
     machine: &mut Machine<'_, S>,
