@@ -3,7 +3,7 @@
 use crate::debug_points::is_named_word;
 use crate::debug_repl::{DebugRepl, refuse};
 use command_parts::LabFault;
-use lab_texts::{NumberStyle, push_stream, push_value, turned_word};
+use lab_texts::{NumberStyle, push_stream, push_value, turned_word, wanted_word};
 use named_session::{UserName, read_name};
 use processor::Step;
 use std::alloc::AllocError;
@@ -114,10 +114,7 @@ impl<'a, 'i, 't, const S: usize> DebugRepl<'a, 'i, 't, S> {
     /// Adds what a stream waits for.
     fn push_wait(&self, step: Step, wait: Wait, out: &mut String) -> Result<(), AllocError> {
         push_stream(out, step.p, step.s)?;
-        let wanted = match wait.wanted {
-            Wanted::Full => "full",
-            Wanted::Empty => "empty",
-        };
+        let wanted = wanted_word(wait.wanted);
         out.push_str(" waits for ")?;
         self.names.push_address(out, wait.address)?;
         write!(out, " to be {wanted}")
