@@ -93,7 +93,7 @@ def long_lines():
 def answered(fields):
     """A session: what stands there first, and each line that is typed behind > and a blank, with its answer."""
     _, source, schedule, session = fields
-    typed = [line[2:] for line in unescaped(session).decode().split("\n") if line.startswith("> ")]
+    typed = [line[2:] for line in unescaped(session).decode().split("\n") if re.match("> [^ ]", line)]
     with tool.made_files(source=unescaped(source), schedule=unescaped(schedule)) as paths:
         said = of_lab.lab("debug", paths["source"], paths["schedule"], given="\n--\n".join(typed).encode())
     first, *answers = said.out.split(b"\n", 1)[0:1] + re.split(rb"(?m)^--: .*\n", said.out.split(b"\n", 1)[1])
