@@ -14,20 +14,8 @@ from build import HERE, PAGES, hash_of
 CRATES = HERE.parent / "crates"
 # the functions of the texts between what is filled in, the title and the data, and where they stand
 SECTIONS = {"head": "before the title", "middle": "between the title and the data", "tail": "behind the data"}
-# the function that adds the texts of a list
-PUSH_ALL = """
-/// Adds texts.
-fn push_all(page: &mut String, texts: &[&str]) -> Result<(), AllocError> {
-    for text in texts {
-        page.push_str(text)?;
-    }
-    Ok(())
-}
-"""
 # the longest line in the layout of rt fmt
 LINE = 100
-# the longest list on one line there
-SHORT_LIST = 60
 
 
 def texts(page):
@@ -75,24 +63,14 @@ def module(page, source, text, made):
     return name
 
 
-def listed(name, texts):
-    """The constant of a list of texts, in the layout of rt fmt: where it is long each text stands on a line of its own."""
-    short = ", ".join(texts)
-    items = short if len(short) <= SHORT_LIST else "\n" + "".join(f"    {text},\n" for text in texts)
-    return f"const {name}: [&str; {len(texts)}] = [{items}];"
-
-
 def section(kind, place, names):
-    """The function that adds the texts of a section of a page: of several texts by their list, since each call costs the
-    prover as much as a list."""
-    texts = [f"{name}::TEXT" for name in names]
+    """The function that adds the texts of a section of a page."""
+    adds = "?;\n".join(f"    page.push_str({name}::TEXT)" for name in names)
     which = f"{kind}_{place}" if kind == "pair" else place
     said = f"{SECTIONS[place]}, on a page of two runs" if kind == "pair" else SECTIONS[place]
-    list_of = f"\n/// What stands {said}.\n{listed(which.upper(), texts)}\n" if len(texts) > 1 else ""
-    adds = f"push_all(page, &{which.upper()})" if len(texts) > 1 else f"page.push_str({texts[0]})"
     return (
-        f"{list_of}\n/// Adds what stands {said}.\n"
-        + f"pub(crate) fn push_{which}(page: &mut String) -> Result<(), AllocError> {{\n    {adds}\n}}\n"
+        f"\n/// Adds what stands {said}.\n"
+        + f"pub(crate) fn push_{which}(page: &mut String) -> Result<(), AllocError> {{\n{adds}\n}}\n"
     )
 
 
@@ -112,7 +90,6 @@ def files(pages):
         + "".join(f"mod {name};\n" for name in sorted(made))
         + "\nuse std::alloc::AllocError;\n"
         + functions
-        + PUSH_ALL
     )
     return {"parts.rt": parts} | {f"parts/{name}.rt": text for name, text in made.items()}
 

@@ -40,48 +40,38 @@ pub(crate) fn push_head(page: &mut String) -> Result<(), AllocError> {
     page.push_str(template_1::TEXT)
 }
 
-/// What stands between the title and the data.
-const MIDDLE: [&str; 4] = [
-    template_2::TEXT,
-    base_style::TEXT,
-    page_style::TEXT,
-    template_3::TEXT,
-];
-
 /// Adds what stands between the title and the data.
 pub(crate) fn push_middle(page: &mut String) -> Result<(), AllocError> {
-    push_all(page, &MIDDLE)
+    page.push_str(template_2::TEXT)?;
+    page.push_str(base_style::TEXT)?;
+    page.push_str(page_style::TEXT)?;
+    page.push_str(template_3::TEXT)
 }
-
-/// What stands behind the data.
-const TAIL: [&str; 22] = [
-    template_4::TEXT,
-    elements_script::TEXT,
-    run_script::TEXT,
-    one_script::TEXT,
-    values_script::TEXT,
-    program_script::TEXT,
-    world_script::TEXT,
-    columns_script::TEXT,
-    lanes_script::TEXT,
-    picture_script::TEXT,
-    picture_words_script::TEXT,
-    telling_script::TEXT,
-    panels_script::TEXT,
-    source_script::TEXT,
-    end_script::TEXT,
-    circle_script::TEXT,
-    tables_script::TEXT,
-    chart_script::TEXT,
-    papers_script::TEXT,
-    page_script::TEXT,
-    start_script::TEXT,
-    template_5::TEXT,
-];
 
 /// Adds what stands behind the data.
 pub(crate) fn push_tail(page: &mut String) -> Result<(), AllocError> {
-    push_all(page, &TAIL)
+    page.push_str(template_4::TEXT)?;
+    page.push_str(elements_script::TEXT)?;
+    page.push_str(run_script::TEXT)?;
+    page.push_str(one_script::TEXT)?;
+    page.push_str(values_script::TEXT)?;
+    page.push_str(program_script::TEXT)?;
+    page.push_str(world_script::TEXT)?;
+    page.push_str(columns_script::TEXT)?;
+    page.push_str(lanes_script::TEXT)?;
+    page.push_str(picture_script::TEXT)?;
+    page.push_str(picture_words_script::TEXT)?;
+    page.push_str(telling_script::TEXT)?;
+    page.push_str(panels_script::TEXT)?;
+    page.push_str(source_script::TEXT)?;
+    page.push_str(end_script::TEXT)?;
+    page.push_str(circle_script::TEXT)?;
+    page.push_str(tables_script::TEXT)?;
+    page.push_str(chart_script::TEXT)?;
+    page.push_str(papers_script::TEXT)?;
+    page.push_str(page_script::TEXT)?;
+    page.push_str(start_script::TEXT)?;
+    page.push_str(template_5::TEXT)
 }
 
 /// Adds what stands before the title, on a page of two runs.
@@ -89,56 +79,38 @@ pub(crate) fn push_pair_head(page: &mut String) -> Result<(), AllocError> {
     page.push_str(template_6::TEXT)
 }
 
-/// What stands between the title and the data, on a page of two runs.
-const PAIR_MIDDLE: [&str; 5] = [
-    template_2::TEXT,
-    base_style::TEXT,
-    page_style::TEXT,
-    pair_style::TEXT,
-    template_3::TEXT,
-];
-
 /// Adds what stands between the title and the data, on a page of two runs.
 pub(crate) fn push_pair_middle(page: &mut String) -> Result<(), AllocError> {
-    push_all(page, &PAIR_MIDDLE)
+    page.push_str(template_2::TEXT)?;
+    page.push_str(base_style::TEXT)?;
+    page.push_str(page_style::TEXT)?;
+    page.push_str(pair_style::TEXT)?;
+    page.push_str(template_3::TEXT)
 }
-
-/// What stands behind the data, on a page of two runs.
-const PAIR_TAIL: [&str; 23] = [
-    template_4::TEXT,
-    elements_script::TEXT,
-    run_script::TEXT,
-    two_script::TEXT,
-    values_script::TEXT,
-    program_script::TEXT,
-    world_script::TEXT,
-    columns_script::TEXT,
-    lanes_script::TEXT,
-    picture_script::TEXT,
-    picture_words_script::TEXT,
-    telling_script::TEXT,
-    panels_script::TEXT,
-    source_script::TEXT,
-    end_script::TEXT,
-    circle_script::TEXT,
-    tables_script::TEXT,
-    chart_script::TEXT,
-    papers_script::TEXT,
-    page_script::TEXT,
-    both_script::TEXT,
-    two_start_script::TEXT,
-    template_5::TEXT,
-];
 
 /// Adds what stands behind the data, on a page of two runs.
 pub(crate) fn push_pair_tail(page: &mut String) -> Result<(), AllocError> {
-    push_all(page, &PAIR_TAIL)
-}
-
-/// Adds texts.
-fn push_all(page: &mut String, texts: &[&str]) -> Result<(), AllocError> {
-    for text in texts {
-        page.push_str(text)?;
-    }
-    Ok(())
+    page.push_str(template_4::TEXT)?;
+    page.push_str(elements_script::TEXT)?;
+    page.push_str(run_script::TEXT)?;
+    page.push_str(two_script::TEXT)?;
+    page.push_str(values_script::TEXT)?;
+    page.push_str(program_script::TEXT)?;
+    page.push_str(world_script::TEXT)?;
+    page.push_str(columns_script::TEXT)?;
+    page.push_str(lanes_script::TEXT)?;
+    page.push_str(picture_script::TEXT)?;
+    page.push_str(picture_words_script::TEXT)?;
+    page.push_str(telling_script::TEXT)?;
+    page.push_str(panels_script::TEXT)?;
+    page.push_str(source_script::TEXT)?;
+    page.push_str(end_script::TEXT)?;
+    page.push_str(circle_script::TEXT)?;
+    page.push_str(tables_script::TEXT)?;
+    page.push_str(chart_script::TEXT)?;
+    page.push_str(papers_script::TEXT)?;
+    page.push_str(page_script::TEXT)?;
+    page.push_str(both_script::TEXT)?;
+    page.push_str(two_start_script::TEXT)?;
+    page.push_str(template_5::TEXT)
 }

@@ -34,53 +34,35 @@ pub(crate) fn push_head(page: &mut String) -> Result<(), AllocError> {
     page.push_str(template_1::TEXT)
 }
 
-/// What stands between the title and the data.
-const MIDDLE: [&str; 4] = [
-    template_2::TEXT,
-    base_style::TEXT,
-    play_style::TEXT,
-    template_3::TEXT,
-];
-
 /// Adds what stands between the title and the data.
 pub(crate) fn push_middle(page: &mut String) -> Result<(), AllocError> {
-    push_all(page, &MIDDLE)
+    page.push_str(template_2::TEXT)?;
+    page.push_str(base_style::TEXT)?;
+    page.push_str(play_style::TEXT)?;
+    page.push_str(template_3::TEXT)
 }
-
-/// What stands behind the data.
-const TAIL: [&str; 21] = [
-    template_4::TEXT,
-    elements_script::TEXT,
-    graph_script::TEXT,
-    values_script::TEXT,
-    program_script::TEXT,
-    kinds_script::TEXT,
-    way_script::TEXT,
-    naming_script::TEXT,
-    actions_script::TEXT,
-    findings_script::TEXT,
-    effects_script::TEXT,
-    telling_script::TEXT,
-    choices_script::TEXT,
-    lanes_script::TEXT,
-    picture_script::TEXT,
-    map_script::TEXT,
-    panes_script::TEXT,
-    goals_script::TEXT,
-    going_script::TEXT,
-    keys_script::TEXT,
-    template_5::TEXT,
-];
 
 /// Adds what stands behind the data.
 pub(crate) fn push_tail(page: &mut String) -> Result<(), AllocError> {
-    push_all(page, &TAIL)
-}
-
-/// Adds texts.
-fn push_all(page: &mut String, texts: &[&str]) -> Result<(), AllocError> {
-    for text in texts {
-        page.push_str(text)?;
-    }
-    Ok(())
+    page.push_str(template_4::TEXT)?;
+    page.push_str(elements_script::TEXT)?;
+    page.push_str(graph_script::TEXT)?;
+    page.push_str(values_script::TEXT)?;
+    page.push_str(program_script::TEXT)?;
+    page.push_str(kinds_script::TEXT)?;
+    page.push_str(way_script::TEXT)?;
+    page.push_str(naming_script::TEXT)?;
+    page.push_str(actions_script::TEXT)?;
+    page.push_str(findings_script::TEXT)?;
+    page.push_str(effects_script::TEXT)?;
+    page.push_str(telling_script::TEXT)?;
+    page.push_str(choices_script::TEXT)?;
+    page.push_str(lanes_script::TEXT)?;
+    page.push_str(picture_script::TEXT)?;
+    page.push_str(map_script::TEXT)?;
+    page.push_str(panes_script::TEXT)?;
+    page.push_str(goals_script::TEXT)?;
+    page.push_str(going_script::TEXT)?;
+    page.push_str(keys_script::TEXT)?;
+    page.push_str(template_5::TEXT)
 }
