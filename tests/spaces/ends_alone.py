@@ -7,6 +7,7 @@ import collections
 import machine
 from asking import Asking
 from liveness import ALL, Liveness
+from settled import Settled
 
 
 class EndsAlone:
@@ -17,6 +18,7 @@ class EndsAlone:
         self.program, self.named, self.most, self.looked_at = program, frozenset(named), most, frozenset(looked_at)
         self.live = Liveness(program)
         self.asking = Asking(program, self.live.is_handled)
+        self.settled = Settled(program)
         world = machine.start(program)
         for p, s in begin:
             world, _ = machine.step(program, world, p, s)
@@ -60,7 +62,7 @@ class EndsAlone:
         world = self.worlds[at]
         others = []
         for p, s in machine.running(world):
-            if not is_free(self.program, world, p, s) or self.is_seen(world, p, s):
+            if not is_free(self.settled, world, p, s) or self.is_seen(world, p, s):
                 others.append((p, s))
             elif self.take(at, p, s) > at:
                 return
@@ -96,17 +98,18 @@ class EndsAlone:
         return len(found)
 
 
-def is_free(program, world, p, s):
+def is_free(settled, world, p, s):
     """Whether a step can be taken before all others: its instruction refers to no word of the memory, and neither reserves
-    nor starts nor ends a stream, or ends the last stream of its processor that runs. Past the program there is none."""
-    streams = world.processors[p].streams
+    nor starts nor ends a stream, or ends its own where each other stream of the processor is settled. Past the program
+    there is none."""
+    streams, words = world.processors[p].streams, settled.program.words
     place = streams[s].ssw % 2**32
-    if place >= len(program.words):
+    if place >= len(words):
         return False
-    word = program.words[place]
+    word = words[place]
     if word.memory:
         return False
     name = word.control[0] if word.control else None
     if name in ("QUIT", "QUITP"):
-        return sum(stream.status == "running" for stream in streams) == 1
+        return all(settled.is_settled(stream) for number, stream in enumerate(streams) if number != s)
     return name not in ("RESERVE", "CREATE")

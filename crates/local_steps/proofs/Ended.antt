@@ -1,7 +1,6 @@
--- A step that ends the last running stream of a processor commutes with each step of another stream.
-use Rattle.std.proofs.Common.{◌≡◌, ◌≢◌, ℕ, ◌<◌, ◌≤◌, ◌⊎◌, inl, inr, true, false, refl, sym, ap, ◌∙◌, arith, subst}
+-- What a step that ends its stream begins with, and what it leaves.
+use Rattle.std.proofs.Common.{◌≡◌, ◌≢◌, ℕ, ◌<◌, ◌≤◌, ◌⊎◌, inl, inr, false, refl, sym, ap, ◌∙◌, arith}
 use Rattle.std.proofs.Common.{if◌then◌else◌, List, length, set, Option, Some, None, slice_get, unwrap_or}
-use Rattle.std.specs.Prelude.{not}
 use Rattle.std.proofs.lemmas.Bool.{cases_lt}
 use Rattle.std.proofs.lemmas.List.{length-set, set-get_or, get_or-set_other, set_comm}
 use Rattle.std.proofs.lemmas.Option.{unwrap_or-slice_get, slice_get-get_or, slice_get_past}
@@ -25,25 +24,19 @@ use Rattle.stream_core.specs.declared.steps.Control.{Control}
 use Rattle.stream_core.specs.declared.steps.Control.TheVariants as asks
 use Rattle.processor.specs.Processors.{ProcessorValue, stream_at}
 use Rattle.processor.specs.Records.{is_running, is_running_status}
-use Rattle.processor.specs.Row.{lacks_stream, image_fetch, step_fetch_from, step_fetch, step_fetch_at, step_fetch_of, next_asking}
+use Rattle.processor.specs.Row.{lacks_stream, image_fetch, step_fetch_from, step_fetch, step_fetch_at, step_fetch_of}
 use Rattle.processor.specs.Row.{grant_of, with_stream, after_control, after_control_if_done, memory_reply, row_over_memory}
-use Rattle.processor.specs.World.{World, world_step, after}
+use Rattle.processor.specs.World.{World, after}
 use Rattle.processor.specs.declared.steps.Step.{Step}
-use Rattle.processor.specs.declared.steps.Next.TheVariants as next
 use Rattle.processor.proofs.Histories.{after-absent}
-use Rattle.processor.proofs.Begun.{rests, awake, next_begun, row_over_memory_begun}
-use Rattle.machine.specs.MachineValue.{MachineValue, next_at, next_in}
-use Rattle.waiting.specs.Running.{runs_in}
-use Rattle.waiting.specs.Stuck.{IsStuck}
-use Rattle.waiting.proofs.Needs.{skips, runs-next}
-use Rattle.local_steps.specs.LastSteps.{IsEnding, IsEndingIn, IsLastStep}
+use Rattle.processor.proofs.Begun.{rests, awake, row_over_memory_begun}
+use Rattle.local_steps.specs.EndingSteps.{IsEnding, IsEndingIn}
 use Rattle.local_steps.proofs.Alone.{asks_nothing}
-use Rattle.local_steps.proofs.Commuting.{there_same, there_other, put, after_there, step_there}
-use Rattle.local_steps.proofs.Orders.{same_or_other}
+use Rattle.local_steps.proofs.Commuting.{there_other, put, after_there}
 
 -- A stream that does not run.
 
-rest_status : (p : Profile) (st : Status) (program : List ℕ) (pc : ℕ) → is_running_status st ≡ false
+pub rest_status : (p : Profile) (st : Status) (program : List ℕ) (pc : ℕ) → is_running_status st ≡ false
     → fetch_if p st program pc ≡ fetch.Rest
 rest_status p Idle program pc e = refl
 rest_status p Running program pc e = cc
@@ -109,7 +102,7 @@ idle_finds image s i e found =
     let none : fetch.Rest ≡ fetch.Instruction i = ap (image_fetch image) e ∙ found in
     cc
 
-begins : (image : ImageValue) (proc : ProcessorValue) (n : ℕ) (i : Insn)
+pub begins : (image : ImageValue) (proc : ProcessorValue) (n : ℕ) (i : Insn)
     → IsEnd image (stream_at proc.streams n) i → step_fetch_of image proc n ≡ fetch.Instruction i
 unfolding step_fetch_of step_fetch
 begins image proc n i l =
@@ -135,14 +128,14 @@ there_ending image proc n l =
     (awake image proc n (ap rests (begins image proc n found.0 found.1))).0
 
 -- the processor after such a step
-abbrev ended : ImageValue → ProcessorValue → ℕ → Insn → ProcessorValue
+abbrev pub ended : ImageValue → ProcessorValue → ℕ → Insn → ProcessorValue
 ended image proc n i =
     let s = stream_at proc.streams n in
     let c = control_of s i in
     let g = grant_of image proc c in
     after_control (with_stream proc n (after_instruction s i 0 g)) n g c
 
-end_over_memory : (image : ImageValue) (proc : ProcessorValue) (n : ℕ) (m : TaggedMemory) (i : Insn)
+pub end_over_memory : (image : ImageValue) (proc : ProcessorValue) (n : ℕ) (m : TaggedMemory) (i : Insn)
     → IsEnd image (stream_at proc.streams n) i → row_over_memory image proc n m ≡ ((ended image proc n i, outcome.Done), m)
 end_over_memory image proc n m i l =
     let s = stream_at proc.streams n in
@@ -155,7 +148,7 @@ end_over_memory image proc n m i l =
     ((after_control_if_done (with_stream proc n e.0) n g c e.1, e.1), m)))
     l.unasked
 
-others_kept : (proc : ProcessorValue) (n k g : ℕ) (x : StreamValue) (c : Control) → IsEnding c → k ≢ n
+pub others_kept : (proc : ProcessorValue) (n k g : ℕ) (x : StreamValue) (c : Control) → IsEnding c → k ≢ n
     → stream_at (after_control (with_stream proc n x) n g c).streams k ≡ stream_at proc.streams k
 others_kept proc n k g x asks.Plain none apart = absurd none
 others_kept proc n k g x (asks.Reserve m) none apart = absurd none
@@ -168,14 +161,14 @@ others_kept proc n k g x asks.QuitKeep e apart =
 -- A step that takes its processor to another state, whatever the memory holds, and leaves the memory.
 module _ (image : ImageValue) (t : Step) (proc to : ProcessorValue)
     (leaves : (m : TaggedMemory) → row_over_memory image proc t.s m ≡ ((to, outcome.Done), m)) where
-  abbrev with_to : World → World
+  abbrev pub with_to : World → World
   with_to w = record { processors = set w.processors t.p to; memory = w.memory }
 
-  after_to : (w : World) → slice_get w.processors t.p ≡ Some proc → after image w t ≡ with_to w
+  pub after_to : (w : World) → slice_get w.processors t.p ≡ Some proc → after image w t ≡ with_to w
   after_to w there = after_there image w t proc there ∙ ap (put w t.p) (leaves w.memory)
 
   -- it commutes with a step of another processor
-  swap_at : (w : World) (u : Step) → slice_get w.processors t.p ≡ Some proc → u.p ≢ t.p → (o : Option ProcessorValue)
+  pub swap_at : (w : World) (u : Step) → slice_get w.processors t.p ≡ Some proc → u.p ≢ t.p → (o : Option ProcessorValue)
       → slice_get w.processors u.p ≡ o → after image (after image w t) u ≡ after image (after image w u) t
   swap_at w u there apart None none =
       ap (λ v. after image v u) (after_to w there)
@@ -214,77 +207,3 @@ stays_at image w u p proc there apart None none = ap (λ (v : World). slice_get 
 stays_at image w u p proc there apart (Some b) there_u =
     ap (λ (v : World). slice_get v.processors p) (after_there image w u b there_u)
     ∙ there_other w.processors u.p p proc (row_over_memory image b u.s w.memory).0.0 (λ same. apart (sym same)) there
-
-pub commutes_last : (image : ImageValue) (w : World) (t u : Step) → IsLastStep image w t → u ≢ t
-    → after image (after image w t) u ≡ after image (after image w u) t
-commutes_last image w t u l apart = by_processor (same_or_other u.p t.p) where
-  found : (i : Insn) × IsEnd image (stream_at l.processor.streams t.s) i
-  found = end_of image (stream_at l.processor.streams t.s) l.ending
-
-  to : ProcessorValue
-  to = ended image l.processor t.s found.0
-
-  leaves : (m : TaggedMemory) → row_over_memory image l.processor t.s m ≡ ((to, outcome.Done), m)
-  leaves m = end_over_memory image l.processor t.s m found.0 found.1
-
-  by_stream : u.p ≡ t.p → (u.s ≡ t.s) ⊎ (u.s ≢ t.s) → after image (after image w t) u ≡ after image (after image w u) t
-  by_stream same (inl one) = absurd (apart (λ i. record { p = same i; s = one i }))
-  by_stream same (inr two) =
-      let one : World = with_to image t l.processor to leaves w in
-      let there_one : slice_get one.processors u.p ≡ Some to =
-      ap (slice_get one.processors) same ∙ there_same w.processors t.p l.processor to l.there in
-      let none : is_running (stream_at to.streams u.s) ≡ false =
-      ap is_running
-      (others_kept l.processor t.s u.s
-      (grant_of image l.processor (control_of (stream_at l.processor.streams t.s) found.0))
-      (after_instruction (stream_at l.processor.streams t.s) found.0 0
-      (grant_of image l.processor (control_of (stream_at l.processor.streams t.s) found.0)))
-      (control_of (stream_at l.processor.streams t.s) found.0) found.1.ends two)
-      ∙ l.only u.s two in
-      ap (λ v. after image v u) (after_to image t l.processor to leaves w l.there)
-      ∙ after_resting image one u to there_one none
-      ∙ sym (after_to image t l.processor to leaves w l.there)
-      ∙ sym (ap (λ v. after image v t)
-      (after_resting image w u l.processor (ap (slice_get w.processors) same ∙ l.there) (l.only u.s two)))
-
-  by_processor : (u.p ≡ t.p) ⊎ (u.p ≢ t.p) → after image (after image w t) u ≡ after image (after image w u) t
-  by_processor (inl same) = by_stream same (same_or_other u.s t.s)
-  by_processor (inr far) = swap_at image t l.processor to leaves w u l.there far (slice_get w.processors u.p) refl
-
-pub stays_last : (image : ImageValue) (w : World) (t u : Step) → IsLastStep image w t → u ≢ t
-    → IsLastStep image (after image w u) t
-stays_last image w t u l apart = by_processor (same_or_other u.p t.p) where
-  by_stream : u.p ≡ t.p → (u.s ≡ t.s) ⊎ (u.s ≢ t.s) → IsLastStep image (after image w u) t
-  by_stream same (inl one) = absurd (apart (λ i. record { p = same i; s = one i }))
-  by_stream same (inr two) =
-      subst (λ v. IsLastStep image v t)
-      (sym (after_resting image w u l.processor (ap (slice_get w.processors) same ∙ l.there) (l.only u.s two))) l
-
-  by_processor : (u.p ≡ t.p) ⊎ (u.p ≢ t.p) → IsLastStep image (after image w u) t
-  by_processor (inl same) = by_stream same (same_or_other u.s t.s)
-  by_processor (inr far) = record {
-    processor = l.processor;
-    there = stays_at image w u t.p l.processor l.there far (slice_get w.processors u.p) refl;
-    ending = l.ending;
-    only = l.only;
-  }
-
-pub not_stuck_last : (image : ImageValue) (w : World) (t : Step) → IsLastStep image w t → ¬ (IsStuck image w t)
-not_stuck_last image w t l stuck =
-    let found = end_of image (stream_at l.processor.streams t.s) l.ending in
-    let blocked : (world_step image w t).1 ≡ outcome.Blocked = ap (λ (e : World × Outcome). e.1) stuck.stays in
-    let done : (world_step image w t).1 ≡ outcome.Done =
-    ap (λ (e : World × Outcome). e.1) (step_there image w t l.processor l.there)
-    ∙ ap (λ (e : (ProcessorValue × Outcome) × TaggedMemory). e.0.1) (end_over_memory image l.processor t.s w.memory found.0 found.1) in
-    let both : outcome.Done ≡ outcome.Blocked = sym done ∙ blocked in
-    cc
-
-pub runs_last : (image : ImageValue) (w : World) (t : Step) → IsLastStep image w t → runs_in w t ≡ true
-runs_last image w t l =
-    let m : MachineValue = record { image = image; world = w } in
-    let found = end_of image (stream_at l.processor.streams t.s) l.ending in
-    let needs : next_in m t ≡ next.Local =
-    ap (λ o. next_at image o t.s) l.there
-    ∙ sym (next_begun image l.processor t.s (fetch.Instruction found.0) (begins image l.processor t.s found.0 found.1))
-    ∙ ap next_asking found.1.unasked in
-    sym (runs-next m t (next_in m t) refl) ∙ ap (λ n. not (skips n)) needs

@@ -4,5 +4,8 @@ pub mod Commuting
 pub mod Orders
 pub mod Told
 pub mod Ended
-pub mod Last
+pub mod Apart
+pub mod Ending
+pub mod Settled
+pub mod Shown
 pub mod Free

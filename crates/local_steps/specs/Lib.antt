@@ -1,5 +1,8 @@
--- What public contracts promise: which steps concern their own stream alone, and which end the last stream of their
--- processor that runs.
+-- What public contracts promise: which steps concern their own stream alone, and which end a stream beside which nobody
+-- asks for one.
 pub mod LocalSteps
-pub mod LastSteps
+pub mod NeverAsking
+pub mod EndingSteps
+pub mod SettledEndings
+pub mod CalmPlaces
 pub mod FreeSteps

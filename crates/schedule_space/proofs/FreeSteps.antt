@@ -25,7 +25,7 @@ use Rattle.processor.proofs.Histories.{get_set_same, get_set_other}
 use Rattle.std.proofs.lemmas.Option.{slice_get_within}
 use Rattle.waiting.specs.Running.{streams_at}
 use Rattle.local_steps.specs.LocalSteps.{IsLocalStep}
-use Rattle.local_steps.specs.LastSteps.{IsEnding, IsLastStep}
+use Rattle.local_steps.specs.EndingSteps.{IsEnding, IsEndingStep}
 use Rattle.local_steps.specs.FreeSteps.{IsFreeStep}
 use Rattle.local_steps.proofs.Alone.{IsPlain, plain_of, stepped, there_awake}
 use Rattle.local_steps.proofs.Ended.{IsEnd, end_of, there_ending}
@@ -124,9 +124,9 @@ ended_others proc n k g x asks.Quit e apart =
 ended_others proc n k g x asks.QuitKeep e apart =
     get_or-set_other (set proc.streams n x) n k idle idle apart ∙ get_or-set_other proc.streams n k x idle apart
 
-pub last_leaves : (image : ImageValue) (w : World) (t : Step) (l : IsLastStep image w t)
+pub ending_leaves : (image : ImageValue) (w : World) (t : Step) (l : IsEndingStep image w t)
     → LeavesOthers image l.processor t.s idle
-last_leaves image w t l =
+ending_leaves image w t l =
     let s = stream_at l.processor.streams t.s in
     let found = end_of image s l.ending in
     let c = control_of s found.0 in
@@ -188,9 +188,9 @@ stepped_local image w t l i plain =
     (local_leaves image l.processor t.s i plain)
 
 -- after one that ends it
-pub stepped_last : (image : ImageValue) (w : World) (t : Step) → IsLastStep image w t
+pub stepped_ending : (image : ImageValue) (w : World) (t : Step) → IsEndingStep image w t
     → stream_of_step (after image w t) t ≡ idle
-stepped_last image w t l = own_left image w t l.processor idle l.there (last_leaves image w t l)
+stepped_ending image w t l = own_left image w t l.processor idle l.there (ending_leaves image w t l)
 
 -- such a step leaves the memory
 pub free_memory : (image : ImageValue) (w : World) (t : Step) → IsFreeStep image w t
@@ -199,7 +199,7 @@ free_memory image w t (inl l) =
     let found = plain_of image (stream_at l.processor.streams t.s) l.alone in
     memory_left image w t l.processor (stepped (stream_at l.processor.streams t.s) found.0) l.there
     (local_leaves image l.processor t.s found.0 found.1)
-free_memory image w t (inr l) = memory_left image w t l.processor idle l.there (last_leaves image w t l)
+free_memory image w t (inr l) = memory_left image w t l.processor idle l.there (ending_leaves image w t l)
 
 -- and each stream but its own
 pub free_others : (image : ImageValue) (w : World) (t u : Step) → IsFreeStep image w t → u ≢ t
@@ -208,4 +208,4 @@ free_others image w t u (inl l) =
     let found = plain_of image (stream_at l.processor.streams t.s) l.alone in
     others_left image w t l.processor (stepped (stream_at l.processor.streams t.s) found.0) l.there
     (local_leaves image l.processor t.s found.0 found.1) u
-free_others image w t u (inr l) = others_left image w t l.processor idle l.there (last_leaves image w t l) u
+free_others image w t u (inr l) = others_left image w t l.processor idle l.there (ending_leaves image w t l) u

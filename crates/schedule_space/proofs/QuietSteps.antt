@@ -16,16 +16,17 @@ use Rattle.processor.specs.World.{World, after, steps, stream_of}
 use Rattle.processor.specs.declared.steps.Step.{Step}
 use Rattle.machine.specs.MachineValue.{MachineValue, IsMachine}
 use Rattle.local_steps.specs.LocalSteps.{IsLocalStep}
-use Rattle.local_steps.specs.LastSteps.{IsLastStep}
+use Rattle.local_steps.specs.EndingSteps.{IsEndingStep}
 use Rattle.local_steps.specs.FreeSteps.{IsFreeStep}
 use Rattle.local_steps.proofs.Alone.{IsPlain, plain_of, stepped, there_awake}
 use Rattle.local_steps.proofs.Commuting.{put, after_there, kept_stream, there_same}
-use Rattle.local_steps.proofs.Ended.{there_ending, after_resting, stays_at, stays_last}
+use Rattle.local_steps.proofs.Ended.{end_of, there_ending, stays_at}
+use Rattle.local_steps.proofs.Ending.{kept, there_behind, stays_ending_step}
 use Rattle.local_steps.proofs.Orders.{same_or_other, stays}
 use Rattle.local_steps.proofs.Told.{shown}
 use Rattle.agreeing_ends.specs.Unseen.{AreOthers}
 use Rattle.schedule_space.specs.Quiet.{is_looked_at, is_seen, stream_of_step, IsQuietStep}
-use Rattle.schedule_space.proofs.FreeSteps.{named_there, stepped_local, stepped_last}
+use Rattle.schedule_space.proofs.FreeSteps.{named_there, stepped_local, stepped_ending}
 
 -- What is seen of a stream.
 
@@ -72,15 +73,15 @@ module _ (size : ℕ) (m : MachineValue) (t : Step) (s : StreamValue) (machine :
       some_same (sym seen ∙ shown size m t l.processor machine l.there
       (there_awake m.image l.processor t.s found.0 found.1).0)
 
-  last_shown : (l : IsLastStep m.image m.world t) → s ≡ stream_at l.processor.streams t.s
-  last_shown l =
+  ending_shown : (l : IsEndingStep m.image m.world t) → s ≡ stream_at l.processor.streams t.s
+  ending_shown l =
       some_same (sym seen ∙ shown size m t l.processor machine l.there
       (there_ending m.image l.processor t.s l.ending))
 
   -- it asks nothing of the memory
   pub free_local : IsFreeStep m.image m.world t → plan_of m.image.profile m.image.program s ≡ plan.Local
   free_local (inl l) = ap (plan_of m.image.profile m.image.program) (local_shown l) ∙ l.alone.unasked
-  free_local (inr l) = ap (plan_of m.image.profile m.image.program) (last_shown l) ∙ l.ending.unasked
+  free_local (inr l) = ap (plan_of m.image.profile m.image.program) (ending_shown l) ∙ l.ending.unasked
 
   -- where it is at no place that is looked at, before the step and after its instruction
   quiet_shown : (looked_at : List Bool) → IsFreeStep m.image m.world t → is_looked_at looked_at s.ssw.pc ≡ false
@@ -103,10 +104,10 @@ module _ (size : ℕ) (m : MachineValue) (t : Step) (s : StreamValue) (machine :
       }
   quiet_shown looked_at (inr l) none left =
       let named : stream_of_step m.world t ≡ s =
-      named_there m.world t l.processor l.there ∙ sym (last_shown l) in
+      named_there m.world t l.processor l.there ∙ sym (ending_shown l) in
       record {
         before = ap (is_seen looked_at) named ∙ unseen looked_at s none;
-        behind = ap (is_seen looked_at) (stepped_last m.image m.world t l);
+        behind = ap (is_seen looked_at) (stepped_ending m.image m.world t l);
       }
 
   pub quiet_by : (looked_at : List Bool) (image : ImageValue) → image ≡ m.image → IsFreeStep m.image m.world t
@@ -151,14 +152,18 @@ local_named image w t u l apart = by_processor (same_or_other u.p t.p) where
   by_processor (inl same) = by_stream same (same_or_other u.s t.s)
   by_processor (inr far) = far_named image w t u l.processor l.there far
 
-last_named : (image : ImageValue) (w : World) (t u : Step) → IsLastStep image w t → u ≢ t
+ending_named : (image : ImageValue) (w : World) (t u : Step) → IsEndingStep image w t → u ≢ t
     → stream_of_step (after image w u) t ≡ stream_of_step w t
-last_named image w t u l apart = by_processor (same_or_other u.p t.p) where
+ending_named image w t u l apart = by_processor (same_or_other u.p t.p) where
   by_stream : u.p ≡ t.p → (u.s ≡ t.s) ⊎ (u.s ≢ t.s) → stream_of_step (after image w u) t ≡ stream_of_step w t
   by_stream same (inl one) = absurd (apart (λ i. record { p = same i; s = one i }))
   by_stream same (inr two) =
-      ap (λ x. stream_of_step x t)
-      (after_resting image w u l.processor (ap (slice_get w.processors) same ∙ l.there) (l.only u.s two))
+      let found = end_of image (stream_at l.processor.streams t.s) l.ending in
+      let other = row_over_memory image l.processor u.s w.memory in
+      named_there (after image w u) t other.0.0
+      (there_behind image w t u l.processor found.0 l.there found.1 l.others same two)
+      ∙ kept image w t u l.processor found.0 l.there found.1 l.others same two
+      ∙ sym (named_there w t l.processor l.there)
 
   by_processor : (u.p ≡ t.p) ⊎ (u.p ≢ t.p) → stream_of_step (after image w u) t ≡ stream_of_step w t
   by_processor (inl same) = by_stream same (same_or_other u.s t.s)
@@ -195,11 +200,11 @@ module _ (looked_at : List Bool) (image : ImageValue) where
         behind = ap (is_seen looked_at) left ∙ quiet.behind;
       }
 
-  last_behind : (w : World) (t u : Step) → IsLastStep image w t → u ≢ t → IsQuietStep looked_at image w t
+  ending_behind : (w : World) (t u : Step) → IsEndingStep image w t → u ≢ t → IsQuietStep looked_at image w t
       → IsQuietStep looked_at image (after image w u) t
-  last_behind w t u l apart quiet = record {
-    before = ap (is_seen looked_at) (last_named image w t u l apart) ∙ quiet.before;
-    behind = ap (is_seen looked_at) (stepped_last image (after image w u) t (stays_last image w t u l apart));
+  ending_behind w t u l apart quiet = record {
+    before = ap (is_seen looked_at) (ending_named image w t u l apart) ∙ quiet.before;
+    behind = ap (is_seen looked_at) (stepped_ending image (after image w u) t (stays_ending_step image w t u l apart));
   }
 
   -- it can be taken before all others, and is quiet
@@ -212,7 +217,7 @@ module _ (looked_at : List Bool) (image : ImageValue) where
   behind_one w t u (inl l) apart quiet =
       record { free = inl (stays image w t u l apart); quiet = local_behind w t u l apart quiet }
   behind_one w t u (inr l) apart quiet =
-      record { free = inr (stays_last image w t u l apart); quiet = last_behind w t u l apart quiet }
+      record { free = inr (stays_ending_step image w t u l apart); quiet = ending_behind w t u l apart quiet }
 
   -- so it is behind other steps
   pub quiet_behind : (w : World) (t : Step) (us : List Step) → IsFreeStep image w t → IsQuietStep looked_at image w t

@@ -3,6 +3,7 @@
 ghost use Rattle.std.specs.Prelude.{◌≡◌, ◌⊎◌, ◌≤◌, true, false, Some, Contains, IfOk, OnOk};
 ghost use Rattle.processor.specs.declared.steps.Step.{Step};
 ghost use Rattle.waiting.specs.Running.{AreRunning};
+ghost use Rattle.local_steps.specs.SettledEndings.{AreSettled};
 ghost use Rattle.schedule_space.specs.Spaces.{schedule_of, world_of, machine_after};
 ghost use Rattle.schedule_space.specs.Finding.{IsGrown, IsTaken, IsTakenTo, IsExpanded, IsExpanding};
 ghost use Rattle.schedule_space.specs.Quiet.{IsTakenQuietly, IsFollowedQuietly};
@@ -27,9 +28,9 @@ pub(crate) enum Wanted {
 
 impl<'i> Found<'i> {
     /// Takes steps of the world at a place, on its machine, unless there would be more than `most` worlds: each one,
-    /// or where ends are wanted and a step that can be taken before all others (`is_free_step`), and that nobody sees who
-    /// looks at the places in `looked_at` alone (`is_quiet_step`), leads to a later place, that one. New worlds are put
-    /// behind the frontier.
+    /// or where ends are wanted and a step that can be taken before all others (`is_free_step`, by the `settled` places),
+    /// and that nobody sees who looks at the places in `looked_at` alone (`is_quiet_step`), leads to a later place, that
+    /// one. New worlds are put behind the frontier.
     pub(crate) fn expand<const S: usize>(
         &mut self,
         frontier: &mut VecDeque<Machine<'i, S>>,
@@ -37,10 +38,12 @@ impl<'i> Found<'i> {
         from: u32,
         wanted: Wanted,
         looked_at: &[bool],
+        settled: &[bool],
         most: u32,
     ) -> Result<(), Stop>
         requires expanding { IsExpanding self.old frontier.old.items from most }
         requires machine { machine ≡ machine_after self.old.image (schedule_of self.old from) }
+        requires settled { AreSettled self.old.image settled.now }
         ensures grown { IsGrown self.old self.new }
         ensures expanding { IsExpanding self.new frontier.new.items from most }
         ensures quiet { OnOk result (IsFollowedQuietly looked_at.now self.new from) }
@@ -50,9 +53,9 @@ impl<'i> Found<'i> {
         let mut here = Some(machine);
         match wanted {
             Wanted::Worlds => self.take_all(frontier, &mut here, from, &running, most),
-            Wanted::Ends => {
-                self.take_enough(frontier, &mut here, from, &running, looked_at, most)
-            }
+            Wanted::Ends => self.take_enough(
+                frontier, &mut here, from, &running, looked_at, settled, most,
+            ),
         }
     }
 
@@ -66,11 +69,13 @@ impl<'i> Found<'i> {
         from: u32,
         running: &[Step],
         looked_at: &[bool],
+        settled: &[bool],
         most: u32,
     ) -> Result<(), Stop>
         requires expanding { IsExpanding self.old frontier.old.items from most }
         requires machine { machine.old ≡ Some (machine_after self.old.image (schedule_of self.old from)) }
         requires running { AreRunning (world_of self.old from) running.now }
+        requires settled { AreSettled self.old.image settled.now }
         ensures grown { IsGrown self.old self.new }
         ensures expanding { IsExpanding self.new frontier.new.items from most }
         ensures quiet { OnOk result (IsFollowedQuietly looked_at.now self.new from) }
@@ -78,7 +83,15 @@ impl<'i> Found<'i> {
         let mut others = Vec::new(self.alloc);
         for step in running {
             let link = Link { from, step: *step };
-            let is_later = self.take_free(frontier, machine, link, &mut others, looked_at, most)?;
+            let is_later = self.take_free(
+                frontier,
+                machine,
+                link,
+                &mut others,
+                looked_at,
+                settled,
+                most,
+            )?;
             if is_later {
                 return Ok(());
             }
@@ -95,10 +108,12 @@ impl<'i> Found<'i> {
         link: Link,
         others: &mut Vec<Step>,
         looked_at: &[bool],
+        settled: &[bool],
         most: u32,
     ) -> Result<bool, Stop>
         requires expanding { IsExpanding self.old frontier.old.items link.from most }
         requires machine { machine.old ≡ Some (machine_after self.old.image (schedule_of self.old link.from)) }
+        requires settled { AreSettled self.old.image settled.now }
         ensures grown { IsGrown self.old self.new }
         ensures expanding { IsExpanding self.new frontier.new.items link.from most }
         ensures alone { IfOk result (λ b. b ≡ true → IsTakenQuietly looked_at.now self.new link.from) }
@@ -109,7 +124,7 @@ impl<'i> Found<'i> {
     {
         let step = link.step;
         let here = machine.as_ref().unwrap();
-        if !is_free_step(here, step) || !is_quiet_step(here, step, looked_at) {
+        if !is_free_step(here, step, settled) || !is_quiet_step(here, step, looked_at) {
             others.push(step)?;
             return Ok(false);
         }

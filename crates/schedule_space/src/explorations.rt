@@ -16,6 +16,7 @@ use crate::spaces::Space;
 use crate::watches::{Bound, Watch};
 use dead_registers::LiveRegisters;
 use image_file::Image;
+use local_steps::settled_places;
 use machine::{LoadFault, Machine};
 use processor::{Processor, Step};
 use program_flow::Row;
@@ -78,12 +79,12 @@ pub fn explore<'i, const S: usize, W: Watch>(
 }
 
 /// Looks for the ends of an image, worlds from which nothing goes on, that schedules lead to which begin with `begin`,
-/// in the same way, but of fewer worlds: where a step concerns its own stream alone, or ends the last stream of its
-/// processor that runs, and leads to a later place, only that one is taken, and one world stands for all that differ from
-/// it in registers alone that nobody reads again, and in condition codes that nobody asks for again. Registers in `names`
-/// matter at each place, r0 to r31. A step is taken alone only where its stream stands at none of the places in `looked_at`,
-/// neither before it nor after it: so who looks at these alone misses nothing. Where the search is complete, some world
-/// stands for each end, by a schedule that is as short as any.
+/// in the same way, but of fewer worlds: where a step concerns its own stream alone, or ends it where no other stream
+/// of its processor may come to a RESERVE or CREATE, and leads to a later place, only that one is taken, and one world
+/// stands for all that differ from it in registers alone that nobody reads again, and in condition codes that nobody
+/// asks for again. Registers in `names` matter at each place, r0 to r31. A step is taken alone only where its stream
+/// stands at none of the places in `looked_at`, neither before it nor after it: so who looks at these alone misses
+/// nothing. Where the search is complete, some world stands for each end, by a schedule that is as short as any.
 pub fn explore_ends<'i, const S: usize, W: Watch>(
     alloc: Global,
     image: &'i Image,
@@ -150,6 +151,7 @@ fn search<'i, const S: usize, W: Watch>(
     let mut first = Machine::<S>::load(alloc, image)?;
     first.run(begin);
     let live = LiveRegisters::of(alloc, image, names)?;
+    let settled = settled_places(alloc, image)?;
     let mut found = Found::begin(alloc, begin, &first, live)?;
     let mut frontier = VecDeque::new(alloc);
     frontier.push_back(first)?;
@@ -162,7 +164,15 @@ fn search<'i, const S: usize, W: Watch>(
         if !is_to_go_on(watch, from, &found, &frontier, machine_size) {
             return Ok(Exploration::Bounded(found.into_space(), Bound::Watch));
         }
-        if let Err(stop) = found.expand(&mut frontier, machine, from, wanted, looked_at, limit) {
+        if let Err(stop) = found.expand(
+            &mut frontier,
+            machine,
+            from,
+            wanted,
+            looked_at,
+            &settled,
+            limit,
+        ) {
             return Ok(Exploration::Bounded(found.into_space(), bound_of(stop)));
         }
     }

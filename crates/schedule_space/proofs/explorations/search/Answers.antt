@@ -4,6 +4,7 @@ use Rattle.image_file.specs.ImageValue.{ImageValue}
 use Rattle.machine.specs.MachineValue.{MachineValue}
 use Rattle.processor.specs.World.{steps}
 use Rattle.dead_registers.specs.Clearing.{LiveValue, IsLive}
+use Rattle.local_steps.specs.SettledEndings.{AreSettled}
 use Rattle.schedule_space.specs.Spaces.{SpaceValue, count, schedule_of, machine_after}
 use Rattle.schedule_space.specs.Finding.{IsExpanded, IsExpanding}
 use Rattle.schedule_space.proofs.Parts.{frontier_front, frontier_empty}
@@ -62,6 +63,10 @@ expand-requires g c =
       frontier = front.1.1;
       breadth = c.loop-from.invariant.breadth front.0;
     } in
+    let settled : AreSettled v.image c.deref.result.now =
+    subst (AreSettled v.image) (sym c.deref.ensures.value)
+    (subst (λ (i : ImageValue). AreSettled i c.in_ok-settled.settled.items) (sym c.loop-from.invariant.image)
+    c.in_ok-settled.ensures) in
     search rules
 
 pub returns-in_default-clause-image : goal.returns-in_default-clause-image

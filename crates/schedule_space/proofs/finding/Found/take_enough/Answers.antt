@@ -1,7 +1,9 @@
-use Rattle.std.proofs.Common.{◌≡◌, ◌∙◌, ap, refl, arith, rules, inr, subst, get_or, Some}
+use Rattle.std.proofs.Common.{◌≡◌, ◌∙◌, sym, ap, refl, arith, rules, inr, subst, get_or, Some}
 use Rattle.std.specs.Prelude.{OnOk, List}
+use Rattle.image_file.specs.ImageValue.{ImageValue}
 use Rattle.processor.specs.declared.steps.Step.{Step}
 use Rattle.machine.specs.MachineValue.{MachineValue}
+use Rattle.local_steps.specs.SettledEndings.{AreSettled}
 use Rattle.schedule_space.specs.Spaces.{schedule_of, machine_after}
 use Rattle.schedule_space.specs.Finding.{IsExpanding}
 use Rattle.schedule_space.proofs.Growing.{grown_refl, grown_trans}
@@ -20,6 +22,8 @@ take_free-requires g c =
     ∙ ap (λ (m : MachineValue). Some m)
     (machine_grown v here c.args.from (machine_after v.image (schedule_of v c.args.from)) c.loop-step.invariant.grown
     c.requires.expanding.there refl) in
+    let settled : AreSettled here.image c.args.settled.now =
+    subst (λ (i : ImageValue). AreSettled i c.args.settled.now) (sym c.loop-step.invariant.grown.image) c.requires.settled in
     search rules
 
 pub take_all-requires : goal.take_all-requires

@@ -1,5 +1,5 @@
--- Steps that end the last stream of a processor that runs.
-use Rattle.std.specs.Prelude.{◌≡◌, ◌≢◌, ℕ, false, ⊤, Some, slice_get}
+-- Steps that end a stream beside which no other one of its processor ever asks for a stream.
+use Rattle.std.specs.Prelude.{◌≡◌, ◌≢◌, ℕ, ⊤, Some, slice_get}
 use Rattle.image_file.specs.ImageValue.{ImageValue}
 use Rattle.stream_core.specs.Streams.{StreamValue}
 use Rattle.stream_core.specs.StreamRow.{plan_of, control_at}
@@ -7,9 +7,9 @@ use Rattle.stream_core.specs.declared.steps.Plan.TheVariants as plan
 use Rattle.stream_core.specs.declared.steps.Control.{Control}
 use Rattle.stream_core.specs.declared.steps.Control.TheVariants as asks
 use Rattle.processor.specs.Processors.{ProcessorValue, stream_at}
-use Rattle.processor.specs.Records.{is_running}
 use Rattle.processor.specs.World.{World}
 use Rattle.processor.specs.declared.steps.Step.{Step}
+use Rattle.local_steps.specs.NeverAsking.{NeverAsks}
 
 -- It ends the stream: QUIT or QUITP.
 abbrev pub IsEnding : Control → Type 0
@@ -24,14 +24,10 @@ pub record IsEndingIn (image : ImageValue) (s : StreamValue) : Type 0 where
   pub unasked : plan_of image.profile image.program s ≡ plan.Local
   pub ends : IsEnding (control_at image.profile image.program s)
 
--- No other stream of the processor runs.
-abbrev pub IsOnly : ProcessorValue → ℕ → Type 0
-IsOnly proc n = (k : ℕ) → k ≢ n → is_running (stream_at proc.streams k) ≡ false
-
 -- The next instruction of the stream that the step names ends it without a memory reference, and no other stream of its
--- processor runs.
-pub record IsLastStep (image : ImageValue) (w : World) (t : Step) : Type 0 where
+-- processor ever asks for a stream.
+pub record IsEndingStep (image : ImageValue) (w : World) (t : Step) : Type 0 where
   pub processor : ProcessorValue
   pub there : slice_get w.processors t.p ≡ Some processor
   pub ending : IsEndingIn image (stream_at processor.streams t.s)
-  pub only : IsOnly processor t.s
+  pub others : (k : ℕ) → k ≢ t.s → NeverAsks image (stream_at processor.streams k)
