@@ -2,11 +2,11 @@
 #![tactic(auto)]
 
 mod answer;
-mod folder_names;
 mod inputs;
 mod json_lines;
 mod lab_fault;
 mod loose_schedules;
+mod names_in_folders;
 mod number_styles;
 mod outputs;
 mod programs;
@@ -14,18 +14,18 @@ mod runs;
 mod sources;
 mod star_words;
 mod stars;
-mod written;
+mod writing_out;
 
 pub use answer::CommandAnswer;
 pub use end_kinds::Status;
-pub use folder_names::{folder_names, slash_after};
 pub use image_machines::loaded;
 pub use inputs::Inputs;
 pub use json_lines::push_object;
 pub use lab_fault::LabFault;
 pub use loose_schedules::check_loose_schedule;
+pub use names_in_folders::{folder_names, slash_after};
 pub use number_styles::style_of;
 pub use programs::{Program, ProgramFault, is_image, program_in, program_of, read_program};
 pub use runs::{made_by, read_steps, steps_of};
 pub use sources::SourceText;
-pub use written::{write_out, written};
+pub use writing_out::{write_out, written};

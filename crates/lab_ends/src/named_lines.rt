@@ -35,14 +35,19 @@ pub fn with_addresses(
         }
         let mut said = Said::new(alloc);
         said.read(alloc, names, statement_of(line))?;
-        if let Some(words) = said.unknown {
+        let Said {
+            text: addressed,
+            is_named,
+            unknown,
+        } = said;
+        if let Some(words) = unknown {
             return Ok(NamedText::Unknown(UnknownName {
                 line: index.saturating_add(1),
                 words,
             }));
         }
-        if said.is_named {
-            plain.extend_from_slice(said.text.as_bytes())?;
+        if is_named {
+            plain.extend_from_slice(addressed.as_bytes())?;
         } else {
             plain.extend_from_slice(line)?;
         }
