@@ -24,7 +24,7 @@ help:
 	@echo "make test       proves everything, tries the edits in must-fail/, runs all tests (201 processor minutes from nothing; ANEW=1: nothing that is kept counts)"
 	@echo "make prove      proves the CRATES and those that they stand on, as make test does (docs/ARCHITECTURE.md has the minutes of each)"
 	@echo "make checks     what make test tests before any proof (seconds)"
-	@echo "make trust      writes docs/TRUST.md, the definitions that a reader has to trust (seconds)"
+	@echo "make trust      writes out/TRUST.md, the definitions that a reader has to trust (seconds)"
 	@echo "make cases      runs the cases below tests/cases on the built program (seconds)"
 	@echo "make documents  runs the commands of the documents and compares what they print (seconds)"
 	@echo "make minutes    writes the table of what a check costs into docs/ARCHITECTURE.md, of what make test left in out/ (a second)"
@@ -75,7 +75,7 @@ prove:
 checks:
 	@tests/first_checks.sh
 
-# writes docs/TRUST.md: which definitions a reader of the contracts has to trust
+# writes out/TRUST.md: which definitions a reader of the contracts has to trust
 trust:
 	@python3 tests/trust
 
@@ -168,6 +168,7 @@ install:
 	cp -r examples exercises editors $(SHARE)/doc/mta_sim
 	install -m 644 README.md CONTRIBUTING.md CHANGELOG.md $(SHARE)/doc/mta_sim
 	install -m 644 docs/*.md $(SHARE)/doc/mta_sim/docs
+	test ! -e out/TRUST.md || install -m 644 out/TRUST.md $(SHARE)/doc/mta_sim/docs
 	install -d $(SHARE)/doc/mta_sim/docs/images
 	install -m 644 docs/images/*.png docs/images/*.svg $(SHARE)/doc/mta_sim/docs/images
 

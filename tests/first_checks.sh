@@ -32,12 +32,12 @@ citations() {
   texts | xargs grep -nE '(^|[^A-Za-z0-9_.$}"])/(work|root|home/[a-z]+|opt)/'
 }
 
-# links: what a document links to, or names as a document, is there
+# links: what a document links to, or names as a document, is there; TRUST.md is made (make trust)
 links() {
   local file name
   for file in $(documents); do
     while read -r name; do
-      [ -e "$name" ] || [ -e "$(dirname "$file")/$name" ] || echo "$file: no file $name"
+      [ "$name" = TRUST.md ] || [ -e "$name" ] || [ -e "$(dirname "$file")/$name" ] || echo "$file: no file $name"
     done < <(grep -oE '\]\([^)#:]+\)|[A-Za-z_/]+\.md' "$file" | sed 's/^](//; s/)$//' | sort -u)
   done
 }

@@ -1,22 +1,27 @@
 #!/usr/bin/env python3
 """What a reader has to trust: follows the words of contracts to their definitions. Without an argument it writes
-docs/TRUST.md; with --check it says whether that is what it would write; with --unreached it names the definitions of
-specs/ that no public contract reaches; with --unsaid those that docs/TRUST.md has no sentence for, since no comment
-stands above them. Needs Python 3, and rt for the logic's name."""
+out/TRUST.md, or the file that is named; with --check it writes out/TRUST.md too, and says what that page lacks or says
+wrong; with --unreached it names the definitions of specs/ that no public contract reaches; with --unsaid those that the
+page has no sentence for, since no comment stands above them. Needs Python 3, and rt for the logic's name."""
 
 import sys
 
 sys.dont_write_bytecode = True
 
+import os
 import subprocess
+
+# (layout goes to the folder of the repository)
+STARTED = os.getcwd()
 
 import document
 import layout
 import reach
 import sources
 import specs
+import whole
 
-PAGE = "docs/TRUST.md"
+PAGE = "out/TRUST.md"
 
 
 def logic():
@@ -25,17 +30,19 @@ def logic():
     return said.strip().rpartition(" ")[2]
 
 
-def write():
-    with open(PAGE, "w", encoding="utf-8") as page:
+def write(path=PAGE):
+    os.makedirs(os.path.dirname(path) or ".", exist_ok=True)
+    with open(path, "w", encoding="utf-8") as page:
         page.write(document.document(logic()))
 
 
 def check():
+    write()
     with open(PAGE, encoding="utf-8") as page:
-        if page.read() != document.document(logic()):
-            print(f"{PAGE} is not what make trust writes now")
-            return 1
-    return 0
+        faults = list(whole.faults(page.read(), logic(), document.ROOTS))
+    for fault in faults:
+        print(f"{PAGE}: {fault}")
+    return 1 if faults else 0
 
 
 def unreached():
@@ -56,8 +63,8 @@ def unsaid():
 
 
 if __name__ == "__main__":
-    asked = sys.argv[1:] or ["write"]
-    commands = {"write": write, "--check": check, "--unreached": unreached, "--unsaid": unsaid}
-    if len(asked) != 1 or asked[0] not in commands:
-        raise SystemExit("one of --check, --unreached, --unsaid, or no argument")
-    sys.exit(commands[asked[0]]())
+    asked = sys.argv[1:] or [PAGE]
+    commands = {"--check": check, "--unreached": unreached, "--unsaid": unsaid}
+    if len(asked) != 1 or asked[0].startswith("-") and asked[0] not in commands:
+        raise SystemExit("one of --check, --unreached, --unsaid, or the file that is written [out/TRUST.md]")
+    sys.exit(commands[asked[0]]() if asked[0] in commands else write(os.path.join(STARTED, asked[0])))

@@ -1,4 +1,4 @@
-"""docs/TRUST.md: what the roots reach, in the order of reading."""
+"""TRUST.md: what the roots reach, in the order of reading."""
 
 import textwrap
 
@@ -16,9 +16,9 @@ HEADLINE = ("one_machine", "threaded")
 INTRODUCTION = """\
 # What to trust
 
-`make trust` writes this page, and `make test` compares it with what it would write now. It is for an auditor: the check
-proves that the code meets its contracts, so what is left to read is what the contracts say. That is the clauses of the
-functions below, and the definitions that their words stand for.
+`make trust` writes this page, and `make test` tests that it is whole: it lists each definition that its functions and
+definitions name. It is for an auditor. The check proves that the code meets its contracts, so what is left to read is
+what the contracts say. That is the clauses of the functions below, and the definitions that their words stand for.
 
 What has to be trusted:
 
