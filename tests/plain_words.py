@@ -21,7 +21,7 @@ HELD = ("README.md", "CONTRIBUTING.md", "docs/TUTORIAL.md", "docs/CHEAT_SHEET.md
         "docs/WRITING_PROGRAMS.md", "docs/LAB.md", "docs/LAB_REFERENCE.md", "docs/GRADING.md", "docs/PAGE.md",
         "docs/PLAY.md", "docs/EDITORS.md", "docs/RATTLE.md", "docs/GLOSSARY.md", "docs/FINDINGS.md", "docs/MACHINE.md",
         "docs/FORMATS.md", "docs/PROMISES.md", "docs/ARCHITECTURE.md", "docs/DECISIONS.md", "docs/SPEED.md",
-        "page/README.md", "exercises/README.md")
+        "CHANGELOG.md", "page/README.md", "exercises/README.md")
 TASKS, WORDS_ALONE = "exercises/*/task.md", ("share/man/man1/*.1", "crates/lab_command_line/src/help.rt",
                                              "crates/lab_command_line/src/*arguments.rt")
 EASE, LONGEST = 60, 30
@@ -45,7 +45,7 @@ PLAIN = (
 # what the core's own documents call a state (docs/GLOSSARY.md, "The field's words")
 WORLD = (r"\b[Ww]orlds?\b", "state")
 OF_THE_CORE = ("CONTRIBUTING.md", "docs/RATTLE.md", "docs/GLOSSARY.md", "docs/FORMATS.md", "docs/PROMISES.md",
-               "docs/ARCHITECTURE.md", "docs/DECISIONS.md", "docs/SPEED.md", "page/README.md")
+               "docs/ARCHITECTURE.md", "docs/DECISIONS.md", "docs/SPEED.md", "CHANGELOG.md", "page/README.md")
 
 
 def text_of(path, other=r"\||#|!\["):
