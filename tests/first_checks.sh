@@ -37,7 +37,7 @@ links() {
   local file name
   for file in $(documents); do
     while read -r name; do
-      [ "$name" = TRUST.md ] || [ -e "$name" ] || [ -e "$(dirname "$file")/$name" ] || echo "$file: no file $name"
+      [ "$(basename "$name")" = TRUST.md ] || [ -e "$name" ] || [ -e "$(dirname "$file")/$name" ] || echo "$file: no file $name"
     done < <(grep -oE '\]\([^)#:]+\)|[A-Za-z_/]+\.md' "$file" | sed 's/^](//; s/)$//' | sort -u)
   done
 }
