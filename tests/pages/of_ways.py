@@ -11,7 +11,7 @@ import runs
 import tally
 
 PROGRAMS, WAYS, STEPS = 26, 400, 120
-EXAMPLES = ("lock", "fetch_add", "readers_writer", "mailbox", "count", "trap_handler", "forwarding", "future")
+EXAMPLES = ("lock", "fetch_add", "mailbox", "count", "trap_handler", "forwarding", "future")
 # random ways from the start, each as its schedule and what is found on it, steps counted from 1
 WALKS = """
   const [count, steps, seed] = arguments;
