@@ -5,6 +5,7 @@ import json
 import os
 import random
 
+import busy
 import programs
 import search
 import wishes
@@ -38,7 +39,7 @@ class Case:
         self.begun = search.Space(self.made.program, self.begin, MOST)
         self.begun_claims = wishes.claims(chance, self.made)
         self.begun_alone = EndsAlone(self.made.program, self.begin, (), MOST, wishes.looked_at(self.begun_claims))
-        self.paths = {name: os.path.join(folder, f"{seed}.{name}") for name in ("asm", "expect", "claims", "schedule")}
+        self.paths = {name: os.path.join(folder, f"{seed}.{name}") for name in ("asm", "expect", "claims", "busy", "schedule")}
         self.write()
 
     def write(self):
@@ -47,6 +48,7 @@ class Case:
             "asm": self.made.text,
             "expect": lines(self.expected + self.claims),
             "claims": lines(self.begun_claims),
+            "busy": b"never busy\n",
             "schedule": b"".join(b"%d %d 1\n" % step for step in self.begin),
         }
         for name, text in texts.items():
@@ -64,6 +66,9 @@ class Case:
             "graded": ["grade", "--explore", "--json", "--expect", at["expect"], at["asm"]],
             "begun": ["explore", "--json", at["asm"], "--from", at["schedule"], "--expect", at["claims"]],
             "begun plainly": ["explore", "--json", "--plain", at["asm"], "--from", at["schedule"], "--expect", at["claims"]],
+            "never busy": ["explore", "--json", at["asm"], "--expect", at["busy"]],
+            "begun, never busy": ["explore", "--json", at["asm"], "--from", at["schedule"], "--expect", at["busy"]],
+            "graded never busy": ["grade", "--explore", "--json", "--expect", at["busy"], at["asm"]],
         }
 
     def differences(self, answers):
@@ -71,7 +76,9 @@ class Case:
         found = []
         for name, differ in (("plain", self.of_plain), ("ends", self.of_ends), ("wished", self.of_wished),
                              ("wished plainly", self.of_wished_plainly), ("graded", self.of_graded),
-                             ("begun", self.of_begun), ("begun plainly", self.of_begun_plainly)):
+                             ("begun", self.of_begun), ("begun plainly", self.of_begun_plainly),
+                             ("never busy", self.of_busy), ("begun, never busy", self.of_begun_busy),
+                             ("graded never busy", self.of_graded_busy)):
             status, printed = answers[name]
             try:
                 objects = [json.loads(line) for line in printed.splitlines()]
@@ -151,6 +158,21 @@ class Case:
         yield from of_claims(self.begun, self.begun_claims, ends, breaking)
         yield differs("status", status, search.worst(statuses(self.begun, [], self.begun_claims)))
 
+    def of_busy(self, status, head, *objects):
+        """Which stream goes round alone first."""
+        yield from of_rounds(self.space, status, head, ends_of(objects))
+
+    def of_begun_busy(self, status, head, *objects):
+        """The same of the schedules that begin so."""
+        if self.begun.is_whole:
+            yield from of_rounds(self.begun, status, head, ends_of(objects))
+
+    def of_graded_busy(self, status, graded):
+        """The verdict where no stream may go round alone."""
+        wanted = self.verdict_of([], [], bool(busy.rounds(self.space)))
+        yield differs("verdict", graded["verdict"], wanted)
+        yield differs("status", status, status_of_busy(self.space))
+
     # What the search says.
 
     def status(self, expected, claims):
@@ -159,16 +181,20 @@ class Case:
 
     def verdict(self):
         """The word of `grade --explore`."""
+        return self.verdict_of(self.expected, self.claims, False)
+
+    def verdict_of(self, expected, claims, is_busy):
+        """The same of some expectations and claims, and where a stream goes round alone that may not."""
         ends = self.space.ends()
-        if any(wishes.is_trapped(self.expected, world) for world in ends):
+        if any(wishes.is_trapped(expected, world) for world in ends):
             return "trap"
         if "deadlock" in ends.values():
             return "deadlock"
-        if any(wishes.missed(self.expected, world) for world in ends) or broken(self.space, self.claims):
+        if any(wishes.missed(expected, world) for world in ends) or broken(self.space, claims) or is_busy:
             return "wrong"
         if self.space.spinning():
             return SPINS
-        return "wrong" if unshown(self.space, self.claims) else RIGHT
+        return "wrong" if unshown(self.space, claims) else RIGHT
 
 
 def begin_of(chance, space):
@@ -325,6 +351,25 @@ def of_claims(space, claims, ends, breaking):
             world = search.world_after(space.program, steps_of(end["schedule"]))
             claim = next(claim for claim in claims if claim.text == end["claim"]["text"])
             yield differs("a world that breaks it", wishes.holds(claim, world), False)
+
+
+def status_of_busy(space):
+    """The worst status where no stream may go round alone."""
+    return search.worst([*statuses(space, [], []), *([search.UNEXPECTED] if busy.rounds(space) else [])])
+
+
+def of_rounds(space, status, head, ends):
+    """In what the world differs that is told as the first from which a stream goes round alone, with the steps of that."""
+    rounds, told = busy.rounds(space), [end for end in ends if end["end"] == "broken"]
+    yield differs("head", (head["complete"], head["plain"], head["worlds"]), (True, True, len(space.distance)))
+    yield differs("that a stream goes round alone", [end["claim"]["text"] for end in told], ["never busy"][:len(rounds)])
+    for end in told:
+        world, way = search.world_after(space.program, steps_of(end["schedule"])), steps_of(end["round"])
+        least = min(space.distance[found] for found, _ in rounds)
+        yield differs("a shortest schedule to it", (space.distance.get(world), end["shortest"]), (least, least))
+        first = min(stream for found, stream in rounds if found == world)
+        yield differs("the steps round", way, (first,) * rounds[world, first])
+    yield differs("status", status, status_of_busy(space))
 
 
 def of_sources(space, sets, end):

@@ -8,6 +8,8 @@ use std::alloc::{AllocError, AllocFailed};
 pub enum ClaimFault {
     /// It has none of the forms.
     Form,
+    /// It speaks of streams that are busy, and is not `never busy`.
+    Busy,
     /// The number is none of 64 bits; where it is compared as a signed one, none from -2^63 to 2^63 - 1.
     Number,
     /// No number is above the greatest, or below the least, of those that are compared.

@@ -62,6 +62,7 @@ fn claim_of(alloc: Global, words: &[&str], names: &ProgramNames<'_>) -> Result<C
     let form = match words.get(1).copied() {
         Some("word") => word_form(alloc, rest)?,
         Some("at") => at_most_form(alloc, names, rest)?,
+        Some("busy") => return Err(ClaimFault::Busy),
         _ => return Err(ClaimFault::Form),
     };
     Ok(Claim { scope, form })

@@ -4,6 +4,7 @@ ghost use Rattle.std.specs.Prelude.{◌≡◌, IfOk, OnOk, map, string_bytes};
 ghost use Rattle.lab_ends.specs.BrokenClaims.{value_of, HasBrokenEnds};
 
 use crate::broken_claims::add_broken;
+use crate::busy_ends::busy_end;
 use crate::end_texts::{EndText, end_text_of};
 use crate::expected_traps::is_expected_trap;
 use crate::findings::first_finding;
@@ -11,6 +12,7 @@ use crate::machines::machine_at;
 use crate::sources::sources_of;
 use crate::spinning::add_spinning;
 use crate::wishes::Wishes;
+use busy_streams::Busy;
 use end_kinds::{EndKind, Status, end_kind_of, status_of};
 use expectations::{Expectation, first_missed};
 use lab_texts::{NumberStyle, ProgramNames};
@@ -98,8 +100,9 @@ impl SpaceEnd {
 }
 
 /// The ends of a space by the names of its program, in the order of their shortest schedules; then, where the space is
-/// complete, the sets of worlds that spin; then the worlds that break claims, those of each claim as one, also those
-/// on the way through the steps that all its schedules begin with.
+/// complete, the sets of worlds that spin; then the first world from which a stream goes round alone, where that is to be
+/// told; then the worlds that break claims, those of each claim as one, also those on the way through the steps that all
+/// its schedules begin with.
 pub fn space_ends<const S: usize>(
     alloc: Global,
     names: &ProgramNames<'_>,
@@ -107,17 +110,19 @@ pub fn space_ends<const S: usize>(
     wishes: &Wishes,
     space: &Space<'_>,
     is_complete: bool,
+    busy: Option<Busy>,
 ) -> Result<Vec<SpaceEnd>, AllocError>
     ensures broken { IfOk result (λ ends. HasBrokenEnds space.now wishes.now.claims.items
         (map string_bytes wishes.now.claim_texts.items) (map value_of ends.items)) }
 {
-    let mut ends = unbroken_ends::<S>(alloc, names, style, &wishes.ends, space, is_complete)?;
+    let mut ends = unbroken_ends::<S>(alloc, names, style, &wishes.ends, space, is_complete, busy)?;
     add_broken::<S>(alloc, &mut ends, wishes, space)?;
     tell_more::<S>(alloc, &mut ends, names, style, space)?;
     Ok(ends)
 }
 
-/// The ends of a space, and where it is complete the sets of worlds that spin.
+/// The ends of a space, where it is complete the sets of worlds that spin, and the world from which a stream goes round
+/// alone.
 fn unbroken_ends<const S: usize>(
     alloc: Global,
     names: &ProgramNames<'_>,
@@ -125,6 +130,7 @@ fn unbroken_ends<const S: usize>(
     expected: &[Expectation],
     space: &Space<'_>,
     is_complete: bool,
+    busy: Option<Busy>,
 ) -> Result<Vec<SpaceEnd>, AllocError> {
     let mut ends = Vec::new(alloc);
     for place in 0..space.len() {
@@ -134,6 +140,9 @@ fn unbroken_ends<const S: usize>(
     }
     if is_complete {
         add_spinning::<S>(alloc, &mut ends, names, style, space)?;
+    }
+    if let Some(busy) = busy {
+        ends.push(busy_end::<S>(alloc, names, space, busy)?)?;
     }
     Ok(ends)
 }

@@ -3,6 +3,7 @@
 #![tactic(auto)]
 
 mod broken_claims;
+mod busy_ends;
 mod claim_fault;
 mod claim_lines;
 mod claim_words;
@@ -29,4 +30,4 @@ pub use findings::{RunFindings, first_finding, push_findings_of_run};
 pub use links::links_of;
 pub use named_lines::{NamedText, UnknownName, with_addresses};
 pub use rule_lines::{RuleFault, RuleLine, are_rules_kept, first_broken_rule, is_rule_word};
-pub use wishes::{WishFault, Wishes};
+pub use wishes::{NEVER_BUSY, WishFault, Wishes};

@@ -1,5 +1,8 @@
 //! What is wished of a program: of its text, of its ends, and of the worlds on the way.
 
+ghost use Rattle.std.specs.Prelude.{◌≡◌};
+ghost use Rattle.lab_ends.specs.ProgramWishes.{is_nothing};
+
 use crate::claim_fault::ClaimFault;
 use crate::claim_lines::{ClaimLine, is_claim_word};
 use crate::rule_lines::{RuleFault, RuleLine, add_rules, is_rule_word};
@@ -21,7 +24,12 @@ pub struct Wishes {
     pub claim_texts: Vec<String>,
     /// What the program itself has to be.
     pub rules: Vec<RuleLine>,
+    /// The line, counted from 1, that says that no stream ever goes round alone; None where none does.
+    pub never_busy: Option<usize>,
 }
+
+/// The words of that line.
+pub const NEVER_BUSY: &str = "never busy";
 
 /// Why a text says no wishes.
 #[derive(Clone, Copy, Debug, PartialEq, Eq)]
@@ -66,12 +74,23 @@ impl Wishes {
             claims: Vec::new(alloc),
             claim_texts: Vec::new(alloc),
             rules: Vec::new(alloc),
+            never_busy: None,
         }
     }
 
-    /// The wishes of a text of a program, by its names and its image: a line that begins with `always`, `never` or `some`
-    /// is a claim, one that begins with `entries`, `at`, `forbid` or `require` says rules of programs, the others are
-    /// expectations.
+    /// Whether it wishes nothing.
+    pub fn is_nothing(&self) -> bool
+        ensures { result ≡ is_nothing self.now }
+    {
+        self.ends.is_empty()
+            && self.claims.is_empty()
+            && self.rules.is_empty()
+            && self.never_busy.is_none()
+    }
+
+    /// The wishes of a text of a program, by its names and its image: a line `never busy` says that no stream ever goes round
+    /// alone, another one that begins with `always`, `never` or `some` is a claim, one that begins with `entries`, `at`,
+    /// `forbid` or `require` says rules of programs, the others are expectations.
     ///
     /// `Claim` or `Rule` at the first line that begins as a claim and is none about the program, or begins as a rule and
     /// is none; else `Expectation` where the others are no expectations, or where the text says nothing.
@@ -87,7 +106,9 @@ impl Wishes {
             let words = line_words(alloc, line)?;
             let first = words.first().copied().unwrap_or("");
             let number = index.saturating_add(1);
-            if is_claim_word(first) {
+            if is_never_busy(&words) {
+                wishes.never_busy.get_or_insert(number);
+            } else if is_claim_word(first) {
                 wishes.add_claim(alloc, number, &words, names, image)?;
             } else if is_rule_word(first) {
                 wishes.add_rules(alloc, number, &words)?;
@@ -96,8 +117,7 @@ impl Wishes {
             }
             others.push(b'\n')?;
         }
-        let says_others = !wishes.claims.is_empty() || !wishes.rules.is_empty();
-        if !says_others || has_words(&others) {
+        if wishes.is_nothing() || has_words(&others) {
             wishes.ends = read_ends(alloc, &others)?;
         }
         Ok(wishes)
@@ -125,6 +145,14 @@ impl Wishes {
             Err(RuleFault::NoMemory) => Err(WishFault::NoMemory),
             Err(fault) => Err(WishFault::Rule { line, fault }),
         }
+    }
+}
+
+/// Whether the words of a line say that no stream ever goes round alone.
+fn is_never_busy(words: &[&str]) -> bool {
+    match words {
+        ["never", "busy"] => true,
+        _ => false,
     }
 }
 

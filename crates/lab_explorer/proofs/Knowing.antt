@@ -1,6 +1,6 @@
 -- What is known of the space of a search that is complete.
-use Rattle.std.specs.Prelude.{IsTrue, slice_index_or, Result, Ok, Err, IfOk}
-use Rattle.std.proofs.Common.{◌≡◌, ℕ, ◌⊎◌, inr, Bool, true, false, ◌∙◌, ◌<◌, List, ap, subst}
+use Rattle.std.specs.Prelude.{IsTrue, IsNone, IsSome, Option, None, Some, slice_index_or, Result, Ok, Err, IfOk}
+use Rattle.std.proofs.Common.{◌≡◌, ℕ, ◌⊎◌, inr, Bool, true, false, ◌∙◌, ◌<◌, List, ap, subst, refl}
 use Rattle.expectations.specs.declared.expectation.Expectation.{Expectation}
 use Rattle.claims.specs.Looking.{is_looked_at}
 use Rattle.claims.specs.declared.claim.Claim.{Claim}
@@ -59,3 +59,9 @@ module _ {E : Type 0} where
       → IfOk r (λ found. IsTrue found.1 → (IsComplete found.0 × HasAllEdges found.0) ⊎ AllFollowed found.0)
   taken_if (Ok found) all = λ on. inr (all on)
   taken_if (Err f) all = all
+
+-- what is told of a wish that may be there
+pub none_found : {A B : Type 0} (wish : Option A) (told : Option B) → (IsNone wish → told ≡ None)
+    → (IsSome wish → told ≡ None) → told ≡ None
+none_found None told without with = without refl
+none_found (Some a) told without with = with refl

@@ -27,6 +27,7 @@ pub fn claim_words(alloc: Global, fault: ClaimFault, image: &Image) -> Result<St
             )
         }
         ClaimFault::Form
+        | ClaimFault::Busy
         | ClaimFault::Number
         | ClaimFault::Beyond
         | ClaimFault::Twice
@@ -43,6 +44,9 @@ fn plain_words(fault: ClaimFault) -> &'static str {
         }
         ClaimFault::Beyond => {
             "no number is so: without a sign none is below 0, or above 18446744073709551615; write +0, or signed after the number, to compare signed"
+        }
+        ClaimFault::Busy => {
+            "busy comes after never alone, and nothing after it: never busy says that no stream can loop by its own steps alone"
         }
         ClaimFault::Twice => "a stream is named twice",
         ClaimFault::Range => "the range ends before it begins",

@@ -93,7 +93,7 @@ impl FoundProgram<'_> {
     /// How an end was judged, which does not meet this line; nothing where that is empty.
     fn verdict_of<'m>(self, end: &SpaceEnd, missed: &'m str) -> RunVerdict<'m> {
         let wishes = self.wishes;
-        if wishes.ends.is_empty() && wishes.claims.is_empty() && wishes.rules.is_empty() {
+        if wishes.is_nothing() {
             RunVerdict::NotJudged
         } else if is_as_expected(end) && self.found.broken_rule.is_none() {
             RunVerdict::Expected

@@ -1,8 +1,10 @@
 //! The command `explore`.
 
-ghost use Rattle.std.specs.Prelude.{◌≡◌, ◌⊎◌, ◌↔◌, IsTrue, IfOk, None};
+ghost use Rattle.std.specs.Prelude.{◌≡◌, ◌⊎◌, ◌↔◌, is_some, IsTrue, IsSome, IsNone, IfOk, None};
 ghost use Rattle.schedule_space.specs.Spaces.{IsComplete, HasAllEdges};
 ghost use Rattle.schedule_space.specs.Followed.{AllFollowed};
+ghost use Rattle.busy_streams.specs.Busy.{IsNeverBusy};
+ghost use Rattle.busy_streams.specs.BusySpaces.{HasAllWorlds};
 ghost use Rattle.schedule_verdicts.specs.KeptClaims.{AreKeptOnTheWay};
 ghost use Rattle.lab_ends.specs.ProgramWishes.{IsJudged};
 ghost use Rattle.schedule_verdicts.specs.NamedRegisters.{AreNamed};
@@ -18,6 +20,7 @@ use crate::spaces::space_of;
 use crate::unkept::Unkept;
 use crate::watching::{Console, SearchBound, Watcher};
 use crate::wished::{addressed, wishes_of};
+use busy_streams::{Busy, first_busy};
 use command_parts::{
     CommandAnswer, Inputs, LabFault, Program, Status, read_program, read_steps, style_of,
 };
@@ -44,7 +47,7 @@ pub struct Search<'a> {
     pub begin: &'a [Step],
     /// The most worlds, at least 1.
     pub most: usize,
-    /// Whether all worlds are looked for, also where the ends and the claims need fewer.
+    /// Whether all worlds are looked for, also where what is wished needs fewer.
     pub is_plain: bool,
     /// Whether the graph of the worlds is drawn.
     pub is_drawn: bool,
@@ -57,20 +60,29 @@ impl Search<'_> {
     fn is_judged(&self, image: &Image) -> bool
         ensures { IsTrue result ↔ IsJudged image.now self.now.wishes.now }
     {
-        let wishes = self.wishes;
-        let is_empty = wishes.ends.is_empty()
-            && wishes.claims.is_empty()
-            && wishes.rules.is_empty();
-        !is_empty && are_rules_kept(image, &wishes.rules)
+        !self.wishes.is_nothing() && are_rules_kept(image, &self.wishes.rules)
     }
 
-    /// Whether it is to be judged by what was found: that is complete, something is wished, the program keeps the rules, and
-    /// each claim that has to hold of one world at least does.
-    fn judges(&self, image: &Image, is_complete: bool, unshown: Option<usize>) -> bool
-        ensures { IsTrue result
-            ↔ (IsTrue is_complete × IsJudged image.now self.now.wishes.now × (unshown ≡ None)) }
+    /// Whether it is to be judged by what was found: that is complete, something is wished, the program keeps the rules,
+    /// each claim that has to hold of one world at least does, and no stream was found that goes round alone.
+    fn judges(
+        &self,
+        image: &Image,
+        is_complete: bool,
+        unshown: Option<usize>,
+        busy: Option<Busy>,
+    ) -> bool
+        ensures { IsTrue result ↔ (IsTrue is_complete × IsJudged image.now self.now.wishes.now
+            × (unshown ≡ None) × (busy ≡ None)) }
     {
-        is_complete && self.is_judged(image) && unshown.is_none()
+        is_complete && self.is_judged(image) && unshown.is_none() && busy.is_none()
+    }
+
+    /// Whether all worlds are looked for: where it is asked for, and where no stream is wished to go round alone.
+    pub(crate) fn takes_all(&self) -> bool
+        ensures { IsSome self.now.wishes.now.never_busy → IsTrue result }
+    {
+        self.is_plain || self.wishes.never_busy.is_some()
     }
 }
 
@@ -98,7 +110,8 @@ pub struct Explored {
     /// The graph of the worlds, where it is asked for, and they are no more than a graph has.
     pub graph: Option<String>,
     /// Whether they are all, something is wished, the program keeps the rules, every schedule is right, its end and each
-    /// world on its way, and each claim that has to hold of one world at least does (PROMISES.md, "Every schedule is right").
+    /// world on its way, each claim that has to hold of one world at least does, and no stream goes round alone where that
+    /// is wished (PROMISES.md, "Every schedule is right").
     pub is_right: bool,
 }
 
@@ -120,6 +133,7 @@ impl Explored {
         Unkept {
             rule: self.broken_rule,
             unshown: if self.is_complete { self.unshown } else { None },
+            undecided: None,
         }
     }
 
@@ -248,7 +262,8 @@ pub fn explore_program<C: Clock, E: Write>(
 ) -> Result<Explored, AllocError>
     ensures right { IfOk result (λ e. let wishes = asked.now.wishes.now in IsTrue e.is_right
         ↔ (IsTrue e.is_complete × IsJudged program.now.image wishes
-        × IsRightThroughout program.now.image asked.now.begin.now wishes.ends.items wishes.claims.items)) }
+        × IsRightThroughout program.now.image asked.now.begin.now wishes.ends.items wishes.claims.items
+        (is_some wishes.never_busy))) }
 {
     match program.image.slim() {
         0 | 1 => explore_on::<1, C, E>(alloc, program, names, asked, watcher),
@@ -268,20 +283,23 @@ fn explore_on<const S: usize, C: Clock, E: Write>(
 ) -> Result<Explored, AllocError>
     ensures right { IfOk result (λ e. let wishes = asked.now.wishes.now in IsTrue e.is_right
         ↔ (IsTrue e.is_complete × IsJudged program.now.image wishes
-        × IsRightThroughout program.now.image asked.now.begin.now wishes.ends.items wishes.claims.items)) }
+        × IsRightThroughout program.now.image asked.now.begin.now wishes.ends.items wishes.claims.items
+        (is_some wishes.never_busy))) }
 {
     let (space, is_complete) = space_of::<S, C, E>(alloc, &program.image, asked, watcher)?;
-    let ends = space_ends::<S>(alloc, names, asked.style, asked.wishes, &space, is_complete)?;
+    let wishes = asked.wishes;
+    let busy = busy_in::<S>(alloc, wishes, &space, is_complete)?;
+    let ends = space_ends::<S>(alloc, names, asked.style, wishes, &space, is_complete, busy)?;
     let graph = graph_asked(alloc, asked.is_drawn, &space, &ends)?;
     let unshown = unshown_in::<S>(alloc, asked.wishes, &space)?;
-    let is_judged = asked.judges(&program.image, is_complete, unshown);
+    let is_judged = asked.judges(&program.image, is_complete, unshown, busy);
     let is_right = are_all_right::<S>(alloc, asked.wishes, &space, is_judged)?;
     Ok(Explored {
         worlds: space.len(),
         steps: space.step_count(),
         is_complete,
         bound: watcher.bound(),
-        is_of_all_worlds: asked.is_plain,
+        is_of_all_worlds: asked.takes_all(),
         begin: asked.begin.len(),
         ends,
         broken_rule: first_broken_rule(&program.image, &asked.wishes.rules),
@@ -309,6 +327,26 @@ fn unshown_in<const S: usize>(
     }
 }
 
+/// The first world of a space from which a stream goes round alone, where none is wished to and the space has all worlds.
+fn busy_in<const S: usize>(
+    alloc: Global,
+    wishes: &Wishes,
+    space: &Space<'_>,
+    is_complete: bool,
+) -> Result<Option<Busy>, AllocError>
+    ensures wished { IfOk result (λ told. IsTrue is_complete → IsSome wishes.now.never_busy
+        → HasAllWorlds space.now → (told ≡ None) ↔ IsNeverBusy space.now.image space.now.begin) }
+    ensures unwished { IfOk result (λ told. IsNone wishes.now.never_busy → told ≡ None) }
+{
+    if !is_complete || wishes.never_busy.is_none() {
+        return Ok(None);
+    }
+    match first_busy::<S>(alloc, space) {
+        Ok(busy) => Ok(busy),
+        Err(LoadFault::NoMemory | LoadFault::Streams) => Err(AllocError),
+    }
+}
+
 /// Whether all that is wished of a space is so, where it is judged: of its ends, of its worlds, and of those on the way
 /// through the steps that all its schedules begin with.
 fn are_all_right<const S: usize>(
@@ -328,7 +366,7 @@ fn are_all_right<const S: usize>(
     ensures only { IfOk result (λ b. IsTrue is_judged
         → (IsComplete space.now × HasAllEdges space.now) ⊎ AllFollowed space.now
         → IsRightThroughout space.now.image space.now.begin wishes.now.ends.items wishes.now.claims.items
-        → IsTrue b) }
+        (is_some wishes.now.never_busy) → IsTrue b) }
 {
     if !is_judged {
         return Ok(false);

@@ -1,8 +1,9 @@
 //! The worlds that a search finds, and whether they are all that it looks for.
 
-ghost use Rattle.std.specs.Prelude.{◌≡◌, ◌≤◌, ◌⊎◌, IsTrue, IfOk};
+ghost use Rattle.std.specs.Prelude.{◌≡◌, ◌≤◌, ◌⊎◌, IsTrue, IsSome, IfOk};
 ghost use Rattle.schedule_space.specs.Spaces.{IsComplete, HasAllEdges};
 ghost use Rattle.schedule_space.specs.Followed.{AllFollowed};
+ghost use Rattle.busy_streams.specs.BusySpaces.{HasAllWorlds};
 ghost use Rattle.schedule_verdicts.specs.NamedRegisters.{AreNamed};
 ghost use Rattle.schedule_verdicts.specs.RightSpaces.{IsFollowedForClaims};
 
@@ -35,9 +36,11 @@ pub(crate) fn space_of<'i, const S: usize, C: Clock, E: Write>(
         × IsFollowedForClaims found.0 wishes.claims.items)) }
     ensures taken { IfOk result (λ found. IsTrue found.1
         → (IsComplete found.0 × HasAllEdges found.0) ⊎ AllFollowed found.0) }
+    ensures worlds { IfOk result (λ found. IsTrue found.1 → IsSome asked.now.wishes.now.never_busy
+        → HasAllWorlds found.0) }
 {
     let most = asked.most.max(1);
-    if asked.is_plain {
+    if asked.takes_all() {
         return all_worlds::<S, C, E>(alloc, image, asked.begin, most, watcher);
     }
     let wishes = asked.wishes;
@@ -66,6 +69,7 @@ fn all_worlds<'i, const S: usize, C: Clock, E: Write>(
     ensures worlds { IfOk result (λ found. IsTrue found.1 → IsComplete found.0) }
     ensures taken { IfOk result (λ found. IsTrue found.1
         → (IsComplete found.0 × HasAllEdges found.0) ⊎ AllFollowed found.0) }
+    ensures all { IfOk result (λ found. IsTrue found.1 → HasAllWorlds found.0) }
 {
     match explore::<S, _>(alloc, image, begin, most, watcher) {
         Ok(Exploration::Complete(space)) => Ok((space, true)),

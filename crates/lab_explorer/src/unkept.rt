@@ -2,7 +2,7 @@
 
 use crate::expected_lines::ExpectedLines;
 use command_parts::push_object;
-use lab_ends::Wishes;
+use lab_ends::{NEVER_BUSY, Wishes};
 use lab_json::{line_value, object_of};
 use serde_json::Value;
 use std::alloc::{AllocError, Global};
@@ -14,6 +14,8 @@ pub struct Unkept {
     pub rule: Option<usize>,
     /// The place of the first claim that has to hold of one world at least, and that none shows which was looked at.
     pub unshown: Option<usize>,
+    /// The number of the line `never busy`, where runs were looked at alone, which do not decide it.
+    pub undecided: Option<usize>,
 }
 
 /// Adds the first rule that a program breaks, if it breaks one, and the first claim that no world shows,
@@ -46,6 +48,12 @@ pub fn push_unkept(
             "{head}: {words} (line {line}): in no state of any {who}\n"
         )?;
     }
+    if let Some(line) = unkept.undecided {
+        write!(
+            out,
+            "not decided: {NEVER_BUSY} (line {line}): runs do not tell, all states do: --explore\n"
+        )?;
+    }
     Ok(())
 }
 
@@ -68,6 +76,10 @@ pub fn push_unkept_objects(
         };
         let line = lines.claim_value(alloc, words)?;
         push_line_object(alloc, out, "unshown", "claim", line)?;
+    }
+    if let Some(number) = unkept.undecided {
+        let line = line_value(alloc, number, NEVER_BUSY)?;
+        push_line_object(alloc, out, "undecided", "claim", line)?;
     }
     Ok(())
 }

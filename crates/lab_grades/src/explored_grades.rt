@@ -1,6 +1,6 @@
 //! What every schedule says of a submission.
 
-ghost use Rattle.std.specs.Prelude.{◌≡◌, [], IsTrue, IfOk};
+ghost use Rattle.std.specs.Prelude.{◌≡◌, [], is_some, IsTrue, IfOk};
 ghost use Rattle.schedule_verdicts.specs.ShownClaims.{IsRightThroughout};
 
 use crate::judged::{Grading, Judged};
@@ -8,7 +8,7 @@ use crate::seed_grades::sampled_verdict;
 use command_parts::LabFault;
 use end_kinds::EndKind;
 use grade_reports::{CountedEnd, Known, Verdict, VerdictKind, WishLine, Witness};
-use lab_ends::{SpaceEnd, SpaceEndKind};
+use lab_ends::{NEVER_BUSY, SpaceEnd, SpaceEndKind};
 use lab_explorer::{Console, Explored, Search, Watcher, explore_program};
 use lab_requests::Bounds;
 use std::alloc::{AllocError, Global};
@@ -28,7 +28,8 @@ pub(crate) fn explored_verdict<X: Threads + Sync, C: Clock, E: Write>(
     console: &mut Console<'_, C, E>,
 ) -> Result<Verdict, LabFault>
     ensures right { let j = judged.now in IfOk result (λ v. v.kind ≡ VerdictKind.Right
-        → IsRightThroughout j.program.now.image [] j.wishes.now.ends.items j.wishes.now.claims.items) }
+        → IsRightThroughout j.program.now.image [] j.wishes.now.ends.items j.wishes.now.claims.items
+        (is_some j.wishes.now.never_busy)) }
 {
     let begin = Vec::new(alloc);
     let asked = Search {
@@ -232,6 +233,7 @@ fn missed_by(
 ) -> Result<Option<WishLine>, AllocError> {
     match end.kind {
         SpaceEndKind::End(_) => judged.lines.end_at(alloc, end.missed),
+        SpaceEndKind::Broken if end.text.as_str() == NEVER_BUSY => judged.lines.busy_line(alloc),
         SpaceEndKind::Broken => {
             let texts = &judged.wishes.claim_texts;
             let place = texts

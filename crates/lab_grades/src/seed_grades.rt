@@ -1,6 +1,6 @@
 //! What random schedules say of a submission.
 
-ghost use Rattle.std.specs.Prelude.{◌≡◌, None, IfOk};
+ghost use Rattle.std.specs.Prelude.{◌≡◌, None, IsNone, IfOk};
 ghost use Rattle.seed_verdicts.specs.Seeds.{AreJudged};
 ghost use Rattle.seed_verdicts.specs.ShownBySeeds.{AreShownBySeeds};
 
@@ -32,6 +32,7 @@ pub(crate) fn sampled_verdict<X: Threads + Sync>(
     ensures shown { let j = judged.now in IfOk result (λ v. v.kind ≡ VerdictKind.Right → AreShownBySeeds
         j.program.now.image j.wishes.now.claims.items
         (record { first = 0; count = grading.now.request.now.seeds; most = grading.now.request.now.most })) }
+    ensures busy { IfOk result (λ v. v.kind ≡ VerdictKind.Right → IsNone judged.now.wishes.now.never_busy) }
 {
     let seeds = Seeds {
         first: 0,
@@ -55,17 +56,36 @@ fn verdict_of_right(
     judged: &Judged<'_, '_>,
     seeds: Seeds,
 ) -> Result<Verdict, AllocError>
-    ensures { let j = judged.now in IfOk result (λ v. v.kind ≡ VerdictKind.Right
+    ensures shown { let j = judged.now in IfOk result (λ v. v.kind ≡ VerdictKind.Right
         → AreShownBySeeds j.program.now.image j.wishes.now.claims.items seeds) }
+    ensures busy { IfOk result (λ v. v.kind ≡ VerdictKind.Right → IsNone judged.now.wishes.now.never_busy) }
 {
     let known = known_of(seeds.count);
     let claims = &judged.wishes.claims;
     let Some(place) = unshown_by_seeds(alloc, &judged.program.image, claims, seeds)? else {
-        return Ok(Verdict::plain(alloc, VerdictKind::Right, known));
+        return verdict_of_shown(alloc, judged, known);
     };
     let mut verdict = Verdict::plain(alloc, VerdictKind::NotDecided, known);
     verdict.missed = judged.lines.claim_at(alloc, Some(place))?;
     verdict.words = String::from_str(alloc, "no run has such a state")?;
+    Ok(verdict)
+}
+
+/// The same where each claim is shown that has to hold of one world at least: right, unless no stream is wished to go round
+/// alone, of which runs do not tell.
+fn verdict_of_shown(
+    alloc: Global,
+    judged: &Judged<'_, '_>,
+    known: Known,
+) -> Result<Verdict, AllocError>
+    ensures { IfOk result (λ v. v.kind ≡ VerdictKind.Right → IsNone judged.now.wishes.now.never_busy) }
+{
+    if judged.wishes.never_busy.is_none() {
+        return Ok(Verdict::plain(alloc, VerdictKind::Right, known));
+    }
+    let mut verdict = Verdict::plain(alloc, VerdictKind::NotDecided, known);
+    verdict.missed = judged.lines.busy_line(alloc)?;
+    verdict.words = String::from_str(alloc, "runs do not tell, all states do: --explore")?;
     Ok(verdict)
 }
 

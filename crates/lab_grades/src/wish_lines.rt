@@ -1,7 +1,7 @@
 //! The lines of a file of expectations.
 
 use grade_reports::WishLine;
-use lab_ends::{is_claim_word, is_rule_word};
+use lab_ends::{NEVER_BUSY, is_claim_word, is_rule_word};
 use std::alloc::{AllocError, Global};
 use std::str;
 
@@ -12,6 +12,8 @@ pub(crate) struct WishLines {
     pub ends: Vec<WishLine>,
     /// Those about the worlds on the way, in their order.
     pub claims: Vec<WishLine>,
+    /// Those that say that no stream ever goes round alone.
+    pub busy: Vec<WishLine>,
 }
 
 impl WishLines {
@@ -20,6 +22,7 @@ impl WishLines {
         let mut lines = WishLines {
             ends: Vec::new(alloc),
             claims: Vec::new(alloc),
+            busy: Vec::new(alloc),
         };
         for (index, line) in text.split(|byte| *byte == b'\n').enumerate() {
             lines.add(alloc, index.saturating_add(1), line)?;
@@ -34,7 +37,9 @@ impl WishLines {
             return Ok(());
         }
         let first = text.split(' ').next().unwrap_or("");
-        if is_claim_word(first) {
+        if text.as_str() == NEVER_BUSY {
+            self.busy.push(WishLine { number, text })?;
+        } else if is_claim_word(first) {
             self.claims.push(WishLine { number, text })?;
         } else if !is_rule_word(first) {
             self.ends.push(WishLine { number, text })?;
@@ -58,6 +63,11 @@ impl WishLines {
         place: Option<usize>,
     ) -> Result<Option<WishLine>, AllocError> {
         copy_at(alloc, &self.claims, place)
+    }
+
+    /// The first line that says that no stream ever goes round alone.
+    pub(crate) fn busy_line(&self, alloc: Global) -> Result<Option<WishLine>, AllocError> {
+        copy_at(alloc, &self.busy, Some(0))
     }
 }
 

@@ -2,8 +2,9 @@
 
 use crate::goals::{Judging, goal_place};
 use crate::opened_pages::opened_after;
+use busy_streams::{Busy, first_busy};
 use command_parts::{CommandAnswer, Inputs, LabFault, Program, read_program, read_steps};
-use lab_ends::{Wishes, are_rules_kept, space_ends};
+use lab_ends::{NEVER_BUSY, Wishes, are_rules_kept, space_ends};
 use lab_explorer::{Console, Watcher, addressed, push_expectation, wishes_of};
 use lab_requests::{Bounds, PlayRequest};
 use lab_texts::{NumberStyle, ProgramNames};
@@ -108,7 +109,9 @@ fn graph_on<const S: usize, C: Clock, E: Write>(
         Err(LoadFault::NoMemory | LoadFault::Streams) => return Err(LabFault::NoMemory),
     };
     let style = NumberStyle::Decimal;
-    let mut ends = space_ends::<S>(alloc, played.names, style, played.wishes, &space, true)?;
+    let wishes = played.wishes;
+    let busy = busy_in::<S>(alloc, &space, wishes)?;
+    let mut ends = space_ends::<S>(alloc, played.names, style, wishes, &space, true, busy)?;
     // (a claim that only the given beginning breaks has no state on the page)
     ends.retain(|end| !end.places.is_empty());
     let expected = expected_texts(alloc, played.wishes)?;
@@ -127,6 +130,21 @@ fn graph_on<const S: usize, C: Clock, E: Write>(
     let text = &played.program.text;
     let graph = graph_json::<S>(alloc, asked, text, played.names, &space, &ends)?;
     Ok(Some(graph))
+}
+
+/// The first state from which a stream goes round alone, of those of a space, where none is wished to.
+fn busy_in<const S: usize>(
+    alloc: Global,
+    space: &Space<'_>,
+    wishes: &Wishes,
+) -> Result<Option<Busy>, LabFault> {
+    if wishes.never_busy.is_none() {
+        return Ok(None);
+    }
+    match first_busy::<S>(alloc, space) {
+        Ok(busy) => Ok(busy),
+        Err(LoadFault::NoMemory | LoadFault::Streams) => Err(LabFault::NoMemory),
+    }
 }
 
 /// Whether each claim that has to hold of one state at least does, of those of a space.
@@ -160,6 +178,9 @@ fn expected_texts(alloc: Global, wishes: &Wishes) -> Result<Vec<String>, AllocEr
     }
     for claim in &wishes.claim_texts {
         texts.push(String::from_str(alloc, claim)?)?;
+    }
+    if wishes.never_busy.is_some() {
+        texts.push(String::from_str(alloc, NEVER_BUSY)?)?;
     }
     for said in &wishes.rules {
         texts.push(String::from_str(alloc, &said.text)?)?;

@@ -105,15 +105,18 @@ fn unkept_by_seeds(
     Ok(Unkept {
         rule: first_broken_rule(&program.image, &wishes.rules),
         unshown: unshown_by_seeds(alloc, &program.image, &wishes.claims, tried)?,
+        undecided: wishes.never_busy,
     })
 }
 
 /// What that means for the exit status. That no run shows a claim says nothing of other schedules.
 fn status_of_seeds(unkept: Unkept) -> Status {
-    match (unkept.rule, unkept.unshown) {
-        (Some(_), _) => Status::Unexpected,
-        (None, Some(_)) => Status::OutOfSteps,
-        (None, None) => Status::Done,
+    if unkept.rule.is_some() {
+        Status::Unexpected
+    } else if unkept.unshown.is_some() || unkept.undecided.is_some() {
+        Status::OutOfSteps
+    } else {
+        Status::Done
     }
 }
 

@@ -1,11 +1,12 @@
 -- Claims that have to hold of one world at least.
-use Rattle.std.specs.Prelude.{◌≡◌, ℕ, ◌<◌, ◌≤◌, ◌++◌, ◌⊎◌, false, IsTrue, List, Some, length, take, slice_get}
+use Rattle.std.specs.Prelude.{◌≡◌, ℕ, ◌<◌, ◌≤◌, ◌++◌, ◌⊎◌, Bool, false, IsTrue, List, Some, length, take, slice_get}
 use Rattle.image_file.specs.ImageValue.{ImageValue}
 use Rattle.processor.specs.World.{run}
 use Rattle.processor.specs.declared.steps.Step.{Step}
 use Rattle.claims.specs.Holding.{shows}
 use Rattle.claims.specs.declared.claim.Claim.{Claim}
 use Rattle.schedule_space.specs.Spaces.{SpaceValue, count, world_of, IsComplete}
+use Rattle.busy_streams.specs.Busy.{IsNeverBusy}
 use Rattle.expectations.specs.declared.expectation.Expectation.{Expectation}
 use Rattle.schedule_verdicts.specs.KeptClaims.{AreKeptOnTheWay}
 use Rattle.schedule_verdicts.specs.RightSpaces.{IsRightOnEachWay, IsFollowedForClaims}
@@ -28,12 +29,13 @@ abbrev pub AreShown : ImageValue → List Step → List Claim → Type 0
 AreShown image begin claims = (k : ℕ) (c : Claim) → slice_get claims k ≡ Some c → IsShown image begin c
 
 -- Every schedule that goes on from the beginning is right, the claims hold on the way through the beginning too, and each
--- is shown.
+-- is shown; where it is wished, no stream goes round alone wherever such a schedule leads.
 pub record IsRightThroughout (image : ImageValue) (begin : List Step) (expected : List Expectation)
-    (claims : List Claim) : Type 0 where
+    (claims : List Claim) (never_busy : Bool) : Type 0 where
   pub right : IsRightOnEachWay image begin expected claims
   pub before : AreKeptOnTheWay image begin claims
   pub shown : AreShown image begin claims
+  pub busy : IsTrue never_busy → IsNeverBusy image begin
 
 -- Of a space.
 

@@ -25,6 +25,7 @@ pub fn first_unshown<const S: usize>(
     ensures only { IfOk result (λ told. TellsOfClaims space.now claims.now
         → AreShown space.now.image space.now.begin claims.now → told ≡ None) }
     ensures unshown { IfOk result (λ told. IfSome told (λ k. IsUnshownAt space.now claims.now k)) }
+    ensures streams { result ≡ Err LoadFault.Streams → S < space.now.image.slim }
 {
     // They say that it has a first world, and that what is live is all that may be read.
     let (_worlds, _live) = (space.len(), space.live());
@@ -44,6 +45,7 @@ fn is_shown<const S: usize>(
 ) -> Result<bool, LoadFault>
     ensures shown { IfOk result (λ b. IsTrue b → IsShown space.now.image space.now.begin claim.now) }
     ensures unshown { IfOk result (λ b. IsFalse b → IsUnshownIn space.now claim.now) }
+    ensures streams { result ≡ Err LoadFault.Streams → S < space.now.image.slim }
 {
     if is_shown_on_the_way::<S>(alloc, space.image(), space.begin(), claim)? {
         return Ok(true);

@@ -1,6 +1,6 @@
 //! Whether runs of seeds show claims that have to hold of one world at least.
 
-ghost use Rattle.std.specs.Prelude.{◌≡◌, ◌<◌, ◌+◌, ◌%◌, ◌^◌, ℕ, IsTrue, IsFalse, IfOk, Err};
+ghost use Rattle.std.specs.Prelude.{◌≡◌, ◌<◌, ◌+◌, ◌%◌, ◌^◌, ◌↔◌, ℕ, IsTrue, IsFalse, IfOk, Err};
 ghost use Rattle.seed_verdicts.specs.ShownBySeeds.{IsShownBySeed, IsUnshownBySeed, IsShownBySeeds, IsUnshownBefore};
 ghost use Rattle.seed_verdicts.specs.ShownBySeeds.{IsToldOfClaims};
 
@@ -16,14 +16,15 @@ use std::alloc::Global;
 /// The first of some claims, counted from 0, that the run of no seed shows in any world on its way, the start and the end
 /// too; None where each is shown by the run of some seed. That none shows it says nothing of other schedules.
 ///
-/// `Streams` only where the image's slim is above `S`.
+/// `Streams` exactly where the image's slim is above `S`.
 pub fn first_unshown_by_seeds<const S: usize>(
     alloc: Global,
     image: &Image,
     claims: &[Claim],
     seeds: Seeds,
 ) -> Result<Option<usize>, LoadFault>
-    ensures { IfOk result (λ told. IsToldOfClaims image.now claims.now seeds told) }
+    ensures told { IfOk result (λ told. IsToldOfClaims image.now claims.now seeds told) }
+    ensures streams { (result ≡ Err LoadFault.Streams) ↔ (S < image.now.slim) }
 {
     let fair = fair_length_of::<S>(alloc, image)?;
     for place in 0..claims.len() {
@@ -44,6 +45,7 @@ fn is_shown_by_seeds<const S: usize>(
 ) -> Result<bool, LoadFault>
     ensures shown { IfOk result (λ b. IsTrue b → IsShownBySeeds image.now fair seeds claim.now) }
     ensures unshown { IfOk result (λ b. IsFalse b → IsUnshownBefore image.now fair seeds claim.now seeds.count) }
+    ensures streams { result ≡ Err LoadFault.Streams → S < image.now.slim }
 {
     for place in 0..seeds.count {
         let seed = seeds.first.wrapping_add(place as u64);
@@ -65,6 +67,7 @@ fn is_shown_by_seed<const S: usize>(
 ) -> Result<bool, LoadFault>
     ensures shown { IfOk result (λ b. IsTrue b → IsShownBySeed image.now fair most seed claim.now) }
     ensures unshown { IfOk result (λ b. IsFalse b → IsUnshownBySeed image.now fair most seed claim.now) }
+    ensures streams { result ≡ Err LoadFault.Streams → S < image.now.slim }
 {
     let mut machine: Machine<'_, S> = Machine::load(alloc, image)?;
     let made = seeded(alloc, &mut machine, seed, fair, most)?;

@@ -5,8 +5,8 @@ use Rattle.schedule_verdicts.proofs.Every.{below_more}
 use Rattle.seed_verdicts.specs.ShownBySeeds.{IsShownBySeeds}
 use Rattle.seed_verdicts.proofs.shown_claims.first_unshown_by_seeds.Goals as goal
 
-pub returns-then-not-branch : goal.returns-then-not-branch
-returns-then-not-branch g c =
+pub returns-then-not-branch-clause-told : goal.returns-then-not-branch-clause-told
+returns-then-not-branch-clause-told g c =
     let claims = c.args.claims.now in
     let claim = c.index-claims-place.result in
     record {
@@ -31,8 +31,8 @@ loop-place-preserved g c =
     c.loop-place.invariant
     (λ d read. subst (IsShownBySeeds image fair c.args.seeds) (same_Some claim d (sym there ∙ read)) here)
 
-pub returns : goal.returns
-returns g c = record {
+pub returns-clause-told : goal.returns-clause-told
+returns-clause-told g c = record {
   fair = c.in_ok-fair.fair;
   is_fair = c.in_ok-fair.ensures.is;
   each = λ k d read.

@@ -1,0 +1,6 @@
+mod OwnLinks
+mod Begun
+mod Rounds
+mod Told
+mod Growing
+mod First

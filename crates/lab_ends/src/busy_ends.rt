@@ -1,0 +1,26 @@
+//! The first world from which a stream goes round alone, as an end.
+
+use crate::cycles::push_cycle;
+use crate::every_end::{EndKey, SpaceEnd, SpaceEndKind, new_end};
+use crate::machines::machine_at;
+use crate::wishes::NEVER_BUSY;
+use busy_streams::Busy;
+use lab_texts::ProgramNames;
+use schedule_space::Space;
+use std::alloc::{AllocError, Global};
+
+/// The world from which a stream goes round alone, as an end that breaks the line `never busy`, with the steps round.
+pub(crate) fn busy_end<const S: usize>(
+    alloc: Global,
+    names: &ProgramNames<'_>,
+    space: &Space<'_>,
+    busy: Busy,
+) -> Result<SpaceEnd, AllocError> {
+    let text = String::from_str(alloc, NEVER_BUSY)?;
+    let told = EndKey::of(SpaceEndKind::Broken, text);
+    let mut end = new_end(alloc, space, busy.place, told)?;
+    let mut machine = machine_at::<S>(alloc, space, busy.place)?;
+    end.cycle = vec![in alloc; busy.stream; busy.steps]?;
+    push_cycle(&mut end.cycle_words, names, &mut machine, &end.cycle)?;
+    Ok(end)
+}
