@@ -1,15 +1,15 @@
 //! The commands, as data: their names, what help says of them, and which arguments they take.
 
 use crate::arguments::Argument;
-use crate::file_arguments::{
+use crate::file_commands::{
     ASM_ARGUMENTS, CHECK_ARGUMENTS, EXERCISE_ARGUMENTS, EXPLAIN_ARGUMENTS, FMT_ARGUMENTS,
     NEW_ARGUMENTS, WORD_ARGUMENTS,
 };
 use crate::help;
-use crate::many_runs_arguments::{
+use crate::many_runs_commands::{
     EXPLORE_ARGUMENTS, GRADE_ARGUMENTS, PLAY_ARGUMENTS, SURVEY_ARGUMENTS,
 };
-use crate::run_arguments::{
+use crate::run_commands::{
     COMPARE_ARGUMENTS, DEBUG_ARGUMENTS, PAGE_ARGUMENTS, PICTURE_ARGUMENTS, SCHEDULE_ARGUMENTS,
     VIEW_ARGUMENTS,
 };

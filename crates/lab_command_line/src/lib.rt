@@ -6,12 +6,12 @@ pub const VERSION: &str = "0.3.0";
 
 mod arguments;
 mod commands;
-mod file_arguments;
+mod file_commands;
 mod help;
-mod many_runs_arguments;
+mod many_runs_commands;
 mod options;
 mod parsers;
 mod reading;
-mod run_arguments;
+mod run_commands;
 
 pub use reading::read_lab_command;

@@ -1,6 +1,7 @@
 //! The values of arguments: how they are read, their bounds, and what stands for those that are left out.
 
 use clap::ArgMatches;
+use lab_requests::Shown;
 use std::alloc::{AllocError, Global};
 
 /// The most steps that a schedule may have.
@@ -69,4 +70,12 @@ pub(crate) fn number(matches: &ArgMatches, name: &str, usual: u64) -> u64 {
 /// The same as a count.
 pub(crate) fn count(matches: &ArgMatches, name: &str, usual: usize) -> usize {
     matches.get_one::<usize>(name).unwrap_or(usual)
+}
+
+/// How answers are printed.
+pub(crate) fn shown_of(found: &ArgMatches) -> Shown {
+    Shown {
+        hexadecimal: found.get_flag("hex"),
+        json: found.get_flag("json"),
+    }
 }

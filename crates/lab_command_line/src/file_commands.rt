@@ -1,8 +1,11 @@
-//! The arguments of the commands over files alone, in the order of the help.
+//! The commands over files alone: their arguments, in the order of the help, and what they ask.
 
 use crate::arguments::{Argument, Form};
 use crate::help;
-use crate::options::MOST_HINTS;
+use crate::options::{EXERCISES, MOST_HINTS, text, words};
+use clap::ArgMatches;
+use lab_requests::{CheckRequest, ExerciseRequest, FileKind};
+use std::alloc::{AllocError, Global};
 
 /// Of `check`.
 pub(crate) const CHECK_ARGUMENTS: [Argument; 5] = [
@@ -80,3 +83,36 @@ pub(crate) const EXERCISE_ARGUMENTS: [Argument; 3] = [
         Form::Option("FOLDER"),
     ),
 ];
+
+/// What `check` is asked.
+pub(crate) fn check_of<'a>(
+    alloc: Global,
+    found: &ArgMatches<'a>,
+) -> Result<CheckRequest<'a>, AllocError> {
+    Ok(CheckRequest {
+        files: words(alloc, found, "FILE")?,
+        kind: kind_of(text(found, "as")),
+        program: text(found, "program"),
+        strict: found.get_flag("strict"),
+        json: found.get_flag("json"),
+    })
+}
+
+/// The kind of files of this name.
+fn kind_of(name: Option<&str>) -> Option<FileKind> {
+    match name? {
+        "source" => Some(FileKind::Source),
+        "image" => Some(FileKind::Image),
+        "schedule" => Some(FileKind::Schedule),
+        _ => None,
+    }
+}
+
+/// What `exercise` is asked.
+pub(crate) fn exercise_of<'a>(found: &ArgMatches<'a>) -> ExerciseRequest<'a> {
+    ExerciseRequest {
+        folder: text(found, "folder").unwrap_or(EXERCISES),
+        which: text(found, "NUMBER"),
+        hint: found.get_one::<usize>("hint"),
+    }
+}

@@ -1,10 +1,16 @@
-//! The arguments of the commands over many runs or every schedule, in the order of the help.
+//! The commands over many runs or every schedule: their arguments, in the order of the help, and what they ask.
 
 use crate::arguments::{Argument, Form};
 use crate::help;
 use crate::options::{
     MOST_JOBS, MOST_MEGABYTES, MOST_PLAYED, MOST_SECONDS, MOST_SEEDS, MOST_STEPS, MOST_WORLDS,
+    USUAL_SEEDS, USUAL_STEPS, USUAL_WORLDS, count, number, shown_of, text, word, words,
 };
+use clap::ArgMatches;
+use lab_requests::{
+    Bounds, ExploreRequest, GradeCases, GradeFormat, GradeRequest, PlayRequest, SurveyRequest,
+};
+use std::alloc::{AllocError, Global};
 
 /// Of `survey`.
 pub(crate) const SURVEY_ARGUMENTS: [Argument; 11] = [
@@ -172,3 +178,107 @@ pub(crate) const PLAY_ARGUMENTS: [Argument; 7] = [
     ),
     Argument("out", "the page, FILE.html", Form::NeededOption("FILE")),
 ];
+
+/// What `survey` is asked.
+pub(crate) fn survey_of<'a>(found: &ArgMatches<'a>) -> SurveyRequest<'a> {
+    SurveyRequest {
+        program: word(found, "PROGRAM"),
+        seeds: count(found, "seeds", USUAL_SEEDS),
+        first: number(found, "from", 0),
+        most: count(found, "steps", USUAL_STEPS),
+        expected: text(found, "expect"),
+        explored: explored_of(found),
+        shown: shown_of(found),
+    }
+}
+
+/// What `play` is asked.
+pub(crate) fn play_of<'a>(found: &ArgMatches<'a>) -> PlayRequest<'a> {
+    PlayRequest {
+        program: word(found, "PROGRAM"),
+        expected: text(found, "expect"),
+        from: text(found, "from"),
+        states: count(found, "states", MOST_PLAYED as usize),
+        title: text(found, "title"),
+        goal: text(found, "goal"),
+        out: word(found, "out"),
+    }
+}
+
+/// What `explore` is asked.
+pub(crate) fn explore_of<'a>(found: &ArgMatches<'a>) -> ExploreRequest<'a> {
+    ExploreRequest {
+        program: word(found, "PROGRAM"),
+        expected: text(found, "expect"),
+        from: text(found, "from"),
+        bounds: bounds_of(found),
+        is_plain: found.get_flag("plain"),
+        keep: text(found, "keep"),
+        pages: text(found, "pages"),
+        dot: text(found, "dot"),
+        shown: shown_of(found),
+    }
+}
+
+/// What `grade` is asked.
+pub(crate) fn grade_of<'a>(
+    alloc: Global,
+    found: &ArgMatches<'a>,
+) -> Result<GradeRequest<'a>, AllocError> {
+    Ok(GradeRequest {
+        cases: cases_of(found),
+        seeds: count(found, "seeds", USUAL_SEEDS),
+        most: count(found, "steps", USUAL_STEPS),
+        counts_all: found.get_flag("all"),
+        explored: explored_of(found),
+        jobs: found.get_one::<usize>("jobs"),
+        refuses_links: found.get_flag("no-links"),
+        pages: text(found, "pages"),
+        submissions: words(alloc, found, "SUBMISSION")?,
+        format: format_of(found),
+        hexadecimal: found.get_flag("hex"),
+    })
+}
+
+/// What submissions are judged by.
+fn cases_of<'a>(found: &ArgMatches<'a>) -> GradeCases<'a> {
+    match text(found, "cases") {
+        Some(folder) => GradeCases::Folder(folder),
+        None => GradeCases::One {
+            expected: word(found, "expect"),
+            given: text(found, "given"),
+        },
+    }
+}
+
+/// How the answer of `grade` is written.
+fn format_of(found: &ArgMatches) -> GradeFormat {
+    if found.get_flag("json") {
+        return GradeFormat::Json;
+    }
+    match text(found, "format") {
+        Some("tsv") => GradeFormat::Tsv,
+        Some("json") => GradeFormat::Json,
+        Some("junit") => GradeFormat::Junit,
+        Some("gradescope") => GradeFormat::Gradescope,
+        _ => GradeFormat::Text,
+    }
+}
+
+/// Where all schedules are asked for, how far they are looked for.
+fn explored_of(found: &ArgMatches) -> Option<Bounds> {
+    if found.get_flag("explore") {
+        Some(bounds_of(found))
+    } else {
+        None
+    }
+}
+
+/// How far a search among all schedules goes.
+fn bounds_of(found: &ArgMatches) -> Bounds {
+    Bounds {
+        worlds: count(found, "states", USUAL_WORLDS),
+        seconds: found.get_one::<u64>("seconds"),
+        megabytes: found.get_one::<usize>("memory"),
+    }
+}
