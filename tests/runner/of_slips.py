@@ -20,6 +20,38 @@ BASES = {
             "put: LIT r1, 7", " STORE.S r1, r0, 0", " QUIT", "take: LOAD.S r2, r0, 0", " STORE.N r2, r0, 1", " QUIT"],
 }
 
+# a trap handler that t0 leads to makes the code that a SKIP behind the trap asks, and mends the address
+HANDLER = b""" .slim 1
+ .entry start
+ .data 0
+mend: LIT r2, 0
+ SUB.T r0, r2, 0
+ JUMP ALWAYS, 0, t0
+start: TLIT t0, mend
+ LIT r2, 4
+ LOAD.N r1, r2, 0
+ SKIP EQ, 0, done
+ STORE.N r2, r0, 0
+done: QUIT
+"""
+
+# a word that forwards to an empty one, which is so filled
+FORWARDS = b""" .slim 1
+ .entry fill
+ .entry take
+ .data 16
+ .data 0
+ .data 0, 0
+fill: LIT r1, 3
+ TAGSET r1, r0, 0
+ LIT r2, 7
+ STORE.N r2, r0, 0
+ QUIT
+take: LOAD.S r3, r0, 2
+ STORE.N r3, r0, 1
+ QUIT
+"""
+
 
 def program(base, changes):
     """The base's text, with each `NUMBER TEXT` of the changes, apart by ` / `, in place of a line."""
@@ -58,6 +90,8 @@ def no_slips():
     yield "slips are many", True, len(table.rows("lab_check/slips.tsv")) >= 75
     for base in BASES:
         yield f"base {base}", [], said(program(base, ""))
+    yield "a handler in t0", [], said(HANDLER)
+    yield "a word that forwards", [], said(FORWARDS)
     for path in sorted(glob.glob(os.path.join(table.ROOT, "examples/*.asm"))):
         # (one half of count.asm is a slip, which its text says)
         wanted = 1 if os.path.basename(path) == "count.asm" else 0

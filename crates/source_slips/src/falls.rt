@@ -2,34 +2,29 @@
 
 use crate::program::Program;
 use crate::spots::{Kind, Slips};
+use crate::straight_ways::{past_ends, runs_into};
+use image_file::Image;
 use insn_word::{ControlOp, Insn, MemoryOp};
 use std::alloc::AllocError;
 
 /// Warns of each word from which a stream may run on past the end, or into another processor's code.
-pub(crate) fn warn_of_falls(slips: &mut Slips, program: &Program) -> Result<(), AllocError> {
-    let count = program.insns.len();
-    for place in 0..count {
-        let next = place.saturating_add(1);
-        if !program.is_reached(place) {
-            continue;
-        }
-        if is_past_end(program, place, count) {
-            warn_of_end(slips, place)?;
-        } else if program.goes_on(place) && is_others_entry(program, next) {
-            warn_of_entry(slips, program, place, next)?;
+pub(crate) fn warn_of_falls(
+    slips: &mut Slips,
+    image: &Image,
+    program: &Program,
+) -> Result<(), AllocError> {
+    let ends = past_ends(slips.alloc(), image)?;
+    for end in ends.iter() {
+        warn_of_end(slips, end.place as usize)?;
+    }
+    for into in runs_into(slips.alloc(), image)?.iter() {
+        let place = into.place as usize;
+        let is_told = ends.iter().any(|end| end.place == into.place);
+        if !is_told && is_others_entry(program, place.saturating_add(1)) {
+            warn_of_entry(slips, place, into.processor)?;
         }
     }
     Ok(())
-}
-
-/// Whether a stream goes past the end from a word: by the next one, or by SKIP.
-fn is_past_end(program: &Program, place: usize, count: usize) -> bool {
-    let is_last = program.goes_on(place) && place.saturating_add(1) >= count;
-    let skips = match program.skip_target(place) {
-        Some(target) => target >= count,
-        None => false,
-    };
-    is_last || skips
 }
 
 fn warn_of_end(slips: &mut Slips, place: usize) -> Result<(), AllocError> {
@@ -75,18 +70,8 @@ fn has_reference(program: &Program, place: usize) -> bool {
     }
 }
 
-fn warn_of_entry(
-    slips: &mut Slips,
-    program: &Program,
-    place: usize,
-    next: usize,
-) -> Result<(), AllocError> {
+fn warn_of_entry(slips: &mut Slips, place: usize, processor: usize) -> Result<(), AllocError> {
     let alloc = slips.alloc();
-    let found = program
-        .entries
-        .iter()
-        .position(|entry| *entry as usize == next);
-    let processor = found.unwrap_or(0);
     let words = format!(in alloc;
         "a stream goes on from here into the code of processor {processor}"
     )?;

@@ -60,14 +60,19 @@ impl Turns {
 }
 
 /// Warns of each reference that waits for a word which is full from the start on, or empty, and which nothing turns. None is
-/// told where waiting has a limit, where the program fills no word at all, and where data words have other tags than full.
+/// told where waiting has a limit, where the program fills no word at all, where data words have other tags than full, and
+/// where a TAGSET may let a word forward references to another one.
 pub(crate) fn warn_of_full_bits(
     slips: &mut Slips,
     image: &Image,
     references: &[Reference],
 ) -> Result<(), AllocError> {
     let cells = image.cells();
-    if image.retry_limit() > 0 || !references.iter().any(|reference| reference.may_fill()) {
+    let fills = references.iter().any(|reference| reference.may_fill());
+    let sets_tags = references
+        .iter()
+        .any(|reference| reference.part.op == MemoryOp::TagSet);
+    if image.retry_limit() > 0 || !fills || sets_tags {
         return Ok(());
     }
     let turns = Turns::of(slips.alloc(), references, cells.len())?;

@@ -3,16 +3,22 @@
 #![tactic(auto)]
 
 mod addresses;
+mod closed_codes;
 mod codes;
 mod falls;
 mod full_bits;
 mod lost_results;
+mod made_codes;
 mod program;
 mod references;
 mod registers;
 mod rounds;
 mod slips;
 mod spots;
+mod straight_ways;
+mod unmade;
 
 pub use slips::source_slips;
 pub use spots::Slip;
+pub use straight_ways::{PastEnd, RunInto, past_ends, runs_into};
+pub use unmade::{UnmadeCode, unmade_codes};

@@ -16,7 +16,8 @@ pub(crate) struct Program {
     pub(crate) begins: Vec<bool>,
     /// The entries of the processors.
     pub(crate) entries: Vec<u32>,
-    /// Whether a stream may go on at any word, with any codes: by a trap handler, XCHG or TSET.
+    /// Whether a stream may go on at any word, with any codes: by a trap handler (also one that the
+    /// program sets in t0), XCHG or TSET.
     pub(crate) goes_anywhere: bool,
 }
 
@@ -131,12 +132,15 @@ impl Program {
     }
 }
 
-/// Whether an instruction may set all of a status word.
+/// Whether an instruction may set all of a status word, or t0, to which traps lead.
 fn sets_status(insn: Option<Insn>) -> bool {
     match insn {
-        Some(Insn::Normal { c, .. }) => {
-            c.op == ControlOp::Exchange || c.op == ControlOp::TargetSet
-        }
-        _ => false,
+        Some(Insn::Wide { op, reg, .. }) => op == WideOp::TargetLiteral && reg == 0,
+        Some(Insn::Normal { c, .. }) => match c.op {
+            ControlOp::Exchange | ControlOp::TargetSet => true,
+            ControlOp::Call => c.u == 0,
+            _ => false,
+        },
+        None => false,
     }
 }

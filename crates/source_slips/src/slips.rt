@@ -25,12 +25,12 @@ pub fn source_slips(alloc: Global, text: &[u8]) -> Result<Vec<Slip>, AllocError>
     let program = Program::of(alloc, &image)?;
     let references = references_of(alloc, &program)?;
     let mut slips = Slips::of(alloc, text)?;
-    warn_of_codes(&mut slips, &program)?;
+    warn_of_codes(&mut slips, &image, &program)?;
     warn_of_lost_results(&mut slips, &program)?;
     warn_of_rounds(&mut slips, &program)?;
     // (a word that forwards or traps leads a reference elsewhere, and a handler mends what traps)
     if is_plain && !program.goes_anywhere {
-        warn_of_falls(&mut slips, &program)?;
+        warn_of_falls(&mut slips, &image, &program)?;
         warn_of_addresses(&mut slips, &references, image.cells().len())?;
     }
     if is_plain {

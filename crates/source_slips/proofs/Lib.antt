@@ -1,0 +1,5 @@
+pub mod Ways
+pub mod MadeTables
+pub mod MadeStreams
+pub mod MadeCodes
+pub mod NeverMade
