@@ -1,5 +1,5 @@
 -- The steps of a space as links between its places.
-use Rattle.closed_sets.specs.declared.links.Link.{Link}
+use Rattle.terminal_components.specs.declared.links.Link.{Link}
 use Rattle.schedule_space.specs.declared.links.Edge.{Edge}
 
 -- the link that an edge is

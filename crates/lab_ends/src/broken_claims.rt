@@ -25,17 +25,19 @@ pub(crate) fn add_broken<const S: usize>(
     for index in 0..count {
         let claim = &wishes.claims[index];
         let text = &wishes.claim_texts[index];
-        add_if_broken::<S>(alloc, ends, claim, text.as_str(), space)?;
+        let line = wishes.claim_lines.get(index).copied().unwrap_or(0);
+        add_if_broken::<S>(alloc, ends, claim, text.as_str(), line, space)?;
     }
     Ok(())
 }
 
-/// Adds the worlds that break a claim of this text as one end, if there are any.
+/// Adds the worlds that break a claim of this text, which the line of this number says, as one end, if there are any.
 fn add_if_broken<const S: usize>(
     alloc: Global,
     ends: &mut Vec<SpaceEnd>,
     claim: &Claim,
     text: &str,
+    line: usize,
     space: &Space<'_>,
 ) -> Result<(), AllocError>
     ensures { OnOk result (map value_of ends.new.items ≡ map value_of ends.old.items
@@ -47,16 +49,17 @@ fn add_if_broken<const S: usize>(
         return Ok(());
     }
     let text = String::from_str(alloc, text)?;
-    ends.push(end_that_is_broken(alloc, space, text, places, &before)?)?;
+    ends.push(end_that_is_broken(alloc, space, text, line, places, &before)?)?;
     Ok(())
 }
 
-/// The end that these worlds of a space are, and those after so many steps of the ones that all its schedules begin
-/// with.
+/// The end that these worlds of a space are, which break the claim of a line, and those after so many steps of the ones that
+/// all its schedules begin with.
 fn end_that_is_broken(
     alloc: Global,
     space: &Space<'_>,
     text: String,
+    line: usize,
     places: Vec<usize>,
     before: &[usize],
 ) -> Result<SpaceEnd, AllocError>
@@ -65,6 +68,7 @@ fn end_that_is_broken(
     let first = places.first().copied().unwrap_or(0);
     let told = EndKey::of(SpaceEndKind::Broken, text);
     let mut end = new_end(alloc, space, first, told)?;
+    end.line = line;
     end.sets = places.len();
     end.places = places;
     end.before = before.len();

@@ -9,17 +9,20 @@ use lab_texts::ProgramNames;
 use schedule_space::Space;
 use std::alloc::{AllocError, Global};
 
-/// The world from which a stream goes round alone, as an end that breaks the line `never busy`, with the steps round.
+/// The world from which a stream loops alone, as an end that breaks the line `never busy`, which has this number, with the
+/// steps of the loop.
 pub(crate) fn busy_end<const S: usize>(
     alloc: Global,
     names: &ProgramNames<'_>,
     space: &Space<'_>,
     busy: Busy,
+    line: usize,
 ) -> Result<SpaceEnd, AllocError> {
     let text = String::from_str(alloc, NEVER_BUSY)?;
     let told = EndKey::of(SpaceEndKind::Broken, text);
     let mut end = new_end(alloc, space, busy.place, told)?;
     let mut machine = machine_at::<S>(alloc, space, busy.place)?;
+    end.line = line;
     end.cycle = vec![in alloc; busy.stream; busy.steps]?;
     push_cycle(&mut end.cycle_words, names, &mut machine, &end.cycle)?;
     Ok(end)

@@ -4,7 +4,7 @@ use claims::Missing;
 use std::alloc::{AllocError, AllocFailed};
 
 /// Why a line that begins with `always`, `never` or `some` claims nothing about a program.
-#[derive(Clone, Copy, Debug, PartialEq, Eq)]
+#[derive(Clone, Copy, PartialEq, Eq)]
 pub enum ClaimFault {
     /// It has none of the forms.
     Form,

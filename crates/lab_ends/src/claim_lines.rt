@@ -41,7 +41,7 @@ pub fn is_claim_word(word: &str) -> bool {
 }
 
 /// Words with a space between them.
-fn joined(alloc: Global, words: &[&str]) -> Result<String, AllocError> {
+pub(crate) fn joined(alloc: Global, words: &[&str]) -> Result<String, AllocError> {
     let mut text = String::new(alloc);
     for (index, word) in words.iter().enumerate() {
         text.push_str(if index == 0 { "" } else { " " })?;

@@ -1,18 +1,18 @@
-//! The steps by which it goes round in a set of worlds that spins.
+//! The steps of a cycle in a set of worlds that spins.
 
 use crate::links::links_of;
-use closed_sets::way_round;
-use lab_texts::{ProgramNames, push_stream};
+use lab_texts::{ProgramNames, TextWriter};
 use machine::Machine;
 use processor::Step;
 use schedule_space::{Edge, Space};
 use std::alloc::{AllocError, Global};
+use terminal_components::shortest_cycle;
 use waiting::{is_stuck, running_streams};
 
 /// The most steps that are told one by one.
 const MOST_TOLD: usize = 12;
 
-/// The steps of a shortest way round along the edges of a space from the world at a place, a machine's, back to it, or
+/// The steps of a shortest cycle along the edges of a space from the world at a place, a machine's, back to it, or
 /// to one for which it stands: where none leads back, a step that goes on and leaves such a world. Empty where there is
 /// neither.
 pub(crate) fn cycle_of<const S: usize>(
@@ -23,7 +23,7 @@ pub(crate) fn cycle_of<const S: usize>(
 ) -> Result<Vec<Step>, AllocError> {
     let edges = space.edges();
     let links = links_of(alloc, edges)?;
-    match way_round(alloc, space.len(), &links, place)? {
+    match shortest_cycle(alloc, space.len(), &links, place)? {
         Some(numbers) => steps_of(alloc, edges, &numbers),
         None => staying_step(alloc, machine),
     }
@@ -65,33 +65,34 @@ pub(crate) fn push_cycle<const S: usize>(
     if steps.is_empty() {
         return Ok(());
     }
-    let count = steps.len();
-    let some_steps = if count == 1 { "" } else { "s" };
-    write!(words, "loops in {count} step{some_steps}: ")?;
-    for (number, step) in steps.iter().enumerate() {
-        if number >= MOST_TOLD {
-            return words.push_str(", ..");
-        }
-        if number > 0 {
-            words.push_str(", ")?;
-        }
-        push_place_of(words, names, machine, *step)?;
+    let mut out = TextWriter::take(words);
+    put_length(&mut out, steps.len());
+    for (number, step) in steps.iter().take(MOST_TOLD).enumerate() {
+        out.put(if number == 0 { "" } else { ", " });
+        put_place_of(&mut out, names, machine, *step);
         machine.step(step.p, step.s);
     }
-    Ok(())
+    out.put(if steps.len() > MOST_TOLD { ", .." } else { "" });
+    out.give_back(words)
+}
+
+/// Adds in how many steps it is.
+fn put_length(out: &mut TextWriter, count: usize) {
+    out.put("loops in ");
+    out.put_number(count as u64);
+    out.put(if count == 1 { " step: " } else { " steps: " });
 }
 
 /// Adds a stream and the place where it stands.
-fn push_place_of<const S: usize>(
-    words: &mut String,
+fn put_place_of<const S: usize>(
+    out: &mut TextWriter,
     names: &ProgramNames<'_>,
     machine: &Machine<'_, S>,
     step: Step,
-) -> Result<(), AllocError> {
-    push_stream(words, step.p, step.s)?;
-    words.push_str(" ")?;
-    match machine.stream(step.p, step.s) {
-        Some(stream) => names.push_place(words, stream.ssw().pc),
-        None => Ok(()),
+) {
+    out.put_stream(step.p, step.s);
+    out.put(" ");
+    if let Some(stream) = machine.stream(step.p, step.s) {
+        names.put_place(out, stream.ssw().pc);
     }
 }

@@ -1,10 +1,11 @@
 //! Ends in words.
 
 use lab_texts::{
-    NumberStyle, ProgramNames, StoppedStream, push_changed_words, push_part_of, push_stream,
-    push_trap, stopped_streams,
+    NumberStyle, ProgramNames, StoppedStream, TextWriter, push_changed_words, put_part_of,
+    stopped_streams,
 };
 use machine::Machine;
+use processor::Step;
 use std::alloc::{AllocError, Global};
 use waiting::{running_streams, wait_of};
 
@@ -26,37 +27,37 @@ pub fn end_text_of<const S: usize>(
 ) -> Result<EndText, AllocError> {
     let stopped = stopped_streams(alloc, machine)?;
     let mut text = String::new(alloc);
-    push_stopped(&mut text, &stopped)?;
-    push_waiting(alloc, &mut text, names, machine)?;
+    let mut out = TextWriter::take(&mut text);
+    put_stopped(&mut out, &stopped);
+    put_waiting(&mut out, names, machine, &running_streams(alloc, machine)?);
+    out.give_back(&mut text)?;
     push_changed_words(&mut text, names, style, machine)?;
     Ok(EndText { text, stopped })
 }
 
 /// Adds who was stopped by which trap.
-fn push_stopped(text: &mut String, stopped: &[StoppedStream]) -> Result<(), AllocError> {
+fn put_stopped(out: &mut TextWriter, stopped: &[StoppedStream]) {
     for found in stopped {
-        push_part_of(text, 0, "")?;
-        push_stream(text, found.stream.p, found.stream.s)?;
-        text.push_str(" by ")?;
-        push_trap(text, found.trap)?;
+        put_part_of(out, 0, "");
+        out.put_stream(found.stream.p, found.stream.s);
+        out.put(" by ");
+        out.put_trap(found.trap);
     }
-    Ok(())
 }
 
-/// Adds who waits for which word.
-fn push_waiting<const S: usize>(
-    alloc: Global,
-    text: &mut String,
+/// Adds which of the streams that run wait for which word.
+fn put_waiting<const S: usize>(
+    out: &mut TextWriter,
     names: &ProgramNames<'_>,
     machine: &Machine<'_, S>,
-) -> Result<(), AllocError> {
-    for stream in &running_streams(alloc, machine)? {
+    running: &[Step],
+) {
+    for stream in running {
         if let Some(wait) = wait_of(machine, stream.p, stream.s) {
-            push_part_of(text, 0, "")?;
-            push_stream(text, stream.p, stream.s)?;
-            text.push_str(" waits for ")?;
-            names.push_address(text, wait.address)?;
+            put_part_of(out, 0, "");
+            out.put_stream(stream.p, stream.s);
+            out.put(" waits for ");
+            names.put_address(out, wait.address);
         }
     }
-    Ok(())
 }

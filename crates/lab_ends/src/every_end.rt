@@ -21,7 +21,7 @@ use schedule_space::{Fate, Space};
 use std::alloc::{AllocError, Global};
 
 /// What worlds of a space are.
-#[derive(Clone, Copy, Debug, PartialEq, Eq)]
+#[derive(Clone, Copy, PartialEq, Eq)]
 pub enum SpaceEndKind {
     /// Ends of this kind; `Spinning` where no schedule from there comes to an end.
     End(EndKind),
@@ -55,6 +55,8 @@ pub struct SpaceEnd {
     pub kind: SpaceEndKind,
     /// Who was stopped, who waits or goes on for ever, and the words that changed. The claim, where it is broken.
     pub text: String,
+    /// The line, counted from 1, that says the claim that is broken; 0 of other ends.
+    pub line: usize,
     /// The place of the first expectation that is not met.
     pub missed: Option<usize>,
     /// Whether a trap that nobody expected stopped a stream.
@@ -115,7 +117,7 @@ pub fn space_ends<const S: usize>(
     ensures broken { IfOk result (λ ends. HasBrokenEnds space.now wishes.now.claims.items
         (map string_bytes wishes.now.claim_texts.items) (map value_of ends.items)) }
 {
-    let mut ends = unbroken_ends::<S>(alloc, names, style, &wishes.ends, space, is_complete, busy)?;
+    let mut ends = unbroken_ends::<S>(alloc, names, style, wishes, space, is_complete, busy)?;
     add_broken::<S>(alloc, &mut ends, wishes, space)?;
     tell_more::<S>(alloc, &mut ends, names, style, space)?;
     Ok(ends)
@@ -127,7 +129,7 @@ fn unbroken_ends<const S: usize>(
     alloc: Global,
     names: &ProgramNames<'_>,
     style: NumberStyle,
-    expected: &[Expectation],
+    wishes: &Wishes,
     space: &Space<'_>,
     is_complete: bool,
     busy: Option<Busy>,
@@ -135,14 +137,15 @@ fn unbroken_ends<const S: usize>(
     let mut ends = Vec::new(alloc);
     for place in 0..space.len() {
         if place < space.len() && space.fate(place) != Fate::GoesOn {
-            add_end::<S>(alloc, &mut ends, names, style, expected, space, place)?;
+            add_end::<S>(alloc, &mut ends, names, style, &wishes.ends, space, place)?;
         }
     }
     if is_complete {
         add_spinning::<S>(alloc, &mut ends, names, style, space)?;
     }
     if let Some(busy) = busy {
-        ends.push(busy_end::<S>(alloc, names, space, busy)?)?;
+        let line = wishes.never_busy.unwrap_or(0);
+        ends.push(busy_end::<S>(alloc, names, space, busy, line)?)?;
     }
     Ok(ends)
 }
@@ -252,6 +255,7 @@ pub(crate) fn new_end(
     let mut end = SpaceEnd {
         kind: told.kind,
         text: told.text,
+        line: 0,
         missed: told.missed,
         is_trapped: told.is_trapped,
         places: Vec::new(alloc),

@@ -3,8 +3,8 @@
 use image_file::Image;
 use image_machines::loaded;
 use lab_texts::{
-    FindingsOfRun, MOST_STEPS_OF_TORN, NumberStyle, ProgramNames, Telling, push_findings,
-    push_first_finding,
+    FindingsOfRun, MOST_STEPS_OF_TORN, NumberStyle, ProgramNames, Telling, TextWriter,
+    push_first_finding, put_findings,
 };
 use processor::Step;
 use run_findings::Action;
@@ -52,19 +52,24 @@ impl RunFindings {
         names: &ProgramNames<'_>,
         style: NumberStyle,
     ) -> Result<(), AllocError> {
+        let mut text = TextWriter::take(out);
+        self.put(&mut text, names, style);
+        text.give_back(out)
+    }
+
+    /// Adds what [`RunFindings::push`] does.
+    pub fn put(&self, out: &mut TextWriter, names: &ProgramNames<'_>, style: NumberStyle) {
         let telling = Telling {
             names,
             style,
             actions: &self.actions,
         };
-        push_findings(out, &telling, &self.found)?;
-        if self.found.is_torn_sought {
-            return Ok(());
+        put_findings(out, &telling, &self.found);
+        if !self.found.is_torn_sought {
+            out.put("torn reads are looked for in runs of at most ");
+            out.put_number(MOST_STEPS_OF_TORN as u64);
+            out.put(" steps\n");
         }
-        write!(
-            out,
-            "torn reads are looked for in runs of at most {MOST_STEPS_OF_TORN} steps\n"
-        )
     }
 }
 

@@ -28,6 +28,6 @@ pub use every_end::{SpaceEnd, SpaceEndKind, space_ends};
 pub use expected_traps::is_expected_trap;
 pub use findings::{RunFindings, first_finding, push_findings_of_run};
 pub use links::links_of;
-pub use named_lines::{NamedText, UnknownName, with_addresses};
+pub use named_lines::{AddressedText, NamedText, UnknownName, with_addresses};
 pub use rule_lines::{RuleFault, RuleLine, are_rules_kept, first_broken_rule, is_rule_word};
 pub use wishes::{NEVER_BUSY, WishFault, Wishes};

@@ -3,9 +3,9 @@
 ghost use Rattle.std.specs.Prelude.{◌≡◌, IfOk, map};
 ghost use Rattle.lab_ends.specs.Links.{link_of};
 
-use closed_sets::Link;
 use schedule_space::Edge;
 use std::alloc::{AllocError, Global};
+use terminal_components::Link;
 
 /// The links between the places of a space's worlds, in the order of its edges.
 pub fn links_of(alloc: Global, edges: &[Edge]) -> Result<Vec<Link>, AllocError>

@@ -13,11 +13,20 @@ pub struct UnknownName {
     pub words: String,
 }
 
+/// A text of expectations and claims with addresses in place of the names of data words.
+#[derive(Drop)]
+pub struct AddressedText {
+    /// The text. A line that has no name is as it was.
+    pub text: Vec<u8>,
+    /// The words of each line as they were written, with a space between them, if it has a name; else nothing.
+    pub written: Vec<String>,
+}
+
 /// A text with addresses in place of the names of data words, or what is wrong with its first name of none.
 #[derive(Drop)]
 pub enum NamedText {
-    /// The text. A line that has no name is as it was.
-    Plain(Vec<u8>),
+    /// The text.
+    Plain(AddressedText),
     /// A name of no word.
     Unknown(UnknownName),
 }
@@ -29,6 +38,7 @@ pub fn with_addresses(
     text: &[u8],
 ) -> Result<NamedText, AllocError> {
     let mut plain = Vec::with_capacity(alloc, text.len())?;
+    let mut written = Vec::new(alloc);
     for (index, line) in text.split(|byte| *byte == b'\n').enumerate() {
         if index > 0 {
             plain.push(b'\n')?;
@@ -37,22 +47,28 @@ pub fn with_addresses(
         said.read(alloc, names, statement_of(line))?;
         let Said {
             text: addressed,
+            written: words,
             is_named,
             unknown,
         } = said;
-        if let Some(words) = unknown {
+        if let Some(reason) = unknown {
             return Ok(NamedText::Unknown(UnknownName {
                 line: index.saturating_add(1),
-                words,
+                words: reason,
             }));
         }
         if is_named {
             plain.extend_from_slice(addressed.as_bytes())?;
+            written.push(words)?;
         } else {
             plain.extend_from_slice(line)?;
+            written.push(String::new(alloc))?;
         }
     }
-    Ok(NamedText::Plain(plain))
+    Ok(NamedText::Plain(AddressedText {
+        text: plain,
+        written,
+    }))
 }
 
 /// What stands on a line before its comment, where the line says something of data words; else nothing.
@@ -84,6 +100,8 @@ enum Expected {
 struct Said {
     /// Its words, with a space between them and addresses for names.
     text: String,
+    /// Its words as they were written, with a space between them.
+    written: String,
     /// Whether it has a name.
     is_named: bool,
     /// What is wrong with its first name of no word, where it has one.
@@ -95,6 +113,7 @@ impl Said {
     fn new(alloc: Global) -> Said {
         Said {
             text: String::new(alloc),
+            written: String::new(alloc),
             is_named: false,
             unknown: None,
         }
@@ -109,9 +128,10 @@ impl Said {
     ) -> Result<(), AllocError> {
         let mut next = Expected::Other;
         for word in line.split_whitespace() {
-            if !self.text.is_empty() {
-                self.text.push_str(" ")?;
-            }
+            let between = if self.written.is_empty() { "" } else { " " };
+            self.text.push_str(between)?;
+            self.written.push_str(between)?;
+            self.written.push_str(word)?;
             match next {
                 Expected::Address => self.add_address(alloc, names, word)?,
                 Expected::Range => self.add_range(alloc, names, word)?,

@@ -6,6 +6,7 @@ ghost use Rattle.program_rules.specs.Keeping.{is_kept};
 ghost use Rattle.lab_ends.specs.ProgramWishes.{are_rules_kept};
 ghost use Rattle.lab_ends.specs.declared.rule_lines.RuleLine.{RuleLine};
 
+use crate::claim_lines::joined;
 use image_file::Image;
 use program_rules::{ProgramOperation, ProgramRule, is_kept};
 use std::alloc::{AllocError, AllocFailed, Global};
@@ -22,7 +23,7 @@ pub struct RuleLine {
 }
 
 /// Why a line that begins as a rule is none.
-#[derive(Clone, Copy, Debug, PartialEq, Eq)]
+#[derive(Clone, Copy, PartialEq, Eq)]
 pub enum RuleFault {
     /// It has none of the forms.
     Form,
@@ -83,23 +84,44 @@ pub(crate) fn add_rules(
     match words {
         ["entries", count] => {
             let rule = ProgramRule::Entries(count_of(count)?);
-            let text = format!(in alloc; "entries {count}")?;
-            Ok(rules.push(RuleLine { line, text, rule })?)
+            add_rule(alloc, rules, line, words, rule)
         }
         ["at", "most", count, "words"] => {
             let rule = ProgramRule::AtMostWords(count_of(count)?);
-            let text = format!(in alloc; "at most {count} words")?;
-            Ok(rules.push(RuleLine { line, text, rule })?)
+            add_rule(alloc, rules, line, words, rule)
         }
-        [verb, first, others @ ..] if *verb == "forbid" || *verb == "require" => {
-            add_of_operation(alloc, rules, line, verb, first)?;
-            for name in others {
-                add_of_operation(alloc, rules, line, verb, name)?;
-            }
-            Ok(())
+        [verb, _, ..] if *verb == "forbid" || *verb == "require" => {
+            let names = words.get(1..).unwrap_or(&[]);
+            add_of_operations(alloc, rules, line, verb, names)
         }
         _ => Err(RuleFault::Form),
     }
+}
+
+/// Adds the rule that the words of a line say.
+fn add_rule(
+    alloc: Global,
+    rules: &mut Vec<RuleLine>,
+    line: usize,
+    words: &[&str],
+    rule: ProgramRule,
+) -> Result<(), RuleFault> {
+    let text = joined(alloc, words)?;
+    Ok(rules.push(RuleLine { line, text, rule })?)
+}
+
+/// Adds the rules that forbid or require the operations of these names.
+fn add_of_operations(
+    alloc: Global,
+    rules: &mut Vec<RuleLine>,
+    line: usize,
+    verb: &str,
+    names: &[&str],
+) -> Result<(), RuleFault> {
+    for name in names {
+        add_of_operation(alloc, rules, line, verb, name)?;
+    }
+    Ok(())
 }
 
 /// Adds the rule that forbids or requires the operation of a name.

@@ -1,7 +1,7 @@
 //! What is told of a set of worlds: which streams run in it and which only wait, and the words that change.
 
 use crate::machines::machine_at;
-use lab_texts::{NumberStyle, ProgramNames, push_changed_words, push_part_of, push_stream};
+use lab_texts::{NumberStyle, ProgramNames, TextWriter, push_changed_words, put_part_of};
 use machine::Machine;
 use processor::Step;
 use schedule_space::Space;
@@ -68,6 +68,33 @@ impl Seen {
         })
     }
 
+    /// Of a first world, a machine's, and of those at the other places.
+    fn over<const S: usize>(
+        alloc: Global,
+        space: &Space<'_>,
+        first: &Machine<'_, S>,
+        others: &[usize],
+    ) -> Result<Seen, AllocError> {
+        let mut seen = Seen::of(alloc, first)?;
+        for place in others {
+            seen.add_at(alloc, space, first, *place)?;
+        }
+        Ok(seen)
+    }
+
+    /// Also of the world at another place than that of the first machine.
+    fn add_at<const S: usize>(
+        &mut self,
+        alloc: Global,
+        space: &Space<'_>,
+        first: &Machine<'_, S>,
+        place: usize,
+    ) -> Result<(), AllocError> {
+        let other = machine_at::<S>(alloc, space, place)?;
+        self.add(first, &other);
+        Ok(())
+    }
+
     /// Also of another world than that of the first machine.
     fn add<const S: usize>(&mut self, first: &Machine<'_, S>, other: &Machine<'_, S>) {
         for stream in self.streams.iter_mut() {
@@ -110,15 +137,22 @@ pub(crate) fn set_summary<const S: usize>(
     others: &[usize],
 ) -> Result<SetSummary, AllocError> {
     let machine = machine_at::<S>(alloc, space, first)?;
-    let mut seen = Seen::of(alloc, &machine)?;
-    for place in others {
-        let other = machine_at::<S>(alloc, space, *place)?;
-        seen.add(&machine, &other);
-    }
+    let seen = Seen::over(alloc, space, &machine, others)?;
+    summary_of(alloc, names, style, &machine, &seen)
+}
+
+/// What is told of a set of worlds, the first of which is a machine's, by what was seen of them.
+fn summary_of<const S: usize>(
+    alloc: Global,
+    names: &ProgramNames<'_>,
+    style: NumberStyle,
+    machine: &Machine<'_, S>,
+    seen: &Seen,
+) -> Result<SetSummary, AllocError> {
     let changing = changing_words(alloc, &seen.is_changing)?;
     let mut text = String::new(alloc);
     push_streams(&mut text, names, &seen.streams)?;
-    push_changed_words(&mut text, names, style, &machine)?;
+    push_changed_words(&mut text, names, style, machine)?;
     push_changing(&mut text, names, &changing)?;
     Ok(SetSummary {
         text,
@@ -155,19 +189,25 @@ fn push_streams(
     names: &ProgramNames<'_>,
     streams: &[GoingStream],
 ) -> Result<(), AllocError> {
+    let mut out = TextWriter::take(text);
     for GoingStream { stream, going } in streams {
-        push_part_of(text, 0, "")?;
-        push_stream(text, stream.p, stream.s)?;
-        match going {
-            Going::Runs => text.push_str(" runs")?,
-            Going::WaitsFor(address) => {
-                text.push_str(" waits for ")?;
-                names.push_address(text, *address)?;
-            }
-            Going::Waits => text.push_str(" waits")?,
-        }
+        put_part_of(&mut out, 0, "");
+        out.put_stream(stream.p, stream.s);
+        put_going(&mut out, names, *going);
     }
-    Ok(())
+    out.give_back(text)
+}
+
+/// Adds how a stream goes on.
+fn put_going(out: &mut TextWriter, names: &ProgramNames<'_>, going: Going) {
+    match going {
+        Going::Runs => out.put(" runs"),
+        Going::WaitsFor(address) => {
+            out.put(" waits for ");
+            names.put_address(out, address);
+        }
+        Going::Waits => out.put(" waits"),
+    }
 }
 
 /// Adds the words at these byte addresses, as ones that change.
@@ -176,12 +216,13 @@ fn push_changing(
     names: &ProgramNames<'_>,
     changing: &[u64],
 ) -> Result<(), AllocError> {
+    let mut out = TextWriter::take(text);
     for address in changing {
-        push_part_of(text, 0, "")?;
-        names.push_address(text, *address)?;
-        text.push_str(" keeps changing")?;
+        put_part_of(&mut out, 0, "");
+        names.put_address(&mut out, *address);
+        out.put(" keeps changing");
     }
-    Ok(())
+    out.give_back(text)
 }
 
 /// Marks the words in which two machines differ.

@@ -1,15 +1,15 @@
-//! Sets of worlds that no step leads out of, and in which it goes on for ever.
+//! Endless loops: terminal components of worlds, which no step leads out of, and in which it goes on for ever.
 
 use crate::cycles::{cycle_of, push_cycle};
 use crate::every_end::{EndKey, SpaceEnd, SpaceEndKind, new_end};
 use crate::links::links_of;
 use crate::machines::machine_at;
 use crate::set_summaries::{SetSummary, set_summary};
-use closed_sets::closed_sets;
 use end_kinds::EndKind;
 use lab_texts::{NumberStyle, ProgramNames};
 use schedule_space::Space;
 use std::alloc::{AllocError, Global};
+use terminal_components::terminal_roots;
 
 /// The kind of such sets.
 const SPINNING: SpaceEndKind = SpaceEndKind::End(EndKind::Spinning);
@@ -42,8 +42,8 @@ fn spinning_sets(
         return Ok(Vec::new(alloc));
     }
     let links = links_of(alloc, space.edges())?;
-    let homes = closed_sets(alloc, space.len(), &links)?;
-    let mut sets = places_of_sets(alloc, &homes, can_end)?;
+    let roots = terminal_roots(alloc, space.len(), &links)?;
+    let mut sets = places_of_sets(alloc, &roots, can_end)?;
     if sets.is_empty() {
         sets.push(places_without_end(alloc, can_end)?)?;
     }
@@ -53,19 +53,19 @@ fn spinning_sets(
 /// The places of each set from which no end can be reached, where the first place of each one's set is known.
 fn places_of_sets(
     alloc: Global,
-    homes: &[Option<usize>],
+    roots: &[Option<usize>],
     can_end: &[bool],
 ) -> Result<Vec<Vec<usize>>, AllocError> {
-    let mut rank_of = vec![in alloc; None; homes.len()]?;
+    let mut rank_of = vec![in alloc; None; roots.len()]?;
     let mut sets = Vec::new(alloc);
-    for (place, (home, can_end)) in homes.iter().zip(can_end).enumerate() {
-        let Some(home) = *home else {
+    for (place, (root, can_end)) in roots.iter().zip(can_end).enumerate() {
+        let Some(root) = *root else {
             continue;
         };
         if *can_end {
             continue;
         }
-        let Some(rank) = rank_of.get_mut(home) else {
+        let Some(rank) = rank_of.get_mut(root) else {
             continue;
         };
         let rank = *rank.get_or_insert(sets.len());
@@ -125,7 +125,7 @@ fn with_places(end: SpaceEnd, places: &[usize]) -> Result<SpaceEnd, AllocError> 
     Ok(end)
 }
 
-/// A set of worlds of which this is the first, with the way round from there.
+/// A set of worlds of which this is the first, with a cycle from there.
 fn new_set<const S: usize>(
     alloc: Global,
     names: &ProgramNames<'_>,

@@ -5,6 +5,7 @@ ghost use Rattle.lab_ends.specs.ProgramWishes.{is_nothing};
 
 use crate::claim_fault::ClaimFault;
 use crate::claim_lines::{ClaimLine, is_claim_word};
+use crate::named_lines::AddressedText;
 use crate::rule_lines::{RuleFault, RuleLine, add_rules, is_rule_word};
 use claims::Claim;
 use expectations::{Expectation, ExpectationFault, read_expectations};
@@ -18,10 +19,16 @@ use std::str;
 pub struct Wishes {
     /// What each end has to be.
     pub ends: Vec<Expectation>,
+    /// The words that say each of them, as they were written, where they name a data word; else none.
+    pub end_texts: Vec<String>,
+    /// The line, counted from 1, that says each of them.
+    pub end_lines: Vec<usize>,
     /// What has to hold of each world, of none, or of one at least.
     pub claims: Vec<Claim>,
-    /// The words that say each of them, in the same order.
+    /// The words that say each of them, in the same order, as they were written.
     pub claim_texts: Vec<String>,
+    /// The line, counted from 1, that says each of them.
+    pub claim_lines: Vec<usize>,
     /// What the program itself has to be.
     pub rules: Vec<RuleLine>,
     /// The line, counted from 1, that says that no stream ever goes round alone; None where none does.
@@ -32,7 +39,7 @@ pub struct Wishes {
 pub const NEVER_BUSY: &str = "never busy";
 
 /// Why a text says no wishes.
-#[derive(Clone, Copy, Debug, PartialEq, Eq)]
+#[derive(Clone, Copy, PartialEq, Eq)]
 pub enum WishFault {
     /// A line begins as a claim, and is none about the program.
     Claim {
@@ -71,8 +78,11 @@ impl Wishes {
     pub fn none(alloc: Global) -> Wishes {
         Wishes {
             ends: Vec::new(alloc),
+            end_texts: Vec::new(alloc),
+            end_lines: Vec::new(alloc),
             claims: Vec::new(alloc),
             claim_texts: Vec::new(alloc),
+            claim_lines: Vec::new(alloc),
             rules: Vec::new(alloc),
             never_busy: None,
         }
@@ -96,24 +106,23 @@ impl Wishes {
     /// is none; else `Expectation` where the others are no expectations, or where the text says nothing.
     pub fn of(
         alloc: Global,
-        text: &[u8],
+        addressed: &AddressedText,
         names: &ProgramNames<'_>,
         image: &Image,
     ) -> Result<Wishes, WishFault> {
+        let AddressedText { text, written } = addressed;
         let mut wishes = Wishes::none(alloc);
         let mut others = Vec::with_capacity(alloc, text.len())?;
         for (index, line) in text.split(|byte| *byte == b'\n').enumerate() {
             let words = line_words(alloc, line)?;
-            let first = words.first().copied().unwrap_or("");
             let number = index.saturating_add(1);
-            if is_never_busy(&words) {
-                wishes.never_busy.get_or_insert(number);
-            } else if is_claim_word(first) {
-                wishes.add_claim(alloc, number, &words, names, image)?;
-            } else if is_rule_word(first) {
-                wishes.add_rules(alloc, number, &words)?;
-            } else {
+            let written = match written.get(index) {
+                Some(words) => words.as_str(),
+                None => "",
+            };
+            if !wishes.add_said(alloc, number, &words, written, names, image)? {
                 others.extend_from_slice(line)?;
+                wishes.note_end(alloc, number, line, written)?;
             }
             others.push(b'\n')?;
         }
@@ -123,18 +132,63 @@ impl Wishes {
         Ok(wishes)
     }
 
-    /// Adds the claim that the words of a line say about a program.
+    /// Adds what a line says, by its number, its words, and these as they were written if they have a name, unless that is
+    /// an expectation; whether it is none.
+    fn add_said(
+        &mut self,
+        alloc: Global,
+        number: usize,
+        words: &[&str],
+        written: &str,
+        names: &ProgramNames<'_>,
+        image: &Image,
+    ) -> Result<bool, WishFault> {
+        let first = words.first().copied().unwrap_or("");
+        if is_never_busy(words) {
+            self.never_busy.get_or_insert(number);
+        } else if is_claim_word(first) {
+            self.add_claim(alloc, number, words, written, names, image)?;
+        } else if is_rule_word(first) {
+            self.add_rules(alloc, number, words)?;
+        } else {
+            return Ok(false);
+        }
+        Ok(true)
+    }
+
+    /// Adds the claim that the words of a line say about a program, and how they were written, if they have a name.
     fn add_claim(
         &mut self,
         alloc: Global,
         line: usize,
         words: &[&str],
+        written: &str,
         names: &ProgramNames<'_>,
         image: &Image,
     ) -> Result<(), WishFault> {
-        let said = claim_at(alloc, line, words, names, image)?;
-        self.claims.push(said.claim)?;
-        self.claim_texts.push(said.text)?;
+        let ClaimLine { mut text, claim } = claim_at(alloc, line, words, names, image)?;
+        if !written.is_empty() {
+            text.clear();
+            text.push_str(written)?;
+        }
+        self.claims.push(claim)?;
+        self.claim_texts.push(text)?;
+        self.claim_lines.push(line)?;
+        Ok(())
+    }
+
+    /// Notes which line says what ends have to be, and how it was written, if it says something.
+    fn note_end(
+        &mut self,
+        alloc: Global,
+        number: usize,
+        line: &[u8],
+        written: &str,
+    ) -> Result<(), AllocError> {
+        if has_words(line) {
+            self.end_texts.push(String::from_str(alloc, written)?)?;
+            self.end_lines.push(number)?;
+        }
         Ok(())
     }
 

@@ -1,7 +1,7 @@
 //! Addresses of data words, by numbers and by names.
 
-use crate::names::ProgramNames;
-use plain_text::push_plain;
+use crate::names::{ProgramNames, put_offset};
+use crate::text_writer::TextWriter;
 use source_places::DataName;
 use std::alloc::{AllocError, Global};
 use std::collections::HashMap;
@@ -69,22 +69,21 @@ impl<'t> DataNames<'t> {
     }
 
     /// Adds which names there are, or how words get names where there is none.
-    fn push_known(&self, out: &mut String) -> Result<(), AllocError> {
+    fn put_known(&self, out: &mut TextWriter) {
         if self.by_word.is_empty() {
-            return out.push_str(
-                ": names need a source text with a comment that is a name, as .data 0 ; total",
-            );
+            out.put(": names need a source text with a comment that is a name, as .data 0 ; total");
+            return;
         }
-        out.push_str(": the names are ")?;
+        out.put(": the names are ");
         for (index, name) in self.by_word.iter().take(MOST_TOLD).enumerate() {
-            out.push_str(if index == 0 { "" } else { ", " })?;
-            out.push_str(text_of(name))?;
+            out.put(if index == 0 { "" } else { ", " });
+            out.put(text_of(name));
         }
-        out.push_str(if self.by_word.len() > MOST_TOLD {
+        out.put(if self.by_word.len() > MOST_TOLD {
             ", .."
         } else {
             ""
-        })
+        });
     }
 }
 
@@ -122,29 +121,61 @@ impl<'t> ProgramNames<'t> {
         out: &mut String,
         text: &str,
     ) -> Result<(), AllocError> {
+        let mut why = TextWriter::take(out);
+        let found = self.put_no_address(alloc, &mut why, text);
+        why.give_back(out)?;
+        found
+    }
+
+    /// Adds what [`ProgramNames::push_no_address`] does. Memory may be missing to find which name may be meant.
+    pub fn put_no_address(
+        &self,
+        alloc: Global,
+        out: &mut TextWriter,
+        text: &str,
+    ) -> Result<(), AllocError> {
         let text = without_brackets(text);
         let name = match text.split_once('+') {
             Some((name, _)) => name,
             None => text,
         };
-        if let Some(found) = self.data_names.called(name) {
-            return push_beyond(out, text, name, found.count);
+        match self.data_names.called(name) {
+            Some(found) => put_beyond(out, text, name, found.count),
+            None => self.put_unknown(out, text, self.data_names.nearest(alloc, text)?),
         }
-        out.push_str("no word is named ")?;
-        push_plain(out, text)?;
-        match self.data_names.nearest(alloc, text)? {
-            Some(name) => write!(out, ": did you mean {name}?"),
-            None => self.data_names.push_known(out),
+        Ok(())
+    }
+
+    /// Adds that no word has a name, and which may be meant, or which there are.
+    fn put_unknown(&self, out: &mut TextWriter, text: &str, nearest: Option<&str>) {
+        out.put("no word is named ");
+        out.put_plain(text);
+        match nearest {
+            Some(name) => {
+                out.put(": did you mean ");
+                out.put(name);
+                out.put("?");
+            }
+            None => self.data_names.put_known(out),
         }
     }
 
     /// Adds a byte address in brackets, and behind them the name of its word, where it has one: `[8] total`.
     pub fn push_address(&self, out: &mut String, address: u64) -> Result<(), AllocError> {
-        write!(out, "[{address}]")?;
+        let mut text = TextWriter::take(out);
+        self.put_address(&mut text, address);
+        text.give_back(out)
+    }
+
+    /// Adds what [`ProgramNames::push_address`] does.
+    pub fn put_address(&self, out: &mut TextWriter, address: u64) {
+        out.put("[");
+        out.put_number(address);
+        out.put("]");
         if self.has_name(address) {
-            out.push_str(" ")?;
+            out.put(" ");
         }
-        self.push_data_name(out, address)
+        self.put_data_name(out, address);
     }
 
     /// Whether the word at a byte address has a name.
@@ -155,15 +186,17 @@ impl<'t> ProgramNames<'t> {
     /// Adds the name of the word at a byte address, as `total`, or `ring+1` where it is not the first of its line; nothing
     /// where it has none.
     pub fn push_data_name(&self, out: &mut String, address: u64) -> Result<(), AllocError> {
-        let Some(name) = self.name_at(address) else {
-            return Ok(());
-        };
-        out.push_str(text_of(name))?;
-        let behind = word_of(address).saturating_sub(name.first);
-        if behind > 0 {
-            write!(out, "+{behind}")?;
+        let mut text = TextWriter::take(out);
+        self.put_data_name(&mut text, address);
+        text.give_back(out)
+    }
+
+    /// Adds what [`ProgramNames::push_data_name`] does.
+    fn put_data_name(&self, out: &mut TextWriter, address: u64) {
+        if let Some(name) = self.name_at(address) {
+            out.put(text_of(name));
+            put_offset(out, word_of(address).saturating_sub(name.first));
         }
-        Ok(())
     }
 
     /// The comment of the line that made the word at a byte address, without the name that it begins with.
@@ -191,11 +224,17 @@ impl<'t> ProgramNames<'t> {
 }
 
 /// Adds that a text is past the words of a name.
-fn push_beyond(out: &mut String, text: &str, name: &str, count: usize) -> Result<(), AllocError> {
-    let plural = if count == 1 { "" } else { "s" };
-    write!(out, "{name} names {count} word{plural}, and ")?;
-    push_plain(out, text)?;
-    out.push_str(" is none of them")
+fn put_beyond(out: &mut TextWriter, text: &str, name: &str, count: usize) {
+    out.put(name);
+    out.put(" names ");
+    out.put_number(count as u64);
+    out.put(if count == 1 {
+        " word, and "
+    } else {
+        " words, and "
+    });
+    out.put_plain(text);
+    out.put(" is none of them");
 }
 
 /// Which data word stands at a byte address.

@@ -1,7 +1,8 @@
 //! What a step changed, in words.
 
 use crate::names::ProgramNames;
-use crate::values::{NumberStyle, push_content, push_stream, push_value};
+use crate::text_writer::TextWriter;
+use crate::values::{NumberStyle, put_content};
 use processor::Step;
 use std::alloc::AllocError;
 use step_views::{Change, Content, Place, StepView, StreamPart};
@@ -28,43 +29,29 @@ enum Quit {
 /// Adds what a step changed, behind what stands there since `begin`. The place of the next line of the stream tells its
 /// pc, where it is not the next word's; its end stands for each part that became zero and for the counts, and a start
 /// for the count of streams.
-pub fn push_changes(
-    out: &mut String,
+pub(crate) fn put_changes(
+    out: &mut TextWriter,
     names: &ProgramNames,
     style: NumberStyle,
     view: &StepView,
     begin: usize,
-) -> Result<(), AllocError> {
+) {
     let quit = quit_of(view);
     match quit {
         Quit::Not => {}
-        Quit::Whole => push_part_of(out, begin, "the stream ends")?,
-        Quit::KeepsPlace => push_part_of(out, begin, "the stream ends, its slot is kept")?,
+        Quit::Whole => put_part_of(out, begin, "the stream ends"),
+        Quit::KeepsPlace => put_part_of(out, begin, "the stream ends, its slot is kept"),
     }
     let writer = ChangeWriter {
         names,
         style,
+        view,
         begin,
+        has_ended: quit != Quit::Not,
     };
     for change in &view.changes {
-        match change.place {
-            Place::Stream { p, s, part } if view.step.p == p && view.step.s == s => {
-                if quit == Quit::Not {
-                    writer.push_own(out, view, part, change)?;
-                }
-            }
-            Place::Stream { p, s, part } => writer.push_other(out, view, p, s, part, change)?,
-            Place::Current { .. } => {}
-            Place::Reserved { p } => {
-                if quit == Quit::Not {
-                    writer.push_places(out, p, change)?;
-                }
-            }
-            Place::Value { address } => writer.push_memory(out, address, change)?,
-            Place::Tags { address } => writer.push_memory_tags(out, view, address, change)?,
-        }
+        writer.put_change(out, change);
     }
-    Ok(())
 }
 
 /// Adds a part of a stream and what stands in it, as `r1 16` and `t0 no handler`.
@@ -75,13 +62,21 @@ pub fn push_stream_part(
     part: StreamPart,
     content: Content,
 ) -> Result<(), AllocError> {
-    push_part(out, part)?;
-    let writer = ChangeWriter {
-        names,
-        style,
-        begin: 0,
-    };
-    writer.push_content(out, content)
+    let mut text = TextWriter::take(out);
+    put_stream_part(&mut text, names, style, part, content);
+    text.give_back(out)
+}
+
+/// Adds what [`push_stream_part`] does.
+pub fn put_stream_part(
+    out: &mut TextWriter,
+    names: &ProgramNames,
+    style: NumberStyle,
+    part: StreamPart,
+    content: Content,
+) {
+    put_part(out, part);
+    put_named_content(out, names, style, content);
 }
 
 /// Adds something that a step did, behind what stands there since `begin`.
@@ -90,6 +85,14 @@ pub fn push_part_of(out: &mut String, begin: usize, text: &str) -> Result<(), Al
         out.push_str(BETWEEN)?;
     }
     out.push_str(text)
+}
+
+/// Adds what [`push_part_of`] does.
+pub fn put_part_of(out: &mut TextWriter, begin: usize, text: &str) {
+    if out.len() > begin {
+        out.put(BETWEEN);
+    }
+    out.put(text);
 }
 
 /// How the step's stream ended.
@@ -137,149 +140,154 @@ fn word_at(pc: u64) -> u32 {
     u32::try_from(pc).unwrap_or(u32::MAX)
 }
 
-/// What is needed to write a change.
+/// What is needed to write a change of a step.
 #[derive(Clone, Copy)]
 struct ChangeWriter<'a, 't> {
     names: &'a ProgramNames<'t>,
     style: NumberStyle,
+    view: &'a StepView,
     begin: usize,
+    /// Whether the step's stream ended.
+    has_ended: bool,
 }
 
 impl ChangeWriter<'_, '_> {
-    /// Adds a change of the stepping stream.
-    fn push_own(
-        self,
-        out: &mut String,
-        view: &StepView,
-        part: StreamPart,
-        change: &Change,
-    ) -> Result<(), AllocError> {
-        if part == StreamPart::Pc {
-            return self.push_jump(out, view, change);
+    /// Adds a change.
+    fn put_change(&self, out: &mut TextWriter, change: &Change) {
+        match change.place {
+            Place::Stream { p, s, part } => self.put_of_stream(out, Step { p, s }, part, change),
+            Place::Current { .. } => {}
+            Place::Reserved { p } => self.put_places(out, p, change),
+            Place::Value { address } => self.put_memory(out, address, change),
+            Place::Tags { address } => self.put_memory_tags(out, address, change),
         }
-        push_part_of(out, self.begin, "")?;
-        push_part(out, part)?;
-        self.push_content(out, change.before)?;
-        out.push_str(" -> ")?;
-        self.push_content(out, change.after)
+    }
+
+    /// Adds a change of a stream.
+    fn put_of_stream(&self, out: &mut TextWriter, stream: Step, part: StreamPart, change: &Change) {
+        if stream != self.view.step {
+            self.put_other(out, stream, part, change);
+        } else if !self.has_ended {
+            self.put_own(out, part, change);
+        }
+    }
+
+    /// Adds a change of the stepping stream.
+    fn put_own(&self, out: &mut TextWriter, part: StreamPart, change: &Change) {
+        if part == StreamPart::Pc {
+            self.put_jump(out, change.after);
+            return;
+        }
+        put_part_of(out, self.begin, "");
+        put_part(out, part);
+        self.put_both(out, change);
     }
 
     /// Adds where the stream goes on, where that is not the next word.
-    fn push_jump(
-        self,
-        out: &mut String,
-        view: &StepView,
-        change: &Change,
-    ) -> Result<(), AllocError> {
-        let Content::Number(after) = change.after else {
-            return Ok(());
+    fn put_jump(&self, out: &mut TextWriter, content: Content) {
+        let Content::Number(after) = content else {
+            return;
         };
-        if view.outcome == Outcome::Done && after == u64::from(view.pc) + 1 {
-            return Ok(());
+        if self.view.outcome != Outcome::Done || after != u64::from(self.view.pc) + 1 {
+            put_part_of(out, self.begin, "to ");
+            self.names.put_place(out, word_at(after));
         }
-        push_part_of(out, self.begin, "to ")?;
-        self.names.push_place(out, word_at(after))
     }
 
     /// Adds a change of a stream that the step started; its pc stands behind its name.
-    fn push_other(
-        self,
-        out: &mut String,
-        view: &StepView,
-        p: u8,
-        s: u8,
-        part: StreamPart,
-        change: &Change,
-    ) -> Result<(), AllocError> {
+    fn put_other(&self, out: &mut TextWriter, stream: Step, part: StreamPart, change: &Change) {
         match part {
-            StreamPart::Pc => Ok(()),
+            StreamPart::Pc => {}
             StreamPart::Status => {
-                push_part_of(out, self.begin, "starts ")?;
-                push_stream(out, p, s)?;
-                out.push_str(" at ")?;
-                self.names.push_place(out, pc_after(view, p, s))
+                put_part_of(out, self.begin, "starts ");
+                out.put_stream(stream.p, stream.s);
+                out.put(" at ");
+                self.names
+                    .put_place(out, pc_after(self.view, stream.p, stream.s));
             }
             _ => {
-                push_part_of(out, self.begin, "")?;
-                push_stream(out, p, s)?;
-                out.push_str(" has ")?;
-                push_part(out, part)?;
-                self.push_content(out, change.after)
+                put_part_of(out, self.begin, "");
+                out.put_stream(stream.p, stream.s);
+                out.put(" has ");
+                put_part(out, part);
+                self.put_content(out, change.after);
             }
         }
     }
 
-    /// Adds how many places a processor has.
-    fn push_places(self, out: &mut String, p: u8, change: &Change) -> Result<(), AllocError> {
-        push_part_of(out, self.begin, "processor ")?;
-        write!(out, "{p} has ")?;
-        self.push_content(out, change.after)?;
-        out.push_str(" slots")
+    /// Adds how many places a processor has, unless the end of the step's stream stands for it.
+    fn put_places(&self, out: &mut TextWriter, p: u8, change: &Change) {
+        if self.has_ended {
+            return;
+        }
+        put_part_of(out, self.begin, "processor ");
+        out.put_number(u64::from(p));
+        out.put(" has ");
+        self.put_content(out, change.after);
+        out.put(" slots");
     }
 
     /// Adds the value of a word, before and after.
-    fn push_memory(
-        self,
-        out: &mut String,
-        address: u64,
-        change: &Change,
-    ) -> Result<(), AllocError> {
-        push_part_of(out, self.begin, "")?;
-        self.names.push_address(out, address)?;
-        out.push_str(" ")?;
-        self.push_content(out, change.before)?;
-        out.push_str(" -> ")?;
-        self.push_content(out, change.after)
+    fn put_memory(&self, out: &mut TextWriter, address: u64, change: &Change) {
+        put_part_of(out, self.begin, "");
+        self.names.put_address(out, address);
+        out.put(" ");
+        self.put_both(out, change);
     }
 
     /// Adds the tags of a word, before and after, behind its value where that changed too.
-    fn push_memory_tags(
-        self,
-        out: &mut String,
-        view: &StepView,
-        address: u64,
-        change: &Change,
-    ) -> Result<(), AllocError> {
-        let has_value = view
-            .changes
-            .iter()
-            .any(|other| other.place == Place::Value { address });
-        if has_value {
-            out.push_str(", ")?;
+    fn put_memory_tags(&self, out: &mut TextWriter, address: u64, change: &Change) {
+        if has_value(self.view, address) {
+            out.put(", ");
         } else {
-            push_part_of(out, self.begin, "")?;
-            self.names.push_address(out, address)?;
-            out.push_str(" ")?;
-            self.push_value_read(out, view, address)?;
+            put_part_of(out, self.begin, "");
+            self.names.put_address(out, address);
+            out.put(" ");
+            self.put_value_read(out, address);
         }
-        self.push_content(out, change.before)?;
-        out.push_str(" -> ")?;
-        self.push_content(out, change.after)
+        self.put_both(out, change);
     }
 
-    /// Adds the value that a step read of a word, where it read one, and what goes on behind it.
-    fn push_value_read(
-        self,
-        out: &mut String,
-        view: &StepView,
-        address: u64,
-    ) -> Result<(), AllocError> {
-        let Some(value) = value_read(view, address) else {
-            return Ok(());
-        };
-        out.push_str("is ")?;
-        push_value(out, self.style, value)?;
-        out.push_str(", ")
-    }
-
-    /// Adds what stands in a place; a target register as the place where it is a pc alone.
-    fn push_content(self, out: &mut String, content: Content) -> Result<(), AllocError> {
-        match content {
-            Content::Target(word) if word.bits() == NO_HANDLER => out.push_str("no handler"),
-            Content::Target(word) if is_place(word) => self.names.push_place(out, word.pc),
-            _ => push_content(out, self.style, content),
+    /// Adds the value that the step read of a word, where it read one, and what goes on behind it.
+    fn put_value_read(&self, out: &mut TextWriter, address: u64) {
+        if let Some(value) = value_read(self.view, address) {
+            out.put("is ");
+            out.put_value(self.style, value);
+            out.put(", ");
         }
     }
+
+    /// Adds what stood in a place, and what stands there.
+    fn put_both(&self, out: &mut TextWriter, change: &Change) {
+        self.put_content(out, change.before);
+        out.put(" -> ");
+        self.put_content(out, change.after);
+    }
+
+    /// Adds what stands in a place.
+    fn put_content(&self, out: &mut TextWriter, content: Content) {
+        put_named_content(out, self.names, self.style, content);
+    }
+}
+
+/// Adds what stands in a place; a target register as the place where it is a pc alone.
+fn put_named_content(
+    out: &mut TextWriter,
+    names: &ProgramNames,
+    style: NumberStyle,
+    content: Content,
+) {
+    match content {
+        Content::Target(word) if word.bits() == NO_HANDLER => out.put("no handler"),
+        Content::Target(word) if is_place(word) => names.put_place(out, word.pc),
+        _ => put_content(out, style, content),
+    }
+}
+
+/// Whether a step changed the value of the word at a byte address.
+fn has_value(view: &StepView, address: u64) -> bool {
+    let place = Place::Value { address };
+    view.changes.iter().any(|change| change.place == place)
 }
 
 /// The value that a step read of the word at a byte address; None where it read none.
@@ -298,16 +306,23 @@ fn is_place(word: StatusWord) -> bool {
 }
 
 /// Adds the name of a stream's part.
-pub(crate) fn push_part(out: &mut String, part: StreamPart) -> Result<(), AllocError> {
+pub(crate) fn put_part(out: &mut TextWriter, part: StreamPart) {
     match part {
-        StreamPart::Pc => out.push_str("pc "),
-        StreamPart::Codes => out.push_str("codes "),
-        StreamPart::Mask => out.push_str("mask "),
-        StreamPart::InTrap => out.push_str("in trap "),
-        StreamPart::TrapRegister => out.push_str("xr "),
-        StreamPart::Retries => out.push_str("tries "),
-        StreamPart::Status => out.push_str("status "),
-        StreamPart::Register(number) => write!(out, "r{number} "),
-        StreamPart::Target(number) => write!(out, "t{number} "),
+        StreamPart::Register(number) => put_numbered(out, "r", number),
+        StreamPart::Target(number) => put_numbered(out, "t", number),
+        StreamPart::Pc => out.put("pc "),
+        StreamPart::Codes => out.put("codes "),
+        StreamPart::Mask => out.put("mask "),
+        StreamPart::InTrap => out.put("in trap "),
+        StreamPart::TrapRegister => out.put("xr "),
+        StreamPart::Retries => out.put("tries "),
+        StreamPart::Status => out.put("status "),
     }
+}
+
+/// Adds the name of a register.
+fn put_numbered(out: &mut TextWriter, kind: &str, number: u8) {
+    out.put(kind);
+    out.put_number(u64::from(number));
+    out.put(" ");
 }

@@ -1,8 +1,9 @@
 //! In what two worlds differ.
 
-use crate::changes::push_part;
+use crate::changes::put_part;
 use crate::names::ProgramNames;
-use crate::values::{NumberStyle, push_content, push_stream, push_tags, push_value};
+use crate::text_writer::TextWriter;
+use crate::values::{NumberStyle, put_content, put_tags};
 use machine::Machine;
 use std::alloc::AllocError;
 use step_views::{Change, Place};
@@ -16,17 +17,40 @@ pub fn push_differing_words<const S: usize>(
     style: NumberStyle,
     machine: &Machine<'_, S>,
 ) -> Result<(), AllocError> {
+    let mut text = TextWriter::take(out);
+    put_differing_words(&mut text, names, style, machine);
+    text.give_back(out)
+}
+
+/// Adds what [`push_differing_words`] does.
+pub fn put_differing_words<const S: usize>(
+    out: &mut TextWriter,
+    names: &ProgramNames,
+    style: NumberStyle,
+    machine: &Machine<'_, S>,
+) {
     for (index, cell) in machine.image().cells().iter().enumerate() {
         let address = index as u64 * 8;
         if let Some(word) = machine.word(address)
             && word != *cell
         {
-            push_word_change(out, names, style, address, *cell, word)?;
-            names.push_comment(out, address)?;
-            out.push_str("\n")?;
+            put_word_line(out, names, style, address, *cell, word);
         }
     }
-    Ok(())
+}
+
+/// Adds the line of a word that differs.
+fn put_word_line(
+    out: &mut TextWriter,
+    names: &ProgramNames,
+    style: NumberStyle,
+    address: u64,
+    before: Word,
+    after: Word,
+) {
+    put_word_change(out, names, style, address, before, after);
+    names.put_comment(out, address);
+    out.put("\n");
 }
 
 /// Adds the words of the memory that are not the image's in one line, as `[0] 0 -> 4 (the sum), [8] 0 -> 2 (the max)`:
@@ -37,6 +61,7 @@ pub fn push_changed_words<const S: usize>(
     style: NumberStyle,
     machine: &Machine<'_, S>,
 ) -> Result<(), AllocError> {
+    let mut text = TextWriter::take(out);
     let mut last = None;
     let mut count: usize = 0;
     for (index, cell) in machine.image().cells().iter().enumerate() {
@@ -44,89 +69,78 @@ pub fn push_changed_words<const S: usize>(
         if let Some(word) = machine.word(address)
             && word != *cell
         {
-            push_comment_between(out, names, last, address)?;
-            if !out.is_empty() {
-                out.push_str(", ")?;
-            }
-            push_word_change(out, names, style, address, *cell, word)?;
+            put_between(&mut text, names, last, address);
+            put_word_change(&mut text, names, style, address, *cell, word);
             last = Some(address);
             count = count.saturating_add(1);
         }
     }
     match last {
-        Some(address) if count == 1 => push_comment(out, names, address),
-        Some(address) => push_comment_in_brackets(out, names, address),
-        None => Ok(()),
+        Some(address) if count == 1 => put_remark(&mut text, names, address),
+        Some(address) => put_remark_in_brackets(&mut text, names, address),
+        None => {}
     }
+    text.give_back(out)
 }
 
-/// Adds the comment of the word before another, where the other has not the same.
-fn push_comment_between(
-    out: &mut String,
-    names: &ProgramNames,
-    before: Option<u64>,
-    address: u64,
-) -> Result<(), AllocError> {
-    match before {
-        Some(before) if names.comment(before) != names.comment(address) => {
-            push_comment_in_brackets(out, names, before)
-        }
-        _ => Ok(()),
+/// Adds what stands before the next word that differs: the comment of the word before it, where the two have not the
+/// same, and a comma behind what there is.
+fn put_between(out: &mut TextWriter, names: &ProgramNames, before: Option<u64>, address: u64) {
+    if let Some(before) = before
+        && names.comment(before) != names.comment(address)
+    {
+        put_remark_in_brackets(out, names, before);
+    }
+    if out.len() > 0 {
+        out.put(", ");
     }
 }
 
 /// Adds the comment of a word in brackets as the text has it, where it has one.
-fn push_comment_in_brackets(
-    out: &mut String,
-    names: &ProgramNames,
-    address: u64,
-) -> Result<(), AllocError> {
+fn put_remark_in_brackets(out: &mut TextWriter, names: &ProgramNames, address: u64) {
     let comment = names.remark(address);
-    if comment.is_empty() {
-        return Ok(());
+    if !comment.is_empty() {
+        out.put(" (");
+        out.put(comment);
+        out.put(")");
     }
-    out.push_str(" (")?;
-    out.push_str(comment)?;
-    out.push_str(")")
 }
 
 /// Adds the comment of a word as the text has it, where it has one.
-fn push_comment(out: &mut String, names: &ProgramNames, address: u64) -> Result<(), AllocError> {
+fn put_remark(out: &mut TextWriter, names: &ProgramNames, address: u64) {
     let comment = names.remark(address);
     if !comment.is_empty() {
-        out.push_str("   ")?;
-        out.push_str(comment)?;
+        out.put("   ");
+        out.put(comment);
     }
-    Ok(())
 }
 
 /// Adds a word that differs: the value and, where they differ, the tags, before and after.
-fn push_word_change(
-    out: &mut String,
+fn put_word_change(
+    out: &mut TextWriter,
     names: &ProgramNames,
     style: NumberStyle,
     address: u64,
     before: Word,
     after: Word,
-) -> Result<(), AllocError> {
-    names.push_address(out, address)?;
-    out.push_str(" ")?;
+) {
+    names.put_address(out, address);
+    out.put(" ");
     let values = before.value() != after.value();
     let tags = before.tags() != after.tags();
     if values {
-        push_value(out, style, before.value())?;
-        out.push_str(" -> ")?;
-        push_value(out, style, after.value())?;
+        out.put_value(style, before.value());
+        out.put(" -> ");
+        out.put_value(style, after.value());
     }
     if values && tags {
-        out.push_str(", ")?;
+        out.put(", ");
     }
     if tags {
-        push_tags(out, before.tags())?;
-        out.push_str(" -> ")?;
-        push_tags(out, after.tags())?;
+        put_tags(out, before.tags());
+        out.put(" -> ");
+        put_tags(out, after.tags());
     }
-    Ok(())
 }
 
 /// Adds places in which two worlds differ, as `0.0.pc 1 | 0`.
@@ -135,28 +149,44 @@ pub fn push_differences(
     style: NumberStyle,
     differences: &[Change],
 ) -> Result<(), AllocError> {
+    let mut text = TextWriter::take(out);
     for (index, change) in differences.iter().enumerate() {
         if index > 0 {
-            out.push_str(", ")?;
+            text.put(", ");
         }
-        push_place_name(out, change.place)?;
-        push_content(out, style, change.before)?;
-        out.push_str(" | ")?;
-        push_content(out, style, change.after)?;
+        put_difference(&mut text, style, change);
     }
-    Ok(())
+    text.give_back(out)
+}
+
+/// Adds a place in which two worlds differ.
+fn put_difference(out: &mut TextWriter, style: NumberStyle, change: &Change) {
+    put_place_name(out, change.place);
+    put_content(out, style, change.before);
+    out.put(" | ");
+    put_content(out, style, change.after);
 }
 
 /// Adds the name of a place, as `2.0.r5 ` and `[8] `.
-fn push_place_name(out: &mut String, place: Place) -> Result<(), AllocError> {
+fn put_place_name(out: &mut TextWriter, place: Place) {
     match place {
         Place::Stream { p, s, part } => {
-            push_stream(out, p, s)?;
-            out.push_str(".")?;
-            push_part(out, part)
+            out.put_stream(p, s);
+            out.put(".");
+            put_part(out, part);
         }
-        Place::Current { p } => write!(out, "{p} streams "),
-        Place::Reserved { p } => write!(out, "{p} slots "),
-        Place::Value { address } | Place::Tags { address } => write!(out, "[{address}] "),
+        Place::Current { p } => put_count_name(out, p, " streams "),
+        Place::Reserved { p } => put_count_name(out, p, " slots "),
+        Place::Value { address } | Place::Tags { address } => {
+            out.put("[");
+            out.put_number(address);
+            out.put("] ");
+        }
     }
+}
+
+/// Adds the name of a processor's count.
+fn put_count_name(out: &mut TextWriter, p: u8, name: &str) {
+    out.put_number(u64::from(p));
+    out.put(name);
 }

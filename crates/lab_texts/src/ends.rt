@@ -1,7 +1,8 @@
 //! How a run ended.
 
 use crate::names::ProgramNames;
-use crate::values::{push_stream, push_streams, push_trap};
+use crate::text_writer::TextWriter;
+use crate::values::put_streams;
 use crate::waits::{turned_word, wanted_word};
 use end_kinds::{EndKind, end_kind_of};
 use machine::Machine;
@@ -53,21 +54,7 @@ pub fn end_of<const S: usize>(
     views: &[StepView],
 ) -> Result<RunEnd, AllocError> {
     let waits = waits_of(alloc, machine, views)?;
-    let mut able = Vec::new(alloc);
-    let mut fresh = Vec::new(alloc);
-    let mut ready = Vec::new(alloc);
-    for stream in running_streams(alloc, machine)?.iter() {
-        let wait = waits.iter().find(|wait| wait.stream == *stream);
-        if wait.is_some_and(|wait| wait.is_stuck) {
-            continue;
-        }
-        able.push(*stream)?;
-        if !has_stepped(views, *stream) {
-            fresh.push(*stream)?;
-        } else if wait.is_none() {
-            ready.push(*stream)?;
-        }
-    }
+    let AbleStreams { able, fresh, ready } = able_streams(alloc, machine, views, &waits)?;
     Ok(RunEnd {
         kind: end_kind_of(machine),
         circle: circle_of(alloc, machine, &waits)?,
@@ -78,6 +65,51 @@ pub fn end_of<const S: usize>(
         quit: quit_streams(alloc, machine, views)?,
         stopped: stopped_streams(alloc, machine)?,
     })
+}
+
+/// The streams that can go on at the end of a run.
+#[derive(Drop)]
+struct AbleStreams {
+    /// All of them.
+    able: Vec<Step>,
+    /// Those that have taken no step yet.
+    fresh: Vec<Step>,
+    /// Those that have taken steps, and do not wait.
+    ready: Vec<Step>,
+}
+
+impl AbleStreams {
+    /// Adds a stream.
+    fn add(&mut self, stream: Step, has_stepped: bool, is_waiting: bool) -> Result<(), AllocError> {
+        self.able.push(stream)?;
+        if !has_stepped {
+            self.fresh.push(stream)?;
+        } else if !is_waiting {
+            self.ready.push(stream)?;
+        }
+        Ok(())
+    }
+}
+
+/// The streams that can go on, where these wait.
+fn able_streams<const S: usize>(
+    alloc: Global,
+    machine: &Machine<'_, S>,
+    views: &[StepView],
+    waits: &[StreamWait],
+) -> Result<AbleStreams, AllocError> {
+    let mut streams = AbleStreams {
+        able: Vec::new(alloc),
+        fresh: Vec::new(alloc),
+        ready: Vec::new(alloc),
+    };
+    for stream in running_streams(alloc, machine)?.iter() {
+        let wait = waits.iter().find(|wait| wait.stream == *stream);
+        if !wait.is_some_and(|wait| wait.is_stuck) {
+            streams.add(*stream, has_stepped(views, *stream), wait.is_some())?;
+        }
+    }
+    Ok(streams)
 }
 
 /// Whether a stream has taken a step.
@@ -139,82 +171,106 @@ pub fn push_end(
     steps: usize,
     end: &RunEnd,
 ) -> Result<(), AllocError> {
-    let plural = if steps == 1 { "" } else { "s" };
-    write!(out, "after {steps} step{plural}: ")?;
-    out.push_str(end.kind.sentence())?;
-    for (index, wait) in end.waits.iter().enumerate() {
-        out.push_str(if index == 0 { ": " } else { "; " })?;
-        push_wait(out, names, wait)?;
-    }
-    if !end.circle.is_empty() {
-        out.push_str(". A circle: ")?;
-        push_circle(out, &end.circle)?;
-    }
-    for stopped in &end.stopped {
-        out.push_str(". ")?;
-        push_stopped(out, names, stopped)?;
-    }
-    push_group(out, &end.quit, " has quit", " have quit")?;
-    push_group(out, &end.fresh, " has not begun", " have not begun")?;
-    push_group(out, &end.ready, " could go on", " could go on")?;
-    out.push_str("\n")
+    let mut text = TextWriter::take(out);
+    put_end(&mut text, names, steps, end);
+    text.give_back(out)
+}
+
+/// Adds what [`push_end`] does.
+pub fn put_end(out: &mut TextWriter, names: &ProgramNames, steps: usize, end: &RunEnd) {
+    put_count(out, steps);
+    out.put(end.kind.sentence());
+    put_waits(out, names, &end.waits);
+    put_circle(out, &end.circle);
+    put_all_stopped(out, names, &end.stopped);
+    put_group(out, &end.quit, " has quit", " have quit");
+    put_group(out, &end.fresh, " has not begun", " have not begun");
+    put_group(out, &end.ready, " could go on", " could go on");
+    out.put("\n");
+}
+
+/// Adds after how many steps it is.
+fn put_count(out: &mut TextWriter, steps: usize) {
+    out.put("after ");
+    out.put_number(steps as u64);
+    out.put(if steps == 1 { " step: " } else { " steps: " });
 }
 
 /// Adds a sentence about streams, where there are any.
-fn push_group(out: &mut String, streams: &[Step], one: &str, many: &str) -> Result<(), AllocError> {
+fn put_group(out: &mut TextWriter, streams: &[Step], one: &str, many: &str) {
     if streams.is_empty() {
-        return Ok(());
+        return;
     }
-    out.push_str(". ")?;
-    push_streams(out, streams)?;
-    out.push_str(if streams.len() == 1 { one } else { many })
+    out.put(". ");
+    put_streams(out, streams);
+    out.put(if streams.len() == 1 { one } else { many });
+}
+
+/// Adds the streams that were stopped.
+fn put_all_stopped(out: &mut TextWriter, names: &ProgramNames, streams: &[StoppedStream]) {
+    for stopped in streams {
+        out.put(". ");
+        put_stopped(out, names, stopped);
+    }
 }
 
 /// Adds a stream that was stopped: by which trap, and where.
-fn push_stopped(
-    out: &mut String,
-    names: &ProgramNames,
-    stopped: &StoppedStream,
-) -> Result<(), AllocError> {
-    push_stream(out, stopped.stream.p, stopped.stream.s)?;
-    out.push_str(" was stopped by ")?;
-    push_trap(out, stopped.trap)?;
-    out.push_str(", at ")?;
-    names.push_place(out, stopped.pc)
+fn put_stopped(out: &mut TextWriter, names: &ProgramNames, stopped: &StoppedStream) {
+    out.put_stream(stopped.stream.p, stopped.stream.s);
+    out.put(" was stopped by ");
+    out.put_trap(stopped.trap);
+    out.put(", at ");
+    names.put_place(out, stopped.pc);
 }
 
-/// Adds a stream that waits: where, since when, for what, and who left the word so.
-fn push_wait(out: &mut String, names: &ProgramNames, wait: &StreamWait) -> Result<(), AllocError> {
-    push_stream(out, wait.stream.p, wait.stream.s)?;
-    out.push_str(" waits at ")?;
-    names.push_place(out, wait.pc)?;
-    let since = wait.since;
-    if since > 0 {
-        write!(out, " since step {since}")?;
+/// Adds the streams that wait.
+fn put_waits(out: &mut TextWriter, names: &ProgramNames, waits: &[StreamWait]) {
+    for (index, wait) in waits.iter().enumerate() {
+        out.put(if index == 0 { ": " } else { "; " });
+        put_wait(out, names, wait);
+        put_turn(out, wait);
     }
-    let wanted = wanted_word(wait.wait.wanted);
-    out.push_str(" for ")?;
-    names.push_address(out, wait.wait.address)?;
-    write!(out, " to be {wanted}, which ")?;
+}
+
+/// Adds a stream that waits: where, since when, and for what.
+fn put_wait(out: &mut TextWriter, names: &ProgramNames, wait: &StreamWait) {
+    out.put_stream(wait.stream.p, wait.stream.s);
+    out.put(" waits at ");
+    names.put_place(out, wait.pc);
+    if wait.since > 0 {
+        out.put(" since step ");
+        out.put_number(wait.since as u64);
+    }
+    out.put(" for ");
+    names.put_address(out, wait.wait.address);
+    out.put(" to be ");
+    out.put(wanted_word(wait.wait.wanted));
+}
+
+/// Adds who left the word of a waiting stream so.
+fn put_turn(out: &mut TextWriter, wait: &StreamWait) {
+    out.put(", which ");
     match wait.turn {
         Some(turn) => {
-            let number = turn.number;
-            let turned = turned_word(wait.wait.wanted);
-            push_stream(out, turn.step.p, turn.step.s)?;
-            write!(out, " {turned} in step {number}")
+            out.put_stream(turn.step.p, turn.step.s);
+            out.put(" ");
+            out.put(turned_word(wait.wait.wanted));
+            out.put(" in step ");
+            out.put_number(turn.number as u64);
         }
-        None => write!(out, "it never was"),
+        None => out.put("it never was"),
     }
 }
 
-/// Adds a circle: each stream, and the first again.
-fn push_circle(out: &mut String, circle: &[Step]) -> Result<(), AllocError> {
+/// Adds a circle, where there is one: each stream, and the first again.
+fn put_circle(out: &mut TextWriter, circle: &[Step]) {
+    let Some(first) = circle.first() else {
+        return;
+    };
+    out.put(". A circle: ");
     for stream in circle {
-        push_stream(out, stream.p, stream.s)?;
-        out.push_str(" -> ")?;
+        out.put_stream(stream.p, stream.s);
+        out.put(" -> ");
     }
-    match circle.first() {
-        Some(first) => push_stream(out, first.p, first.s),
-        None => Ok(()),
-    }
+    out.put_stream(first.p, first.s);
 }

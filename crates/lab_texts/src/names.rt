@@ -1,8 +1,8 @@
 //! The names that a program's text gives its places.
 
 use crate::addresses::DataNames;
+use crate::text_writer::TextWriter;
 use image_file::MAX_PROGRAM_WORDS;
-use plain_text::push_plain;
 use source_places::{DataLine, SourceLabel, SourcePlaces, comment_of};
 use std::alloc::{AllocError, Global};
 use std::str;
@@ -33,14 +33,13 @@ pub struct ProgramNames<'t> {
 impl<'t> ProgramNames<'t> {
     /// The names that a text gives. Only memory can be missing.
     pub fn of(alloc: Global, text: &'t [u8]) -> Result<ProgramNames<'t>, AllocError> {
-        let places = SourcePlaces::of(alloc, text)?;
-        let words = word_names(alloc, &places)?;
-        let place_width = words.iter().map(place_width).max().unwrap_or(0);
-        let statement_width = words
-            .iter()
-            .map(|word| word.statement.len())
-            .max()
-            .unwrap_or(0);
+        ProgramNames::by(alloc, &SourcePlaces::of(alloc, text)?)
+    }
+
+    /// The names by the places of a text.
+    fn by(alloc: Global, places: &SourcePlaces<'t>) -> Result<ProgramNames<'t>, AllocError> {
+        let words = word_names(alloc, places)?;
+        let (place_width, statement_width) = widths_of(&words);
         Ok(ProgramNames {
             words,
             data: Vec::from_slice(alloc, places.data_lines())?,
@@ -52,14 +51,19 @@ impl<'t> ProgramNames<'t> {
 
     /// Adds the place of a program word: its label, as `eat+1`, or its number where no label stands before it.
     pub fn push_place(&self, out: &mut String, word: u32) -> Result<(), AllocError> {
+        let mut text = TextWriter::take(out);
+        self.put_place(&mut text, word);
+        text.give_back(out)
+    }
+
+    /// Adds what [`ProgramNames::push_place`] does.
+    pub fn put_place(&self, out: &mut TextWriter, word: u32) {
         match self.words.get(word as usize) {
-            Some(name) if name.offset == 0 && !name.label.is_empty() => out.push_str(name.label),
             Some(name) if !name.label.is_empty() => {
-                let label = name.label;
-                let offset = name.offset;
-                write!(out, "{label}+{offset}")
+                out.put(name.label);
+                put_offset(out, name.offset);
             }
-            _ => write!(out, "{word}"),
+            _ => out.put_number(u64::from(word)),
         }
     }
 
@@ -94,11 +98,17 @@ impl<'t> ProgramNames<'t> {
 
     /// Adds the instruction of a program word, with a space for each tab and carriage return between its parts.
     pub fn push_statement(&self, out: &mut String, word: u32) -> Result<(), AllocError> {
+        let mut text = TextWriter::take(out);
+        self.put_statement(&mut text, word);
+        text.give_back(out)
+    }
+
+    /// Adds what [`ProgramNames::push_statement`] does.
+    pub fn put_statement(&self, out: &mut TextWriter, word: u32) {
         for (index, part) in self.statement(word).split(is_blank).enumerate() {
-            out.push_str(if index == 0 { "" } else { " " })?;
-            out.push_str(part)?;
+            out.put(if index == 0 { "" } else { " " });
+            out.put(part);
         }
-        Ok(())
     }
 
     /// The line of a program word, from 1; 0 where there is none.
@@ -139,13 +149,12 @@ impl<'t> ProgramNames<'t> {
     }
 
     /// Adds that comment as a terminal may have it, without the word's name and behind blanks, where there is one.
-    pub(crate) fn push_comment(&self, out: &mut String, address: u64) -> Result<(), AllocError> {
+    pub(crate) fn put_comment(&self, out: &mut TextWriter, address: u64) {
         let comment = self.remark(address);
-        if comment.is_empty() {
-            return Ok(());
+        if !comment.is_empty() {
+            out.put("   ");
+            out.put_plain(comment);
         }
-        out.push_str("   ")?;
-        push_plain(out, comment)
     }
 
     /// The length of the longest place.
@@ -156,6 +165,14 @@ impl<'t> ProgramNames<'t> {
     /// The length of the longest instruction.
     pub fn statement_width(&self) -> usize {
         self.statement_width
+    }
+}
+
+/// Adds how many words something stands behind what was added, where it does.
+pub(crate) fn put_offset(out: &mut TextWriter, offset: usize) {
+    if offset > 0 {
+        out.put("+");
+        out.put_number(offset as u64);
     }
 }
 
@@ -233,6 +250,17 @@ fn is_blank(letter: char) -> bool {
 /// Bytes as text; empty where they are none.
 fn text_of(bytes: &[u8]) -> &str {
     str::from_utf8(bytes).unwrap_or("")
+}
+
+/// How many bytes the longest place takes, and the longest instruction.
+fn widths_of(words: &[WordName]) -> (usize, usize) {
+    let mut place: usize = 0;
+    let mut statement: usize = 0;
+    for word in words {
+        place = place.max(place_width(word));
+        statement = statement.max(word.statement.len());
+    }
+    (place, statement)
 }
 
 /// How many bytes a place takes.

@@ -1,14 +1,14 @@
 //! Lines that show steps.
 
-use crate::changes::push_changes;
+use crate::changes::put_changes;
 use crate::names::ProgramNames;
-use crate::values::{NumberStyle, push_stream, push_trap, push_word, trap_words};
+use crate::text_writer::TextWriter;
+use crate::values::{NumberStyle, put_word, trap_words};
 use crate::waits::wanted_word;
 use machine::Machine;
-use plain_text::push_plain;
 use processor::Step;
 use std::alloc::AllocError;
-use step_views::{Place, Reference, StepView};
+use step_views::{Place, StepView};
 use stream_core::{Outcome, Status, TrapKind};
 use tag_memory::{MemOp, Reply};
 use waiting::wait_of;
@@ -62,8 +62,24 @@ pub fn push_step_line<const S: usize>(
     view: &StepView,
     machine: &Machine<'_, S>,
 ) -> Result<(), AllocError> {
-    push_step_number(out, columns, number)?;
-    push_step_text(out, names, style, columns, view, machine)
+    let mut text = TextWriter::take(out);
+    put_step_line(&mut text, names, style, columns, number, view, machine);
+    text.give_back(out)
+}
+
+/// Adds what [`push_step_line`] does.
+pub fn put_step_line<const S: usize>(
+    out: &mut TextWriter,
+    names: &ProgramNames,
+    style: NumberStyle,
+    columns: Columns,
+    number: usize,
+    view: &StepView,
+    machine: &Machine<'_, S>,
+) {
+    out.put_right(number as u64, columns.number);
+    out.put("  ");
+    put_step_text(out, names, style, columns, view, machine);
 }
 
 /// Adds the number of a step, with which its line begins.
@@ -85,27 +101,57 @@ pub fn push_step_text<const S: usize>(
     view: &StepView,
     machine: &Machine<'_, S>,
 ) -> Result<(), AllocError> {
+    let mut text = TextWriter::take(out);
+    put_step_text(&mut text, names, style, columns, view, machine);
+    text.give_back(out)
+}
+
+/// Adds what [`push_step_text`] does.
+fn put_step_text<const S: usize>(
+    out: &mut TextWriter,
+    names: &ProgramNames,
+    style: NumberStyle,
+    columns: Columns,
+    view: &StepView,
+    machine: &Machine<'_, S>,
+) {
+    put_instruction(out, names, columns, view);
     let begin = out.len();
-    push_stream(out, view.step.p, view.step.s)?;
-    pad(out, begin, 7)?;
-    let begin = out.len();
-    names.push_place(out, view.pc)?;
-    pad(out, begin, columns.place)?;
-    let begin = out.len();
-    out.push_str("  ")?;
-    names.push_statement(out, view.pc)?;
-    pad(out, begin, columns.statement.saturating_add(4))?;
-    let begin = out.len();
-    push_what(out, names, style, view, machine)?;
+    put_what(out, names, style, view, machine);
     if let Some(address) = met_word(view) {
-        let comment = names.remark(address);
-        if !comment.is_empty() {
-            pad(out, begin, columns.changes)?;
-            out.push_str("  ")?;
-            push_plain(out, comment)?;
-        }
+        put_remark(out, names, begin, columns.changes, address);
     }
-    end_line(out)
+    out.end_line();
+}
+
+/// Adds whose step it was, and which instruction it took from where.
+fn put_instruction(out: &mut TextWriter, names: &ProgramNames, columns: Columns, view: &StepView) {
+    let begin = out.len();
+    out.put_stream(view.step.p, view.step.s);
+    out.pad(begin, 7);
+    let begin = out.len();
+    names.put_place(out, view.pc);
+    out.pad(begin, columns.place);
+    let begin = out.len();
+    out.put("  ");
+    names.put_statement(out, view.pc);
+    out.pad(begin, columns.statement.saturating_add(4));
+}
+
+/// Adds the comment of a word, where it has one, behind a column that began at a place in the text.
+fn put_remark(
+    out: &mut TextWriter,
+    names: &ProgramNames,
+    begin: usize,
+    width: usize,
+    address: u64,
+) {
+    let comment = names.remark(address);
+    if !comment.is_empty() {
+        out.pad(begin, width);
+        out.put("  ");
+        out.put_plain(comment);
+    }
 }
 
 /// Adds the head of such lines: the name of each column. That of comments stands there where a word has one.
@@ -114,22 +160,28 @@ pub fn push_step_head(
     names: &ProgramNames,
     columns: Columns,
 ) -> Result<(), AllocError> {
-    push_head(out, "step", columns.number.saturating_add(2))?;
-    push_head(out, "stream", 7)?;
-    push_head(out, "at", columns.place)?;
-    push_head(out, "  instruction", columns.statement.saturating_add(4))?;
-    push_head(out, WHAT_IT_DID, columns.changes.saturating_add(2))?;
+    let mut text = TextWriter::take(out);
+    put_head(&mut text, "step", columns.number.saturating_add(2));
+    put_head(&mut text, "stream", 7);
+    put_head(&mut text, "at", columns.place);
+    put_head(
+        &mut text,
+        "  instruction",
+        columns.statement.saturating_add(4),
+    );
+    put_head(&mut text, WHAT_IT_DID, columns.changes.saturating_add(2));
     if names.has_comments() {
-        out.push_str("comment")?;
+        text.put("comment");
     }
-    end_line(out)
+    text.end_line();
+    text.give_back(out)
 }
 
 /// Adds the name of a column of this width.
-fn push_head(out: &mut String, name: &str, width: usize) -> Result<(), AllocError> {
+fn put_head(out: &mut TextWriter, name: &str, width: usize) {
     let begin = out.len();
-    out.push_str(name)?;
-    pad(out, begin, width)
+    out.put(name);
+    out.pad(begin, width);
 }
 
 /// Adds what stands after the number in the line of a step, with the line's end: a column for each of these streams, in
@@ -143,15 +195,18 @@ pub fn push_lane_text<const S: usize>(
     view: &StepView,
     machine: &Machine<'_, S>,
 ) -> Result<(), AllocError> {
+    let mut text = TextWriter::take(out);
+    let width = columns.statement.saturating_add(2);
     for lane in lanes {
-        let begin = out.len();
+        let begin = text.len();
         if *lane == view.step {
-            names.push_statement(out, view.pc)?;
+            names.put_statement(&mut text, view.pc);
         }
-        pad(out, begin, columns.statement.saturating_add(2))?;
+        text.pad(begin, width);
     }
-    push_what(out, names, style, view, machine)?;
-    end_line(out)
+    put_what(&mut text, names, style, view, machine);
+    text.end_line();
+    text.give_back(out)
 }
 
 /// Adds the head of such lines: the name of each stream above its column.
@@ -160,34 +215,17 @@ pub fn push_lane_head(
     columns: Columns,
     lanes: &[Step],
 ) -> Result<(), AllocError> {
-    push_head(out, "step", columns.number.saturating_add(2))?;
+    let mut text = TextWriter::take(out);
+    put_head(&mut text, "step", columns.number.saturating_add(2));
+    let width = columns.statement.saturating_add(2);
     for lane in lanes {
-        let begin = out.len();
-        push_stream(out, lane.p, lane.s)?;
-        pad(out, begin, columns.statement.saturating_add(2))?;
+        let begin = text.len();
+        text.put_stream(lane.p, lane.s);
+        text.pad(begin, width);
     }
-    out.push_str(WHAT_IT_DID)?;
-    end_line(out)
-}
-
-/// Ends a line, without blanks at its end.
-fn end_line(out: &mut String) -> Result<(), AllocError> {
-    for _ in 0..out.len() {
-        if !out.ends_with(' ') {
-            break;
-        }
-        out.pop();
-    }
-    out.push_str("\n")
-}
-
-/// Adds blanks up to a column behind a place in the text.
-fn pad(out: &mut String, begin: usize, width: usize) -> Result<(), AllocError> {
-    let used = out.len().saturating_sub(begin);
-    for _ in used..width {
-        out.push_str(" ")?;
-    }
-    Ok(())
+    text.put(WHAT_IT_DID);
+    text.end_line();
+    text.give_back(out)
 }
 
 /// The word that a step met: where its request ended, where that is a word.
@@ -200,103 +238,99 @@ fn met_word(view: &StepView) -> Option<u64> {
 }
 
 /// Adds what a step did.
-fn push_what<const S: usize>(
-    out: &mut String,
+fn put_what<const S: usize>(
+    out: &mut TextWriter,
     names: &ProgramNames,
     style: NumberStyle,
     view: &StepView,
     machine: &Machine<'_, S>,
-) -> Result<(), AllocError> {
+) {
     let begin = out.len();
     match view.outcome {
-        Outcome::Skipped => return push_skipped(out, view, machine),
-        Outcome::Trapped(trap) | Outcome::Stopped(trap) => push_trapped(out, names, trap, view)?,
-        Outcome::Blocked => push_blocked(out, names, view, machine)?,
-        Outcome::Done => push_unchanged_word(out, names, style, view, machine)?,
+        Outcome::Skipped => {
+            out.put(why_skipped(view, machine));
+            return;
+        }
+        Outcome::Trapped(trap) | Outcome::Stopped(trap) => put_trapped(out, names, trap, view),
+        Outcome::Blocked => put_blocked(out, names, view, machine),
+        Outcome::Done => put_unchanged_word(out, names, style, view, machine),
     }
-    push_changes(out, names, style, view, begin)
+    put_changes(out, names, style, view, begin);
 }
 
-/// Adds why a step was skipped.
-fn push_skipped<const S: usize>(
-    out: &mut String,
-    view: &StepView,
-    machine: &Machine<'_, S>,
-) -> Result<(), AllocError> {
-    let stream = machine.stream(view.step.p, view.step.s);
-    match stream.map(|stream| stream.status()) {
-        None => out.push_str("there is no such stream"),
-        Some(Status::Stopped(_)) => out.push_str("has stopped: nothing happens"),
-        Some(_) => out.push_str("does not run: nothing happens"),
+/// Why a step was skipped.
+fn why_skipped<const S: usize>(view: &StepView, machine: &Machine<'_, S>) -> &'static str {
+    let Some(stream) = machine.stream(view.step.p, view.step.s) else {
+        return "there is no such stream";
+    };
+    match stream.status() {
+        Status::Stopped(_) => "has stopped: nothing happens",
+        Status::Idle | Status::Running => "does not run: nothing happens",
     }
 }
 
 /// Adds a trap, with the address where the memory refused it.
-fn push_trapped(
-    out: &mut String,
-    names: &ProgramNames,
-    trap: TrapKind,
-    view: &StepView,
-) -> Result<(), AllocError> {
-    push_trap(out, trap)?;
-    if let Some(Reference { address, .. }) = view.reference {
-        out.push_str(" at ")?;
-        names.push_address(out, address)?;
+fn put_trapped(out: &mut TextWriter, names: &ProgramNames, trap: TrapKind, view: &StepView) {
+    out.put_trap(trap);
+    if let Some(reference) = view.reference {
+        out.put(" at ");
+        names.put_address(out, reference.address);
     }
-    out.push_str(": ")?;
-    out.push_str(trap_words(trap))
+    out.put(": ");
+    out.put(trap_words(trap));
 }
 
 /// Adds what a blocked step waits for.
-fn push_blocked<const S: usize>(
-    out: &mut String,
+fn put_blocked<const S: usize>(
+    out: &mut TextWriter,
     names: &ProgramNames,
     view: &StepView,
     machine: &Machine<'_, S>,
-) -> Result<(), AllocError> {
+) {
     match wait_of(machine, view.step.p, view.step.s) {
         Some(wait) => {
-            let wanted = wanted_word(wait.wanted);
-            out.push_str("waits for ")?;
-            names.push_address(out, wait.address)?;
-            write!(out, " to be {wanted}")
+            out.put("waits for ");
+            names.put_address(out, wait.address);
+            out.put(" to be ");
+            out.put(wanted_word(wait.wanted));
         }
-        None => out.push_str("is blocked"),
+        None => out.put("is blocked"),
     }
 }
 
 /// Adds the word that a done reference met, where it left it as it was.
-fn push_unchanged_word<const S: usize>(
-    out: &mut String,
+fn put_unchanged_word<const S: usize>(
+    out: &mut TextWriter,
     names: &ProgramNames,
     style: NumberStyle,
     view: &StepView,
     machine: &Machine<'_, S>,
-) -> Result<(), AllocError> {
-    let Some(
-        Reference {
-            address,
-            request,
-            ..
-        },
-    ) = view.reference
-    else {
-        return Ok(());
+) {
+    let Some(reference) = view.reference else {
+        return;
     };
-    let changed = view.changes.iter().any(|change| {
-        change.place == Place::Value { address } || change.place == Place::Tags { address }
-    });
+    let address = reference.address;
     let Some(word) = machine.word(address) else {
-        return Ok(());
+        return;
     };
-    if changed {
-        return Ok(());
+    if !has_changed(view, address) {
+        names.put_address(out, address);
+        out.put(verb_of(reference.request.op));
+        put_word(out, style, word);
     }
-    let verb = match request.op {
-        MemOp::Load | MemOp::TagGet => "is",
-        MemOp::Store | MemOp::Fadd | MemOp::TagSet | MemOp::Purge => "stays",
-    };
-    names.push_address(out, address)?;
-    write!(out, " {verb} ")?;
-    push_word(out, style, word)
+}
+
+/// Whether a step changed the word at a byte address.
+fn has_changed(view: &StepView, address: u64) -> bool {
+    view.changes.iter().any(|change| {
+        change.place == Place::Value { address } || change.place == Place::Tags { address }
+    })
+}
+
+/// What a word does of which a request left all as it was.
+fn verb_of(operation: MemOp) -> &'static str {
+    match operation {
+        MemOp::Load | MemOp::TagGet => " is ",
+        MemOp::Store | MemOp::Fadd | MemOp::TagSet | MemOp::Purge => " stays ",
+    }
 }

@@ -1,5 +1,6 @@
 //! Numbers, streams, tags and traps as people read them.
 
+use crate::text_writer::TextWriter;
 use crate::waits::full_word;
 use bitflags::Flags;
 use processor::Step;
@@ -38,15 +39,14 @@ pub fn push_stream(out: &mut String, p: u8, s: u8) -> Result<(), AllocError> {
 }
 
 /// Adds a list of streams: `0.0`, `0.0 and 1.0`, `0.0, 0.1 and 1.0`.
-pub(crate) fn push_streams(out: &mut String, streams: &[Step]) -> Result<(), AllocError> {
+pub(crate) fn put_streams(out: &mut TextWriter, streams: &[Step]) {
     for (index, stream) in streams.iter().enumerate() {
         if index > 0 {
             let is_last = index == streams.len() - 1;
-            out.push_str(if is_last { " and " } else { ", " })?;
+            out.put(if is_last { " and " } else { ", " });
         }
-        push_stream(out, stream.p, stream.s)?;
+        out.put_stream(stream.p, stream.s);
     }
-    Ok(())
 }
 
 /// Adds a trap's number and name: `trap 3, CREATE`.
@@ -90,107 +90,110 @@ pub(crate) fn trap_words(trap: TrapKind) -> &'static str {
 
 /// Adds a word's value and tags, as `0, full`.
 pub fn push_word(out: &mut String, style: NumberStyle, word: Word) -> Result<(), AllocError> {
-    push_value(out, style, word.value())?;
-    out.push_str(", ")?;
-    push_tags(out, word.tags())
+    let mut text = TextWriter::take(out);
+    put_word(&mut text, style, word);
+    text.give_back(out)
+}
+
+/// Adds what [`push_word`] does.
+pub fn put_word(out: &mut TextWriter, style: NumberStyle, word: Word) {
+    out.put_value(style, word.value());
+    out.put(", ");
+    put_tags(out, word.tags());
 }
 
 /// Adds tags: whether full or empty, and the other bits that are set.
-pub(crate) fn push_tags(out: &mut String, tags: Tags) -> Result<(), AllocError> {
-    let full = tags.contains(Tags::FULL);
-    out.push_str(full_word(full))?;
+pub(crate) fn put_tags(out: &mut TextWriter, tags: Tags) {
+    out.put(full_word(tags.contains(Tags::FULL)));
     if tags.contains(Tags::FORWARD) {
-        out.push_str(" forward")?;
+        out.put(" forward");
     }
     if tags.contains(Tags::TRAP0) {
-        out.push_str(" trap0")?;
+        out.put(" trap0");
     }
     if tags.contains(Tags::TRAP1) {
-        out.push_str(" trap1")?;
+        out.put(" trap1");
     }
-    Ok(())
 }
 
 /// Adds condition codes, the newest first: the letters of the bits that are set, a dash for a code without any.
-fn push_codes(out: &mut String, codes: Codes) -> Result<(), AllocError> {
-    push_code(out, codes.newest)?;
-    out.push_str(" ")?;
-    push_code(out, codes.second)?;
-    out.push_str(" ")?;
-    push_code(out, codes.third)?;
-    out.push_str(" ")?;
-    push_code(out, codes.oldest)
+fn put_codes(out: &mut TextWriter, codes: Codes) {
+    put_code(out, codes.newest);
+    out.put(" ");
+    put_code(out, codes.second);
+    out.put(" ");
+    put_code(out, codes.third);
+    out.put(" ");
+    put_code(out, codes.oldest);
 }
 
 /// Adds one condition code.
-fn push_code(out: &mut String, code: Code) -> Result<(), AllocError> {
+fn put_code(out: &mut TextWriter, code: Code) {
     if code == Code::NONE {
-        return out.push_str("-");
+        out.put("-");
     }
     if code.zero {
-        out.push_str("Z")?;
+        out.put("Z");
     }
     if code.negative {
-        out.push_str("N")?;
+        out.put("N");
     }
     if code.carry {
-        out.push_str("C")?;
+        out.put("C");
     }
     if code.overflow {
-        out.push_str("V")?;
+        out.put("V");
     }
-    Ok(())
 }
 
 /// Adds a trap mask: the traps that it disables.
-fn push_mask(out: &mut String, mask: TrapMask) -> Result<(), AllocError> {
+fn put_mask(out: &mut TextWriter, mask: TrapMask) {
     if mask == TrapMask::NONE {
-        return out.push_str("none");
+        out.put("none");
+        return;
     }
     if mask.trap0 {
-        out.push_str("TRAP0 ")?;
+        out.put("TRAP0 ");
     }
     if mask.trap1 {
-        out.push_str("TRAP1 ")?;
+        out.put("TRAP1 ");
     }
     if mask.blocked {
-        out.push_str("BLOCKED ")?;
+        out.put("BLOCKED ");
     }
-    out.push_str("disabled")
+    out.put("disabled");
 }
 
 /// Adds what stands in a place.
-pub(crate) fn push_content(
-    out: &mut String,
-    style: NumberStyle,
-    content: Content,
-) -> Result<(), AllocError> {
+pub(crate) fn put_content(out: &mut TextWriter, style: NumberStyle, content: Content) {
     match content {
-        Content::Number(number) => push_value(out, style, number),
-        Content::Codes(codes) => push_codes(out, codes),
-        Content::Mask(mask) => push_mask(out, mask),
-        Content::InTrap(is) => out.push_str(if is { "yes" } else { "no" }),
-        Content::Status(status) => push_status(out, status),
-        Content::Target(word) => {
-            let bits = word.bits();
-            if bits == 0 {
-                out.push_str("0")
-            } else {
-                write!(out, "0x{bits:x}")
-            }
-        }
-        Content::Tags(tags) => push_tags(out, tags),
+        Content::Number(number) => out.put_value(style, number),
+        Content::Codes(codes) => put_codes(out, codes),
+        Content::Mask(mask) => put_mask(out, mask),
+        Content::InTrap(is) => out.put(if is { "yes" } else { "no" }),
+        Content::Status(status) => put_status(out, status),
+        Content::Target(word) => put_target(out, word.bits()),
+        Content::Tags(tags) => put_tags(out, tags),
+    }
+}
+
+/// Adds the bits of a target register.
+fn put_target(out: &mut TextWriter, bits: u64) {
+    if bits == 0 {
+        out.put("0");
+    } else {
+        out.put_bits(bits);
     }
 }
 
 /// Adds a stream's status.
-fn push_status(out: &mut String, status: Status) -> Result<(), AllocError> {
+fn put_status(out: &mut TextWriter, status: Status) {
     match status {
-        Status::Idle => out.push_str("idle"),
-        Status::Running => out.push_str("running"),
+        Status::Idle => out.put("idle"),
+        Status::Running => out.put("running"),
         Status::Stopped(trap) => {
-            out.push_str("stopped by ")?;
-            push_trap(out, trap)
+            out.put("stopped by ");
+            out.put_trap(trap);
         }
     }
 }
