@@ -10,7 +10,7 @@ import sources
 # by contracts: whether every schedule is right, and what a search says of it, how a run ends and who waits, sets that no
 # link leaves, findings
 ROOTS = ("Machine::run", "one_machine", "threaded", "run_tool", "explore", "explore_ends", "is_right", "explore_program",
-         "end_kind_of", "waits_of", "circle_of", "closed_sets", "way_round", "lost_updates", "unread_stores", "torn_reads")
+         "end_kind_of", "waits_of", "circle_of", "terminal_roots", "shortest_cycle", "lost_updates", "unread_stores", "torn_reads")
 HEADLINE = ("one_machine", "threaded")
 
 INTRODUCTION = """\

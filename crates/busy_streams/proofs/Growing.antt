@@ -1,4 +1,4 @@
--- The rounds of one stream more, and of one edge more.
+-- The cycles of one stream more, and of one edge more.
 use Rattle.std.proofs.Common.{◌≡◌, ◌⊎◌, inl, inr, ℕ, ◌+◌, ◌<◌, ◌≤◌, refl, sym, ap, ◌∙◌, subst, arith}
 use Rattle.std.proofs.Common.{Some, List, [], ◌∷◌, ◌++◌, length, slice_get, slice_index_or}
 use Rattle.std.proofs.lemmas.Bool.{cases_lt}
@@ -7,10 +7,10 @@ use Rattle.std.proofs.lemmas.Option.{slice_get_within, slice_get-get_or, get_or_
 use Rattle.processor.specs.declared.steps.Step.{Step}
 use Rattle.schedule_space.specs.declared.links.Edge.{Edge}
 use Rattle.schedule_space.specs.Spaces.{SpaceValue}
-use Rattle.busy_streams.specs.declared.ways_round.OwnRounds.{OwnRounds}
-use Rattle.busy_streams.specs.OwnRounds.{AreOwnRounds, AreAllOwn, HasRoundsOf}
+use Rattle.busy_streams.specs.declared.stream_cycles.OwnCycles.{OwnCycles}
+use Rattle.busy_streams.specs.OwnCycles.{AreOwnCycles, AreAllOwn, HasCyclesOf}
 
-module _ (rs : List OwnRounds) (r : OwnRounds) where
+module _ (rs : List OwnCycles) (r : OwnCycles) where
   longer : length (rs ++ r ∷ []) ≡ length rs + 1
   longer = length_push rs r
 
@@ -20,7 +20,7 @@ module _ (rs : List OwnRounds) (r : OwnRounds) where
       slice_get-get_or (rs ++ r ∷ []) (length rs) r (omega (arith, long))
       ∙ ap (λ x. Some x) (get_or_push rs r r (length rs) refl)
 
-  pub still_has : (t : Step) → HasRoundsOf rs t → HasRoundsOf (rs ++ r ∷ []) t
+  pub still_has : (t : Step) → HasCyclesOf rs t → HasCyclesOf (rs ++ r ∷ []) t
   still_has t has =
       let long = longer in
       let below = slice_get_within rs has.0 has.1 has.2 in
@@ -30,10 +30,10 @@ module _ (rs : List OwnRounds) (r : OwnRounds) where
       (get_or_append_left rs (r ∷ []) has.1 has.0 below ∙ get_or_from_slice_get rs has.0 has.1 has.1 has.2) in
       (has.0, has.1, there, has.3)
 
-  pub has_last : (t : Step) → r.stream ≡ t → HasRoundsOf (rs ++ r ∷ []) t
+  pub has_last : (t : Step) → r.stream ≡ t → HasCyclesOf (rs ++ r ∷ []) t
   has_last t same = (length rs, r, last, same)
 
-  pub own_more : (v : SpaceValue) → AreAllOwn v rs → AreOwnRounds v r → AreAllOwn v (rs ++ r ∷ [])
+  pub own_more : (v : SpaceValue) → AreAllOwn v rs → AreOwnCycles v r → AreAllOwn v (rs ++ r ∷ [])
   own_more v all own i q there = elim (cases_lt i (length rs)) [
     | inl less ↦
         all i q (slice_get-get_or rs i q less
@@ -46,15 +46,15 @@ module _ (rs : List OwnRounds) (r : OwnRounds) where
         let same : r ≡ q =
         sym (get_or_push rs r r (length rs) refl) ∙ ap (λ n. slice_index_or (rs ++ r ∷ []) n r) (sym at)
         ∙ get_or_from_slice_get (rs ++ r ∷ []) i q r there in
-        subst (AreOwnRounds v) same own
+        subst (AreOwnCycles v) same own
   ]
 
 -- the stream of one edge more is among them
-pub each_more : (es : List Edge) (old new : List OwnRounds) (n : ℕ) (t : Step) (d : Edge)
-    → ((u : Step) → HasRoundsOf old u → HasRoundsOf new u) → HasRoundsOf new t → n < length es
+pub each_more : (es : List Edge) (old new : List OwnCycles) (n : ℕ) (t : Step) (d : Edge)
+    → ((u : Step) → HasCyclesOf old u → HasCyclesOf new u) → HasCyclesOf new t → n < length es
     → t ≡ (slice_index_or es n d).step
-    → ((i : ℕ) (e : Edge) → i < n → HasRoundsOf old (slice_index_or es i e).step)
-    → (i : ℕ) (e : Edge) → i < n + 1 → HasRoundsOf new (slice_index_or es i e).step
+    → ((i : ℕ) (e : Edge) → i < n → HasCyclesOf old (slice_index_or es i e).step)
+    → (i : ℕ) (e : Edge) → i < n + 1 → HasCyclesOf new (slice_index_or es i e).step
 each_more es old new n t d grows here below at before i e within = elim (cases_lt i n) [
   | inl less ↦ grows (slice_index_or es i e).step (before i e less)
   | inr most ↦
@@ -62,5 +62,5 @@ each_more es old new n t d grows here below at before i e within = elim (cases_l
       let is : t ≡ (slice_index_or es i e).step =
       at ∙ ap (λ (x : Edge). x.step) (get_or_default es n d e below)
       ∙ ap (λ k. (slice_index_or es k e).step) same in
-      subst (HasRoundsOf new) is here
+      subst (HasCyclesOf new) is here
 ]

@@ -1,6 +1,6 @@
 mod OwnLinks
 mod Begun
-mod Rounds
+mod Cycles
 mod Told
 mod Growing
 mod First

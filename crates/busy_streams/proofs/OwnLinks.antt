@@ -3,10 +3,10 @@ use Rattle.std.proofs.Common.{◌≡◌, ℕ, zero, suc, ◌<◌, refl, ap, ◌�
 use Rattle.std.proofs.Common.{List, [], ◌∷◌, map, filter, length, Contains, if◌then◌else◌}
 use Rattle.std.proofs.lemmas.Bool.{and_parts}
 use Rattle.processor.specs.declared.steps.Step.{Step}
-use Rattle.closed_sets.specs.declared.links.Link.{Link}
-use Rattle.closed_sets.specs.Ways.{link_at}
+use Rattle.terminal_components.specs.declared.links.Link.{Link}
+use Rattle.terminal_components.specs.Ways.{link_at}
 use Rattle.schedule_space.specs.declared.links.Edge.{Edge}
-use Rattle.busy_streams.specs.OwnRounds.{is_step, link_of, own_links}
+use Rattle.busy_streams.specs.OwnCycles.{is_step, link_of, own_links}
 
 pub is-step : (t u : Step) → is_step t u ≡ true → u ≡ t
 is-step t u is =

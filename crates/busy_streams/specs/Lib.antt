@@ -1,5 +1,5 @@
--- What public contracts promise: streams that go round alone, of a world, of a space and of all schedules.
+-- What public contracts promise: streams that loop alone, of a world, of a space and of all schedules.
 pub mod Busy
 pub mod BusySpaces
 -- Cited by private contracts alone.
-pub mod OwnRounds
+pub mod OwnCycles

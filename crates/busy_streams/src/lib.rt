@@ -1,7 +1,7 @@
-//! Streams that go round alone, in the worlds of a search that has all ("Every schedule", docs/LAB.md).
+//! Streams that loop alone, in the worlds of a search that has all ("Every schedule", docs/LAB.md).
 #![tactic(auto)]
 
 mod busy_worlds;
-mod ways_round;
+mod stream_cycles;
 
 pub use busy_worlds::{Busy, first_busy};

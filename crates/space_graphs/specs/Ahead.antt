@@ -2,15 +2,15 @@
 use Rattle.std.specs.Prelude.{◌≡◌, ℕ, ◌+◌, ◌<◌, Bool, List, length, map, Contains, Vec}
 use Rattle.std.specs.List.{HoldsAt}
 use Rattle.std.specs.Global.{Global}
-use Rattle.closed_sets.specs.declared.links.Link.{Link}
-use Rattle.closed_sets.specs.Leading.{AreLeading, IsMarked, LeadsToOne}
+use Rattle.terminal_components.specs.declared.links.Link.{Link}
+use Rattle.terminal_components.specs.Reachability.{AreBackwardReachable, IsMarked, ReachesOne}
 use Rattle.schedule_space.specs.Spaces.{SpaceValue, count}
 use Rattle.lab_ends.specs.Links.{link_of}
 use Rattle.lab_ends.specs.declared.every_end.SpaceEnd.{SpaceEnd}
 
 -- from the world at a place some steps between worlds of the space, or none, lead to one of the end
 abbrev pub CanStillCome : SpaceValue → ℕ → SpaceEnd → Type 0
-CanStillCome v k end = LeadsToOne (count v) (map link_of v.edges) end.places.items k
+CanStillCome v k end = ReachesOne (count v) (map link_of v.edges) end.places.items k
 
 -- the numbers of the ends, which count from 1, that can still be reached from the world at a place
 pub record AreAhead (v : SpaceValue) (ends : List SpaceEnd) (k : ℕ) (numbers : List ℕ) : Type 0 where
@@ -26,7 +26,7 @@ pub record AreEndsAhead (v : SpaceValue) (ends : List SpaceEnd) (ahead : List (V
 
 -- the marks are those of the places that lead to one of the end with a number, which counts from 0
 abbrev pub IsOfEnd : ℕ → List Link → List SpaceEnd → ℕ → Vec Bool Global → Type 0
-IsOfEnd n links ends i mark = HoldsAt (λ end. AreLeading n links end.places.items mark.items) ends i
+IsOfEnd n links ends i mark = HoldsAt (λ end. AreBackwardReachable n links end.places.items mark.items) ends i
 
 -- for each end there are such marks
 pub record AreMarks (n : ℕ) (links : List Link) (ends : List SpaceEnd) (marks : List (Vec Bool Global)) : Type 0 where

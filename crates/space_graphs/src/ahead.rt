@@ -1,13 +1,13 @@
 //! Which ends can still be reached from the worlds of a space.
 
 ghost use Rattle.std.specs.Prelude.{◌↔◌, IfOk, IsTrue, length};
-ghost use Rattle.closed_sets.specs.Leading.{IsMarked};
+ghost use Rattle.terminal_components.specs.Reachability.{IsMarked};
 ghost use Rattle.space_graphs.specs.Ahead.{AreEndsAhead, AreMarks, AreMarkNumbers};
 
-use closed_sets::{Link, places_leading_to};
 use lab_ends::{SpaceEnd, links_of};
 use schedule_space::Space;
 use std::alloc::{AllocError, Global};
+use terminal_components::{Link, places_that_reach};
 
 /// For the world at each place of a space, the numbers of the ends, which count from 1, that can still be reached: to one
 /// of whose worlds some steps between worlds of the space lead from there, or none. They ascend.
@@ -38,7 +38,7 @@ fn marks_of(
 {
     let mut marks = Vec::new(alloc);
     for end in ends {
-        marks.push(places_leading_to(alloc, count, links, &end.places)?)?;
+        marks.push(places_that_reach(alloc, count, links, &end.places)?)?;
     }
     Ok(marks)
 }

@@ -3,7 +3,7 @@ use Rattle.std.specs.Prelude.{Vec}
 use Rattle.std.specs.List.{HoldsAt}
 use Rattle.std.specs.Global.{Global}
 use Rattle.std.proofs.lemmas.List.{get_or_default}
-use Rattle.closed_sets.specs.Leading.{AreLeading}
+use Rattle.terminal_components.specs.Reachability.{AreBackwardReachable}
 use Rattle.lab_ends.specs.declared.every_end.SpaceEnd.{SpaceEnd}
 use Rattle.space_graphs.specs.Ahead.{IsOfEnd}
 use Rattle.space_graphs.proofs.EndsAhead.{each_more}
@@ -16,11 +16,11 @@ loop-end-preserved c =
     let ends = c.args.ends.now in
     let i = c.loop-end.end-index in
     let end = c.end-item.result in
-    let mark = c.in_ok-places_leading_to.field-0 in
+    let mark = c.in_ok-places_that_reach.field-0 in
     let below : i < length ends = search rules in
-    let leads : AreLeading n links end.places.items mark.items = search rules in
+    let leads : AreBackwardReachable n links end.places.items mark.items = search rules in
     let here : IsOfEnd n links ends i mark =
-    λ d. subst (λ (e : SpaceEnd). AreLeading n links e.places.items mark.items) (c.end-item.is ∙ get_or_default ends i end d below) leads in
+    λ d. subst (λ (e : SpaceEnd). AreBackwardReachable n links e.places.items mark.items) (c.end-item.is ∙ get_or_default ends i end d below) leads in
     let items : c.push.new.self.items ≡ c.loop-end.marks.items ++ mark ∷ [] = search rules in
     let many : length c.push.new.self.items ≡ i + 1 = search rules in
     record {

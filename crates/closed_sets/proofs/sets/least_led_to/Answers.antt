@@ -1,7 +1,0 @@
-use Rattle.closed_sets.proofs.Settled.{least_of}
-use Rattle.closed_sets.proofs.sets.least_led_to.Goals as goal
-
-pub returns : goal.returns
-returns c =
-    least_of c.args.count c.args.links.now c.in_ok-places.places.items c.lowest_of.result.items
-    c.in_ok-places.ensures c.lowest_of.ensures.lowest

@@ -1,0 +1,9 @@
+-- the numbers so far
+use Rattle.std.proofs.Common.{◌≡◌, ℕ, ◌<◌, length, slice_index}
+use Rattle.terminal_components.proofs.components.numbers.Given as goal
+
+abbrev pub invariant-loop-number : goal.invariant-loop-number
+invariant-loop-number l = record {
+  many : length l.numbers.items ≡ l.number;
+  each : (k : ℕ) → k < l.number → slice_index l.numbers.items k ≡ k;
+}
