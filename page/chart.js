@@ -37,6 +37,8 @@ function repaint() {
 
 // ---------------------------------------------------------------- the lanes' names
 
+const HEAD_LETTERS = 16; // of a word's address and name
+
 /** A name's height is that of an empty picture in it: the page has no styles of its own for single elements. */
 const strut = (height) => svg("svg", { class: "strut", width: 1, height, "aria-hidden": "true" });
 
@@ -65,7 +67,7 @@ function markStream(lane) {
   lane.name.textContent = lane.stream;
   lane.note.textContent = isThere ? placeOf(get(`${lane.stream}.pc`, 0)) : "";
   const where = isThere ? `, at ${lane.note.textContent}` : "";
-  const how = wait ? `waits for ${wordName(wait.word)} to be ${wait.for}` : state;
+  const how = wait ? `waits for ${namedWord(wait.word)} to be ${wait.for}` : state;
   const label = `Stream ${lane.stream}${where}, ${how}`;
   lane.head.setAttribute("aria-label", label);
   lane.head.setAttribute("title", label);
@@ -74,11 +76,12 @@ function markStream(lane) {
 function markWord(lane) {
   const [value, tags] = wordAt(lane.word);
   lane.head.setAttribute("aria-pressed", String(view.word === lane.word));
-  lane.name.textContent = wordName(lane.word);
-  lane.note.textContent = comment(lane.word);
-  const note = comment(lane.word) ? `, ${cut(comment(lane.word), 200)}` : "";
-  lane.head.setAttribute("aria-label", `Word ${wordName(lane.word)}${note}: ${number(value)}, ${fullText(tags)}`);
-  lane.head.setAttribute("title", `${wordName(lane.word)} ${cut(comment(lane.word), 200)}`);
+  const [name, text] = [namedWord(lane.word), remark(lane.word)];
+  lane.name.textContent = cut(name, HEAD_LETTERS);
+  lane.note.textContent = text;
+  const note = text ? `, ${cut(text, 200)}` : "";
+  lane.head.setAttribute("aria-label", `Word ${name}${note}: ${number(value)}, ${fullText(tags)}`);
+  lane.head.setAttribute("title", `${name} ${cut(text, 200)}`);
 }
 
 function markHeads() {

@@ -73,10 +73,12 @@ function showStream() {
 // ---------------------------------------------------------------- words
 
 const WORDS_SHOWN = 200;
-const DATA_LISTED = 16; // a line of data with a comment has its words listed, where it has no more than these
+const WORD_LETTERS = 20; // of a word's address and name
+const DATA_LISTED = 16; // a line of data with a name or a comment has its words listed, where it has no more than these
 
 function listedWords() {
-  const lines = run.data.filter(([, count, , text]) => text && count <= DATA_LISTED);
+  const isListed = ([first, count, , text]) => count <= DATA_LISTED && (text || nameOfLine.has(first));
+  const lines = run.data.filter(isListed);
   const named = lines.flatMap(([first, count]) => Array.from({ length: count }, (_, i) => first + 8 * i));
   const all = new Set([...named, ...wordStates.keys(), ...stepsAt.keys()]);
   return [...all].filter((address) => startWords[address / 8]).sort((a, b) => a - b);
@@ -100,11 +102,12 @@ function wordRow(address, changes, who) {
   const pressed = String(view.word === address);
   const told = changes.has(valuePlace) ? changed(changes.get(valuePlace)[0], value) : number(value);
   const full = fullText(tags);
-  const note = cut(comment(address), dataOf(address)?.[1] > 1 ? 26 : 60);
+  const note = cut(remark(address), dataOf(address)?.[1] > 1 ? 26 : 60);
   const waits = who ? [html("span", { class: "waiting" }, ` ${andMore(who)} wait${who.length > 1 ? "" : "s"}`)] : [];
   return html("tr", { class: isChanged ? "changed" : null },
     html("th", { scope: "row" },
-      html("button", { class: "word", "data-word": address, "aria-pressed": pressed }, wordName(address))),
+      html("button", { class: "word", "data-word": address, "aria-pressed": pressed },
+        cut(namedWord(address), WORD_LETTERS))),
     html("td", { "data-place": valuePlace, "data-value": value }, told),
     html("td", { "data-place": tagsPlace, "data-value": tags },
       html("span", { class: `bit ${full}`, "aria-hidden": "true" }),

@@ -4,6 +4,7 @@ const PAPER_WIDTH = 1020;
 const PAPER_STRIPS = 80;
 const SAVED_COLUMNS = 400;
 const TITLE_HEIGHT = 44, LEGEND_ROW = 24, LETTER_WIDTH = 6.6;
+const NAME_WIDTH = 8, PAPER_LETTERS = 19; // of an address and a name: a letter's pixels, and how many letters
 
 /** Lanes with their names and the steps' numbers: `count` columns from `first` on. */
 function drawStrip(first, count, width, total) {
@@ -11,8 +12,12 @@ function drawStrip(first, count, width, total) {
   const strip = svg("svg", { class: "pic", width: total, height, viewBox: `0 0 ${total} ${height}` });
   for (const lane of lanes) {
     const y = RULER + lane.y + (lane.stream ? LANE / 2 + 4 : 20);
-    strip.append(svg("text", { class: "name", x: 2, y }, lane.stream ?? wordName(lane.word)));
-    if (!lane.stream) strip.append(svg("text", { class: "small muted", x: 46, y }, cut(comment(lane.word), 17)));
+    const name = lane.stream ?? cut(namedWord(lane.word), PAPER_LETTERS);
+    const x = Math.max(46, 10 + NAME_WIDTH * name.length);
+    const room = Math.round((HEAD - x) / LETTER_WIDTH);
+    strip.append(svg("text", { class: "name", x: 2, y }, name));
+    if (lane.stream || room < 3) continue;
+    strip.append(svg("text", { class: "small muted", x, y }, cut(remark(lane.word), room)));
   }
   const shownWidth = Math.min(total - HEAD, count * width + endRoom);
   const numbers = drawRuler(first * width, shownWidth, width, false);

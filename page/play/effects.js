@@ -21,8 +21,8 @@ function memoryParts(w, to, [, operation, , a, , given, reply]) {
   const turns = (wasTags ^ isTags) & 1 ? `, ${operation === "LOAD" ? "taken, so " : ""}now ${fullText(isTags)}` : "";
   const name = fullName(a);
   if (operation === "TAGGET") return [[`the tags of ${name} are ${reply}`]];
-  if (was !== is) return [[html("span", { class: "change" }, `${wordName(a)} `, number(was), " → ",
-    html("b", {}, number(is))), `${name.slice(wordName(a).length)}${turns}`]];
+  if (was !== is) return [[html("span", { class: "change" }, `${namedWord(a)} `, number(was), " → ",
+    html("b", {}, number(is))), `${name.slice(namedWord(a).length)}${turns}`]];
   if (operation === "LOAD") return [[`${name} is ${number(reply)}${turns}`]];
   if (operation === "STORE" || operation === "FADD") return [[`${name} stays ${number(given ?? is)}${turns}`]];
   return [[`${name} is ${tagsText(isTags) || fullText(isTags)}`]];

@@ -157,7 +157,12 @@ def ends(page):
     tally.check("a circle is of a deadlock", title.startswith("Deadlock: ") and "in a circle" in title, title)
     tally.same("the circle is drawn", (len(page.all(".ring .edge")), len(page.all(".ring .node.word"))), (5, 5))
     label = page.one(".ring").get_attribute("aria-label")
-    tally.check("and told", "0.0 waits for [8] of 1.0" in label, label)
+    tally.check("and told", "0.0 waits for [8] fork+1 of 1.0" in label, label)
+    tally.same("its words have their names", sorted(node.text for node in page.all(".ring .node.word text")),
+               ["[0] fork", "[16] fork+2", "[24] fork+3", "[32] fork+4", "[8] fork+1"])
+    tally.same("and so do the lanes", [node.text for node in page.all("#heads .head b")][5:7], ["[0] fork", "[8] fork+1"])
+    row = page.one("#words tr:nth-child(2)").text.split()
+    tally.same("and the list of words, with the comment", row[:2] + row[-2:], ["[8]", "fork+1", "0.0", "waits"])
     page.open("rows", runs.example(page.folder, "barrier.mixes_rounds"))
     tally.same("waits without a circle are drawn", [node.text for node in page.all(".ring .node.stream")],
                ["2.0", "3.0", "3.0", "itself"])

@@ -1,7 +1,9 @@
 """Names of data words: an address by its name means in each command what its number means, and a comment names a word only
 where the rules say so."""
 
+import json
 import os
+import re
 import tempfile
 
 import adapters
@@ -74,6 +76,14 @@ def with_folder(check, **files):
         return check(folder)
 
 
+def as_written(text, lines):
+    """What is said of lines by numbers, with the same lines by names, without comment, in their place."""
+    for plain, named in lines:
+        if plain != named:
+            text = text.replace(plain, b" ".join(named.split(b"#")[0].split()))
+    return text
+
+
 def told(ended):
     return ended.status, ended.out, ended.err
 
@@ -96,11 +106,13 @@ def words_shown():
 
 @checks.others("lab/names_in_wishes")
 def wishes():
-    """Expectations and claims by names judge as those by numbers."""
+    """Expectations and claims by names judge as those by numbers, and are repeated as they were written."""
     for plain, named in WISHES:
         def check(folder):
             calls = (("survey", "p.asm", "--seeds", "20"), ("explore", "p.asm"), ("survey", "p.asm", "--seeds", "3", "--json"))
             both = [[told(lab(folder, *words, "--expect", file)) for words in calls] for file in ("1.x", "2.x")]
+            lines = list(zip(*(tool.read(os.path.join(folder, file)).split(b"\n") for file in ("1.x", "2.x"))))
+            both[0] = [(status, as_written(out, lines), err) for status, out, err in both[0]]
             verdicts = [lab(folder, "grade", "--seeds", "20", "--expect", file, "p.asm").status for file in ("1.x", "2.x")]
             return (both[0], verdicts[0]), (both[1], verdicts[1])
         yield named, lambda check=check, plain=plain, named=named: with_folder(
@@ -175,3 +187,65 @@ def editors():
     wanted = (["0, full", "7, full", "0, full", "0, empty", "a: LOAD.N r1, r0, 0"], names, ["total", "[0] total", None, None, None],
               [True, True, False])
     yield "words", lambda: (wanted, with_folder(check, p_asm=SOURCE))
+
+
+# what JSON has of the names: the first address of a line, how many words it adds, its name
+JSON_NAMES = [[0, 1, "total"], [8, 1, "number"], [16, 1, "box"], [24, 2, "ring"]]
+# before the lanes of a picture: each word, and of its comment without the name as much as has room
+PICTURED = [("[0] total", ""), ("[8] number", "what is adde\u2026"), ("[16] box", "the box"), ("[32] ring+1", "")]
+LONG_NAMED = [("[0] a_name_of_many_l\u2026", "")]
+WAITING = b" .entry 0\n .data 0, 0 ; a_name_of_many_letters: and more\n LOAD.S r1, r0, 0\n"
+
+
+@checks.others("lab/names_in_pages")
+def pages():
+    """JSON, pages and pictures have the names, and `compare` shows them where states differ."""
+    def data(folder):
+        runs = [json.loads(lab(folder, "view", "p.asm", "--seed", "1", "--json").out.split(b"\n")[0])]
+        for words in (("page", "p.asm", "--seed", "1"), ("page", "p.asm", "--seeds", "1", "2"), ("play", "p.asm")):
+            lab(folder, *words, "--out", "made.html")
+            text = tool.read(os.path.join(folder, "made.html")).decode()
+            runs.append(json.loads(re.search(r'id="(?:run|graph-data)">(.*?)</script>', text, re.DOTALL).group(1)))
+        return [JSON_NAMES] * 4, [run["names"] for run in runs]
+    yield "data", lambda: with_folder(data, p_asm=SOURCE)
+
+    def pictured(folder):
+        both = []
+        for name, how in (("p.asm", "--fair"), ("w.asm", "w.schedule")):
+            lab(folder, "picture", name, how, "--out", "made.svg")
+            both.append(tool.read(os.path.join(folder, "made.svg")).decode())
+        lanes = [re.findall(r'class="name"[^>]*>(\[[^<]*)</text><text class="note"[^>]*>([^<]*)', one) for one in both]
+        return ([PICTURED, LONG_NAMED], True), (lanes, ">waits for [0] a_name_of_ma\u2026 full<" in both[1])
+    yield "pictures", lambda: with_folder(pictured, p_asm=SOURCE, w_asm=WAITING, w_schedule=b"0 0 1\n")
+
+    def compared(folder):
+        said = lab(folder, "compare", "p.asm", "1.schedule", "2.schedule").out.decode().split("\n")[1]
+        return "position 4: 0.0.pc 4 | 3, 1.0.pc 7 | 8, [0] total 7 | 0", said
+    yield "compare", lambda: with_folder(
+        compared, **{"p_asm": SOURCE, "1_schedule": b"0 0 4\n", "2_schedule": b"0 0 3\n1 0 1\n"})
+
+
+# a program that doubles [0] into [8], and names [0]; cells of a case, its expectations, the verdict and why
+DOUBLES = b" .entry go\n .data 1 ; output\n .data 0\ngo: LOAD.N r1, r0, 0\n ADD r1, r1, r1\n STORE.N r1, r0, 1\n QUIT\n"
+NAMED_CASES = (
+    (b" .data 3 ; input\n .data 0 ; output: twice\n", b"word output 6\nword [input] 3\n", "right", ""),
+    (b" .data 3 ; input\n .data 0 ; output: twice\n", b"never word output is 6\n", "wrong", "never word output is 6"),
+    (b" .data 3\n .data 0 ; the double\n", b"word output 3\n", "right", ""),
+    (b" .data 3 ; input\n .data 0\n", b"word output 6\n", "wrong", "no word is named output: the names are input"),
+)
+
+
+@checks.others("grade/names_of_cells")
+def cells():
+    """Names in a case's expectations are those of its cells, and where these have none, those of the submission."""
+    for number, (data, wanted, verdict, why) in enumerate(NAMED_CASES):
+        def check(folder, verdict=verdict, why=why):
+            ways = (("--expect", "a.expect", "--given", "a.data"), ("--explore", "--expect", "a.expect", "--given", "a.data"))
+            said = [lab(folder, "grade", *way, "p.asm").out.decode().split("\n")[-2] for way in ways]
+            os.mkdir(os.path.join(folder, "cases"))
+            for name in "a.data", "a.expect":
+                os.rename(os.path.join(folder, name), os.path.join(folder, "cases", name))
+            said.append(lab(folder, "grade", "--cases", "cases", "p.asm").out.decode().split("\n")[-2])
+            return [("p.asm", verdict, True)] * 3, [(*one.split("\t")[:2], why in one) for one in said]
+        yield f"{number}", lambda check=check, data=data, wanted=wanted: with_folder(
+            check, p_asm=DOUBLES, a_data=data, a_expect=wanted)

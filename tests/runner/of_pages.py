@@ -59,7 +59,7 @@ def page_as_viewed(source, *words):
         del part["version"], part["object"]
     del end["words"], end["more_findings"]
     name = os.path.basename(source).removesuffix(".asm")
-    wanted = {key: head[key] for key in ("version", "source", "program", "data", "start")}
+    wanted = {key: head[key] for key in ("version", "source", "program", "data", "names", "start")}
     wanted |= {"name": name, "steps": steps, "waits": waits_of(run), "findings": end.pop("findings"), "end": end}
     got = {key: run[key] for key in wanted}
     return json.dumps(wanted, sort_keys=True).encode(), json.dumps(got, sort_keys=True).encode()
@@ -121,7 +121,7 @@ def pair_as_compared(source, one, other, *options):
     ways = [["--seed", it, *options[1:]] if options else [it] for it in (one, other)]
     alone = [run_in(written("page", source, *way)[1]) for way in ways]
     parts = ("steps", "waits", "findings", "end")
-    wanted = {key: alone[0][key] for key in ("version", "name", "source", "program", "data", "start")}
+    wanted = {key: alone[0][key] for key in ("version", "name", "source", "program", "data", "names", "start")}
     wanted |= {"object": "pair", "schedule": " and ".join(names), "difference": difference, "runs": [
         {"schedule": name, **{part: run[part] for part in parts}} for name, run in zip(names, alone)]}
     return json.dumps(wanted, sort_keys=True), json.dumps(pair, sort_keys=True)

@@ -10,8 +10,8 @@ enum Place {
     /// In a column of its own: at a line's beginning, or behind a tab, two blanks, or a colon and a blank; and before a
     /// tab, two blanks, a colon, a comma or the line's end.
     Column,
-    /// What a word of memory is: behind a comma, an arrow, or `to be`; and before an arrow, a mark, two blanks or the
-    /// line's end.
+    /// What a word of memory is: behind its address or its name, a comma, an arrow, or `to be`; and before an arrow, a
+    /// mark, two blanks, its comment in brackets or the line's end.
     State,
     /// At the beginning of a line, perhaps behind blanks.
     Beginning,
@@ -71,7 +71,7 @@ fn stands(place: Place, before: &str, behind: &str) -> bool {
     match place {
         Place::Head => before.is_empty() || before.ends_with(": "),
         Place::Column => begins_column(before) && ends_column(behind),
-        Place::State => is_behind_state(before) && is_before_state(behind),
+        Place::State => is_behind_state(before) && ends_state(behind),
         Place::Beginning => before.bytes().all(|byte| byte == b' '),
         Place::Anywhere => true,
     }
@@ -82,7 +82,7 @@ fn begins_column(before: &str) -> bool {
 }
 
 fn ends_column(behind: &str) -> bool {
-    is_before_state(behind) || behind.starts_with('\t') || behind.starts_with(':')
+    ends_word(behind) || behind.starts_with('\t') || behind.starts_with(':')
 }
 
 fn is_behind_state(before: &str) -> bool {
@@ -90,9 +90,28 @@ fn is_behind_state(before: &str) -> bool {
         || before.ends_with("-> ")
         || before.ends_with("] ")
         || before.ends_with("to be ")
+        || ends_with_named_word(before)
 }
 
-fn is_before_state(behind: &str) -> bool {
+/// Whether a part of a line ends with an address in brackets, the name of its word, and a blank: `[0] lock `.
+fn ends_with_named_word(before: &str) -> bool {
+    let words = before.strip_suffix(" ").unwrap_or("");
+    match words.rsplit_once(' ') {
+        Some((front, name)) => front.ends_with(']') && name.bytes().all(is_of_name),
+        None => false,
+    }
+}
+
+/// Whether a byte is one of a name, or of which word of its line is meant: `ring+1`.
+fn is_of_name(byte: u8) -> bool {
+    byte.is_ascii_alphanumeric() || byte == b'_' || byte == b'+'
+}
+
+fn ends_state(behind: &str) -> bool {
+    ends_word(behind) || behind.starts_with(" (")
+}
+
+fn ends_word(behind: &str) -> bool {
     behind.is_empty()
         || behind.starts_with(',')
         || behind.starts_with(';')

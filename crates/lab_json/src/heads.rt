@@ -36,6 +36,7 @@ pub fn head_value<const S: usize>(
     head.put("source", source_value(alloc, text));
     head.put("program", program_value(alloc, names));
     head.put("data", data_value(alloc, names));
+    head.put("names", names_value(alloc, names));
     head.put("start", start_value(alloc, machine));
     head.whole()
 }
@@ -113,6 +114,34 @@ fn data_line_value(
     parts.put_number(count as u64);
     parts.put_number((number as u64).saturating_add(1));
     parts.put(text_value(alloc, comment));
+    parts.whole()
+}
+
+/// Of each line of data that names its words the address of the first one, how many they are, and the name.
+fn names_value(alloc: Global, names: &ProgramNames) -> Result<Value, AllocError> {
+    let mut lines = List::new(alloc);
+    for line in names.data_lines() {
+        let address = (line.first as u64).saturating_mul(8);
+        if names.has_name(address) {
+            lines.put(named_line_value(alloc, names, address, line.count));
+        }
+    }
+    lines.whole()
+}
+
+/// The name of so many words from an address on.
+fn named_line_value(
+    alloc: Global,
+    names: &ProgramNames,
+    address: u64,
+    count: usize,
+) -> Result<Value, AllocError> {
+    let mut name = String::new(alloc);
+    names.push_data_name(&mut name, address)?;
+    let mut parts = List::new(alloc);
+    parts.put_number(address);
+    parts.put_number(count as u64);
+    parts.put(Ok(Value::String(name)));
     parts.whole()
 }
 

@@ -5,7 +5,7 @@ use crate::opened_pages::opened_after;
 use busy_streams::{Busy, first_busy};
 use command_parts::{CommandAnswer, Inputs, LabFault, Program, read_program, read_steps};
 use lab_ends::{NEVER_BUSY, Wishes, are_rules_kept, space_ends};
-use lab_explorer::{Console, Watcher, addressed, push_expectation, wishes_of};
+use lab_explorer::{Console, Watcher, push_expected, wishes_of};
 use lab_requests::{Bounds, PlayRequest};
 use lab_texts::{NumberStyle, ProgramNames};
 use machine::LoadFault;
@@ -30,7 +30,7 @@ pub fn write_play_page<C: Clock, F: Files, R: Read, E: Write>(
     let names = ProgramNames::of(alloc, &program.text)?;
     let wishes = match request.expected {
         Some(path) => {
-            let text = addressed(alloc, path, &inputs.read(alloc, path)?, &names)?;
+            let text = inputs.read(alloc, path)?;
             wishes_of(alloc, path, &text, &names, &program.image)?
         }
         None => Wishes::none(alloc),
@@ -171,9 +171,9 @@ fn too_many(alloc: Global, request: &PlayRequest) -> Result<LabFault, AllocError
 /// What is expected of ends, and what is claimed, as it is written.
 fn expected_texts(alloc: Global, wishes: &Wishes) -> Result<Vec<String>, AllocError> {
     let mut texts = Vec::new(alloc);
-    for expectation in &wishes.ends {
+    for place in 0..wishes.ends.len() {
         let mut text = String::new(alloc);
-        push_expectation(&mut text, expectation)?;
+        push_expected(&mut text, wishes, place)?;
         texts.push(text)?;
     }
     for claim in &wishes.claim_texts {

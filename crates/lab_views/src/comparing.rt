@@ -16,7 +16,7 @@ use processor::Step;
 use std::alloc::{AllocError, Global};
 use std::io::Read;
 use std::rt::Files;
-use step_views::StepView;
+use step_views::{Change, Place, StepView};
 use whole_runs::{Difference, first_difference, run_views};
 
 /// Shows where two schedules of a program part, where the worlds first differ, and both ends.
@@ -179,8 +179,30 @@ impl<const S: usize> Pair<'_, '_, '_, S> {
             return push_object(alloc, out, &value);
         }
         write!(out, "position {position}: ")?;
-        push_differences(out, style_of(self.shown), &difference.places)?;
+        self.push_places(alloc, out, &difference.places)?;
         out.push_str("\n")
+    }
+
+    /// Adds places in which the worlds differ, a word's with its name: `0.0.pc 4 | 3, [8] total 7 | 0`.
+    fn push_places(
+        &self,
+        alloc: Global,
+        out: &mut String,
+        places: &[Change],
+    ) -> Result<(), AllocError> {
+        for (index, change) in places.iter().enumerate() {
+            out.push_str(if index == 0 { "" } else { ", " })?;
+            let mut text = String::new(alloc);
+            push_differences(&mut text, style_of(self.shown), &[*change])?;
+            match (change.place, text.split_once(']')) {
+                (Place::Value { address } | Place::Tags { address }, Some((_, rest))) => {
+                    self.names.push_address(out, address)?;
+                    out.push_str(rest)?;
+                }
+                _ => out.push_str(&text)?,
+            }
+        }
+        Ok(())
     }
 
     /// Adds how both ended. The exit status is the worse of theirs.

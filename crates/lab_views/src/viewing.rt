@@ -185,12 +185,14 @@ fn meets(view: &StepView, address: u64) -> bool {
         })
 }
 
-/// Adds that there is no step of a stream, or none that uses a word, and between which steps.
+/// Adds that there is no step of a stream, or none that uses a word, and between which steps; and how many steps the run
+/// has where the first of these is past its end.
 fn push_no_step(
     out: &mut String,
     names: &ProgramNames<'_>,
     request: &ViewRequest,
     only: Only,
+    steps: usize,
 ) -> Result<(), AllocError> {
     out.push_str("there is no step")?;
     if let Some(Step { p, s }) = only.stream {
@@ -206,6 +208,10 @@ fn push_no_step(
         (0..=1, _) => write!(out, " up to step {to}")?,
         (_, usize::MAX) => write!(out, " from step {from} on")?,
         _ => write!(out, " from step {from} to step {to}")?,
+    }
+    if from > steps {
+        let plural = if steps == 1 { "" } else { "s" };
+        write!(out, ": the run has {steps} step{plural}")?;
     }
     out.push_str("\n")
 }
@@ -341,12 +347,11 @@ impl Layout<'_, '_> {
         lines: &StepLines,
         steps: usize,
     ) -> Result<(), AllocError> {
-        let is_each = self.only.stream.is_none() && self.only.word.is_none();
         if lines.is_empty() {
-            return if steps == 0 || is_each {
+            return if steps == 0 {
                 Ok(())
             } else {
-                push_no_step(out, self.names, &self.request, self.only)
+                push_no_step(out, self.names, &self.request, self.only, steps)
             };
         }
         if self.lanes.is_empty() {
@@ -357,6 +362,7 @@ impl Layout<'_, '_> {
         if self.request.are_all {
             return lines.push_all(out, self.columns);
         }
+        let is_each = self.only.stream.is_none() && self.only.word.is_none();
         lines.push_folded(out, self.columns, is_each)
     }
 }

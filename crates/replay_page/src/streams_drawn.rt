@@ -5,6 +5,7 @@ use crate::marks::push_outcome;
 use crate::pages::push_escaped;
 use crate::waits::RunWait;
 use crate::whole_run::WholeRun;
+use crate::words_drawn::push_word_name;
 use lab_texts::{ProgramNames, wanted_word};
 use processor::Step;
 use std::alloc::AllocError;
@@ -18,7 +19,7 @@ pub(crate) fn push_streams(
     places: &ProgramNames,
 ) -> Result<(), AllocError> {
     for stream in lanes.streams() {
-        push_life(out, lanes, run, *stream)?;
+        push_life(out, lanes, run, places, *stream)?;
     }
     for wait in &run.waits {
         push_wait(out, lanes, run, wait)?;
@@ -38,6 +39,9 @@ pub(crate) fn push_streams(
     }
     Ok(())
 }
+
+/// How many letters of a word's address and name have room behind a lane.
+const WAITED: usize = 16;
 
 /// How many pixels a letter in a step's sign takes.
 const LETTER: usize = 7;
@@ -71,6 +75,7 @@ fn push_life(
     out: &mut String,
     lanes: &Lanes,
     run: &WholeRun,
+    places: &ProgramNames,
     stream: Step,
 ) -> Result<(), AllocError> {
     let Some(y) = lanes.stream_y(stream) else {
@@ -87,16 +92,22 @@ fn push_life(
     )?;
     write!(out, "<path class=\"life\" d=\"M{begin} {y}H{end}\"/>")?;
     write!(out, "<text class=\"note\" x=\"{note}\" y=\"{y}\" dy=\"4\">")?;
-    push_note(out, run, stream)?;
+    push_note(out, run, places, stream)?;
     out.push_str("</text>\n")
 }
 
 /// Adds what is to be said of a stream's end.
-fn push_note(out: &mut String, run: &WholeRun, stream: Step) -> Result<(), AllocError> {
+fn push_note(
+    out: &mut String,
+    run: &WholeRun,
+    places: &ProgramNames,
+    stream: Step,
+) -> Result<(), AllocError> {
     if let Some(wait) = run.end.waits.iter().find(|wait| wait.stream == stream) {
-        let address = wait.wait.address;
+        out.push_str("waits for ")?;
+        push_word_name(out, places, wait.wait.address, WAITED)?;
         let wanted = wanted_word(wait.wait.wanted);
-        return write!(out, "waits for [{address}] {wanted}");
+        return write!(out, " {wanted}");
     }
     if let Some(stopped) = run
         .end

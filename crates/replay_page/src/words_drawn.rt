@@ -1,6 +1,6 @@
 //! The lanes of words: values, full and empty, reads and writes, and what was lost.
 
-use crate::lanes::Lanes;
+use crate::lanes::{Lanes, NAMES};
 use crate::marks::{push_bars, push_meeting};
 use crate::pages::push_cut;
 use crate::whole_run::WholeRun;
@@ -12,8 +12,14 @@ use step_views::{Content, Place, StepView};
 use stream_core::Outcome;
 use tag_memory::{Tags, Word};
 
-/// How many letters of a comment have room.
-const ROOM: usize = 15;
+/// How many letters of a word's address and name have room before its lane.
+const NAMED: usize = 20;
+
+/// Where a comment begins, unless an address and a name before it take more room.
+const COMMENTS: usize = 72;
+
+/// How many letters of a comment are worth their room.
+const LEAST_COMMENT: usize = 3;
 
 /// What a word holds from a step on.
 #[derive(Clone, Copy)]
@@ -36,14 +42,7 @@ pub(crate) fn push_words(
         let Some(y) = lanes.word_y(*address) else {
             continue;
         };
-        let name = y.saturating_add(20);
-        write!(
-            out,
-            "<text class=\"name\" x=\"4\" y=\"{name}\">[{address}]</text>"
-        )?;
-        write!(out, "<text class=\"note\" x=\"72\" y=\"{name}\">")?;
-        push_cut(out, places.comment(*address), ROOM)?;
-        out.push_str("</text>\n")?;
+        push_lane_name(out, places, *address, y.saturating_add(20))?;
         if let Some(cell) = cells.get((*address / 8) as usize) {
             push_bar(out, lanes, &run.views, y, *address, *cell)?;
         }
@@ -53,6 +52,38 @@ pub(crate) fn push_words(
         push_lost(out, lanes, update)?;
     }
     Ok(())
+}
+
+/// Adds what stands before a word's lane: its address and its name, and as much of its comment as has room then.
+fn push_lane_name(
+    out: &mut String,
+    places: &ProgramNames,
+    address: u64,
+    y: usize,
+) -> Result<(), AllocError> {
+    write!(out, "<text class=\"name\" x=\"4\" y=\"{y}\">")?;
+    let letters = push_word_name(out, places, address, NAMED)?;
+    let x = letters.saturating_mul(8).saturating_add(12).max(COMMENTS);
+    write!(out, "</text><text class=\"note\" x=\"{x}\" y=\"{y}\">")?;
+    // two letters of a comment take 13 pixels
+    let room = NAMES.saturating_sub(x).saturating_mul(2) / 13;
+    if room >= LEAST_COMMENT {
+        push_cut(out, places.remark(address), room)?;
+    }
+    out.push_str("</text>\n")
+}
+
+/// Adds the address of a word and its name, cut to so many letters, and says how many these are.
+pub(crate) fn push_word_name(
+    out: &mut String,
+    places: &ProgramNames,
+    address: u64,
+    room: usize,
+) -> Result<usize, AllocError> {
+    let mut name = String::new(*out.allocator());
+    places.push_address(&mut name, address)?;
+    push_cut(out, &name, room)?;
+    Ok(name.len().min(room))
 }
 
 /// Adds a word's bar: high where it is full, thin where it is empty, with a tick where its value changed.

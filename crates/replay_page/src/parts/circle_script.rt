@@ -25,10 +25,16 @@ const NODE_ROOM = 100; // pixels of a ring from a stream to the next
 const ROOMY = 6; // up to so many streams the words stand on the ring, of more within it
 const WITHIN = 24; // pixels
 
+const ON_RING = 11; // letters of a word's address and name
+const IN_ROW = 16;
+
+/** A word on a ring of so many streams: with its name where it stands on the ring. */
+const wordOnRing = (count, { word }) => (count > ROOMY ? wordName(word) : cut(namedWord(word), ON_RING));
+
 /** A ring of so many nodes, and the spot of node i, or between two nodes: equal parts are equally long. */
-function ringOf(count) {
+function ringOf(count, letters) {
   const ry = count > ROOMY ? 104 : 74;
-  const mean = (count * NODE_ROOM) / (2 * Math.PI);
+  const mean = (count * Math.max(NODE_ROOM, 8 * letters + 96)) / (2 * Math.PI);
   const rx = Math.max(150, Math.round(Math.sqrt(Math.max(0, 2 * mean * mean - ry * ry))));
   const [width, height] = [2 * (rx + 50), 2 * (ry + 26)];
   const turn = (part) => (2 * Math.PI * part) / RING_PARTS;
@@ -72,13 +78,15 @@ function arcOf({ spot, within, rx, ry, head }, i) {
 /** The streams of a circle on a ring: an arrow from each to the one that turned the word it waits for. */
 function drawCircle(circle, waiting) {
   const waits = circle.map((id) => waiting.find((wait) => wait.stream === id)).filter(Boolean);
-  const ring = ringOf(circle.length);
+  const words = waits.map((wait) => wordOnRing(circle.length, wait));
+  const longest = circle.length > ROOMY ? 0 : Math.max(...words.map((word) => word.length));
+  const ring = ringOf(circle.length, longest);
   const picture = waitPicture(ring.width, ring.height, waits);
   const nodes = [];
   waits.forEach((wait, i) => {
     const arc = arcOf(ring, i);
     picture.append(arc.line, arc.head);
-    const word = wordNode(...arc.middle, wordName(wait.word));
+    const word = wordNode(...arc.middle, words[i]);
     word.append(svg("title", {}, fullName(wait.word)));
     nodes.push(word, streamNode(...ring.spot(i), wait.stream));
   });
@@ -99,7 +107,7 @@ function drawWaitRows(waits) {
     const other = wait.by === null || wait.by === undefined ? "nobody" : isOwn ? "itself" : wait.by;
     picture.append(
       svg("path", { class: "edge", d: `M60 ${y}H288` }), edgeHead(298, y, 0),
-      streamNode(40, y, wait.stream), wordNode(170, y, `${wordName(wait.word)} ${wait.for}`),
+      streamNode(40, y, wait.stream), wordNode(170, y, `${cut(namedWord(wait.word), IN_ROW)} ${wait.for}`),
       streamNode(336, y, other),
     );
   });

@@ -64,7 +64,8 @@ section h2 { padding: 9px 12px; }
 .head { display: flex; gap: 8px; align-items: flex-start; width: 100%; padding: 6px 6px 0 12px; border: 0;
   border-left: 3px solid transparent; background: none; color: var(--muted); font: 12px/20px var(--prose);
   text-align: left; cursor: pointer; }
-.head b { font: 600 13px/20px var(--mono); color: var(--ink); }
+.head b { flex: none; max-width: 100%; overflow: hidden; text-overflow: ellipsis; white-space: nowrap;
+  font: 600 13px/20px var(--mono); color: var(--ink); }
 .head span { overflow: hidden; text-overflow: ellipsis; white-space: nowrap; }
 .head.waits span { color: var(--blocked-ink); }
 .head.idle b { color: var(--muted); font-weight: 400; }

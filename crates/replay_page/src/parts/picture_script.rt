@@ -94,7 +94,8 @@ function drawWait(picture, wait, y) {
   if (wait.to === null) return; // the note at the end says it
   const gap = widestGap(picture, wait);
   const room = gap.to - gap.from - picture.width - 6;
-  const texts = [`waits for ${wordName(wait.word)} ${wait.for}`, wordName(wait.word)];
+  const name = namedWord(wait.word);
+  const texts = [`waits for ${name} ${wait.for}`, name, wordName(wait.word)];
   const text = texts.find((one) => one.length * 5.9 < room);
   if (!text) return;
   picture.back.append(svg("text", { class: "small waits", x: gap.from + picture.width / 2 + 3, y: y + 3.5 }, text));
@@ -115,10 +116,12 @@ function widestGap(picture, wait) {
   return best;
 }
 
+const NOTE_LETTERS = 18; // of a word's address and name
+
 /** What stands behind a stream's lane: how it ended. */
 function endNote(stream) {
   const wait = atEnd.waiting.get(stream);
-  if (wait) return ["waits", `waits for ${wordName(wait.word)} ${wait.for}`];
+  if (wait) return ["waits", `waits for ${cut(namedWord(wait.word), NOTE_LETTERS)} ${wait.for}`];
   const stopped = atEnd.stopped.get(stream);
   if (stopped) return ["stops", `stopped: ${trapName(stopped.trap)}`];
   if (atEnd.quit.has(stream)) return ["muted", "has quit"];

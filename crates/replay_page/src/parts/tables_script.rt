@@ -15,7 +15,7 @@ const cells = (...texts) => texts.map((text) => html("td", {}, text));
 /** A change in words; null for what the other columns say or what is of little use in a list. */
 function changeText([place, before, now]) {
   const [, word, what] = place.match(/^(\[\d+\])?\.?(?:\d+\.)*(\w+)$/);
-  const name = word && wordName(word.slice(1, -1));
+  const name = word && namedWord(Number(word.slice(1, -1)));
   if (what === "value") return `${name} ${number(before)} → ${number(now)}`;
   if (what === "tags") return [`${name} ${fullText(now)}`, tagsText(now)].filter(Boolean).join(", ");
   if (before === String(NO_HANDLER)) return null;

@@ -23,18 +23,18 @@ function waitText(wait, n, since) {
 function readText(step) {
   if (step.o !== "done" || !step.ref) return "";
   const [operation, , , word, given, reply] = step.ref;
-  if (operation === "LOAD") return `${wordName(word)} is ${number(reply)}`;
-  if (operation === "TAGGET") return `the tags of ${wordName(word)} are ${reply}`;
+  if (operation === "LOAD") return `${namedWord(word)} is ${number(reply)}`;
+  if (operation === "TAGGET") return `the tags of ${namedWord(word)} are ${reply}`;
   const isStore = operation === "STORE";
   if (step.ch.some(([place]) => place[0] === "[" && (!isStore || place.endsWith("value")))) return "";
-  return isStore ? `${wordName(word)} stays ${number(given)}` : `${wordName(word)} stays as it was`;
+  return isStore ? `${namedWord(word)} stays ${number(given)}` : `${namedWord(word)} stays as it was`;
 }
 
 function doneText(step, n) {
   const freed = waitsOf.get(step.who)?.find((wait) => wait.to === n && wait.met);
   const read = readText(step);
   if (!freed) return ["done", read && `: ${read}`];
-  return [`done: ${wordName(freed.word)} is ${freed.for} since `, stepLink(freed.met), read && `; ${read}`];
+  return [`done: ${namedWord(freed.word)} is ${freed.for} since `, stepLink(freed.met), read && `; ${read}`];
 }
 
 const OUTCOMES = {
