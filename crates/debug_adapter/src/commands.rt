@@ -143,7 +143,12 @@ const COMMANDS: [(&str, DapCommand); 29] = [
 
 /// The command of a name; None where nothing is called so here.
 pub(crate) fn dap_command(name: &str) -> Option<DapCommand> {
-    for (known, command) in COMMANDS.iter() {
+    command_called(&COMMANDS, name)
+}
+
+/// The command that one of these names calls.
+fn command_called(commands: &[(&str, DapCommand)], name: &str) -> Option<DapCommand> {
+    for (known, command) in commands {
         if *known == name {
             return Some(*command);
         }

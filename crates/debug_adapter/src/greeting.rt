@@ -109,9 +109,7 @@ const CAPABILITIES: [&str; 12] = [
 fn capabilities(alloc: Global) -> Json {
     let mut body = Json::new(alloc);
     body.open();
-    for name in CAPABILITIES.iter() {
-        body.truth_of(name, true);
-    }
+    push_all_true(&mut body, &CAPABILITIES);
     body.open_list("exceptionBreakpointFilters");
     push_filter(
         &mut body,
@@ -128,6 +126,13 @@ fn capabilities(alloc: Global) -> Json {
     body.close_list();
     body.close();
     body
+}
+
+/// Adds members that are true.
+fn push_all_true(body: &mut Json, names: &[&str]) {
+    for name in names {
+        body.truth_of(name, true);
+    }
 }
 
 /// Adds a filter of exceptions.

@@ -74,15 +74,27 @@ impl<'a, 'i, 't> Adapter<'a, 'i, 't> {
 
     /// Adds the other parts of a stream, and what it waits for.
     fn push_parts(&self, step: Step, style: NumberStyle, body: &mut Json) -> Result<(), Refusal> {
-        for (name, part) in PARTS.iter() {
-            self.push_part(step, name, *part, style, body)?;
-        }
+        self.push_named_parts(step, &PARTS, style, body)?;
         if let Some(wait) = self.named.wait(step.p, step.s) {
             let wanted = wanted_word(wait.wanted);
             let mut text = String::from_str(self.alloc, "for ")?;
             self.names.push_address(&mut text, wait.address)?;
             write!(text, " to be {wanted}")?;
             push_variable(body, "waits", &text, 0);
+        }
+        Ok(())
+    }
+
+    /// Adds parts of a stream by their names.
+    fn push_named_parts(
+        &self,
+        step: Step,
+        parts: &[(&str, StreamPart)],
+        style: NumberStyle,
+        body: &mut Json,
+    ) -> Result<(), Refusal> {
+        for (name, part) in parts {
+            self.push_part(step, name, *part, style, body)?;
         }
         Ok(())
     }

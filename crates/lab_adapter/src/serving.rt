@@ -27,6 +27,9 @@ const CHUNK: usize = 4_096;
 /// How many messages wait at most while another is answered.
 const WAITING: usize = 4;
 
+/// What the thread that reads passes on of a message: its request, unless memory was refused for it.
+type Heard = Result<DapRequest, AllocError>;
+
 /// Answers the requests on standard input. A thread reads them, so that one is seen while a search is under way.
 pub fn adapt<X: Threads + Wait + Clock + Sync, F: Files, R: Read + Send, W: Write>(
     rt: &X,
@@ -54,7 +57,7 @@ fn read_if_first<X: Wait, R: Read>(
     alloc: Global,
     is_begun: &AtomicBool,
     input: &mut R,
-    sender: Sender<Frame, Global>,
+    sender: Sender<Heard, Global>,
 ) {
     if !is_begun.swap(true, Ordering::SeqCst) {
         read_frames(rt, alloc, input, sender);
@@ -67,7 +70,7 @@ fn serve_if_begun<X: Wait + Clock, F: Files, W: Write>(
     alloc: Global,
     is_begun: &AtomicBool,
     files: &F,
-    receiver: Receiver<Frame, Global>,
+    receiver: Receiver<Heard, Global>,
     output: &mut W,
 ) -> Result<Status, LabFault> {
     if !has_begun(rt, is_begun) {
@@ -81,7 +84,7 @@ fn read_frames<X: Wait, R: Read>(
     rt: &X,
     alloc: Global,
     input: &mut R,
-    sender: Sender<Frame, Global>,
+    sender: Sender<Heard, Global>,
 ) {
     let mut frames = Frames::new(alloc);
     let mut chunk = [0u8; CHUNK];
@@ -106,27 +109,31 @@ fn pass_on<X: Wait>(
     alloc: Global,
     frames: &mut Frames,
     byte: u8,
-    sender: &Sender<Frame, Global>,
+    sender: &Sender<Heard, Global>,
 ) -> bool {
     match frames.take(byte) {
         Ok(None) => true,
-        Ok(Some(frame)) => {
-            let is_last = asks_for_end(alloc, &frame);
-            sender.send(rt, frame).is_ok() && !is_last
-        }
+        Ok(Some(frame)) => send_on(rt, request_of(alloc, &frame), sender),
         Err(_) => false,
     }
 }
 
-/// Whether a message asks for the end.
-fn asks_for_end(alloc: Global, frame: &Frame) -> bool {
-    match frame {
-        Frame::Message(bytes) => match read_request(alloc, bytes) {
-            Ok(request) => request.kind == Some(DapCommand::Disconnect),
-            Err(_) => true,
-        },
-        Frame::TooLong | Frame::NoMessage => false,
-    }
+/// Passes on what was heard. Whether more is to be read: not after a request for the end.
+fn send_on<X: Wait>(rt: &X, heard: Heard, sender: &Sender<Heard, Global>) -> bool {
+    let is_last = match &heard {
+        Ok(request) => request.kind == Some(DapCommand::Disconnect),
+        Err(_) => true,
+    };
+    sender.send(rt, heard).is_ok() && !is_last
+}
+
+/// The request of a frame; one of an empty command where it is none.
+fn request_of(alloc: Global, frame: &Frame) -> Heard {
+    let bytes = match frame {
+        Frame::Message(bytes) => bytes.as_slice(),
+        Frame::TooLong | Frame::NoMessage => b"",
+    };
+    read_request(alloc, bytes)
 }
 
 /// Answers the messages that come, up to one that asks for the end, or to the last.
@@ -134,7 +141,7 @@ fn serve_all<X: Wait, F: Files, W: Write>(
     rt: &X,
     alloc: Global,
     files: &F,
-    receiver: Receiver<Frame, Global>,
+    receiver: Receiver<Heard, Global>,
     output: &mut W,
 ) -> Result<Status, LabFault> {
     let mut transport = Transport {
@@ -154,7 +161,7 @@ fn serve<X: Wait, F: Files, W: Write>(
 ) -> Result<Status, LabFault> {
     let mut client = Client::usual();
     for _ in rt.forever() {
-        let Some(request) = transport.next(rt, alloc)? else {
+        let Some(request) = transport.next(rt)? else {
             return Ok(Status::Done);
         };
         let flow = if request.kind == Some(DapCommand::Launch) {
@@ -251,9 +258,9 @@ fn answer_all<X: Wait, W: Write>(
 ) -> Result<(), LabFault> {
     for _ in rt.forever() {
         let request = if adapter.is_under_way() {
-            transport.next_there(rt, alloc)?
+            transport.next_there(rt)?
         } else {
-            match transport.next(rt, alloc)? {
+            match transport.next(rt)? {
                 Some(request) => Some(request),
                 None => return Ok(()),
             }
@@ -331,7 +338,7 @@ fn run_asked<'r>(launch: &LaunchRequest<'r>) -> RunChoice<'r> {
 /// Where messages come from, and where they go.
 #[derive(Drop)]
 struct Transport<'a, W> {
-    receiver: Receiver<Frame, Global>,
+    receiver: Receiver<Heard, Global>,
     connection: Connection,
     output: &'a mut W,
 }
@@ -346,33 +353,20 @@ impl<W: Write> Transport<'_, W> {
 
     /// Writes what is to be sent, and waits for the next request; None at the end of the input. What is no request is
     /// one of an empty command.
-    fn next<X: Wait>(&mut self, rt: &X, alloc: Global) -> Result<Option<DapRequest>, LabFault> {
+    fn next<X: Wait>(&mut self, rt: &X) -> Result<Option<DapRequest>, LabFault> {
         self.flush()?;
         match self.receiver.recv(rt) {
-            Ok(frame) => Ok(Some(request_of(alloc, &frame)?)),
+            Ok(heard) => Ok(Some(heard?)),
             Err(_) => Ok(None),
         }
     }
 
     /// The same where one has come already, and else None.
-    fn next_there<X: Wait>(
-        &mut self,
-        rt: &X,
-        alloc: Global,
-    ) -> Result<Option<DapRequest>, LabFault> {
+    fn next_there<X: Wait>(&mut self, rt: &X) -> Result<Option<DapRequest>, LabFault> {
         self.flush()?;
         match self.receiver.try_recv(rt) {
-            Ok(frame) => Ok(Some(request_of(alloc, &frame)?)),
+            Ok(heard) => Ok(Some(heard?)),
             Err(_) => Ok(None),
         }
     }
-}
-
-/// The request of a frame.
-fn request_of(alloc: Global, frame: &Frame) -> Result<DapRequest, LabFault> {
-    let bytes = match frame {
-        Frame::Message(bytes) => bytes.as_slice(),
-        Frame::TooLong | Frame::NoMessage => b"",
-    };
-    Ok(read_request(alloc, bytes)?)
 }

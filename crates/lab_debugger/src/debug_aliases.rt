@@ -1,7 +1,7 @@
 //! Words of other debuggers, as of gdb.
 
 use crate::debug_words::DebugWord;
-use std::alloc::AllocError;
+use lab_texts::TextWriter;
 
 /// Other names of the words.
 const ALIASES: [(&str, DebugWord); 30] = [
@@ -63,7 +63,12 @@ const MEANT: [(&str, &str); 20] = [
 
 /// The word that has another name.
 pub(crate) fn word_of_alias(text: &str) -> Option<DebugWord> {
-    for (name, word) in ALIASES.iter() {
+    word_called(&ALIASES, text)
+}
+
+/// The word that one of these names calls.
+fn word_called(aliases: &[(&str, DebugWord)], text: &str) -> Option<DebugWord> {
+    for (name, word) in aliases {
         if *name == text {
             return Some(*word);
         }
@@ -72,11 +77,24 @@ pub(crate) fn word_of_alias(text: &str) -> Option<DebugWord> {
 }
 
 /// Adds that a text is no word, and what may be meant.
-pub(crate) fn push_meant(out: &mut String, text: &str) -> Result<(), AllocError> {
-    for (name, meant) in MEANT.iter() {
+pub(crate) fn put_meant(out: &mut TextWriter, text: &str) {
+    out.put("no such word; ");
+    match meant_by(&MEANT, text) {
+        Some(meant) => {
+            out.put("did you mean ");
+            out.put(meant);
+            out.put("?");
+        }
+        None => out.put("help lists them"),
+    }
+}
+
+/// What may be meant by a text, where these have it: each text is before what may be meant.
+fn meant_by<'m>(all: &[(&str, &'m str)], text: &str) -> Option<&'m str> {
+    for (name, meant) in all {
         if *name == text {
-            return write!(out, "no such word; did you mean {meant}?");
+            return Some(*meant);
         }
     }
-    out.push_str("no such word; help lists them")
+    None
 }

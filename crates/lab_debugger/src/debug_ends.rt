@@ -5,7 +5,7 @@ use command_parts::LabFault;
 use debug_commands::Command;
 use end_kinds::EndKind;
 use lab_ends::RunFindings;
-use lab_texts::{NumberStyle, end_of, push_differing_words, push_end};
+use lab_texts::{NumberStyle, TextWriter, end_of, put_differing_words, put_end};
 use machine::Machine;
 use step_views::StepView;
 use whole_runs::run_views;
@@ -19,17 +19,17 @@ struct RunHere<'i, const S: usize> {
 
 impl<'a, 'i, 't, const S: usize> DebugRepl<'a, 'i, 't, S> {
     /// Goes where a command leads, and where that is the end of the schedule, tells how the run ends.
-    pub(crate) fn go(&mut self, command: &Command, out: &mut String) -> Result<(), LabFault> {
+    pub(crate) fn go(&mut self, command: &Command, out: &mut TextWriter) -> Result<(), LabFault> {
         self.move_by(command, out)?;
-        self.push_end_here(true, out)
+        self.put_end_here(true, out)
     }
 
     /// Adds how the run ends, the words that it changed, and its findings, where the session is at the schedule's end;
     /// of a run that could go on only where that is told too.
-    pub(crate) fn push_end_here(
+    pub(crate) fn put_end_here(
         &mut self,
         is_unfinished_told: bool,
-        out: &mut String,
+        out: &mut TextWriter,
     ) -> Result<(), LabFault> {
         if self.named.session.next_step().is_some() {
             return Ok(());
@@ -40,17 +40,18 @@ impl<'a, 'i, 't, const S: usize> DebugRepl<'a, 'i, 't, S> {
             return Ok(());
         }
         let style = NumberStyle::Decimal;
-        push_end(out, self.names, run.views.len(), &end)?;
-        push_differing_words(out, self.names, style, &run.machine)?;
-        self.push_findings(style, out)
+        put_end(out, self.names, run.views.len(), &end);
+        put_differing_words(out, self.names, style, &run.machine);
+        self.put_findings(style, out)
     }
 
     /// Adds the findings of the run by the whole schedule.
-    fn push_findings(&self, style: NumberStyle, out: &mut String) -> Result<(), LabFault> {
+    fn put_findings(&self, style: NumberStyle, out: &mut TextWriter) -> Result<(), LabFault> {
         let session = &self.named.session;
         let (image, steps) = (session.machine().image(), session.schedule());
         let found = RunFindings::of::<S>(self.alloc, image, steps)?;
-        Ok(found.push(out, self.names, style)?)
+        found.put(out, self.names, style);
+        Ok(())
     }
 
     /// The run by the whole schedule.

@@ -2,19 +2,20 @@
 
 use crate::debug_repl::{DebugRepl, refuse};
 use command_parts::LabFault;
-use debug_commands::{Answer, Command};
+use debug_commands::{Answer, Command, DebugFault};
+use lab_texts::{ProgramNames, TextWriter};
 use replay_debugger::Point;
 
 impl<'a, 'i, 't, const S: usize> DebugRepl<'a, 'i, 't, S> {
     /// On until a stream is to step at a place.
-    pub(crate) fn until(&mut self, rest: &str, out: &mut String) -> Result<(), LabFault> {
+    pub(crate) fn until(&mut self, rest: &str, out: &mut TextWriter) -> Result<(), LabFault> {
         let Some(word) = self.named.word_of_place(rest) else {
-            return Ok(out.push_str("until takes a label, as eat or eat+1, or a line\n")?);
+            out.put("until takes a label, as eat or eat+1, or a line\n");
+            return Ok(());
         };
         let mut added = Vec::new(self.alloc);
-        let mut ignored = String::new(self.alloc);
         for p in 0..self.named.session.machine().image().processors() {
-            if let Some(key) = self.add(&Command::Break(p as u8, word), &mut ignored)? {
+            if let Some(key) = self.new_point(&Command::Break(p as u8, word))? {
                 added.push(key)?;
             }
         }
@@ -26,12 +27,11 @@ impl<'a, 'i, 't, const S: usize> DebugRepl<'a, 'i, 't, S> {
     }
 
     /// A breakpoint of one processor or of all.
-    pub(crate) fn break_at(&mut self, rest: &str, out: &mut String) -> Result<(), LabFault> {
+    pub(crate) fn break_at(&mut self, rest: &str, out: &mut TextWriter) -> Result<(), LabFault> {
         let (processor, place) = processor_and_place(rest);
         let Some(word) = self.named.word_of_place(place) else {
-            return Ok(out.push_str(
-                "break takes a label, as eat or eat+1, or a line, perhaps after a processor\n",
-            )?);
+            out.put("break takes a label, as eat or eat+1, or a line, perhaps after a processor\n");
+            return Ok(());
         };
         if let Some(p) = processor {
             return self.add_point(&Command::Break(p, word), out);
@@ -43,7 +43,7 @@ impl<'a, 'i, 't, const S: usize> DebugRepl<'a, 'i, 't, S> {
     }
 
     /// A watched word.
-    pub(crate) fn watch(&mut self, rest: &str, out: &mut String) -> Result<(), LabFault> {
+    pub(crate) fn watch(&mut self, rest: &str, out: &mut TextWriter) -> Result<(), LabFault> {
         let (name, what) = match rest.split_once(' ') {
             Some((name, what)) => (name, what.trim()),
             None => (rest, ""),
@@ -51,79 +51,92 @@ impl<'a, 'i, 't, const S: usize> DebugRepl<'a, 'i, 't, S> {
         let command = match (self.names.address_of(name), what) {
             (Some(address), "") => Command::Watch(address),
             (Some(address), "tags") => Command::WatchTags(address),
-            (None, "" | "tags") if is_named_word(name) => return self.push_no_address(name, out),
-            _ => return Ok(out.push_str("watch takes a word, as [8], or [8] tags\n")?),
+            (None, "" | "tags") if is_named_word(name) => return self.put_no_address(name, out),
+            _ => {
+                out.put("watch takes a word, as [8], or [8] tags\n");
+                return Ok(());
+            }
         };
         self.add_point(&command, out)
     }
 
     /// Adds why a text says no word.
-    pub(crate) fn push_no_address(&self, text: &str, out: &mut String) -> Result<(), LabFault> {
-        self.names.push_no_address(self.alloc, out, text)?;
-        Ok(out.push_str("\n")?)
+    pub(crate) fn put_no_address(&self, text: &str, out: &mut TextWriter) -> Result<(), LabFault> {
+        self.names.put_no_address(self.alloc, out, text)?;
+        out.put("\n");
+        Ok(())
     }
 
     /// A point less.
-    pub(crate) fn delete(&mut self, rest: &str, out: &mut String) -> Result<(), LabFault> {
+    pub(crate) fn delete(&mut self, rest: &str, out: &mut TextWriter) -> Result<(), LabFault> {
         let Ok(key) = rest.parse::<u64>() else {
-            return Ok(out.push_str("delete takes the number of a point\n")?);
+            out.put("delete takes the number of a point\n");
+            return Ok(());
         };
         match self.named.session.command(&Command::Delete(key)) {
-            Ok(_) => Ok(writeln!(out, "point {key} is gone")?),
+            Ok(_) => {
+                out.put("point ");
+                out.put_number(key);
+                out.put(" is gone\n");
+                Ok(())
+            }
             Err(fault) => refuse(fault, out),
         }
     }
 
     /// Adds the points.
-    pub(crate) fn push_points(&self, out: &mut String) -> Result<(), LabFault> {
+    pub(crate) fn put_points(&self, out: &mut TextWriter) -> Result<(), LabFault> {
         for (key, point) in self.named.session.points(self.alloc)?.iter() {
-            self.push_point(*key, *point, out)?;
+            put_point(out, self.names, *key, *point);
         }
         Ok(())
     }
 
-    /// Adds a point's key, and where it stops.
-    fn push_point(&self, key: u64, point: Point, out: &mut String) -> Result<(), LabFault> {
-        write!(out, "point {key}: ")?;
-        match point {
-            Point::Break(p, word) => {
-                write!(out, "processor {p} at ")?;
-                self.names.push_place(out, word)?;
-            }
-            Point::Watch(address) => {
-                out.push_str("a change of ")?;
-                self.names.push_address(out, address)?;
-            }
-            Point::WatchTags(address) => {
-                out.push_str("a change of the tags of ")?;
-                self.names.push_address(out, address)?;
-            }
+    /// Makes a point, and gives its key; None where it is refused.
+    fn new_point(&mut self, command: &Command) -> Result<Option<u64>, LabFault> {
+        match self.named.session.command(command) {
+            Ok(Answer::Point(key)) => Ok(Some(key)),
+            Err(DebugFault::NoMemory) => Err(LabFault::NoMemory),
+            Ok(_) | Err(_) => Ok(None),
         }
-        Ok(out.push_str("\n")?)
     }
 
     /// Makes a point, and adds which; or adds why it is refused.
-    fn add_point(&mut self, command: &Command, out: &mut String) -> Result<(), LabFault> {
-        let Some(key) = self.add(command, out)? else {
-            return Ok(());
-        };
-        match self.named.session.point(key) {
-            Some(point) => self.push_point(key, point, out),
-            None => Ok(()),
-        }
-    }
-
-    /// Makes a point, and gives its key; or adds why it is refused.
-    fn add(&mut self, command: &Command, out: &mut String) -> Result<Option<u64>, LabFault> {
+    fn add_point(&mut self, command: &Command, out: &mut TextWriter) -> Result<(), LabFault> {
         match self.named.session.command(command) {
-            Ok(Answer::Point(key)) => Ok(Some(key)),
-            Ok(_) => Ok(None),
-            Err(fault) => {
-                refuse(fault, out)?;
-                Ok(None)
+            Ok(Answer::Point(key)) => {
+                if let Some(point) = self.named.session.point(key) {
+                    put_point(out, self.names, key, point);
+                }
+                Ok(())
             }
+            Ok(_) => Ok(()),
+            Err(fault) => refuse(fault, out),
         }
     }
+}
+
+/// Adds a point's key, and where it stops.
+fn put_point(out: &mut TextWriter, names: &ProgramNames<'_>, key: u64, point: Point) {
+    out.put("point ");
+    out.put_number(key);
+    match point {
+        Point::Break(p, word) => {
+            out.put(": processor ");
+            out.put_number(u64::from(p));
+            out.put(" at ");
+            names.put_place(out, word);
+        }
+        Point::Watch(address) => {
+            out.put(": a change of ");
+            names.put_address(out, address);
+        }
+        Point::WatchTags(address) => {
+            out.put(": a change of the tags of ");
+            names.put_address(out, address);
+        }
+    }
+    out.put("\n");
 }
 
 /// Whether a text is in brackets, or begins as a name does.

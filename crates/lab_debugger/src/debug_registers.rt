@@ -2,8 +2,9 @@
 
 use crate::debug_points::is_named_word;
 use crate::debug_repl::DebugRepl;
+use crate::debug_shows::NO_STREAM;
 use command_parts::LabFault;
-use lab_texts::{NumberStyle, push_stream_part, push_word};
+use lab_texts::{NumberStyle, TextWriter, put_stream_part, put_word};
 use processor::Step;
 use step_views::{Content, Place, StreamPart};
 
@@ -21,87 +22,92 @@ const STATES: [StreamPart; 5] = [
 
 impl<'a, 'i, 't, const S: usize> DebugRepl<'a, 'i, 't, S> {
     /// Adds where a stream stands, and all its registers.
-    pub(crate) fn push_registers(&self, step: Step, out: &mut String) -> Result<(), LabFault> {
+    pub(crate) fn put_registers(&self, step: Step, out: &mut TextWriter) {
         if self.named.pc(step.p, step.s).is_none() {
-            return Ok(out.push_str("there is no such stream\n")?);
+            out.put(NO_STREAM);
+            return;
         }
-        self.push_stream_line(step, out)?;
+        self.put_stream_line(step, out);
         let mut count: usize = 0;
         for number in 0..32 {
-            count = self.push_if_set(step, StreamPart::Register(number), count, out)?;
+            count = self.put_if_set(step, StreamPart::Register(number), count, out);
         }
-        push_others(count, 'r', out)?;
+        put_others(count, "r is 0\n", out);
         count = 0;
         for number in 0..8 {
-            count = self.push_if_set(step, StreamPart::Target(number), count, out)?;
+            count = self.put_if_set(step, StreamPart::Target(number), count, out);
         }
-        push_others(count, 't', out)?;
-        self.push_states(step, out)
+        put_others(count, "t is 0\n", out);
+        self.put_states(step, &STATES, out);
     }
 
     /// Adds a register of a stream that is not 0, behind so many others, and counts it.
-    fn push_if_set(
+    fn put_if_set(
         &self,
         step: Step,
         part: StreamPart,
         count: usize,
-        out: &mut String,
-    ) -> Result<usize, LabFault> {
-        let Some(content) = self.named.value(place_of(step, part)) else {
-            return Ok(count);
-        };
-        if is_zero(content) {
-            return Ok(count);
+        out: &mut TextWriter,
+    ) -> usize {
+        match self.named.value(place_of(step, part)) {
+            Some(content) if !is_zero(content) => {
+                out.put(if count == 0 { "" } else { ", " });
+                put_stream_part(out, self.names, NumberStyle::Decimal, part, content);
+                count.saturating_add(1)
+            }
+            _ => count,
         }
-        out.push_str(if count == 0 { "" } else { ", " })?;
-        push_stream_part(out, self.names, NumberStyle::Decimal, part, content)?;
-        Ok(count.saturating_add(1))
     }
 
-    /// Adds the other parts of a stream.
-    fn push_states(&self, step: Step, out: &mut String) -> Result<(), LabFault> {
-        let style = NumberStyle::Decimal;
-        for (index, part) in STATES.iter().enumerate() {
+    /// Adds other parts of a stream.
+    fn put_states(&self, step: Step, parts: &[StreamPart], out: &mut TextWriter) {
+        for (index, part) in parts.iter().enumerate() {
             if let Some(content) = self.named.value(place_of(step, *part)) {
-                out.push_str(if index == 0 { "" } else { ", " })?;
-                push_stream_part(out, self.names, style, *part, content)?;
+                out.put(if index == 0 { "" } else { ", " });
+                put_stream_part(out, self.names, NumberStyle::Decimal, *part, content);
             }
         }
-        Ok(out.push_str("\n")?)
+        out.put("\n");
     }
 
     /// Adds so many words as the size behind `x/` says, from a byte address on.
-    pub(crate) fn examine(&self, size: &str, rest: &str, out: &mut String) -> Result<(), LabFault> {
-        let Some(first) = self.names.address_of(rest) else {
-            if is_named_word(rest) && !rest.contains(' ') {
-                return self.push_no_address(rest, out);
+    pub(crate) fn examine(
+        &self,
+        size: &str,
+        rest: &str,
+        out: &mut TextWriter,
+    ) -> Result<(), LabFault> {
+        match self.names.address_of(rest) {
+            Some(first) => self.put_words(first, words_of(size).min(MOST_WORDS), out),
+            None if is_named_word(rest) && !rest.contains(' ') => {
+                return self.put_no_address(rest, out);
             }
-            return Ok(out.push_str("x takes a byte address, as x 8, or x/4 8 for 4 words\n")?);
-        };
-        for index in 0..words_of(size).min(MOST_WORDS) {
-            let address = first.saturating_add(index.saturating_mul(8));
-            if !self.push_memory_word(address, out)? {
-                break;
-            }
+            None => out.put("x takes a byte address, as x 8, or x/4 8 for 4 words\n"),
         }
         Ok(())
     }
 
+    /// Adds so many words from a byte address on, up to an address at which there is none.
+    fn put_words(&self, first: u64, count: u64, out: &mut TextWriter) {
+        for index in 0..count {
+            let address = first.saturating_add(index.saturating_mul(8));
+            if !self.put_memory_word(address, out) {
+                break;
+            }
+        }
+    }
+
     /// Adds the word at a byte address, and says whether there is one.
-    pub(crate) fn push_memory_word(
-        &self,
-        address: u64,
-        out: &mut String,
-    ) -> Result<bool, LabFault> {
+    pub(crate) fn put_memory_word(&self, address: u64, out: &mut TextWriter) -> bool {
         let Some(word) = self.named.session.machine().word(address) else {
-            out.push_str("there is no word at this address\n")?;
-            return Ok(false);
+            out.put("there is no word at this address\n");
+            return false;
         };
-        self.names.push_address(out, address)?;
-        out.push_str(" ")?;
-        push_word(out, NumberStyle::Decimal, word)?;
-        out.push_str("\n")?;
-        Ok(true)
+        self.names.put_address(out, address);
+        out.put(" ");
+        put_word(out, NumberStyle::Decimal, word);
+        out.put("\n");
+        true
     }
 }
 
@@ -124,12 +130,13 @@ fn is_zero(content: Content) -> bool {
 }
 
 /// Adds that the registers that were not added are 0, with the line's end.
-fn push_others(count: usize, letter: char, out: &mut String) -> Result<(), LabFault> {
-    Ok(if count == 0 {
-        writeln!(out, "every {letter} is 0")?
+fn put_others(count: usize, words: &str, out: &mut TextWriter) {
+    out.put(if count == 0 {
+        "every "
     } else {
-        writeln!(out, "; every other {letter} is 0")?
-    })
+        "; every other "
+    });
+    out.put(words);
 }
 
 /// How many words a size asks for, by the digits with which it begins; 1 where it has none.

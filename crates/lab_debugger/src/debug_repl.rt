@@ -1,10 +1,10 @@
 //! A session of `debug`, and what its lines ask for.
 
 use crate::debug_tries::Dropped;
-use crate::debug_words::{DebugWord, debug_word, push_help, push_no_word};
+use crate::debug_words::{DebugWord, debug_word, put_help, put_no_word};
 use command_parts::LabFault;
 use debug_commands::{Answer, Command, DebugFault, Why};
-use lab_texts::{Columns, NumberStyle, ProgramNames, push_step_line};
+use lab_texts::{Columns, NumberStyle, ProgramNames, TextWriter, put_step_line};
 use named_session::{LastStep, NamedSession, UserName, fault_words, read_name};
 use processor::Step;
 use std::alloc::Global;
@@ -19,6 +19,9 @@ pub(crate) struct DebugRepl<'a, 'i, 't, const S: usize> {
     /// What each try dropped that was not taken back, the last one last.
     pub tried: Vec<Dropped>,
 }
+
+/// What is said where no step comes.
+pub(crate) const ENDS_HERE: &str = "the schedule ends here\n";
 
 /// What comes behind an answer.
 #[derive(Clone, Copy)]
@@ -36,7 +39,7 @@ impl<'a, 'i, 't, const S: usize> DebugRepl<'a, 'i, 't, S> {
     pub(crate) fn answer<'l>(
         &mut self,
         line: &'l str,
-        out: &mut String,
+        out: &mut TextWriter,
     ) -> Result<AfterLine<'l>, LabFault> {
         let (first, rest) = match line.trim().split_once(' ') {
             Some((first, rest)) => (first, rest.trim()),
@@ -51,7 +54,7 @@ impl<'a, 'i, 't, const S: usize> DebugRepl<'a, 'i, 't, S> {
         };
         match debug_word(name) {
             Some(DebugWord::Examine) => self.examine(size, rest, out)?,
-            None => push_no_word(out, first)?,
+            None => put_no_word(out, first),
             Some(DebugWord::Quit) => return Ok(AfterLine::Quit),
             Some(DebugWord::Save) => return Ok(AfterLine::Save(rest)),
             Some(word) => self.answer_word(word, rest, out)?,
@@ -64,7 +67,7 @@ impl<'a, 'i, 't, const S: usize> DebugRepl<'a, 'i, 't, S> {
         &mut self,
         word: DebugWord,
         rest: &str,
-        out: &mut String,
+        out: &mut TextWriter,
     ) -> Result<(), LabFault> {
         match word {
             DebugWord::Step => self.step(rest, out),
@@ -78,14 +81,23 @@ impl<'a, 'i, 't, const S: usize> DebugRepl<'a, 'i, 't, S> {
             DebugWord::Delete => self.delete(rest, out),
             DebugWord::Info => self.info(rest, out),
             DebugWord::Print => self.print(rest, out),
-            DebugWord::List => self.list(rest, out),
+            DebugWord::List => {
+                self.list(rest, out);
+                Ok(())
+            }
             DebugWord::Why => self.why(rest, out),
             DebugWord::Try => self.take(rest, out),
             DebugWord::Undo => self.undo(out),
             DebugWord::Run => self.run(out),
-            DebugWord::Where => self.push_where(out),
+            DebugWord::Where => {
+                self.put_where(out);
+                Ok(())
+            }
             DebugWord::Examine => self.examine("", rest, out),
-            DebugWord::Help | DebugWord::Save | DebugWord::Quit => Ok(push_help(out, rest)?),
+            DebugWord::Help | DebugWord::Save | DebugWord::Quit => {
+                put_help(out, rest);
+                Ok(())
+            }
         }
     }
 
@@ -113,29 +125,34 @@ impl<'a, 'i, 't, const S: usize> DebugRepl<'a, 'i, 't, S> {
     }
 
     /// So many steps forward, as far as the schedule goes.
-    fn step(&mut self, rest: &str, out: &mut String) -> Result<(), LabFault> {
+    fn step(&mut self, rest: &str, out: &mut TextWriter) -> Result<(), LabFault> {
         let Some(count) = count_of(rest) else {
-            return Ok(out.push_str("step takes a number of steps, as 5\n")?);
+            out.put("step takes a number of steps, as 5\n");
+            return Ok(());
         };
         let steps = self.named.session.schedule().len() as u64;
         let left = steps.saturating_sub(self.named.session.position());
         if left == 0 {
-            return Ok(out.push_str("the schedule ends here\n")?);
+            out.put(ENDS_HERE);
+            return Ok(());
         }
         self.go(&Command::Forward(count.min(left)), out)
     }
 
     /// On until the stream of the next step has stepped.
-    fn next(&mut self, out: &mut String) -> Result<(), LabFault> {
+    fn next(&mut self, out: &mut TextWriter) -> Result<(), LabFault> {
         let stream = self.stream_here();
         match self.named.session.next_of(stream.p, stream.s) {
             Some(position) => self.go(&Command::Go(position), out),
-            None => Ok(out.push_str("the schedule ends here\n")?),
+            None => {
+                out.put(ENDS_HERE);
+                Ok(())
+            }
         }
     }
 
     /// From the start on to the first stop.
-    fn run(&mut self, out: &mut String) -> Result<(), LabFault> {
+    fn run(&mut self, out: &mut TextWriter) -> Result<(), LabFault> {
         match self.named.go_to(0) {
             Ok(_) => self.go(&Command::Continue, out),
             Err(fault) => refuse(fault, out),
@@ -143,21 +160,27 @@ impl<'a, 'i, 't, const S: usize> DebugRepl<'a, 'i, 't, S> {
     }
 
     /// So many steps back, as far as the start.
-    fn back(&mut self, rest: &str, out: &mut String) -> Result<(), LabFault> {
+    fn back(&mut self, rest: &str, out: &mut TextWriter) -> Result<(), LabFault> {
         let Some(count) = count_of(rest) else {
-            return Ok(out.push_str("back takes a number of steps, as 5\n")?);
+            out.put("back takes a number of steps, as 5\n");
+            return Ok(());
         };
         let position = self.named.session.position().saturating_sub(count);
         self.go(&Command::Go(position), out)
     }
 
     /// Goes where a command leads, and tells which step led there, where that is, and what comes next.
-    pub(crate) fn move_by(&mut self, command: &Command, out: &mut String) -> Result<(), LabFault> {
+    pub(crate) fn move_by(
+        &mut self,
+        command: &Command,
+        out: &mut TextWriter,
+    ) -> Result<(), LabFault> {
         match self.named.session.command(command) {
             Ok(Answer::At(_, why)) => {
-                self.push_last_step(out)?;
-                self.push_why_here(why, out)?;
-                self.push_where(out)
+                self.put_last_step(out)?;
+                self.put_why_here(why, out)?;
+                self.put_where(out);
+                Ok(())
             }
             Ok(_) => Ok(()),
             Err(fault) => refuse(fault, out),
@@ -165,7 +188,7 @@ impl<'a, 'i, 't, const S: usize> DebugRepl<'a, 'i, 't, S> {
     }
 
     /// Adds the line of the step that led to the session's position, where there is one: it is taken once more.
-    fn push_last_step(&mut self, out: &mut String) -> Result<(), LabFault> {
+    fn put_last_step(&mut self, out: &mut TextWriter) -> Result<(), LabFault> {
         let last = match self.named.last_view(self.alloc) {
             Ok(last) => last,
             Err(_) => return Err(LabFault::NoMemory),
@@ -173,10 +196,9 @@ impl<'a, 'i, 't, const S: usize> DebugRepl<'a, 'i, 't, S> {
         let Some(LastStep { view, machine }) = last else {
             return Ok(());
         };
-        let position = self.named.session.position();
+        let number = self.named.session.position() as usize;
         let style = NumberStyle::Decimal;
-        let number = position as usize;
-        Ok(push_step_line(
+        put_step_line(
             out,
             self.names,
             style,
@@ -184,31 +206,30 @@ impl<'a, 'i, 't, const S: usize> DebugRepl<'a, 'i, 't, S> {
             number,
             &view,
             &machine,
-        )?)
+        );
+        Ok(())
     }
 
     /// Adds why the session came to its position, where a point, the end or the start is the reason.
-    fn push_why_here(&mut self, why: Why, out: &mut String) -> Result<(), LabFault> {
+    fn put_why_here(&mut self, why: Why, out: &mut TextWriter) -> Result<(), LabFault> {
         match why {
-            Why::Moved => Ok(()),
-            Why::End => Ok(out.push_str("the end. ")?),
-            Why::Start => Ok(out.push_str("the start. ")?),
-            Why::Stop => {
-                out.push_str("stopped by point")?;
-                for (index, key) in self
-                    .named
-                    .session
-                    .stopping_points(self.alloc)?
-                    .iter()
-                    .enumerate()
-                {
-                    out.push_str(if index == 0 { " " } else { ", " })?;
-                    write!(out, "{key}")?;
-                }
-                Ok(out.push_str(". ")?)
-            }
+            Why::Moved => {}
+            Why::End => out.put("the end. "),
+            Why::Start => out.put("the start. "),
+            Why::Stop => put_keys(out, &self.named.session.stopping_points(self.alloc)?),
         }
+        Ok(())
     }
+}
+
+/// Adds by which points a session stopped.
+fn put_keys(out: &mut TextWriter, keys: &[u64]) {
+    out.put("stopped by point");
+    for (index, key) in keys.iter().enumerate() {
+        out.put(if index == 0 { " " } else { ", " });
+        out.put_number(*key);
+    }
+    out.put(". ");
 }
 
 /// The count that a text is, 1 where there is no text; None where it is another text.
@@ -220,9 +241,10 @@ fn count_of(text: &str) -> Option<u64> {
 }
 
 /// Adds why a command was refused.
-pub(crate) fn refuse(fault: DebugFault, out: &mut String) -> Result<(), LabFault> {
+pub(crate) fn refuse(fault: DebugFault, out: &mut TextWriter) -> Result<(), LabFault> {
     let Some(words) = fault_words(fault) else {
         return Err(LabFault::NoMemory);
     };
-    Ok(writeln!(out, "{words}")?)
+    out.put_line(words);
+    Ok(())
 }

@@ -3,7 +3,7 @@
 use crate::debug_repl::{DebugRepl, refuse};
 use command_parts::LabFault;
 use debug_commands::Command;
-use lab_texts::push_stream;
+use lab_texts::TextWriter;
 use named_session::{UserName, read_name};
 use processor::Step;
 use stream_core::Status;
@@ -19,13 +19,15 @@ pub(crate) struct Dropped {
 
 impl<'a, 'i, 't, const S: usize> DebugRepl<'a, 'i, 't, S> {
     /// A step of a stream in place of the schedule's next; the schedule from there on goes.
-    pub(crate) fn take(&mut self, rest: &str, out: &mut String) -> Result<(), LabFault> {
+    pub(crate) fn take(&mut self, rest: &str, out: &mut TextWriter) -> Result<(), LabFault> {
         let Some(UserName::Stream(step)) = read_name(rest) else {
-            return Ok(out.push_str("try takes a stream, as 2.0\n")?);
+            out.put("try takes a stream, as 2.0\n");
+            return Ok(());
         };
         if !self.runs(step) {
-            push_stream(out, step.p, step.s)?;
-            return Ok(out.push_str(" does not run\n")?);
+            out.put_stream(step.p, step.s);
+            out.put(" does not run\n");
+            return Ok(());
         }
         let dropped = self.steps_to_come()?;
         let position = dropped.position;
@@ -36,11 +38,11 @@ impl<'a, 'i, 't, const S: usize> DebugRepl<'a, 'i, 't, S> {
     }
 
     /// Takes the step that is tried, and says what it dropped.
-    fn go_on_from(&mut self, dropped: Dropped, out: &mut String) -> Result<(), LabFault> {
-        push_dropped(dropped.steps.len(), out)?;
+    fn go_on_from(&mut self, dropped: Dropped, out: &mut TextWriter) -> Result<(), LabFault> {
+        put_dropped(dropped.steps.len(), out);
         self.tried.push(dropped)?;
         self.move_by(&Command::Forward(1), out)?;
-        self.push_end_here(false, out)
+        self.put_end_here(false, out)
     }
 
     /// The steps of the schedule that come next.
@@ -55,14 +57,16 @@ impl<'a, 'i, 't, const S: usize> DebugRepl<'a, 'i, 't, S> {
     }
 
     /// Takes the last try back: the schedule and the position are those before it.
-    pub(crate) fn undo(&mut self, out: &mut String) -> Result<(), LabFault> {
+    pub(crate) fn undo(&mut self, out: &mut TextWriter) -> Result<(), LabFault> {
         let Some(Dropped { position, steps }) = self.tried.pop() else {
-            return Ok(out.push_str("there is no try to take back\n")?);
+            out.put("there is no try to take back\n");
+            return Ok(());
         };
         match self.named.session.replace_schedule_from(position, &steps) {
             Ok(()) => {
-                let count = self.named.session.schedule().len();
-                writeln!(out, "the try is taken back: the schedule has {count} steps")?;
+                out.put("the try is taken back: the schedule has ");
+                out.put_number(self.named.session.schedule().len() as u64);
+                out.put(" steps\n");
                 self.move_by(&Command::Go(position), out)
             }
             Err(fault) => refuse(fault, out),
@@ -79,13 +83,13 @@ impl<'a, 'i, 't, const S: usize> DebugRepl<'a, 'i, 't, S> {
 }
 
 /// Adds how many steps a try dropped, if any.
-fn push_dropped(count: usize, out: &mut String) -> Result<(), LabFault> {
-    Ok(match count {
+fn put_dropped(count: usize, out: &mut TextWriter) {
+    match count {
         0 => {}
-        1 => out.push_str("1 step of the schedule is dropped; undo takes it back\n")?,
-        _ => writeln!(
-            out,
-            "{count} steps of the schedule are dropped; undo takes them back"
-        )?,
-    })
+        1 => out.put("1 step of the schedule is dropped; undo takes it back\n"),
+        _ => {
+            out.put_number(count as u64);
+            out.put(" steps of the schedule are dropped; undo takes them back\n");
+        }
+    }
 }

@@ -1,8 +1,7 @@
 //! The words of `debug`.
 
-use crate::debug_aliases::{push_meant, word_of_alias};
-use plain_text::push_plain;
-use std::alloc::AllocError;
+use crate::debug_aliases::{put_meant, word_of_alias};
+use lab_texts::TextWriter;
 
 /// What a line of `debug` asks for.
 #[derive(Clone, Copy, PartialEq, Eq)]
@@ -97,7 +96,7 @@ run                 from the start on to the first stop, or to the end
 where               how far the run is, and what comes next
 x/N A               N words from this byte address on, as x/4 8
 save FILE           writes the schedule, as it is now, into a file
-help [WORD]         what the words do; a word may be cut where its beginning is clear, and s is step, b is break
+help [WORD]         what the words do; most may be shortened to a beginning that no other has; s is step, b is break
 quit                ends the session, as the end of the input does
 ";
 
@@ -142,56 +141,68 @@ impl DebugWord {
 
 /// The word that a text is, or is short for: a word itself, one of other debuggers, or the beginning of one word alone.
 pub(crate) fn debug_word(text: &str) -> Option<DebugWord> {
-    if let Some(word) = word_of_alias(text) {
-        return Some(word);
+    match word_of_alias(text) {
+        Some(word) => Some(word),
+        None => word_among(&WORDS, text),
     }
+}
+
+/// The word that a text is, or else the only one that it begins.
+fn word_among(words: &[DebugWord], text: &str) -> Option<DebugWord> {
     let mut found = None;
-    for word in WORDS.iter() {
+    let mut count: usize = 0;
+    for word in words {
         if word.name() == text {
             return Some(*word);
         }
         if word.begins_with(text) {
-            if found.is_some() {
-                return None;
-            }
             found = Some(*word);
-        }
-    }
-    found
-}
-
-/// Adds why a text is no word: which words begin so, or that none does.
-pub(crate) fn push_no_word(out: &mut String, text: &str) -> Result<(), AllocError> {
-    push_plain(out, text)?;
-    out.push_str(": ")?;
-    let mut count: usize = 0;
-    for word in WORDS.iter() {
-        if word.begins_with(text) {
-            out.push_str(if count == 0 { "" } else { " or " })?;
-            out.push_str(word.name())?;
             count = count.saturating_add(1);
         }
     }
-    if count == 0 {
-        push_meant(out, text)?;
+    if count == 1 { found } else { None }
+}
+
+/// Adds why a text is no word: which words begin so, or that none does.
+pub(crate) fn put_no_word(out: &mut TextWriter, text: &str) {
+    out.put_plain(text);
+    out.put(": ");
+    if put_beginning(out, &WORDS, text) {
+        out.put("?");
     } else {
-        out.push_str("?")?;
+        put_meant(out, text);
     }
-    out.push_str("\n")
+    out.put("\n");
+}
+
+/// Adds which words a text begins, and says whether it begins one.
+fn put_beginning(out: &mut TextWriter, words: &[DebugWord], text: &str) -> bool {
+    let mut is_one = false;
+    for word in words {
+        if word.begins_with(text) {
+            out.put(if is_one { " or " } else { "" });
+            out.put(word.name());
+            is_one = true;
+        }
+    }
+    is_one
 }
 
 /// Adds what a word does, or what all do where none is meant.
-pub(crate) fn push_help(out: &mut String, text: &str) -> Result<(), AllocError> {
-    let Some(word) = debug_word(text) else {
-        return out.push_str(HELP);
-    };
-    for line in HELP.lines() {
-        if is_line_of(line, word.name()) {
-            out.push_str(line)?;
-            out.push_str("\n")?;
+pub(crate) fn put_help(out: &mut TextWriter, text: &str) {
+    match debug_word(text) {
+        Some(word) => put_help_of(out, HELP, word.name()),
+        None => out.put(HELP),
+    }
+}
+
+/// Adds the lines of a help that begin with a word.
+fn put_help_of(out: &mut TextWriter, help: &str, name: &str) {
+    for line in help.lines() {
+        if is_line_of(line, name) {
+            out.put_line(line);
         }
     }
-    Ok(())
 }
 
 /// Whether a line of the help begins with this word.

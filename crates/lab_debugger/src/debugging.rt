@@ -6,8 +6,7 @@ use crate::sessions::named_of;
 use command_parts::{Inputs, LabFault, Program, Status, read_program, steps_of, write_out};
 use image_machines::by_room;
 use lab_requests::RunChoice;
-use lab_texts::{Columns, ProgramNames};
-use plain_text::push_plain;
+use lab_texts::{Columns, ProgramNames, TextWriter};
 use processor::Step;
 use std::alloc::Global;
 use std::io::{Read, Write};
@@ -75,25 +74,43 @@ fn talk<const S: usize, F: Files, R: Read, W: Write, E: Write>(
     let mut lines = Lines::new(alloc);
     let mut line = String::new(alloc);
     let mut out = String::new(alloc);
-    repl.push_where(&mut out)?;
+    let mut text = TextWriter::take(&mut out);
+    repl.put_where(&mut text);
+    text.give_back(&mut out)?;
     for _ in 0..u64::MAX {
         screen.show(&out)?;
         out.clear();
-        match read_line(alloc, &mut lines, inputs.input, &mut line)? {
-            Heard::Line => {}
-            Heard::TooLong => {
-                push_too_long(&mut out)?;
-                continue;
-            }
-            Heard::End => return Ok(()),
-        }
-        match repl.answer(line.as_str(), &mut out)? {
-            AfterLine::On => {}
-            AfterLine::Save(path) => save(alloc, inputs, path, repl, &mut out)?,
-            AfterLine::Quit => return Ok(()),
+        let goes_on = match read_line(alloc, &mut lines, inputs.input, &mut line)? {
+            Heard::Line => answer_line(alloc, inputs, repl, line.as_str(), &mut out)?,
+            Heard::TooLong => push_too_long(&mut out)?,
+            Heard::End => false,
+        };
+        if !goes_on {
+            break;
         }
     }
     Ok(())
+}
+
+/// Adds the answer to a line, and says whether the session goes on.
+fn answer_line<const S: usize, F: Files, R: Read>(
+    alloc: Global,
+    inputs: &Inputs<'_, F, R>,
+    repl: &mut DebugRepl<'_, '_, '_, S>,
+    line: &str,
+    out: &mut String,
+) -> Result<bool, LabFault> {
+    let mut text = TextWriter::take(out);
+    let goes_on = match repl.answer(line, &mut text)? {
+        AfterLine::On => true,
+        AfterLine::Save(path) => {
+            save(alloc, inputs, path, repl, &mut text)?;
+            true
+        }
+        AfterLine::Quit => false,
+    };
+    text.give_back(out)?;
+    Ok(goes_on)
 }
 
 /// What was read.
@@ -107,12 +124,13 @@ enum Heard {
     End,
 }
 
-/// Adds that a line is too long.
-fn push_too_long(out: &mut String) -> Result<(), LabFault> {
-    Ok(writeln!(
+/// Adds that a line is too long. The session goes on.
+fn push_too_long(out: &mut String) -> Result<bool, LabFault> {
+    writeln!(
         out,
         "a line has at most {LINE_LIMIT} bytes: this one is not taken"
-    )?)
+    )?;
+    Ok(true)
 }
 
 /// Reads the next line in place of the last one, which one that is empty or too long leaves as it is.
@@ -140,24 +158,31 @@ fn save<const S: usize, F: Files, R: Read>(
     inputs: &Inputs<'_, F, R>,
     path: &str,
     repl: &DebugRepl<'_, '_, '_, S>,
-    out: &mut String,
+    out: &mut TextWriter,
 ) -> Result<(), LabFault> {
     if path.is_empty() {
-        return Ok(out.push_str("save takes a file\n")?);
+        out.put("save takes a file\n");
+        return Ok(());
     }
-    let schedule = write_schedule(alloc, repl.named.session.schedule())?;
+    let steps = repl.named.session.schedule();
+    let schedule = write_schedule(alloc, steps)?;
     match inputs.write(alloc, path, schedule.as_bytes()) {
-        Ok(()) => {
-            let steps = repl.named.session.schedule().len();
-            push_plain(out, path)?;
-            Ok(writeln!(out, " has the {steps} steps of the schedule")?)
-        }
+        Ok(()) => put_saved(out, path, steps.len()),
         Err(LabFault::Words(words)) => {
-            push_plain(out, &words)?;
-            Ok(out.push_str("\n")?)
+            out.put_plain(&words);
+            out.put("\n");
         }
-        Err(fault) => Err(fault),
+        Err(fault) => return Err(fault),
     }
+    Ok(())
+}
+
+/// Adds that a file has the steps of the schedule, so many.
+fn put_saved(out: &mut TextWriter, path: &str, steps: usize) {
+    out.put_plain(path);
+    out.put(" has the ");
+    out.put_number(steps as u64);
+    out.put(" steps of the schedule\n");
 }
 
 impl<W: Write, E: Write> Screen<'_, W, E> {
