@@ -4,9 +4,9 @@ use crate::json_report::push_object;
 use crate::reports::Judgement;
 use crate::text_report::why_of;
 use crate::verdicts::VerdictKind;
-use lab_json::{Fields, put_number, put_text};
+use lab_json::{List, Object};
 use plain_text::plain;
-use serde_json::{Map, Value};
+use serde_json::Value;
 use std::alloc::{AllocError, Global};
 
 /// The results of all submissions: a test with one point for each, in one object.
@@ -14,37 +14,43 @@ pub(crate) fn gradescope_report(
     alloc: Global,
     judgements: &[Judgement<'_>],
 ) -> Result<String, AllocError> {
-    let mut tests = Vec::new(alloc);
-    for judgement in judgements {
-        tests.push(Value::Object(test_of(alloc, judgement)?))?;
-    }
-    let mut fields = Map::new(alloc);
-    serde_json::put(&mut fields, alloc, "tests", Value::Array(tests))?;
+    let results = results_value(alloc, judgements)?;
     let mut out = String::new(alloc);
-    push_object(alloc, &mut out, fields)?;
+    push_object(alloc, &mut out, &results)?;
     Ok(out)
 }
 
+/// The object with the tests of all submissions.
+fn results_value(alloc: Global, judgements: &[Judgement<'_>]) -> Result<Value, AllocError> {
+    let mut tests = List::new(alloc);
+    for judgement in judgements {
+        tests.put(test_value(alloc, judgement));
+    }
+    let mut results = Object::new(alloc);
+    results.put("tests", tests.whole());
+    results.whole()
+}
+
 /// The test that a submission is.
-fn test_of(alloc: Global, judgement: &Judgement<'_>) -> Result<Fields, AllocError> {
+fn test_value(alloc: Global, judgement: &Judgement<'_>) -> Result<Value, AllocError> {
     let kind = judgement.verdict.kind;
     let score: u64 = if kind == VerdictKind::Right { 1 } else { 0 };
-    let word = kind.word();
+    let mut test = Object::new(alloc);
+    test.put("name", name_value(alloc, judgement));
+    test.put_number("score", score);
+    test.put_number("max_score", 1);
+    test.put("output", output_value(alloc, judgement));
+    test.whole()
+}
+
+/// The path of a submission, without control bytes.
+fn name_value(alloc: Global, judgement: &Judgement<'_>) -> Result<Value, AllocError> {
+    Ok(Value::String(plain(alloc, judgement.submission)?))
+}
+
+/// What a submission is, and why, without control bytes.
+fn output_value(alloc: Global, judgement: &Judgement<'_>) -> Result<Value, AllocError> {
+    let word = judgement.verdict.kind.word();
     let why = plain(alloc, &why_of(alloc, judgement)?)?;
-    let mut fields = Map::new(alloc);
-    put_text(
-        alloc,
-        &mut fields,
-        "name",
-        &plain(alloc, judgement.submission)?,
-    )?;
-    put_number(alloc, &mut fields, "score", score)?;
-    put_number(alloc, &mut fields, "max_score", 1)?;
-    put_text(
-        alloc,
-        &mut fields,
-        "output",
-        &format!(in alloc; "{word}: {why}")?,
-    )?;
-    Ok(fields)
+    Ok(Value::String(format!(in alloc; "{word}: {why}")?))
 }

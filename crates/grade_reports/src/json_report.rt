@@ -2,8 +2,8 @@
 
 use crate::reports::Judgement;
 use crate::verdicts::{CountedEnd, Known, Verdict, WishLine, Witness};
-use lab_json::{Fields, digits, line_value, object_of, put_number, put_text, put_turns};
-use serde_json::{Map, Value};
+use lab_json::{List, Object, digits, line_value, text_value, turns_value};
+use serde_json::Value;
 use std::alloc::{AllocError, Global};
 
 /// Adds the object of a submission.
@@ -12,66 +12,62 @@ pub(crate) fn push_json(
     out: &mut String,
     judgement: &Judgement<'_>,
 ) -> Result<(), AllocError> {
-    let verdict = judgement.verdict;
-    let mut fields = object_of(alloc, "grade")?;
-    put_text(alloc, &mut fields, "submission", judgement.submission)?;
-    put_text(alloc, &mut fields, "verdict", verdict.kind.word())?;
-    put_some_text(alloc, &mut fields, "case", verdict.case.as_ref())?;
-    put_known(alloc, &mut fields, verdict.known)?;
-    put_witness(alloc, &mut fields, &verdict.witness)?;
-    put_missed(alloc, &mut fields, verdict.missed.as_ref())?;
-    serde_json::put(&mut fields, alloc, "place", place_value(alloc, verdict)?)?;
-    let ends = ends_value(alloc, &verdict.ends)?;
-    serde_json::put(&mut fields, alloc, "ends", ends)?;
-    put_some_text(alloc, &mut fields, "page", verdict.page.as_ref())?;
-    push_object(alloc, out, fields)
+    let grade = grade_value(alloc, judgement)?;
+    push_object(alloc, out, &grade)
 }
 
 /// Adds an object and the end of its line.
 pub(crate) fn push_object(
     alloc: Global,
     out: &mut String,
-    fields: Fields,
+    object: &Value,
 ) -> Result<(), AllocError> {
-    let text = Value::Object(fields).to_string(alloc)?;
+    let text = object.to_string(alloc)?;
     out.push_str(&text)?;
     out.push_str("\n")
 }
 
-/// Puts a text that may be missing.
-fn put_some_text(
-    alloc: Global,
-    fields: &mut Fields,
-    name: &str,
-    text: Option<&String>,
-) -> Result<(), AllocError> {
+/// The object of a submission.
+fn grade_value(alloc: Global, judgement: &Judgement<'_>) -> Result<Value, AllocError> {
+    let verdict = judgement.verdict;
+    let mut grade = Object::of_kind(alloc, "grade");
+    grade.put_text("submission", judgement.submission);
+    grade.put_text("verdict", verdict.kind.word());
+    grade.put("case", some_text_value(alloc, verdict.case.as_ref()));
+    put_known(alloc, &mut grade, verdict.known);
+    put_witness(alloc, &mut grade, &verdict.witness);
+    grade.put("missed", missed_value(alloc, verdict.missed.as_ref()));
+    grade.put("place", place_value(alloc, verdict));
+    grade.put("ends", ends_value(alloc, &verdict.ends));
+    grade.put("page", some_text_value(alloc, verdict.page.as_ref()));
+    grade.whole()
+}
+
+/// A text that may be missing.
+fn some_text_value(alloc: Global, text: Option<&String>) -> Result<Value, AllocError> {
     match text {
-        Some(text) => put_text(alloc, fields, name, text),
-        None => serde_json::put(fields, alloc, name, Value::Null),
+        Some(text) => text_value(alloc, text),
+        None => Ok(Value::Null),
     }
 }
 
-/// Puts a number that may be missing.
-fn put_some_number(
-    alloc: Global,
-    fields: &mut Fields,
-    name: &str,
-    number: Option<usize>,
-) -> Result<(), AllocError> {
+/// A number that may be missing.
+fn some_number_value(number: Option<usize>) -> Value {
     match number {
-        Some(number) => put_number(alloc, fields, name, number as u64),
-        None => serde_json::put(fields, alloc, name, Value::Null),
+        Some(number) => Value::from(number),
+        None => Value::Null,
     }
 }
 
 /// Puts how the verdict is known: `every` schedule, `some` of them, `seeds`, or null; and how many states and seeds.
-fn put_known(alloc: Global, fields: &mut Fields, known: Known) -> Result<(), AllocError> {
-    match word_of(known) {
-        Some(word) => put_text(alloc, fields, "known", word)?,
-        None => serde_json::put(fields, alloc, "known", Value::Null)?,
-    }
-    put_some_number(alloc, fields, "worlds", known.worlds)?;
-    put_some_number(alloc, fields, "seeds", known.seeds)
+fn put_known(alloc: Global, grade: &mut Object, known: Known) {
+    let word = match word_of(known) {
+        Some(word) => text_value(alloc, word),
+        None => Ok(Value::Null),
+    };
+    grade.put("known", word);
+    grade.put("worlds", Ok(some_number_value(known.worlds)));
+    grade.put("seeds", Ok(some_number_value(known.seeds)));
 }
 
 /// The word for how a verdict is known.
@@ -85,31 +81,25 @@ fn word_of(known: Known) -> Option<&'static str> {
 }
 
 /// Puts the seed, as digits, and the schedule that show it; each is null if it is not by this one.
-fn put_witness(alloc: Global, fields: &mut Fields, witness: &Witness) -> Result<(), AllocError> {
+fn put_witness(alloc: Global, object: &mut Object, witness: &Witness) {
     let seed = match witness {
-        Witness::Seed(seed) => digits(alloc, *seed)?,
-        Witness::None | Witness::Schedule(_) => Value::Null,
+        Witness::Seed(seed) => digits(alloc, *seed),
+        Witness::None | Witness::Schedule(_) => Ok(Value::Null),
     };
-    serde_json::put(fields, alloc, "seed", seed)?;
-    match witness {
-        Witness::Schedule(steps) => put_turns(alloc, fields, "schedule", steps),
-        Witness::None | Witness::Seed(_) => {
-            serde_json::put(fields, alloc, "schedule", Value::Null)
-        }
-    }
+    object.put("seed", seed);
+    let schedule = match witness {
+        Witness::Schedule(steps) => turns_value(alloc, steps),
+        Witness::None | Witness::Seed(_) => Ok(Value::Null),
+    };
+    object.put("schedule", schedule);
 }
 
-/// Puts the line that is missed: its number and its words; null if none is.
-fn put_missed(
-    alloc: Global,
-    fields: &mut Fields,
-    missed: Option<&WishLine>,
-) -> Result<(), AllocError> {
-    let value = match missed {
-        Some(line) => line_value(alloc, line.number, &line.text)?,
-        None => Value::Null,
-    };
-    serde_json::put(fields, alloc, "missed", value)
+/// The line that is missed: its number and its words; null if none is.
+fn missed_value(alloc: Global, missed: Option<&WishLine>) -> Result<Value, AllocError> {
+    match missed {
+        Some(line) => line_value(alloc, line.number, &line.text),
+        None => Ok(Value::Null),
+    }
 }
 
 /// Where a source has its first fault: a list of the line and the column.
@@ -120,10 +110,10 @@ fn place_value(alloc: Global, verdict: &Verdict) -> Result<Value, AllocError> {
     let mut parts = verdict.words.split(':');
     match (number_of(parts.next()), number_of(parts.next())) {
         (Some(line), Some(column)) => {
-            let mut place = Vec::with_capacity(alloc, 2)?;
-            place.push(Value::from(line))?;
-            place.push(Value::from(column))?;
-            Ok(Value::Array(place))
+            let mut place = List::new(alloc);
+            place.put_number(line as u64);
+            place.put_number(column as u64);
+            place.whole()
         }
         _ => Ok(Value::Null),
     }
@@ -136,23 +126,23 @@ fn number_of(text: Option<&str>) -> Option<usize> {
 
 /// The ends that are counted.
 fn ends_value(alloc: Global, ends: &[CountedEnd]) -> Result<Value, AllocError> {
-    let mut values = Vec::new(alloc);
+    let mut values = List::new(alloc);
     for end in ends {
-        values.push(Value::Object(end_fields(alloc, end)?))?;
+        values.put(end_value(alloc, end));
     }
-    Ok(Value::Array(values))
+    values.whole()
 }
 
 /// Ends that are counted as one.
-fn end_fields(alloc: Global, end: &CountedEnd) -> Result<Fields, AllocError> {
-    let mut fields = Map::new(alloc);
+fn end_value(alloc: Global, end: &CountedEnd) -> Result<Value, AllocError> {
     let kind = match end.kind {
         Some(kind) => kind.json_name(),
         None => "broken",
     };
-    put_text(alloc, &mut fields, "end", kind)?;
-    put_number(alloc, &mut fields, "count", end.count as u64)?;
-    put_witness(alloc, &mut fields, &end.witness)?;
-    put_missed(alloc, &mut fields, end.missed.as_ref())?;
-    Ok(fields)
+    let mut object = Object::new(alloc);
+    object.put_text("end", kind);
+    object.put_number("count", end.count as u64);
+    put_witness(alloc, &mut object, &end.witness);
+    object.put("missed", missed_value(alloc, end.missed.as_ref()));
+    object.whole()
 }

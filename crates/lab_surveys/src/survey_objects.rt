@@ -4,7 +4,7 @@ use command_parts::{Program, made_by, push_object};
 use end_kinds::EndKind;
 use lab_ends::Wishes;
 use lab_explorer::{ExpectedLines, Explored, put_bound};
-use lab_json::{Fields, digits, object_of, put_flag, put_number, put_run, put_text};
+use lab_json::{Fields, Object, digits, object_of, put_run};
 use lab_requests::Maker;
 use rayon::prelude::*;
 use seed_outcomes::SeedOutcome;
@@ -19,8 +19,6 @@ pub(crate) struct SurveyInput<'a> {
     pub program: &'a Program,
     /// What is wished of it.
     pub wishes: &'a Wishes,
-    /// The text whose lines say it; empty where none does.
-    pub text: &'a [u8],
     /// The most steps of a schedule.
     pub most: usize,
 }
@@ -29,8 +27,7 @@ impl<'a> SurveyInput<'a> {
     /// The lines that say what is expected of ends.
     fn lines(&self) -> ExpectedLines<'a> {
         ExpectedLines {
-            text: self.text,
-            expected: &self.wishes.ends,
+            wishes: self.wishes,
         }
     }
 }
@@ -67,43 +64,65 @@ fn outcome_line(
     surveyed: SurveyInput,
     outcome: &SeedOutcome,
 ) -> Result<String, AllocError> {
-    let fields = outcome_fields(alloc, surveyed, outcome)?;
+    let value = outcome_value(alloc, surveyed, outcome)?;
     let mut line = String::new(alloc);
-    push_object(alloc, &mut line, &Value::Object(fields))?;
+    push_object(alloc, &mut line, &value)?;
     Ok(line)
 }
 
 /// The object of an outcome.
-fn outcome_fields(
+fn outcome_value(
     alloc: Global,
     surveyed: SurveyInput,
     outcome: &SeedOutcome,
-) -> Result<Fields, AllocError> {
-    let image = &surveyed.program.image;
-    let maker = Maker::Random { seed: outcome.seed };
-    let made = made_by(alloc, image, maker, surveyed.most)?;
+) -> Result<Value, AllocError> {
     let mut fields = object_of(alloc, "outcome")?;
-    put_counts(alloc, &mut fields, outcome)?;
+    put_run_of(alloc, &mut fields, surveyed, outcome)?;
+    let mut object = Object::of(alloc, fields);
+    object.put_text("end", outcome.kind.json_name());
+    object.put_number("runs", outcome.runs as u64);
+    object.put("seed", digits(alloc, outcome.seed));
+    object.put_number("steps", outcome.steps as u64);
     // (nobody expects a deadlock)
     let is_as_expected = outcome.is_as_expected() && outcome.kind != EndKind::Deadlock;
-    put_flag(alloc, &mut fields, "expected", is_as_expected)?;
-    let lines = surveyed.lines();
-    lines.put_missed(alloc, &mut fields, outcome.missed)?;
-    let broken = outcome
-        .broken
-        .and_then(|place| surveyed.wishes.claim_texts.get(place));
-    let words = broken.map(|text| text.as_str());
-    lines.put_claim(alloc, &mut fields, words)?;
-    put_run(alloc, &mut fields, image, &made.steps)?;
-    Ok(fields)
+    object.put("expected", Ok(Value::from(is_as_expected)));
+    object.whole()
 }
 
-/// Puts the kind of an outcome, how many seeds lead there, and the first of them with the steps of its schedule.
-fn put_counts(alloc: Global, fields: &mut Fields, outcome: &SeedOutcome) -> Result<(), AllocError> {
-    put_text(alloc, fields, "end", outcome.kind.json_name())?;
-    put_number(alloc, fields, "runs", outcome.runs as u64)?;
-    serde_json::put(fields, alloc, "seed", digits(alloc, outcome.seed)?)?;
-    put_number(alloc, fields, "steps", outcome.steps as u64)
+/// Puts the line that an outcome misses, the claim that it breaks, and what is told of the run of its seed.
+fn put_run_of(
+    alloc: Global,
+    fields: &mut Fields,
+    surveyed: SurveyInput,
+    outcome: &SeedOutcome,
+) -> Result<(), AllocError> {
+    let image = &surveyed.program.image;
+    let maker = Maker::Random { seed: outcome.seed };
+    let lines = surveyed.lines();
+    lines.put_missed(alloc, fields, outcome.missed)?;
+    lines.put_claim(alloc, fields, broken_words(surveyed.wishes, outcome))?;
+    let made = made_by(alloc, image, maker, surveyed.most)?;
+    put_run(alloc, fields, image, &made.steps)
+}
+
+/// The claim that is broken on the way to an outcome.
+pub(crate) fn broken_words<'w>(wishes: &'w Wishes, outcome: &SeedOutcome) -> Option<&'w str> {
+    let text = outcome
+        .broken
+        .and_then(|place| wishes.claim_texts.get(place))?;
+    Some(text.as_str())
+}
+
+/// Adds the object that names a claim which some schedule breaks.
+pub(crate) fn push_broken_object(
+    alloc: Global,
+    out: &mut String,
+    surveyed: SurveyInput,
+    claim: &str,
+) -> Result<(), AllocError> {
+    let mut fields = object_of(alloc, "broken")?;
+    surveyed.lines().put_claim(alloc, &mut fields, Some(claim))?;
+    push_object(alloc, out, &Value::Object(fields))
 }
 
 /// Adds the object that says how many of so many ends of every schedule the seeds met.
@@ -115,10 +134,11 @@ pub(crate) fn push_coverage(
     met: usize,
 ) -> Result<(), AllocError> {
     let mut fields = object_of(alloc, "coverage")?;
-    put_number(alloc, &mut fields, "ends", ends as u64)?;
-    put_number(alloc, &mut fields, "met", met as u64)?;
-    put_number(alloc, &mut fields, "worlds", found.worlds as u64)?;
-    put_flag(alloc, &mut fields, "complete", found.is_complete)?;
     put_bound(alloc, &mut fields, found.bound)?;
-    push_object(alloc, out, &Value::Object(fields))
+    let mut object = Object::of(alloc, fields);
+    object.put_number("ends", ends as u64);
+    object.put_number("met", met as u64);
+    object.put_number("worlds", found.worlds as u64);
+    object.put("complete", Ok(Value::from(found.is_complete)));
+    push_object(alloc, out, &object.whole()?)
 }

@@ -1,11 +1,12 @@
 //! The command `survey`.
 
-use crate::survey_objects::{SurveyInput, push_coverage, push_outcome_objects};
+use crate::coverage::push_every_schedule;
+use crate::survey_objects::{SurveyInput, broken_words, push_outcome_objects};
 use command_parts::{CommandAnswer, Inputs, LabFault, Program, Status, read_program, style_of};
-use lab_ends::{SpaceEnd, SpaceEndKind, Wishes, first_broken_rule};
+use lab_ends::{Wishes, first_broken_rule};
 use lab_explorer::{
-    Console, EndCells, EndColumns, Explored, Search, Unkept, Watcher, addressed, end_line,
-    explore_program, push_expectation, push_unkept, push_unkept_objects, wishes_of,
+    Console, EndCells, EndColumns, Explored, Search, Unkept, Watcher, end_line, explore_program,
+    push_expected, push_unkept, push_unkept_objects, wishes_of,
 };
 use lab_requests::{Bounds, SurveyRequest};
 use lab_texts::{NumberStyle, ProgramNames};
@@ -32,9 +33,6 @@ pub fn survey<X: Threads + Sync, C: Clock, F: Files, R: Read, E: Write>(
     }
     let program = read_program(alloc, inputs, request.program)?;
     let names = ProgramNames::of(alloc, &program.text)?;
-    if let Some(path) = request.expected {
-        text = addressed(alloc, path, &text, &names)?;
-    }
     let wishes = match request.expected {
         Some(path) => wishes_of(alloc, path, &text, &names, &program.image)?,
         None => Wishes::none(alloc),
@@ -42,7 +40,6 @@ pub fn survey<X: Threads + Sync, C: Clock, F: Files, R: Read, E: Write>(
     let surveyed = SurveyInput {
         program: &program,
         wishes: &wishes,
-        text: &text,
         most: request.most,
     };
     survey_of(rt, alloc, request, surveyed, &names, console)
@@ -82,7 +79,7 @@ fn survey_of<X: Threads + Sync, C: Clock, E: Write>(
     };
     let found = every_end(alloc, surveyed, names, seeds.style, bounds, console)?;
     push_whole(alloc, &mut output, is_json, surveyed, found.unkept(), true)?;
-    push_met(alloc, &mut output, is_json, &found, &outcomes)?;
+    push_every_schedule(alloc, &mut output, is_json, surveyed, &found, &outcomes)?;
     Ok(CommandAnswer::printed(alloc, output, status.worse(found.status())))
 }
 
@@ -129,11 +126,10 @@ fn push_whole(
     unkept: Unkept,
     is_of_every: bool,
 ) -> Result<(), AllocError> {
-    let text = surveyed.text;
     if is_json {
-        push_unkept_objects(alloc, out, text, surveyed.wishes, unkept)
+        push_unkept_objects(alloc, out, surveyed.wishes, unkept)
     } else {
-        push_unkept(out, text, surveyed.wishes, unkept, is_of_every)
+        push_unkept(out, surveyed.wishes, unkept, is_of_every)
     }
 }
 
@@ -197,50 +193,6 @@ fn every_end<C: Clock, E: Write>(
     Ok(found?)
 }
 
-/// Adds how many of the ends of every schedule were met.
-fn push_met(
-    alloc: Global,
-    out: &mut String,
-    is_json: bool,
-    found: &Explored,
-    outcomes: &[SeedOutcome],
-) -> Result<(), AllocError> {
-    let ends = found.ends.iter().filter(|end| is_end(end)).count();
-    let met = found
-        .ends
-        .iter()
-        .filter(|end| outcomes.iter().any(|outcome| is_met_by(end, outcome)))
-        .count();
-    if is_json {
-        return push_coverage(alloc, out, found, ends, met);
-    }
-    let worlds = found.worlds;
-    let which = if found.is_complete {
-        "every schedule"
-    } else {
-        "some schedules"
-    };
-    let (comma, ended) = match found.bound {
-        Some(bound) => (", ", bound.words()),
-        None => ("", ""),
-    };
-    write!(
-        out,
-        "reached {met} of the {ends} ends of {which} ({worlds} states{comma}{ended})\n"
-    )
-}
-
-/// Whether it is an end of schedules, and no broken claim.
-fn is_end(end: &SpaceEnd) -> bool {
-    end.kind != SpaceEndKind::Broken
-}
-
-/// Whether an outcome is an end of all schedules.
-fn is_met_by(end: &SpaceEnd, outcome: &SeedOutcome) -> bool {
-    let is_kind = end.kind == SpaceEndKind::End(outcome.kind);
-    is_kind && end.missed == outcome.missed && end.text == outcome.text
-}
-
 /// Adds the line of an outcome, which is judged where something is expected.
 fn push_outcome(
     alloc: Global,
@@ -269,16 +221,13 @@ fn push_judgement(
     }
     out.push_str(if outcome.text.is_empty() { "" } else { "   " })?;
     out.push_str("NOT as expected")?;
-    if let Some(expectation) = outcome.missed.and_then(|place| wishes.ends.get(place)) {
+    if let Some(place) = outcome.missed {
         out.push_str(": ")?;
-        return push_expectation(out, expectation);
+        return push_expected(out, wishes, place);
     }
-    if let Some(text) = outcome
-        .broken
-        .and_then(|place| wishes.claim_texts.get(place))
-    {
+    if let Some(claim) = broken_words(wishes, outcome) {
         out.push_str(": ")?;
-        return out.push_str(text);
+        return out.push_str(claim);
     }
     Ok(())
 }

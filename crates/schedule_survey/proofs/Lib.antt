@@ -8,3 +8,4 @@ pub mod Alike
 pub mod GroupsTo
 pub mod KnownGroups
 pub mod NewGroups
+pub mod SeedEnds

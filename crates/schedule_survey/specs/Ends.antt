@@ -11,7 +11,6 @@ use Rattle.processor.specs.World.{World, start}
 use Rattle.processor.specs.declared.steps.Step.{Step}
 use Rattle.machine.specs.MachineValue.{MachineValue}
 use Rattle.schedule_makers.specs.Seeds.{rule_of_seed}
-use Rattle.schedule_makers.specs.FairLengths.{IsFairLength}
 use Rattle.schedule_makers.specs.Made.{IsMade}
 use Rattle.schedule_survey.specs.declared.ends.ChangedWord.{ChangedWord}
 use Rattle.schedule_survey.specs.declared.ends.CurrentStream.{CurrentStream}
@@ -78,10 +77,3 @@ pub record IsSeedEnd (image : ImageValue) (fair most seed : ℕ) (e : SeedEnd) :
   pub steps : e.steps ≡ length schedule
   pub words : e.words.items ≡ changed_words image machine.world.memory
   pub streams : e.streams.items ≡ current_streams machine.world
-
--- The ends of so many seeds, from the first one on; behind the greatest seed comes 0.
-pub record AreSeedEnds (image : ImageValue) (most first seeds : ℕ) (es : List SeedEnd) : Type 0 where
-  pub fair : ℕ
-  pub is_fair : IsFairLength (loaded image) fair
-  pub count : length es ≡ seeds
-  pub each : (k : ℕ) (e : SeedEnd) → slice_get es k ≡ Some e → IsSeedEnd image fair most ((first + k) % 2 ^ 64) e

@@ -4,3 +4,5 @@ pub mod Ends
 pub mod Laws
 -- groups of ends
 pub mod Groups
+-- what a survey counts
+pub mod Surveys

@@ -13,4 +13,4 @@ pub use end_groups::{EndGroup, grouped};
 pub use ends::{ChangedWord, CurrentStream, SeedEnd};
 pub use laws::seed_ends_are_one;
 pub use seeds::seed_end;
-pub use surveys::survey;
+pub use surveys::{SeedRange, survey};

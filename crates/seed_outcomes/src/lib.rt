@@ -3,8 +3,10 @@
 
 mod findings;
 mod outcomes;
+mod parts;
 mod surveys;
 mod unshown_claims;
+mod world_groups;
 
 pub use outcomes::{SeedOutcome, worst_status};
 pub use surveys::{SurveySeeds, outcomes_of};

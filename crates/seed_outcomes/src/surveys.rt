@@ -2,6 +2,8 @@
 
 use crate::findings::add_findings;
 use crate::outcomes::{SeedOutcome, add_outcome};
+use crate::parts::{part_size, parts_of};
+use crate::world_groups::{SeedGroup, groups_of_seeds};
 use claims::Claim;
 use end_kinds::end_kind_of;
 use expectations::first_missed;
@@ -13,13 +15,13 @@ use machine::LoadFault;
 use processor::Step;
 use rayon::prelude::*;
 use schedule_makers::{fair_length, seeded};
-use schedule_survey::{EndGroup, SeedEnd, grouped, survey};
+use schedule_survey::SeedRange;
 use seed_verdicts::first_broken;
 use std::alloc::{AllocError, Global};
 use std::thread::Threads;
 
-/// How many seeds are run before their ends are counted: so the memory of a survey is bounded.
-const AT_ONCE: usize = 1024;
+/// How many seeds are shared out among threads at once: so many that those which are done first wait for little.
+const AT_ONCE: usize = 131_072;
 
 /// Which seeds are run, for how many steps at most, and how their ends are told.
 #[derive(Clone, Copy)]
@@ -86,71 +88,68 @@ fn outcomes_on<'a, 't, X: Threads + Sync, const S: usize>(
     };
     let mut outcomes = Vec::new(alloc);
     for begin in (0..seeds.count).step_by(AT_ONCE) {
-        let first = seeds.first.wrapping_add(begin as u64);
-        let count = AT_ONCE.min(seeds.count.saturating_sub(begin));
-        add_some::<X, S>(rt, alloc, &surveyed, first, count, &mut outcomes)?;
+        let some = SeedRange {
+            first: seeds.first.wrapping_add(begin as u64),
+            count: AT_ONCE.min(seeds.count.saturating_sub(begin)),
+        };
+        add_some::<X, S>(rt, alloc, &surveyed, some, &mut outcomes)?;
     }
     add_findings::<X, S>(rt, alloc, &surveyed, &mut outcomes)?;
     Ok(outcomes)
 }
 
-/// Adds the outcomes of so many seeds from one on.
+/// Adds the outcomes of seeds.
 fn add_some<X: Threads + Sync, const S: usize>(
     rt: &X,
     alloc: Global,
     surveyed: &Surveyed<'_, '_>,
-    first: u64,
-    count: usize,
+    seeds: SeedRange,
     outcomes: &mut Vec<SeedOutcome>,
 ) -> Result<(), AllocError> {
-    let ends = match survey::<X, S>(rt, alloc, surveyed.image, first, count, surveyed.most) {
-        Ok(ends) => ends,
-        Err(LoadFault::NoMemory | LoadFault::Streams) => return Err(AllocError),
-    };
-    let groups = groups_of(alloc, &ends, surveyed.wishes)?;
-    for outcome in outcomes_of_groups::<X, S>(rt, alloc, surveyed, &ends, &groups)? {
-        add_outcome(outcomes, outcome)?;
+    let groups = groups_of_seeds::<X, S>(rt, alloc, surveyed, seeds)?;
+    for part in outcomes_of_groups::<X, S>(rt, alloc, surveyed, &groups)? {
+        for outcome in part {
+            add_outcome(outcomes, outcome)?;
+        }
     }
     Ok(())
 }
 
-/// Ends that are told alike by their worlds; where something is claimed each by itself, since that is asked of the way.
-fn groups_of(
-    alloc: Global,
-    ends: &[SeedEnd],
-    wishes: &Wishes,
-) -> Result<Vec<EndGroup>, AllocError> {
-    if wishes.claims.is_empty() {
-        return grouped(alloc, ends);
-    }
-    let mut groups = Vec::with_capacity(alloc, ends.len())?;
-    for first in 0..ends.len() {
-        groups.push(EndGroup { first, runs: 1 })?;
-    }
-    Ok(groups)
-}
-
-/// The outcomes of groups of ends, over all cores.
+/// The outcomes of each part of groups, in the order of their parts, over all cores.
 fn outcomes_of_groups<X: Threads + Sync, const S: usize>(
     rt: &X,
     alloc: Global,
     surveyed: &Surveyed<'_, '_>,
-    ends: &[SeedEnd],
-    groups: &[EndGroup],
-) -> Result<Vec<SeedOutcome>, AllocError> {
-    let told = (0..groups.len())
+    groups: &[SeedGroup],
+) -> Result<Vec<Vec<SeedOutcome>>, AllocError> {
+    let size = part_size(rt, groups.len());
+    let told = (0..parts_of(groups.len(), size))
         .into_par_iter()
-        .map(|place: usize| -> Result<SeedOutcome, AllocError> {
-            let group = groups.get(place).ok_or(AllocError)?;
-            let end = ends.get(group.first).ok_or(AllocError)?;
-            outcome_of::<S>(alloc, surveyed, end.seed, group.runs)
+        .map(|part: usize| -> Result<Vec<SeedOutcome>, AllocError> {
+            let begin = part.saturating_mul(size);
+            let rest = groups.get(begin..).unwrap_or(&[]);
+            outcomes_of_part::<S>(alloc, surveyed, rest.get(..size).unwrap_or(rest))
         })
         .with_min_len(1)
-        .collect::<Result<Vec<SeedOutcome>, AllocError>>(rt, alloc);
+        .collect::<Result<Vec<Vec<SeedOutcome>>, AllocError>>(rt, alloc);
     match told {
         Ok(Ok(told)) => Ok(told),
         Ok(Err(_)) | Err(_) => Err(AllocError),
     }
+}
+
+/// The outcomes of groups, each once.
+fn outcomes_of_part<const S: usize>(
+    alloc: Global,
+    surveyed: &Surveyed<'_, '_>,
+    groups: &[SeedGroup],
+) -> Result<Vec<SeedOutcome>, AllocError> {
+    let mut outcomes = Vec::new(alloc);
+    for group in groups {
+        let outcome = outcome_of::<S>(alloc, surveyed, group.seed, group.runs)?;
+        add_outcome(&mut outcomes, outcome)?;
+    }
+    Ok(outcomes)
 }
 
 /// The outcome of so many ends that are the same world: the schedule of a seed that leads there is run again.
