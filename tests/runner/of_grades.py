@@ -27,6 +27,9 @@ go:     LOAD.N  r2, r0, 0
 # four streams, each in any of 20 places: 160,000 states, of which the search for ends needs few
 WIDE = b" .slim 1\n" + b" .entry 0\n" * 4 + b" LIT r1, 1\n" * 18 + b" QUIT\n .data 0\n"
 
+# a program that comes to new states forever
+COUNTING = b".entry more\n.data 0\nmore: ADD r1, r1, 1\nSKIP ALWAYS, 0, more\n"
+
 
 def lab(*words, folder):
     """Calls the lab."""
@@ -221,3 +224,21 @@ def pages_refused():
         fault = b"mta_lab: ./racing.html: not written: it is the same file as racing.html, which this command uses\n"
         yield "a submission", (1, fault, [None], RACING), (
             *found[:2], [one["page"] for one in found[2]], tool.read(os.path.join(folder, "racing.html")))
+
+
+@checks.others("grade/bounds")
+def bounds():
+    """Where neither states nor megabytes are given, the search of a submission ends by what it holds."""
+    with tempfile.TemporaryDirectory(prefix="mta-case-") as folder:
+        made(folder, "w.expect", b"finished\n")
+        made(folder, "counts.asm", COUNTING)
+        for words, bound in (((), b"memory"), (("--states", "1000"), b"states"), (("--memory", "1"), b"memory")):
+            ended = lab("grade", "--explore", "--seeds", "1", "--steps", "9", *words, "--expect", "w.expect",
+                        "counts.asm", folder=folder)
+            states = re.fullmatch(
+                rb"counts.asm\tran out of steps\tsome schedules, (\d+) states, ended by --" + bound
+                + rb", and seed 0: not finished\n", ended.out)
+            yield f"{words}", (5, True), (ended.status, states is not None)
+            if not words:
+                # each state has its edge and its key, so that 60 bytes at least are held of it, and less than a kilobyte
+                yield "states", True, states is not None and 200_000 < int(states[1]) < 3_400_000

@@ -37,27 +37,38 @@ impl<'a, F: Files, R: Read> Inputs<'a, F, R> {
 
     /// All the bytes of the file of a path, or of standard input for `-`. The file is remembered as read.
     pub fn read(&mut self, alloc: Global, path: &str) -> Result<Vec<u8>, LabFault> {
+        read_or_fault(alloc, path, self.read_or_why(alloc, path)?)
+    }
+
+    /// The same, or in words why it is not read, without its path.
+    pub fn read_or_why(
+        &mut self,
+        alloc: Global,
+        path: &str,
+    ) -> Result<Result<Vec<u8>, String>, AllocError> {
         if path == "-" {
-            return read_whole(alloc, path, self.input);
+            return read_whole(alloc, self.input);
         }
         match fs::open(self.files, path) {
             Ok(mut file) => {
                 self.remember(alloc, path, &file)?;
-                read_whole(alloc, path, &mut file)
+                read_whole(alloc, &mut file)
             }
-            Err(error) => Err(not_read(alloc, path, &error)?),
+            Err(error) => Ok(Err(not_read(alloc, &error)?)),
         }
     }
 
     /// The same of a file that the command is to replace: it is not remembered, and so it may be written over.
     pub fn read_to_replace(&mut self, alloc: Global, path: &str) -> Result<Vec<u8>, LabFault> {
-        if path == "-" {
-            return read_whole(alloc, path, self.input);
-        }
-        match fs::open(self.files, path) {
-            Ok(mut file) => read_whole(alloc, path, &mut file),
-            Err(error) => Err(not_read(alloc, path, &error)?),
-        }
+        let read = if path == "-" {
+            read_whole(alloc, self.input)?
+        } else {
+            match fs::open(self.files, path) {
+                Ok(mut file) => read_whole(alloc, &mut file)?,
+                Err(error) => Err(not_read(alloc, &error)?),
+            }
+        };
+        read_or_fault(alloc, path, read)
     }
 
     /// Remembers a file that was opened by a path.
@@ -69,30 +80,43 @@ impl<'a, F: Files, R: Read> Inputs<'a, F, R> {
     }
 }
 
-/// Why a file was not read, in words.
-fn not_read(alloc: Global, path: &str, error: &Error) -> Result<LabFault, AllocError> {
-    Ok(LabFault::Words(format!(in alloc; "{path}: read failed: {error}")?))
+/// The bytes of a path, or the fault that says why they are not read.
+fn read_or_fault(
+    alloc: Global,
+    path: &str,
+    read: Result<Vec<u8>, String>,
+) -> Result<Vec<u8>, LabFault> {
+    match read {
+        Ok(bytes) => Ok(bytes),
+        Err(why) => Err(LabFault::Words(format!(in alloc; "{path}: {why}")?)),
+    }
 }
 
-/// All the bytes that a reader has.
-fn read_whole<R: Read>(alloc: Global, path: &str, reader: &mut R) -> Result<Vec<u8>, LabFault> {
+/// Why a file was not read, in words.
+fn not_read(alloc: Global, error: &Error) -> Result<String, AllocError> {
+    format!(in alloc; "read failed: {error}")
+}
+
+/// All the bytes that a reader has, or why they are not read.
+fn read_whole<R: Read>(
+    alloc: Global,
+    reader: &mut R,
+) -> Result<Result<Vec<u8>, String>, AllocError> {
     let mut bytes = Vec::new(alloc);
     let mut chunk = vec![in alloc; 0; CHUNK]?;
     for _ in 0..u64::MAX {
         match reader.read(&mut chunk) {
-            Ok(0) => return Ok(bytes),
+            Ok(0) => return Ok(Ok(bytes)),
             Ok(count) => {
                 if count > INPUT_LIMIT - bytes.len().min(INPUT_LIMIT) {
-                    return Err(LabFault::Words(format!(in alloc;
-                        "{path}: longer than {INPUT_LIMIT} bytes"
-                    )?));
+                    return Ok(Err(format!(in alloc; "longer than {INPUT_LIMIT} bytes")?));
                 }
                 bytes.extend_from_slice(&chunk[..count])?;
             }
             Err(error) => {
-                return Err(not_read(alloc, path, &error)?);
+                return Ok(Err(not_read(alloc, &error)?));
             }
         }
     }
-    Ok(bytes)
+    Ok(Ok(bytes))
 }

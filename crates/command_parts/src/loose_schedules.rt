@@ -19,8 +19,28 @@ struct LinePlace {
     number: usize,
     /// How many bytes stand before it.
     start: usize,
+    /// How many bytes stand before its end.
+    end: usize,
     /// Where on it a star stands in the place of the third number, from 0.
     star: Option<usize>,
+}
+
+impl LinePlace {
+    /// The place where the line after this one begins.
+    fn next(self) -> LinePlace {
+        let start = self.end.saturating_add(1);
+        LinePlace {
+            number: self.number.saturating_add(1),
+            start,
+            end: start,
+            star: None,
+        }
+    }
+
+    /// The line in its text.
+    fn line(self, text: &[u8]) -> &[u8] {
+        text.get(self.start..self.end).unwrap_or(&[])
+    }
 }
 
 /// A schedule in the strict form, and of each of its lines the place of the line that said it. Where that has a star, the
@@ -40,15 +60,17 @@ impl StrictSchedule {
         let mut place = LinePlace {
             number: 1,
             start: 0,
+            end: 0,
             star: None,
         };
         for line in text.split(|byte| *byte == b'\n') {
             keep_bytes(&mut kept, line)?;
+            place.end = place.start.saturating_add(line.len());
             place.star = take_star(&mut kept);
             if push_strict(&mut strict, &kept)? {
                 lines.push(place)?;
             }
-            place = behind(place, line);
+            place = place.next();
         }
         Ok(StrictSchedule {
             text: strict,
@@ -102,15 +124,6 @@ fn number_in(field: Option<&[u8]>) -> Option<usize> {
     str::from_utf8(field?).ok()?.parse::<usize>().ok()
 }
 
-/// The place of the line behind this one.
-fn behind(place: LinePlace, line: &[u8]) -> LinePlace {
-    LinePlace {
-        number: place.number.saturating_add(1),
-        start: place.start.saturating_add(line.len()).saturating_add(1),
-        star: None,
-    }
-}
-
 /// The steps that a text says, of a run of an image's program.
 pub(crate) fn read_loose_schedule(
     alloc: Global,
@@ -139,7 +152,7 @@ pub fn check_loose_schedule(
         if let Some(place) = strict.place(message.line) {
             message.line = place.number;
             message.start = place.start;
-            keep_bytes(&mut kept, line_at(text, place.start))?;
+            keep_bytes(&mut kept, place.line(text))?;
             point_at(message, &kept);
         }
     }
@@ -200,12 +213,6 @@ fn tell_stars_of_run(
         messages.push(words.message(place.number, place.start, 0))?;
     }
     Ok(())
-}
-
-/// The line that begins behind so many bytes of a text.
-fn line_at(text: &[u8], start: usize) -> &[u8] {
-    let rest = text.get(start..).unwrap_or(&[]);
-    rest.split(|byte| *byte == b'\n').next().unwrap_or(&[])
 }
 
 /// Takes a message from the columns of a line's strict form to those of the line itself.

@@ -1,7 +1,7 @@
 //! Messages about a file as JSON.
 
 use command_parts::push_object;
-use lab_json::{object_of, put_number, put_text};
+use lab_json::{Object, text_value};
 use serde_json::Value;
 use source_faults::Message;
 use std::alloc::{AllocError, Global};
@@ -13,20 +13,30 @@ pub(crate) fn push_message_object(
     file: &str,
     message: &Message,
 ) -> Result<(), AllocError> {
-    let mut fields = object_of(alloc, "message")?;
-    put_text(alloc, &mut fields, "file", file)?;
-    put_number(alloc, &mut fields, "line", message.line as u64)?;
-    put_number(alloc, &mut fields, "column", message.column as u64)?;
-    put_number(alloc, &mut fields, "width", message.width as u64)?;
-    put_text(alloc, &mut fields, "severity", message.severity.name())?;
+    let mut object = Object::of_kind(alloc, "message");
+    object.put_text("file", file);
+    object.put_number("line", message.line as u64);
+    object.put_number("column", message.column as u64);
+    object.put_number("width", message.width as u64);
+    object.put_text("severity", message.severity.name());
+    object.put("number", Ok(number_value(message)));
+    object.put_text("message", &message.words);
+    object.put("help", help_value(alloc, message));
+    push_object(alloc, out, &object.whole()?)
+}
+
+/// The number of a message's page of `explain`; null if it has none.
+fn number_value(message: &Message) -> Value {
     match message.number {
-        Some(number) => put_number(alloc, &mut fields, "number", u64::from(number))?,
-        None => serde_json::put(&mut fields, alloc, "number", Value::Null)?,
+        Some(number) => Value::from(u64::from(number)),
+        None => Value::Null,
     }
-    put_text(alloc, &mut fields, "message", &message.words)?;
+}
+
+/// How what is wrong may be mended; null if nothing is said of it.
+fn help_value(alloc: Global, message: &Message) -> Result<Value, AllocError> {
     match &message.help {
-        Some(help) => put_text(alloc, &mut fields, "help", help)?,
-        None => serde_json::put(&mut fields, alloc, "help", Value::Null)?,
+        Some(help) => text_value(alloc, help),
+        None => Ok(Value::Null),
     }
-    push_object(alloc, out, &Value::Object(fields))
 }

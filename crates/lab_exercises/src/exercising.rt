@@ -43,8 +43,11 @@ pub fn exercise<X: Threads + Sync + Clock, F: Files, R: Read, E: Write>(
     if let Some(hint) = request.hint {
         return show_hint(alloc, inputs, request, found, hint);
     }
-    let next = exercises.get(place.saturating_add(1));
-    tell(rt, alloc, inputs, request, found, next, console)
+    let asked = AskedExercise {
+        exercise: found,
+        next: exercises.get(place.saturating_add(1)),
+    };
+    tell(rt, alloc, inputs, request, asked, console)
 }
 
 /// What is said where there is no such exercise.
@@ -80,16 +83,23 @@ fn list<X: Threads + Sync + Clock, F: Files, R: Read, E: Write>(
     Ok(CommandAnswer::printed(alloc, out, Status::Done))
 }
 
-/// What is said of the program of an exercise, after which another one comes.
+/// An exercise that is asked for, and the one that comes after it.
+#[derive(Clone, Copy)]
+struct AskedExercise<'e> {
+    exercise: &'e Exercise,
+    next: Option<&'e Exercise>,
+}
+
+/// What is said of the program of an exercise.
 fn tell<X: Threads + Sync + Clock, F: Files, R: Read, E: Write>(
     rt: &X,
     alloc: Global,
     inputs: &mut Inputs<'_, F, R>,
     request: &ExerciseRequest,
-    exercise: &Exercise,
-    next: Option<&Exercise>,
+    asked: AskedExercise<'_>,
     console: &mut Console<'_, X, E>,
 ) -> Result<CommandAnswer, LabFault> {
+    let AskedExercise { exercise, next } = asked;
     let judgement = judge(rt, alloc, inputs, exercise, THOROUGH, console)?;
     let mut out = String::new(alloc);
     if judgement.is_right() {

@@ -1,9 +1,8 @@
 //! The pages of the runs that lead to ends.
 
-use crate::expectation_texts::push_expectation;
+use crate::expectation_texts::push_expected;
 use crate::explored_objects::is_as_expected;
-use crate::explored_text::missed_of;
-use crate::exploring::Explored;
+use crate::searches::Explored;
 use command_parts::{Inputs, LabFault, Program};
 use lab_ends::{SpaceEnd, SpaceEndKind, Wishes};
 use plain_text::stem_of;
@@ -112,8 +111,8 @@ impl FoundProgram<'_> {
             return String::from_str(alloc, &end.text);
         }
         let mut words = String::new(alloc);
-        if let Some(expectation) = missed_of(&self.wishes.ends, end) {
-            push_expectation(&mut words, expectation)?;
+        if let Some(place) = end.missed {
+            push_expected(&mut words, self.wishes, place)?;
         } else if let Some(place) = self.found.broken_rule
             && let Some(said) = self.wishes.rules.get(place)
         {

@@ -1,11 +1,21 @@
 //! Expectations as text.
 
 use expectations::{Expectation, FullEmpty, Relation};
+use lab_ends::Wishes;
 use lab_texts::{NumberStyle, push_value};
 use std::alloc::AllocError;
 
+/// Adds the expectation at a place of what is wished: as it was written, where it names a data word.
+pub fn push_expected(out: &mut String, wishes: &Wishes, place: usize) -> Result<(), AllocError> {
+    match (wishes.end_texts.get(place), wishes.ends.get(place)) {
+        (Some(text), _) if !text.is_empty() => out.push_str(text),
+        (_, Some(expectation)) => push_expectation(out, expectation),
+        _ => Ok(()),
+    }
+}
+
 /// Adds an expectation, as it is written.
-pub fn push_expectation(out: &mut String, expectation: &Expectation) -> Result<(), AllocError> {
+fn push_expectation(out: &mut String, expectation: &Expectation) -> Result<(), AllocError> {
     match *expectation {
         Expectation::Word {
             address,

@@ -1,15 +1,14 @@
 //! What is told of a search as objects (docs/LAB_REFERENCE.md, "JSON").
 
 use crate::expected_lines::ExpectedLines;
-use crate::exploring::Explored;
+use crate::searches::Explored;
 use crate::watching::SearchBound;
 use command_parts::push_object;
 use end_kinds::EndKind;
 use image_file::Image;
 use lab_ends::{SpaceEnd, SpaceEndKind};
-use lab_json::{
-    Fields, object_of, put_flag, put_number, put_run, put_streams, put_text, put_turns,
-};
+use lab_json::{Fields, List, Object, object_of, put_run, stream_value, text_value, turns_value};
+use processor::Step;
 use serde_json::Value;
 use std::alloc::{AllocError, Global};
 
@@ -21,24 +20,24 @@ pub(crate) fn push_objects(
     lines: ExpectedLines,
     found: &Explored,
 ) -> Result<(), AllocError> {
-    push_search(alloc, out, found)?;
+    push_object(alloc, out, &search_value(alloc, found)?)?;
     for end in found.ends.iter() {
-        let fields = end_fields(alloc, image, lines, found, end)?;
-        push_object(alloc, out, &Value::Object(fields))?;
+        let fields = run_fields(alloc, image, end)?;
+        push_object(alloc, out, &end_value(alloc, fields, lines, found, end)?)?;
     }
     Ok(())
 }
 
-/// Adds the object that says how much was found.
-fn push_search(alloc: Global, out: &mut String, found: &Explored) -> Result<(), AllocError> {
-    let mut fields = object_of(alloc, "search")?;
-    put_number(alloc, &mut fields, "worlds", found.worlds as u64)?;
-    put_number(alloc, &mut fields, "steps", found.steps as u64)?;
-    put_flag(alloc, &mut fields, "complete", found.is_complete)?;
-    put_flag(alloc, &mut fields, "plain", found.is_of_all_worlds)?;
-    put_number(alloc, &mut fields, "begin", found.begin as u64)?;
-    put_bound(alloc, &mut fields, found.bound)?;
-    push_object(alloc, out, &Value::Object(fields))
+/// How much was found.
+fn search_value(alloc: Global, found: &Explored) -> Result<Value, AllocError> {
+    let mut search = Object::of_kind(alloc, "search");
+    search.put_number("worlds", found.worlds as u64);
+    search.put_number("steps", found.steps as u64);
+    search.put("complete", Ok(Value::from(found.is_complete)));
+    search.put("plain", Ok(Value::from(found.is_of_all_worlds)));
+    search.put_number("begin", found.begin as u64);
+    search.put("bound", bound_value(alloc, found.bound));
+    search.whole()
 }
 
 /// Puts what ended a search as `bound`; null where nothing did.
@@ -47,68 +46,56 @@ pub fn put_bound(
     fields: &mut Fields,
     bound: Option<SearchBound>,
 ) -> Result<(), AllocError> {
+    serde_json::put(fields, alloc, "bound", bound_value(alloc, bound)?)
+}
+
+/// What ended a search; null where nothing did.
+fn bound_value(alloc: Global, bound: Option<SearchBound>) -> Result<Value, AllocError> {
     match bound {
-        Some(bound) => put_text(alloc, fields, "bound", bound.json_name()),
-        None => serde_json::put(fields, alloc, "bound", Value::Null),
+        Some(bound) => text_value(alloc, bound.json_name()),
+        None => Ok(Value::Null),
     }
 }
 
-/// The object of an end.
-fn end_fields(
-    alloc: Global,
-    image: &Image,
-    lines: ExpectedLines,
-    found: &Explored,
-    end: &SpaceEnd,
-) -> Result<Fields, AllocError> {
+/// What is told of the run to an end.
+fn run_fields(alloc: Global, image: &Image, end: &SpaceEnd) -> Result<Fields, AllocError> {
     let mut fields = object_of(alloc, "search_end")?;
-    put_counts(alloc, &mut fields, end)?;
-    put_shortest(alloc, &mut fields, found, end)?;
-    put_judgement(alloc, &mut fields, lines, end)?;
-    put_turns(alloc, &mut fields, "schedule", &end.schedule)?;
-    put_set(alloc, &mut fields, end)?;
     put_run(alloc, &mut fields, image, &end.schedule)?;
     Ok(fields)
 }
 
-/// Puts the kind of an end, how many worlds and sets it has, and from how many worlds one leads there.
-fn put_counts(alloc: Global, fields: &mut Fields, end: &SpaceEnd) -> Result<(), AllocError> {
-    put_text(alloc, fields, "end", end.kind.json_name())?;
-    put_number(alloc, fields, "worlds", end.worlds() as u64)?;
-    put_number(alloc, fields, "sets", end.sets as u64)?;
-    put_number(alloc, fields, "from", end.sources as u64)
-}
-
-/// Puts how many steps a shortest schedule to an end has; null where it is not known.
-fn put_shortest(
+/// An end of whose run these fields tell: its kind, how many worlds and sets it has, from how many worlds one leads there,
+/// how it was judged, and of a set that spins the steps of a cycle, the streams that go on in it, and the words that change.
+fn end_value(
     alloc: Global,
-    fields: &mut Fields,
+    fields: Fields,
+    lines: ExpectedLines,
     found: &Explored,
     end: &SpaceEnd,
-) -> Result<(), AllocError> {
-    let shortest = if found.is_shortest(end) {
+) -> Result<Value, AllocError> {
+    let mut object = Object::of(alloc, fields);
+    object.put_text("end", end.kind.json_name());
+    object.put_number("worlds", end.worlds() as u64);
+    object.put_number("sets", end.sets as u64);
+    object.put_number("from", end.sources as u64);
+    object.put("shortest", Ok(shortest_value(found, end)));
+    object.put("expected", Ok(Value::from(is_as_expected(end))));
+    object.put("missed", lines.missed_value(alloc, end.missed));
+    object.put("claim", lines.broken_value(alloc, end));
+    object.put("schedule", turns_value(alloc, &end.schedule));
+    object.put("round", turns_value(alloc, &end.cycle));
+    object.put("running", streams_value(alloc, &end.running));
+    object.put("changing", addresses_value(alloc, &end.changing));
+    object.whole()
+}
+
+/// How many steps a shortest schedule to an end has; null where it is not known.
+fn shortest_value(found: &Explored, end: &SpaceEnd) -> Value {
+    if found.is_shortest(end) {
         Value::from(end.schedule.len())
     } else {
         Value::Null
-    };
-    serde_json::put(fields, alloc, "shortest", shortest)
-}
-
-/// Puts whether an end is as expected, the line that it misses, and the claim that is broken.
-fn put_judgement(
-    alloc: Global,
-    fields: &mut Fields,
-    lines: ExpectedLines,
-    end: &SpaceEnd,
-) -> Result<(), AllocError> {
-    put_flag(alloc, fields, "expected", is_as_expected(end))?;
-    lines.put_missed(alloc, fields, end.missed)?;
-    let claim = if end.kind == SpaceEndKind::Broken {
-        Some(end.text.as_str())
-    } else {
-        None
-    };
-    lines.put_claim(alloc, fields, claim)
+    }
 }
 
 /// Whether an end is as expected. Nobody expects a deadlock, whatever else its words hold.
@@ -119,14 +106,20 @@ pub(crate) fn is_as_expected(end: &SpaceEnd) -> bool {
     }
 }
 
-/// Puts what is told of a set that spins alone: the steps of a way round, the streams that go on in it, and the words
-/// that change.
-fn put_set(alloc: Global, fields: &mut Fields, end: &SpaceEnd) -> Result<(), AllocError> {
-    put_turns(alloc, fields, "round", &end.cycle)?;
-    put_streams(alloc, fields, "running", &end.running)?;
-    let mut changing = Vec::with_capacity(alloc, end.changing.len())?;
-    for address in &end.changing {
-        changing.push(Value::from(*address))?;
+/// Streams, by their names.
+fn streams_value(alloc: Global, streams: &[Step]) -> Result<Value, AllocError> {
+    let mut names = List::new(alloc);
+    for stream in streams {
+        names.put(stream_value(alloc, *stream));
     }
-    serde_json::put(fields, alloc, "changing", Value::Array(changing))
+    names.whole()
+}
+
+/// Addresses of words.
+fn addresses_value(alloc: Global, addresses: &[u64]) -> Result<Value, AllocError> {
+    let mut numbers = List::new(alloc);
+    for address in addresses {
+        numbers.put_number(*address);
+    }
+    numbers.whole()
 }

@@ -1,14 +1,13 @@
 //! What is told of a search: its head and its ends, in words or as objects.
 
 use crate::end_columns::{EndCells, EndColumns, end_line};
-use crate::expectation_texts::push_expectation;
+use crate::expectation_texts::push_expected;
 use crate::expected_lines::ExpectedLines;
 use crate::explored_objects::push_objects;
-use crate::exploring::Explored;
+use crate::searches::Explored;
 use crate::unkept::{push_unkept, push_unkept_objects};
 use command_parts::CommandAnswer;
 use end_kinds::EndKind;
-use expectations::Expectation;
 use image_file::Image;
 use lab_ends::{SpaceEnd, SpaceEndKind, Wishes};
 use plain_text::push_plain;
@@ -18,21 +17,20 @@ use trace_text::write_schedule;
 /// The most turns of a schedule that are told of a claim that it breaks.
 const MOST_TURNS: usize = 40;
 
-/// What is told of a search among the schedules of an image, of which these lines say what is expected.
+/// What is told of a search among the schedules of an image, of which this is wished.
 pub(crate) fn answer_of(
     alloc: Global,
     is_json: bool,
     image: &Image,
-    lines: ExpectedLines,
     wishes: &Wishes,
     found: &Explored,
 ) -> Result<CommandAnswer, AllocError> {
     let mut output = String::new(alloc);
     if is_json {
-        push_objects(alloc, &mut output, image, lines, found)?;
-        push_unkept_objects(alloc, &mut output, lines.text, wishes, found.unkept())?;
+        push_objects(alloc, &mut output, image, ExpectedLines { wishes }, found)?;
+        push_unkept_objects(alloc, &mut output, wishes, found.unkept())?;
     } else {
-        push_lines(alloc, &mut output, lines, wishes, found)?;
+        push_lines(alloc, &mut output, wishes, found)?;
     }
     Ok(CommandAnswer::printed(alloc, output, found.status()))
 }
@@ -41,18 +39,17 @@ pub(crate) fn answer_of(
 fn push_lines(
     alloc: Global,
     out: &mut String,
-    lines: ExpectedLines,
     wishes: &Wishes,
     found: &Explored,
 ) -> Result<(), AllocError> {
     push_head_line(out, found)?;
-    push_unkept(out, lines.text, wishes, found.unkept(), true)?;
+    push_unkept(out, wishes, found.unkept(), true)?;
     let columns = columns_of(alloc, found)?;
     if !found.ends.is_empty() {
         columns.push_names(out)?;
     }
     for end in found.ends.iter() {
-        push_end_line(alloc, out, columns, lines.expected, found, end)?;
+        push_end_line(alloc, out, columns, wishes, found, end)?;
     }
     Ok(())
 }
@@ -120,7 +117,7 @@ fn push_end_line(
     alloc: Global,
     out: &mut String,
     columns: EndColumns,
-    expected: &[Expectation],
+    wishes: &Wishes,
     found: &Explored,
     end: &SpaceEnd,
 ) -> Result<(), AllocError> {
@@ -133,7 +130,7 @@ fn push_end_line(
     };
     columns.push_cells(out, cells)?;
     push_plain(out, &end.text)?;
-    push_missed(out, expected, end)?;
+    push_missed(out, wishes, end)?;
     end_line(out)?;
     columns.push_note(out, &end.finding)?;
     columns.push_note(out, &end.cycle_words)?;
@@ -184,19 +181,15 @@ fn broken_words(alloc: Global, end: &SpaceEnd) -> Result<String, AllocError> {
 }
 
 /// Adds in what an end is not as expected, where something is.
-fn push_missed(
-    out: &mut String,
-    expected: &[Expectation],
-    end: &SpaceEnd,
-) -> Result<(), AllocError> {
-    if expected.is_empty() || !end.is_trapped && end.missed.is_none() {
+fn push_missed(out: &mut String, wishes: &Wishes, end: &SpaceEnd) -> Result<(), AllocError> {
+    if wishes.ends.is_empty() || !end.is_trapped && end.missed.is_none() {
         return Ok(());
     }
     push_missed_head(out, &end.text)?;
-    match missed_of(expected, end) {
-        Some(expectation) => {
+    match end.missed {
+        Some(place) => {
             out.push_str(": ")?;
-            push_expectation(out, expectation)
+            push_expected(out, wishes, place)
         }
         None => Ok(()),
     }
@@ -206,12 +199,4 @@ fn push_missed(
 fn push_missed_head(out: &mut String, text: &str) -> Result<(), AllocError> {
     out.push_str(if text.is_empty() { "" } else { "   " })?;
     out.push_str("NOT as expected")
-}
-
-/// The first expectation that an end does not meet.
-pub(crate) fn missed_of<'e>(
-    expected: &'e [Expectation],
-    end: &SpaceEnd,
-) -> Option<&'e Expectation> {
-    end.missed.and_then(|place| expected.get(place))
 }

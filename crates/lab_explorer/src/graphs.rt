@@ -1,7 +1,7 @@
 //! The graph of the worlds that were looked at, as a file.
 
 use crate::explored_text::push_head_line;
-use crate::exploring::Explored;
+use crate::searches::Explored;
 use command_parts::{Inputs, LabFault};
 use lab_ends::SpaceEnd;
 use schedule_space::Space;

@@ -7,7 +7,7 @@ ghost use Rattle.busy_streams.specs.BusySpaces.{HasAllWorlds};
 ghost use Rattle.schedule_verdicts.specs.NamedRegisters.{AreNamed};
 ghost use Rattle.schedule_verdicts.specs.RightSpaces.{IsFollowedForClaims};
 
-use crate::exploring::Search;
+use crate::searches::Search;
 use crate::watching::Watcher;
 use claims::{Claim, places_looked_at};
 use expectations::{Expectation, named_registers};

@@ -3,7 +3,7 @@
 use crate::expected_lines::ExpectedLines;
 use command_parts::push_object;
 use lab_ends::{NEVER_BUSY, Wishes};
-use lab_json::{line_value, object_of};
+use lab_json::{Object, line_value};
 use serde_json::Value;
 use std::alloc::{AllocError, Global};
 
@@ -22,7 +22,6 @@ pub struct Unkept {
 /// by every schedule or by some runs: those say nothing of other schedules.
 pub fn push_unkept(
     out: &mut String,
-    text: &[u8],
     wishes: &Wishes,
     unkept: Unkept,
     is_of_every: bool,
@@ -33,11 +32,7 @@ pub fn push_unkept(
         write!(out, "NOT as expected: {words} (line {line})\n")?;
     }
     if let Some(words) = unshown_words(wishes, unkept) {
-        let lines = ExpectedLines {
-            text,
-            expected: &wishes.ends,
-        };
-        let line = lines.line_of_claim(words);
+        let line = ExpectedLines { wishes }.line_at(unkept.unshown);
         let (head, who) = if is_of_every {
             ("NOT as expected", "schedule")
         } else {
@@ -51,7 +46,7 @@ pub fn push_unkept(
     if let Some(line) = unkept.undecided {
         write!(
             out,
-            "not decided: {NEVER_BUSY} (line {line}): runs do not tell, all states do: --explore\n"
+            "not decided: {NEVER_BUSY} (line {line}): a run cannot show it; use --explore\n"
         )?;
     }
     Ok(())
@@ -61,24 +56,20 @@ pub fn push_unkept(
 pub fn push_unkept_objects(
     alloc: Global,
     out: &mut String,
-    text: &[u8],
     wishes: &Wishes,
     unkept: Unkept,
 ) -> Result<(), AllocError> {
     if let Some(said) = unkept.rule.and_then(|place| wishes.rules.get(place)) {
-        let line = line_value(alloc, said.line, &said.text)?;
+        let line = line_value(alloc, said.line, &said.text);
         push_line_object(alloc, out, "rule", "broken", line)?;
     }
     if let Some(words) = unshown_words(wishes, unkept) {
-        let lines = ExpectedLines {
-            text,
-            expected: &wishes.ends,
-        };
-        let line = lines.claim_value(alloc, words)?;
+        let number = ExpectedLines { wishes }.line_at(unkept.unshown);
+        let line = line_value(alloc, number, words);
         push_line_object(alloc, out, "unshown", "claim", line)?;
     }
     if let Some(number) = unkept.undecided {
-        let line = line_value(alloc, number, NEVER_BUSY)?;
+        let line = line_value(alloc, number, NEVER_BUSY);
         push_line_object(alloc, out, "undecided", "claim", line)?;
     }
     Ok(())
@@ -98,9 +89,9 @@ fn push_line_object(
     out: &mut String,
     kind: &str,
     field: &str,
-    line: Value,
+    line: Result<Value, AllocError>,
 ) -> Result<(), AllocError> {
-    let mut fields = object_of(alloc, kind)?;
-    serde_json::put(&mut fields, alloc, field, line)?;
-    push_object(alloc, out, &Value::Object(fields))
+    let mut object = Object::of_kind(alloc, kind);
+    object.put(field, line);
+    push_object(alloc, out, &object.whole()?)
 }

@@ -2,32 +2,22 @@
 
 use crate::claim_texts::claim_words;
 use command_parts::LabFault;
-use expectations::{Expectation, ExpectationFault, ExpectationFaultKind, read_expectations};
+use expectations::{ExpectationFault, ExpectationFaultKind};
 use image_file::Image;
-use lab_ends::{NamedText, RuleFault, UnknownName, WishFault, Wishes, with_addresses};
+use lab_ends::{
+    AddressedText, NamedText, RuleFault, UnknownName, WishFault, Wishes, with_addresses,
+};
 use lab_texts::ProgramNames;
 use plain_text::plain;
 use std::alloc::{AllocError, Global};
 
-/// The expectations of the text of a path.
-pub fn expectations_of(
-    alloc: Global,
-    path: &str,
-    text: &[u8],
-) -> Result<Vec<Expectation>, LabFault> {
-    match read_expectations(alloc, text) {
-        Ok(expected) => Ok(expected),
-        Err(fault) => Err(expectation_fault(alloc, path, fault)?),
-    }
-}
-
 /// The text of a path with addresses in place of the names of a program's data words.
-pub fn addressed(
+fn addressed(
     alloc: Global,
     path: &str,
     text: &[u8],
     names: &ProgramNames<'_>,
-) -> Result<Vec<u8>, LabFault> {
+) -> Result<AddressedText, LabFault> {
     match with_addresses(alloc, names, text)? {
         NamedText::Plain(plain) => Ok(plain),
         NamedText::Unknown(unknown) => Err(unknown_name(alloc, path, &unknown)?),
@@ -50,7 +40,8 @@ pub fn wishes_of(
     names: &ProgramNames<'_>,
     image: &Image,
 ) -> Result<Wishes, LabFault> {
-    match Wishes::of(alloc, text, names, image) {
+    let text = addressed(alloc, path, text, names)?;
+    match Wishes::of(alloc, &text, names, image) {
         Ok(wishes) => Ok(wishes),
         Err(fault) => Err(wish_fault(alloc, path, fault, image)?),
     }

@@ -1,5 +1,6 @@
 //! The cases that submissions are judged by.
 
+use crate::wish_lines::WishLines;
 use asm_text::AsmFault;
 use case_cells::{CellsFault, program_of_cells, read_cells};
 use command_parts::{Inputs, LabFault, folder_names, slash_after};
@@ -24,8 +25,12 @@ pub(crate) struct Case {
     pub path: String,
     /// Its text.
     pub wishes: Vec<u8>,
+    /// The lines of it that say something of runs.
+    pub lines: WishLines,
     /// An image with the cells that take the place of a submission's own.
     pub cells: Option<Image>,
+    /// The text of these cells; empty where there are none.
+    pub given: Vec<u8>,
 }
 
 /// The cases that are asked for, in the order of their names, one at least.
@@ -38,18 +43,36 @@ pub(crate) fn read_cases<F: Files, R: Read>(
         GradeCases::Folder(folder) => cases_of_folder(alloc, inputs, folder),
         GradeCases::One { expected, given } => {
             let mut cases = Vec::new(alloc);
-            cases.push(Case {
-                name: None,
-                path: String::from_str(alloc, expected)?,
-                wishes: inputs.read(alloc, expected)?,
-                cells: match given {
-                    Some(path) => Some(cells_of(alloc, path, &inputs.read(alloc, path)?)?),
-                    None => None,
-                },
-            })?;
+            cases.push(case_given(alloc, inputs, expected, given)?)?;
             Ok(cases)
         }
     }
+}
+
+/// The only case: that of a file of expectations, and perhaps of one of cells.
+fn case_given<F: Files, R: Read>(
+    alloc: Global,
+    inputs: &mut Inputs<'_, F, R>,
+    expected: &str,
+    given: Option<&str>,
+) -> Result<Case, LabFault> {
+    let wishes = inputs.read(alloc, expected)?;
+    let path = String::from_str(alloc, expected)?;
+    let (cells, given) = match given {
+        Some(path) => {
+            let text = inputs.read(alloc, path)?;
+            (Some(cells_of(alloc, path, &text)?), text)
+        }
+        None => (None, Vec::new(alloc)),
+    };
+    Ok(Case {
+        name: None,
+        path,
+        lines: WishLines::of(alloc, &wishes)?,
+        wishes,
+        cells,
+        given,
+    })
 }
 
 /// The cases of a folder.
@@ -77,11 +100,15 @@ fn case_of<F: Files, R: Read>(
     let slash = slash_after(folder);
     let path = format!(in alloc; "{folder}{slash}{name}.expect")?;
     let data = format!(in alloc; "{folder}{slash}{name}.data")?;
+    let wishes = inputs.read(alloc, &path)?;
+    let given = inputs.read(alloc, &data)?;
     Ok(Case {
         name: Some(String::from_str(alloc, name)?),
-        wishes: inputs.read(alloc, &path)?,
         path,
-        cells: Some(cells_of(alloc, &data, &inputs.read(alloc, &data)?)?),
+        lines: WishLines::of(alloc, &wishes)?,
+        wishes,
+        cells: Some(cells_of(alloc, &data, &given)?),
+        given,
     })
 }
 

@@ -8,7 +8,7 @@ use crate::seed_grades::sampled_verdict;
 use command_parts::LabFault;
 use end_kinds::EndKind;
 use grade_reports::{CountedEnd, Known, Verdict, VerdictKind, WishLine, Witness};
-use lab_ends::{NEVER_BUSY, SpaceEnd, SpaceEndKind};
+use lab_ends::{SpaceEnd, SpaceEndKind};
 use lab_explorer::{Console, Explored, Search, Watcher, explore_program};
 use lab_requests::Bounds;
 use std::alloc::{AllocError, Global};
@@ -233,14 +233,7 @@ fn missed_by(
 ) -> Result<Option<WishLine>, AllocError> {
     match end.kind {
         SpaceEndKind::End(_) => judged.lines.end_at(alloc, end.missed),
-        SpaceEndKind::Broken if end.text.as_str() == NEVER_BUSY => judged.lines.busy_line(alloc),
-        SpaceEndKind::Broken => {
-            let texts = &judged.wishes.claim_texts;
-            let place = texts
-                .iter()
-                .position(|text: &String| text.as_str() == end.text.as_str());
-            judged.lines.claim_at(alloc, place)
-        }
+        SpaceEndKind::Broken => judged.lines.claim_of_line(alloc, end.line),
     }
 }
 

@@ -1,6 +1,6 @@
 //! The command `grade`.
 
-use crate::cases::{Case, read_cases};
+use crate::cases::read_cases;
 use crate::judged::Grading;
 use crate::page_folder::PageFolder;
 use crate::side_by_side::{jobs_of, judge_all};
@@ -75,7 +75,13 @@ pub fn grades_of<X: Threads + Sync + Clock, F: Files, R: Read, E: Write>(
 ) -> Result<Grades, LabFault> {
     let cases = read_cases(alloc, inputs, request.cases)?;
     let mut pages = PageFolder::open(alloc, inputs, request)?;
-    let verdicts = verdicts_on(rt, alloc, inputs, &*request, &cases, &mut pages, console)?;
+    let grading = Grading {
+        request,
+        cases: &cases,
+        style: style_of(request),
+        jobs: jobs_of(rt, request),
+    };
+    let verdicts = verdicts_on(rt, alloc, inputs, &grading, &mut pages, console)?;
     Ok(Grades {
         verdicts,
         cases: cases.iter().filter(|case| case.name.is_some()).count(),
@@ -84,22 +90,15 @@ pub fn grades_of<X: Threads + Sync + Clock, F: Files, R: Read, E: Write>(
 }
 
 /// What is said of each submission, in their order. Some are read, judged and let go before the next are read.
-fn verdicts_on<'a, 'r, X: Threads + Sync + Clock, F: Files, R: Read, E: Write>(
+fn verdicts_on<X: Threads + Sync + Clock, F: Files, R: Read, E: Write>(
     rt: &X,
     alloc: Global,
     inputs: &mut Inputs<'_, F, R>,
-    request: &'a GradeRequest<'r>,
-    cases: &'a [Case],
+    grading: &Grading<'_, '_>,
     pages: &mut PageFolder<'_>,
     console: &mut Console<'_, X, E>,
 ) -> Result<Vec<Verdict>, LabFault> {
-    let jobs = jobs_of(rt, request);
-    let grading = Grading {
-        request,
-        cases,
-        style: style_of(request),
-        is_spread: jobs <= 1,
-    };
+    let request = grading.request;
     let mut verdicts = Vec::new(alloc);
     let mut place: usize = 0;
     for _ in 0..request.submissions.len() {
@@ -107,8 +106,8 @@ fn verdicts_on<'a, 'r, X: Threads + Sync + Clock, F: Files, R: Read, E: Write>(
         if read.is_empty() {
             return Ok(verdicts);
         }
-        for graded in judge_all(rt, alloc, &grading, jobs, read, console)? {
-            verdicts.push(pages.verdict_of(alloc, inputs, &grading, place, graded, console)?)?;
+        for graded in judge_all(rt, alloc, grading, read, console)? {
+            verdicts.push(pages.next_verdict(alloc, inputs, grading, graded, console)?)?;
             place = place.saturating_add(1);
         }
     }

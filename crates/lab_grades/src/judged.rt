@@ -3,7 +3,7 @@
 use crate::cases::Case;
 use crate::wish_lines::WishLines;
 use command_parts::{LabFault, Program};
-use grade_reports::{Verdict, VerdictKind, WishLine};
+use grade_reports::{Verdict, VerdictKind};
 use lab_ends::{ClaimFault, NamedText, WishFault, Wishes, with_addresses};
 use lab_explorer::{claim_words, wish_fault};
 use lab_requests::GradeRequest;
@@ -19,8 +19,15 @@ pub(crate) struct Grading<'a, 'r> {
     pub cases: &'a [Case],
     /// How the numbers of ends are told.
     pub style: NumberStyle,
+    /// How many submissions are judged side by side.
+    pub jobs: usize,
+}
+
+impl Grading<'_, '_> {
     /// Whether the seeds of one submission are shared among the processors: where submissions are not.
-    pub is_spread: bool,
+    pub(crate) fn is_spread(&self) -> bool {
+        self.jobs <= 1
+    }
 }
 
 /// A submission with the cells of a case, and what is wanted of it.
@@ -37,14 +44,20 @@ pub(crate) struct Judged<'a, 't> {
 }
 
 /// What a case wants of a submission, or what is said of one that has not all that a claim speaks of, or not a word of a
-/// name.
+/// name. The names are those of the case's cells, where these have some, and else the submission's own.
 pub(crate) fn wishes_for(
     alloc: Global,
     case: &Case,
     program: &Program,
     names: &ProgramNames<'_>,
 ) -> Result<Result<Wishes, Verdict>, LabFault> {
-    let text = match with_addresses(alloc, names, &case.wishes)? {
+    let given = ProgramNames::of(alloc, &case.given)?;
+    let addressed = if names_words(&given) {
+        with_addresses(alloc, &given, &case.wishes)?
+    } else {
+        with_addresses(alloc, names, &case.wishes)?
+    };
+    let text = match addressed {
         NamedText::Plain(text) => text,
         NamedText::Unknown(name) => {
             return Ok(Err(verdict_without(alloc, case, name.line, &name.words)?));
@@ -57,6 +70,11 @@ pub(crate) fn wishes_for(
         )),
         Err(fault) => Err(wish_fault(alloc, &case.path, fault, &program.image)?),
     }
+}
+
+/// Whether a text names some of its data words.
+fn names_words(names: &ProgramNames<'_>) -> bool {
+    names.data_lines().iter().any(|line| names.has_name((line.first as u64).saturating_mul(8)))
 }
 
 /// What is said of a submission that has not all that the claim of a line speaks of.
@@ -81,21 +99,6 @@ fn verdict_without(
     let path = case.path.as_str();
     let words = format!(in alloc; "{path}:{line}: {reason}")?;
     let mut verdict = Verdict::of_no_program(alloc, VerdictKind::Wrong, words);
-    verdict.missed = line_of_number(alloc, &case.wishes, line)?;
+    verdict.missed = case.lines.line_of(alloc, line)?;
     Ok(verdict)
-}
-
-/// The line of a number of a text.
-fn line_of_number(
-    alloc: Global,
-    text: &[u8],
-    number: usize,
-) -> Result<Option<WishLine>, AllocError> {
-    let lines = WishLines::of(alloc, text)?;
-    for line in lines.claims.iter().chain(lines.ends.iter()) {
-        if line.number == number {
-            return Ok(Some(line.copy(alloc)?));
-        }
-    }
-    Ok(None)
 }

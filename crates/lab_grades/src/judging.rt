@@ -4,7 +4,6 @@ use crate::cases::Case;
 use crate::explored_grades::explored_verdict;
 use crate::judged::{Grading, Judged, wishes_for};
 use crate::seed_grades::sampled_verdict;
-use crate::wish_lines::WishLines;
 use case_cells::with_cells_of;
 use command_parts::{LabFault, Program};
 use grade_reports::{Known, Verdict, VerdictKind, WishLine};
@@ -126,31 +125,25 @@ fn verdict_of<X: Threads + Sync, C: Clock, E: Write>(
     if let Some(verdict) = broken_rule(alloc, case, &wishes, program)? {
         return Ok(verdict);
     }
-    let lines = WishLines::of(alloc, &case.wishes)?;
-    verdict_by_lines(
-        rt, alloc, grading, program, &names, &wishes, &lines, console,
-    )
+    let judged = Judged {
+        program,
+        names: &names,
+        wishes: &wishes,
+        lines: &case.lines,
+    };
+    verdict_by_schedules(rt, alloc, grading, &judged, console)
 }
 
-/// What is said of a program with these names, of which these lines say what is wanted.
-fn verdict_by_lines<'a, 't, X: Threads + Sync, C: Clock, E: Write>(
+/// What is said of a program: by every schedule, if that is asked, else by random ones.
+fn verdict_by_schedules<X: Threads + Sync, C: Clock, E: Write>(
     rt: &X,
     alloc: Global,
     grading: &Grading<'_, '_>,
-    program: &'a Program,
-    names: &'a ProgramNames<'t>,
-    wishes: &'a Wishes,
-    lines: &'a WishLines,
+    judged: &Judged<'_, '_>,
     console: &mut Console<'_, C, E>,
 ) -> Result<Verdict, LabFault> {
-    let judged = Judged {
-        program,
-        names,
-        wishes,
-        lines,
-    };
     match grading.request.explored {
-        Some(bounds) => explored_verdict(rt, alloc, grading, &judged, bounds, console),
-        None => Ok(sampled_verdict(rt, alloc, grading, &judged)?),
+        Some(bounds) => explored_verdict(rt, alloc, grading, judged, bounds, console),
+        None => Ok(sampled_verdict(rt, alloc, grading, judged)?),
     }
 }

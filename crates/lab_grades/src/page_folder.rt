@@ -21,6 +21,8 @@ pub(crate) struct PageFolder<'a> {
     folder: Option<&'a str>,
     /// What the page of each submission is called, in their order.
     names: Vec<String>,
+    /// The place of the submission of the next verdict.
+    next: usize,
     /// Why no more pages are written.
     pub fault: Option<LabFault>,
 }
@@ -35,6 +37,7 @@ impl<'a> PageFolder<'a> {
         let mut pages = PageFolder {
             folder: request.pages,
             names: Vec::new(alloc),
+            next: 0,
             fault: None,
         };
         if let Some(folder) = request.pages {
@@ -55,16 +58,17 @@ impl<'a> PageFolder<'a> {
         }
     }
 
-    /// The verdict on the submission of this place, with its page, which is written.
-    pub(crate) fn verdict_of<F: Files, R: Read, C: Clock, E: Write>(
+    /// The verdict on the next submission, with its page, which is written.
+    pub(crate) fn next_verdict<F: Files, R: Read, C: Clock, E: Write>(
         &mut self,
         alloc: Global,
         inputs: &Inputs<'_, F, R>,
         grading: &Grading<'_, '_>,
-        place: usize,
         graded: Graded,
         console: &mut Console<'_, C, E>,
     ) -> Result<Verdict, LabFault> {
+        let place = self.next;
+        self.next = place.saturating_add(1);
         let Graded { program, verdict } = graded;
         let mut verdict = verdict;
         if let Some(folder) = self.folder

@@ -39,7 +39,7 @@ pub(crate) fn sampled_verdict<X: Threads + Sync>(
         count: grading.request.seeds,
         most: grading.request.most,
     };
-    let found = flaw_of(rt, alloc, judged, seeds, grading.is_spread)?;
+    let found = flaw_of(rt, alloc, judged, seeds, grading.is_spread())?;
     let verdict = match found {
         Some(found) => verdict_of_flaw(alloc, grading, judged, found)?,
         None => verdict_of_right(alloc, judged, seeds)?,
@@ -72,7 +72,7 @@ fn verdict_of_right(
 }
 
 /// The same where each claim is shown that has to hold of one world at least: right, unless no stream is wished to go round
-/// alone, of which runs do not tell.
+/// alone, which no run can show.
 fn verdict_of_shown(
     alloc: Global,
     judged: &Judged<'_, '_>,
@@ -85,7 +85,7 @@ fn verdict_of_shown(
     }
     let mut verdict = Verdict::plain(alloc, VerdictKind::NotDecided, known);
     verdict.missed = judged.lines.busy_line(alloc)?;
-    verdict.words = String::from_str(alloc, "runs do not tell, all states do: --explore")?;
+    verdict.words = String::from_str(alloc, "a run cannot show it; use --explore")?;
     Ok(verdict)
 }
 

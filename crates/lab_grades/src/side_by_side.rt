@@ -37,14 +37,13 @@ pub(crate) fn judge_all<X: Threads + Sync + Clock, E: Write>(
     rt: &X,
     alloc: Global,
     grading: &Grading<'_, '_>,
-    jobs: usize,
     submissions: Vec<Result<Program, Verdict>>,
     console: &mut Console<'_, X, E>,
 ) -> Result<Vec<Graded>, LabFault> {
-    let judged = if jobs <= 1 {
+    let judged = if grading.jobs <= 1 {
         judge_each(rt, alloc, grading, &submissions, console)?
     } else {
-        judge_side_by_side(rt, alloc, grading, jobs, &submissions)?
+        judge_side_by_side(rt, alloc, grading, &submissions)?
     };
     in_order(alloc, submissions, judged)
 }
@@ -74,13 +73,12 @@ fn judge_side_by_side<X: Threads + Sync + Clock>(
     rt: &X,
     alloc: Global,
     grading: &Grading<'_, '_>,
-    jobs: usize,
     submissions: &[Result<Program, Verdict>],
 ) -> Result<Judgements, AllocError> {
-    let parts = (0..jobs)
+    let parts = (0..grading.jobs)
         .into_par_iter()
         .map(|job: usize| -> Result<Judgements, AllocError> {
-            judge_part(rt, alloc, grading, jobs, job, submissions)
+            judge_part(rt, alloc, grading, job, submissions)
         })
         .with_min_len(1)
         .collect::<Result<Vec<Judgements>, AllocError>>(rt, alloc);
@@ -95,7 +93,6 @@ fn judge_part<X: Threads + Sync + Clock>(
     rt: &X,
     alloc: Global,
     grading: &Grading<'_, '_>,
-    jobs: usize,
     job: usize,
     submissions: &[Result<Program, Verdict>],
 ) -> Result<Judgements, AllocError> {
@@ -109,7 +106,7 @@ fn judge_part<X: Threads + Sync + Clock>(
     let mut place: usize = 0;
     for submission in submissions {
         if let Ok(program) = submission {
-            if place % jobs.max(1) == job {
+            if place % grading.jobs.max(1) == job {
                 judged.push(verdict_on(rt, alloc, grading, program, &mut console))?;
             }
             place = place.saturating_add(1);

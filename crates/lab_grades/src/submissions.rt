@@ -18,9 +18,9 @@ pub(crate) fn read_submission<F: Files, R: Read>(
     if let Some(words) = refusal_of(alloc, inputs.files, path, refuses_links)? {
         return Ok(Err(Verdict::of_no_program(alloc, VerdictKind::NotRead, words)));
     }
-    let bytes = match inputs.read(alloc, path) {
+    let bytes = match inputs.read_or_why(alloc, path)? {
         Ok(bytes) => bytes,
-        Err(fault) => return not_read(alloc, path, fault),
+        Err(why) => return Ok(Err(Verdict::of_no_program(alloc, VerdictKind::NotRead, why))),
     };
     match program_in(alloc, bytes) {
         Ok(program) => Ok(Ok(program)),
@@ -56,28 +56,6 @@ fn is_link<F: Files>(files: &F, path: &str) -> bool {
         Ok(found) => found.is_symlink(),
         Err(_) => false,
     }
-}
-
-/// What is said of a submission that can't be read; other faults are the command's.
-fn not_read(
-    alloc: Global,
-    path: &str,
-    fault: LabFault,
-) -> Result<Result<Program, Verdict>, LabFault> {
-    match fault {
-        LabFault::Words(why) | LabFault::Lines(why) => {
-            let words = without_path(alloc, path, &why)?;
-            Ok(Err(Verdict::of_no_program(alloc, VerdictKind::NotRead, words)))
-        }
-        other => Err(other),
-    }
-}
-
-/// Why a file can't be read, without its path before it.
-fn without_path(alloc: Global, path: &str, why: &str) -> Result<String, AllocError> {
-    let words = why.strip_prefix(path).unwrap_or(why);
-    let words = words.strip_prefix(':').unwrap_or(words);
-    String::from_str(alloc, words.trim())
 }
 
 /// What is said of a submission that is no program: the first error, as `8:9: no operation is called load.N`.

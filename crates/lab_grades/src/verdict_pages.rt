@@ -5,7 +5,6 @@ use crate::judged::{Grading, wishes_for};
 use crate::judging::given_by;
 use command_parts::{LabFault, Program, made_by};
 use grade_reports::{Verdict, Witness};
-use lab_ends::Wishes;
 use lab_explorer::Console;
 use lab_pages::{PlayedProgram, play_page, replay_page};
 use lab_requests::Maker;
@@ -34,7 +33,12 @@ pub(crate) fn page_of_verdict<C: Clock, E: Write>(
     };
     let given = given_by(alloc, case, program)?;
     let program = given.as_ref().unwrap_or(program);
-    page_by_case(alloc, grading, called, program, case, verdict, console)
+    let shown = ShownProgram {
+        called,
+        program,
+        case,
+    };
+    page_by_case(alloc, grading, shown, verdict, console)
 }
 
 /// The case that decides a verdict.
@@ -42,16 +46,30 @@ fn case_of<'a>(grading: &Grading<'a, '_>, verdict: &Verdict) -> Option<&'a Case>
     grading.cases.iter().find(|case| case.name == verdict.case)
 }
 
-/// The page of a program that has a case's cells already.
+/// A program that has a case's cells already.
+#[derive(Clone, Copy)]
+struct ShownProgram<'a> {
+    /// What it is called.
+    called: &'a str,
+    /// The program.
+    program: &'a Program,
+    /// The case.
+    case: &'a Case,
+}
+
+/// Its page.
 fn page_by_case<C: Clock, E: Write>(
     alloc: Global,
     grading: &Grading<'_, '_>,
-    called: &str,
-    program: &Program,
-    case: &Case,
+    shown: ShownProgram<'_>,
     verdict: &Verdict,
     console: &mut Console<'_, C, E>,
 ) -> Result<Option<String>, LabFault> {
+    let ShownProgram {
+        called,
+        program,
+        ..
+    } = shown;
     let judged = judgement_of(verdict);
     match &verdict.witness {
         Witness::None => Ok(None),
@@ -66,7 +84,7 @@ fn page_by_case<C: Clock, E: Write>(
             Ok(replay_page(alloc, names, judged, program, &made.steps)?)
         }
         Witness::Schedule(steps) => {
-            let played = page_of_all(alloc, called, program, case, steps, console)?;
+            let played = page_of_all(alloc, shown, steps, console)?;
             match played {
                 Some(page) => Ok(Some(page)),
                 None => {
@@ -91,35 +109,20 @@ fn judgement_of(verdict: &Verdict) -> RunVerdict<'_> {
 /// The page of all schedules of a program, which opens after these steps; None if it has too many states.
 fn page_of_all<C: Clock, E: Write>(
     alloc: Global,
-    called: &str,
-    program: &Program,
-    case: &Case,
+    shown: ShownProgram<'_>,
     steps: &[Step],
     console: &mut Console<'_, C, E>,
 ) -> Result<Option<String>, LabFault> {
-    let names = ProgramNames::of(alloc, &program.text)?;
-    match wishes_for(alloc, case, program, &names)? {
-        Ok(wishes) => play_page_of(alloc, called, program, &names, &wishes, steps, console),
-        Err(_) => Ok(None),
-    }
-}
-
-/// The same with what is wished.
-fn play_page_of<'a, 't, C: Clock, E: Write>(
-    alloc: Global,
-    called: &'a str,
-    program: &'a Program,
-    names: &'a ProgramNames<'t>,
-    wishes: &'a Wishes,
-    opened: &'a [Step],
-    console: &mut Console<'_, C, E>,
-) -> Result<Option<String>, LabFault> {
+    let names = ProgramNames::of(alloc, &shown.program.text)?;
+    let Ok(wishes) = wishes_for(alloc, shown.case, shown.program, &names)? else {
+        return Ok(None);
+    };
     let played = PlayedProgram {
-        called,
-        program,
-        names,
-        wishes,
-        opened,
+        called: shown.called,
+        program: shown.program,
+        names: &names,
+        wishes: &wishes,
+        opened: steps,
     };
     play_page(alloc, &played, console)
 }

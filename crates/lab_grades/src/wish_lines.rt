@@ -65,6 +65,30 @@ impl WishLines {
         copy_at(alloc, &self.claims, place)
     }
 
+    /// The line of this number that says something of the worlds on the way.
+    pub(crate) fn claim_of_line(
+        &self,
+        alloc: Global,
+        number: usize,
+    ) -> Result<Option<WishLine>, AllocError> {
+        match numbered(&self.claims, number) {
+            Some(line) => copy_of(alloc, Some(line)),
+            None => copy_of(alloc, numbered(&self.busy, number)),
+        }
+    }
+
+    /// The line of this number that says something of runs.
+    pub(crate) fn line_of(
+        &self,
+        alloc: Global,
+        number: usize,
+    ) -> Result<Option<WishLine>, AllocError> {
+        match numbered(&self.claims, number) {
+            Some(line) => copy_of(alloc, Some(line)),
+            None => copy_of(alloc, numbered(&self.ends, number)),
+        }
+    }
+
     /// The first line that says that no stream ever goes round alone.
     pub(crate) fn busy_line(&self, alloc: Global) -> Result<Option<WishLine>, AllocError> {
         copy_at(alloc, &self.busy, Some(0))
@@ -77,7 +101,17 @@ fn copy_at(
     lines: &[WishLine],
     place: Option<usize>,
 ) -> Result<Option<WishLine>, AllocError> {
-    match place.and_then(|place| lines.get(place)) {
+    copy_of(alloc, place.and_then(|place| lines.get(place)))
+}
+
+/// The line of this number.
+fn numbered(lines: &[WishLine], number: usize) -> Option<&WishLine> {
+    lines.iter().find(|line| line.number == number)
+}
+
+/// A copy of a line.
+fn copy_of(alloc: Global, line: Option<&WishLine>) -> Result<Option<WishLine>, AllocError> {
+    match line {
         Some(line) => Ok(Some(line.copy(alloc)?)),
         None => Ok(None),
     }

@@ -1,6 +1,6 @@
 use Rattle.std.proofs.Common.{◌≡◌, None, subst}
 use Rattle.schedule_verdicts.specs.ShownClaims.{AreShown, TellsOfClaims}
-use Rattle.lab_explorer.proofs.exploring.unshown_in.Goals as goal
+use Rattle.lab_explorer.proofs.searches.unshown_in.Goals as goal
 
 pub returns-in-Ok-clause-only : goal.returns-in-Ok-clause-only
 returns-in-Ok-clause-only g c =

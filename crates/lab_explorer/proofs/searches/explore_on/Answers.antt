@@ -2,7 +2,7 @@ use Rattle.std.proofs.Common.{sym, subst, inl, inr, is_some, rules}
 use Rattle.schedule_verdicts.specs.RightSpaces.{IsRightOnEachWay}
 use Rattle.schedule_verdicts.specs.ShownClaims.{IsRightThroughout, TellsOfClaims}
 use Rattle.lab_explorer.proofs.Knowing.{none_found}
-use Rattle.lab_explorer.proofs.exploring.explore_on.Goals as goal
+use Rattle.lab_explorer.proofs.searches.explore_on.Goals as goal
 
 pub returns : goal.returns
 returns g c = record {

@@ -1,0 +1,296 @@
+//! What is looked for among the schedules of a program, and what the search comes to.
+
+ghost use Rattle.std.specs.Prelude.{◌≡◌, ◌⊎◌, ◌↔◌, is_some, IsTrue, IsSome, IsNone, IfOk, None};
+ghost use Rattle.schedule_space.specs.Spaces.{IsComplete, HasAllEdges};
+ghost use Rattle.schedule_space.specs.Followed.{AllFollowed};
+ghost use Rattle.busy_streams.specs.Busy.{IsNeverBusy};
+ghost use Rattle.busy_streams.specs.BusySpaces.{HasAllWorlds};
+ghost use Rattle.schedule_verdicts.specs.KeptClaims.{AreKeptOnTheWay};
+ghost use Rattle.lab_ends.specs.ProgramWishes.{IsJudged};
+ghost use Rattle.schedule_verdicts.specs.NamedRegisters.{AreNamed};
+ghost use Rattle.schedule_verdicts.specs.RightSpaces.{IsFollowedForClaims, IsRightOnEachWay};
+ghost use Rattle.schedule_verdicts.specs.ShownClaims.{AreShown, IsRightThroughout, TellsOfClaims};
+
+use crate::graphs::graph_asked;
+use crate::spaces::space_of;
+use crate::unkept::Unkept;
+use crate::watching::{SearchBound, Watcher};
+use busy_streams::{Busy, first_busy};
+use command_parts::{Program, Status};
+use end_kinds::EndKind;
+use image_file::Image;
+use lab_ends::{SpaceEnd, SpaceEndKind, Wishes, are_rules_kept, first_broken_rule, space_ends};
+use lab_texts::{NumberStyle, ProgramNames};
+use machine::LoadFault;
+use processor::Step;
+use schedule_space::Space;
+use schedule_verdicts::{are_kept_on_the_way, first_unshown, is_right};
+use std::alloc::{AllocError, Global};
+use std::io::Write;
+use std::time::Clock;
+
+/// What is looked for among the schedules of a program.
+#[derive(Clone, Copy)]
+pub struct Search<'a> {
+    /// What is wished of the program.
+    pub wishes: &'a Wishes,
+    /// The schedule that all begin with.
+    pub begin: &'a [Step],
+    /// The most worlds, at least 1.
+    pub most: usize,
+    /// Whether all worlds are looked for, also where what is wished needs fewer.
+    pub is_plain: bool,
+    /// Whether the graph of the worlds is drawn.
+    pub is_drawn: bool,
+    /// How the numbers of ends are told.
+    pub style: NumberStyle,
+}
+
+impl Search<'_> {
+    /// Whether something is wished of the program, and it keeps the rules of programs that are.
+    fn is_judged(&self, image: &Image) -> bool
+        ensures { IsTrue result ↔ IsJudged image.now self.now.wishes.now }
+    {
+        !self.wishes.is_nothing() && are_rules_kept(image, &self.wishes.rules)
+    }
+
+    /// Whether it is to be judged by what was found: that is complete, something is wished, the program keeps the rules,
+    /// each claim that has to hold of one world at least does, and no stream was found that goes round alone.
+    fn judges(
+        &self,
+        image: &Image,
+        is_complete: bool,
+        unshown: Option<usize>,
+        busy: Option<Busy>,
+    ) -> bool
+        ensures { IsTrue result ↔ (IsTrue is_complete × IsJudged image.now self.now.wishes.now
+            × (unshown ≡ None) × (busy ≡ None)) }
+    {
+        is_complete && self.is_judged(image) && unshown.is_none() && busy.is_none()
+    }
+
+    /// Whether all worlds are looked for: where it is asked for, and where no stream is wished to go round alone.
+    pub(crate) fn takes_all(&self) -> bool
+        ensures { IsSome self.now.wishes.now.never_busy → IsTrue result }
+    {
+        self.is_plain || self.wishes.never_busy.is_some()
+    }
+}
+
+/// What a search came to.
+#[derive(Drop)]
+pub struct Explored {
+    /// How many worlds it found.
+    pub worlds: usize,
+    /// How many steps lead from one of them to another.
+    pub steps: usize,
+    /// Whether they are all, or all that the ends and the claims need.
+    pub is_complete: bool,
+    /// What ended the search, where they are not.
+    pub bound: Option<SearchBound>,
+    /// Whether all worlds were looked for.
+    pub is_of_all_worlds: bool,
+    /// How many steps were given that all schedules begin with.
+    pub begin: usize,
+    /// Their ends.
+    pub ends: Vec<SpaceEnd>,
+    /// Which of the rules of programs that are wished is the first that the program breaks.
+    pub broken_rule: Option<usize>,
+    /// Which of the claims that have to hold of one world at least is the first that none shows which was looked at.
+    pub unshown: Option<usize>,
+    /// The graph of the worlds, where it is asked for, and they are no more than a graph has.
+    pub graph: Option<String>,
+    /// Whether they are all, something is wished, the program keeps the rules, every schedule is right, its end and each
+    /// world on its way, each claim that has to hold of one world at least does, and no stream goes round alone where that
+    /// is wished (PROMISES.md, "Every schedule is right").
+    pub is_right: bool,
+}
+
+impl Explored {
+    /// Whether it is known that no schedule to an end is shorter than its own. The search that is not of all worlds leaves
+    /// out worlds on the way: it says so of ends, where it has all, and of a claim that is broken on the way through the
+    /// steps that all schedules begin with; neither of what spins nor of other broken claims.
+    pub(crate) fn is_shortest(&self, end: &SpaceEnd) -> bool {
+        let is_known = match end.kind {
+            SpaceEndKind::End(EndKind::Spinning) => false,
+            SpaceEndKind::End(_) => self.is_complete,
+            SpaceEndKind::Broken => end.schedule.len() <= self.begin,
+        };
+        self.is_of_all_worlds || is_known || end.schedule.is_empty()
+    }
+
+    /// What is wished of the program as a whole, and is known not to be so: of what was not looked at nothing is known.
+    pub fn unkept(&self) -> Unkept {
+        Unkept {
+            rule: self.broken_rule,
+            unshown: if self.is_complete { self.unshown } else { None },
+            undecided: None,
+        }
+    }
+
+    /// The exit status: the worst over all ends, broken claims and rules, and over the bound, where the search came to it.
+    pub fn status(&self) -> Status {
+        let status = worst_of(self.is_complete, &self.ends);
+        let unkept = self.unkept();
+        if unkept.rule.is_some() || unkept.unshown.is_some() {
+            return status.worse(Status::Unexpected);
+        }
+        status
+    }
+}
+
+/// What a search among the schedules of a program comes to.
+pub fn explore_program<C: Clock, E: Write>(
+    alloc: Global,
+    program: &Program,
+    names: &ProgramNames<'_>,
+    asked: &Search<'_>,
+    watcher: &mut Watcher<'_, '_, C, E>,
+) -> Result<Explored, AllocError>
+    ensures right { IfOk result (λ e. let wishes = asked.now.wishes.now in IsTrue e.is_right
+        ↔ (IsTrue e.is_complete × IsJudged program.now.image wishes
+        × IsRightThroughout program.now.image asked.now.begin.now wishes.ends.items wishes.claims.items
+        (is_some wishes.never_busy))) }
+{
+    match program.image.slim() {
+        0 | 1 => explore_on::<1, C, E>(alloc, program, names, asked, watcher),
+        2..=4 => explore_on::<4, C, E>(alloc, program, names, asked, watcher),
+        5..=16 => explore_on::<16, C, E>(alloc, program, names, asked, watcher),
+        _ => explore_on::<128, C, E>(alloc, program, names, asked, watcher),
+    }
+}
+
+/// The same on machines with room for `S` streams a processor.
+fn explore_on<const S: usize, C: Clock, E: Write>(
+    alloc: Global,
+    program: &Program,
+    names: &ProgramNames<'_>,
+    asked: &Search<'_>,
+    watcher: &mut Watcher<'_, '_, C, E>,
+) -> Result<Explored, AllocError>
+    ensures right { IfOk result (λ e. let wishes = asked.now.wishes.now in IsTrue e.is_right
+        ↔ (IsTrue e.is_complete × IsJudged program.now.image wishes
+        × IsRightThroughout program.now.image asked.now.begin.now wishes.ends.items wishes.claims.items
+        (is_some wishes.never_busy))) }
+{
+    let (space, is_complete) = space_of::<S, C, E>(alloc, &program.image, asked, watcher)?;
+    let wishes = asked.wishes;
+    let busy = busy_in::<S>(alloc, wishes, &space, is_complete)?;
+    let ends = space_ends::<S>(alloc, names, asked.style, wishes, &space, is_complete, busy)?;
+    let graph = graph_asked(alloc, asked.is_drawn, &space, &ends)?;
+    let unshown = unshown_in::<S>(alloc, asked.wishes, &space)?;
+    let is_judged = asked.judges(&program.image, is_complete, unshown, busy);
+    let is_right = are_all_right::<S>(alloc, asked.wishes, &space, is_judged)?;
+    Ok(Explored {
+        worlds: space.len(),
+        steps: space.step_count(),
+        is_complete,
+        bound: watcher.bound(),
+        is_of_all_worlds: asked.takes_all(),
+        begin: asked.begin.len(),
+        ends,
+        broken_rule: first_broken_rule(&program.image, &asked.wishes.rules),
+        unshown,
+        graph,
+        is_right,
+    })
+}
+
+/// The first of the claims, counted from 0, that have to hold of one world at least and that no world of a space shows, nor
+/// one on the way through its beginning.
+fn unshown_in<const S: usize>(
+    alloc: Global,
+    wishes: &Wishes,
+    space: &Space<'_>,
+) -> Result<Option<usize>, AllocError>
+    ensures shown { IfOk result (λ told. told ≡ None
+        → AreShown space.now.image space.now.begin wishes.now.claims.items) }
+    ensures only { IfOk result (λ told. TellsOfClaims space.now wishes.now.claims.items
+        → AreShown space.now.image space.now.begin wishes.now.claims.items → told ≡ None) }
+{
+    match first_unshown::<S>(alloc, space, &wishes.claims) {
+        Ok(unshown) => Ok(unshown),
+        Err(LoadFault::NoMemory | LoadFault::Streams) => Err(AllocError),
+    }
+}
+
+/// The first world of a space from which a stream goes round alone, where none is wished to and the space has all worlds.
+fn busy_in<const S: usize>(
+    alloc: Global,
+    wishes: &Wishes,
+    space: &Space<'_>,
+    is_complete: bool,
+) -> Result<Option<Busy>, AllocError>
+    ensures wished { IfOk result (λ told. IsTrue is_complete → IsSome wishes.now.never_busy
+        → HasAllWorlds space.now → (told ≡ None) ↔ IsNeverBusy space.now.image space.now.begin) }
+    ensures unwished { IfOk result (λ told. IsNone wishes.now.never_busy → told ≡ None) }
+{
+    if !is_complete || wishes.never_busy.is_none() {
+        return Ok(None);
+    }
+    match first_busy::<S>(alloc, space) {
+        Ok(busy) => Ok(busy),
+        Err(LoadFault::NoMemory | LoadFault::Streams) => Err(AllocError),
+    }
+}
+
+/// Whether all that is wished of a space is so, where it is judged: of its ends, of its worlds, and of those on the way
+/// through the steps that all its schedules begin with.
+fn are_all_right<const S: usize>(
+    alloc: Global,
+    wishes: &Wishes,
+    space: &Space<'_>,
+    is_judged: bool,
+) -> Result<bool, AllocError>
+    ensures judged { IfOk result (λ b. IsTrue b → IsTrue is_judged) }
+    ensures before { IfOk result (λ b. IsTrue b
+        → AreKeptOnTheWay space.now.image space.now.begin wishes.now.claims.items) }
+    ensures shown { IfOk result (λ b. IsTrue b → AreNamed wishes.now.ends.items space.now.live.names
+        → IsFollowedForClaims space.now wishes.now.claims.items
+        → IsRightOnEachWay space.now.image space.now.begin wishes.now.ends.items wishes.now.claims.items) }
+    ensures each_way { IfOk result (λ b. IsTrue b → IsComplete space.now
+        → IsRightOnEachWay space.now.image space.now.begin wishes.now.ends.items wishes.now.claims.items) }
+    ensures only { IfOk result (λ b. IsTrue is_judged
+        → (IsComplete space.now × HasAllEdges space.now) ⊎ AllFollowed space.now
+        → IsRightThroughout space.now.image space.now.begin wishes.now.ends.items wishes.now.claims.items
+        (is_some wishes.now.never_busy) → IsTrue b) }
+{
+    if !is_judged {
+        return Ok(false);
+    }
+    if !are_kept_before::<S>(alloc, wishes, space)? {
+        return Ok(false);
+    }
+    match is_right::<S>(alloc, space, &wishes.ends, &wishes.claims) {
+        Ok(right) => Ok(right),
+        Err(LoadFault::NoMemory | LoadFault::Streams) => Err(AllocError),
+    }
+}
+
+/// Whether all that is claimed holds on the way through the steps that all schedules of a space begin with.
+fn are_kept_before<const S: usize>(
+    alloc: Global,
+    wishes: &Wishes,
+    space: &Space<'_>,
+) -> Result<bool, AllocError>
+    ensures { IfOk result (λ b. IsTrue b
+        ↔ AreKeptOnTheWay space.now.image space.now.begin wishes.now.claims.items) }
+{
+    match are_kept_on_the_way::<S>(alloc, space.image(), space.begin(), &wishes.claims) {
+        Ok(are_kept) => Ok(are_kept),
+        Err(LoadFault::NoMemory | LoadFault::Streams) => Err(AllocError),
+    }
+}
+
+/// The worst status over ends and broken claims, and over the bound, where the search came to it.
+fn worst_of(is_complete: bool, ends: &[SpaceEnd]) -> Status {
+    let mut status = if is_complete {
+        Status::Done
+    } else {
+        Status::OutOfSteps
+    };
+    for end in ends {
+        status = status.worse(end.status());
+    }
+    status
+}
