@@ -238,6 +238,9 @@ pub(crate) const SECONDS: &str = "of every schedule, the most seconds of the sea
 
 pub(crate) const MEMORY: &str = "of every schedule, the most megabytes of the search [none]";
 
+pub(crate) const GRADE_MEMORY: &str =
+    "of every schedule, the most megabytes of each search [200 without --states]";
+
 pub(crate) const PLAIN: &str = "explores all states, even if the ends need fewer";
 
 pub(crate) const JSON: &str = "prints JSON, an object a line";

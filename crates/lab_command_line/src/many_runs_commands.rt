@@ -4,7 +4,8 @@ use crate::arguments::{Argument, Form};
 use crate::help;
 use crate::options::{
     MOST_JOBS, MOST_MEGABYTES, MOST_PLAYED, MOST_SECONDS, MOST_SEEDS, MOST_STEPS, MOST_WORLDS,
-    USUAL_SEEDS, USUAL_STEPS, USUAL_WORLDS, count, number, shown_of, text, word, words,
+    USUAL_MEGABYTES, USUAL_SEEDS, USUAL_STEPS, USUAL_WORLDS, count, number, shown_of, text, word,
+    words,
 };
 use clap::ArgMatches;
 use lab_requests::{
@@ -124,7 +125,7 @@ pub(crate) const GRADE_ARGUMENTS: [Argument; 17] = [
     ),
     Argument(
         "memory",
-        help::MEMORY,
+        help::GRADE_MEMORY,
         Form::NumberWith("MB", 1, MOST_MEGABYTES, "explore"),
     ),
     Argument(
@@ -230,7 +231,7 @@ pub(crate) fn grade_of<'a>(
         seeds: count(found, "seeds", USUAL_SEEDS),
         most: count(found, "steps", USUAL_STEPS),
         counts_all: found.get_flag("all"),
-        explored: explored_of(found),
+        explored: graded_of(found),
         jobs: found.get_one::<usize>("jobs"),
         refuses_links: found.get_flag("no-links"),
         pages: text(found, "pages"),
@@ -272,6 +273,16 @@ fn explored_of(found: &ArgMatches) -> Option<Bounds> {
     } else {
         None
     }
+}
+
+/// The same of each submission. Where neither states nor megabytes are given, four searches side by side hold less than a
+/// gigabyte.
+fn graded_of(found: &ArgMatches) -> Option<Bounds> {
+    let mut bounds = explored_of(found)?;
+    if bounds.megabytes.is_none() && found.get_one::<usize>("states").is_none() {
+        bounds.megabytes = Some(USUAL_MEGABYTES);
+    }
+    Some(bounds)
 }
 
 /// How far a search among all schedules goes.

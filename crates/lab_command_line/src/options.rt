@@ -25,6 +25,9 @@ pub(crate) const MOST_SECONDS: u64 = 1_000_000_000;
 /// The most megabytes that it may be asked to hold.
 pub(crate) const MOST_MEGABYTES: u64 = 1_000_000_000;
 
+/// How many megabytes a search of `grade` holds at most, where neither megabytes nor states are said.
+pub(crate) const USUAL_MEGABYTES: usize = 200;
+
 /// The most submissions that `grade` may be asked to judge side by side.
 pub(crate) const MOST_JOBS: u64 = 256;
 

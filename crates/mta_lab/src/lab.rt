@@ -38,8 +38,19 @@ pub(crate) struct Terminals {
     pub refuse_colours: bool,
 }
 
-/// Runs the command of a command line, whose first word is the program's name, on these files and standard streams, and
-/// gives the exit status ("Exit statuses", docs/LAB_REFERENCE.md). All is composed before anything is written, but for
+/// The standard streams that are written.
+#[derive(Drop)]
+pub(crate) struct Outputs<'a, W, E> {
+    /// Standard output.
+    pub output: &'a mut W,
+    /// Standard error.
+    pub errors: &'a mut E,
+    /// Which streams are terminals.
+    pub terminals: Terminals,
+}
+
+/// Runs the command of a command line, whose first word is the program's name, on these inputs and outputs, and gives the
+/// exit status ("Exit statuses", docs/LAB_REFERENCE.md). All is composed before anything is written, but for
 /// the prompts of `debug` and the line of a search.
 pub(crate) fn run_lab<
     X: Threads + Wait + Sync + Clock,
@@ -52,44 +63,25 @@ pub(crate) fn run_lab<
     rt: &X,
     alloc: Global,
     words: &[S],
-    files: &F,
-    input: &mut R,
-    output: &mut W,
-    errors: &mut E,
-    terminals: Terminals,
+    inputs: &mut Inputs<'_, F, R>,
+    outputs: &mut Outputs<'_, W, E>,
 ) -> u8 {
     match read_lab_command(alloc, words) {
         Ok(call) => {
-            let mut inputs = Inputs::new(alloc, files, input);
-            let painting = Painting::of(&call, terminals);
-            let ended = run_command(
-                rt,
-                alloc,
-                &call.command,
-                &mut inputs,
-                output,
-                errors,
-                terminals,
-                painting,
-            );
-            status_told(ended, errors, painting)
+            let painting = Painting::of(&call, outputs.terminals);
+            let ended = run_command(rt, alloc, &call.command, inputs, outputs, painting);
+            status_told(ended, outputs.errors, painting)
         }
         Err(error) if error.use_stderr() => {
-            tell_refused(
-                alloc,
-                &error,
-                errors,
-                Painting::by(Colours::Auto, terminals),
-            );
+            let painting = Painting::by(Colours::Auto, outputs.terminals);
+            tell_refused(alloc, &error, outputs.errors, painting);
             Status::NoCommand.number()
         }
         Err(help) => {
+            let output = &mut *outputs.output;
             let wrote = write!(output, "{help}").and_then(|()| output.flush());
-            status_told(
-                written(wrote).map(|()| Status::Done),
-                errors,
-                Painting::NONE,
-            )
+            let ended = written(wrote).map(|()| Status::Done);
+            status_told(ended, outputs.errors, Painting::NONE)
         }
     }
 }
@@ -140,24 +132,27 @@ fn run_command<X: Threads + Wait + Sync + Clock, F: Files, R: Read + Send, W: Wr
     alloc: Global,
     command: &LabCommand,
     inputs: &mut Inputs<'_, F, R>,
-    output: &mut W,
-    errors: &mut E,
-    terminals: Terminals,
+    outputs: &mut Outputs<'_, W, E>,
     painting: Painting,
 ) -> Result<Status, LabFault> {
     match command {
-        LabCommand::Adapt => adapt(rt, alloc, inputs.files, inputs.input, output),
+        LabCommand::Adapt => adapt(rt, alloc, inputs.files, inputs.input, outputs.output),
         LabCommand::Debug { program, run } => {
             let mut screen = Screen {
-                output,
-                errors,
-                is_prompted: terminals.input,
+                output: &mut *outputs.output,
+                errors: &mut *outputs.errors,
+                is_prompted: outputs.terminals.input,
             };
             debug(alloc, inputs, program, *run, &mut screen)
         }
         _ => {
-            let answer = answer_to(rt, alloc, command, inputs, errors, terminals)?;
-            tell(answer, output, errors, painting)
+            let mut console = Console {
+                clock: rt,
+                errors: &mut *outputs.errors,
+                is_terminal: outputs.terminals.errors,
+            };
+            let answer = answer_to(rt, alloc, command, inputs, &mut console)?;
+            tell(answer, outputs, painting)
         }
     }
 }
@@ -168,14 +163,8 @@ fn answer_to<X: Threads + Sync + Clock, F: Files, R: Read, E: Write>(
     alloc: Global,
     command: &LabCommand,
     inputs: &mut Inputs<'_, F, R>,
-    errors: &mut E,
-    terminals: Terminals,
+    console: &mut Console<'_, X, E>,
 ) -> Result<CommandAnswer, LabFault> {
-    let mut console = Console {
-        clock: rt,
-        errors,
-        is_terminal: terminals.errors,
-    };
     match command {
         LabCommand::Check(request) => check(alloc, inputs, request),
         LabCommand::Schedule {
@@ -192,13 +181,13 @@ fn answer_to<X: Threads + Sync + Clock, F: Files, R: Read, E: Write>(
         } => compare(alloc, inputs, program, *one, *other, *shown),
         // (these have their own way of writing)
         LabCommand::Debug { .. } | LabCommand::Adapt => Err(LabFault::Closed),
-        LabCommand::Survey(request) => survey(rt, alloc, inputs, request, &mut console),
-        LabCommand::Explore(request) => show_every_end(alloc, inputs, request, &mut console),
-        LabCommand::Grade(request) => grade(rt, alloc, inputs, request, &mut console),
-        LabCommand::Exercise(request) => exercise(rt, alloc, inputs, request, &mut console),
+        LabCommand::Survey(request) => survey(rt, alloc, inputs, request, console),
+        LabCommand::Explore(request) => show_every_end(alloc, inputs, request, console),
+        LabCommand::Grade(request) => grade(rt, alloc, inputs, request, console),
+        LabCommand::Exercise(request) => exercise(rt, alloc, inputs, request, console),
         LabCommand::Page(request) => write_page(alloc, inputs, request),
         LabCommand::Picture(request) => write_picture(alloc, inputs, request),
-        LabCommand::Play(request) => write_play_page(alloc, inputs, request, &mut console),
+        LabCommand::Play(request) => write_play_page(alloc, inputs, request, console),
         LabCommand::Explain { word } => explain(alloc, *word),
         LabCommand::Word { words } => show_word(alloc, words),
         LabCommand::LayOut(request) => lay_out(alloc, inputs, request),
@@ -210,8 +199,7 @@ fn answer_to<X: Threads + Sync + Clock, F: Files, R: Read, E: Write>(
 /// Writes an answer, and gives its status; or its fault, where a part of it was not done.
 fn tell<W: Write, E: Write>(
     answer: CommandAnswer,
-    output: &mut W,
-    errors: &mut E,
+    outputs: &mut Outputs<'_, W, E>,
     painting: Painting,
 ) -> Result<Status, LabFault> {
     let CommandAnswer {
@@ -220,9 +208,9 @@ fn tell<W: Write, E: Write>(
         status,
         fault,
     } = answer;
-    let wrote = write_lines(output, &text, painting.output);
+    let wrote = write_lines(outputs.output, &text, painting.output);
     if wrote.is_ok() {
-        let _ = write_lines(errors, &words, painting.errors);
+        let _ = write_lines(outputs.errors, &words, painting.errors);
     }
     if let Some(fault) = fault {
         return Err(fault);

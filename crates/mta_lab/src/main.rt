@@ -4,7 +4,8 @@
 mod lab;
 mod painting;
 
-use lab::{Terminals, run_lab};
+use command_parts::Inputs;
+use lab::{Outputs, Terminals, run_lab};
 use std::env;
 use std::env::VarError;
 use std::io::IsTerminal;
@@ -20,16 +21,16 @@ fn main(rt: HostRuntime) -> ExitCode {
         refuse_colours: refuses_colours(&rt),
     };
     let status = match arguments {
-        Ok(words) => run_lab(
-            &rt,
-            alloc,
-            &words,
-            &rt,
-            &mut rt.stdin(),
-            &mut rt.stdout(),
-            &mut rt.stderr(),
-            terminals,
-        ),
+        Ok(words) => {
+            let mut input = rt.stdin();
+            let mut inputs = Inputs::new(alloc, &rt, &mut input);
+            let mut outputs = Outputs {
+                output: &mut rt.stdout(),
+                errors: &mut rt.stderr(),
+                terminals,
+            };
+            run_lab(&rt, alloc, &words, &mut inputs, &mut outputs)
+        }
         Err(error) => {
             let _ = eprintln!(rt; "mta_lab: {error}");
             2
