@@ -3,13 +3,13 @@
 use crate::arguments::{Argument, Form};
 use crate::help;
 use crate::options::{
-    MOST_JOBS, MOST_MEGABYTES, MOST_PLAYED, MOST_SECONDS, MOST_SEEDS, MOST_STEPS, MOST_WORLDS,
-    USUAL_MEGABYTES, USUAL_SEEDS, USUAL_STEPS, USUAL_WORLDS, count, number, shown_of, text, word,
-    words,
+    MOST_JOBS, MOST_MEGABYTES, MOST_SECONDS, MOST_SEEDS, MOST_STEPS, MOST_WORLDS, USUAL_MEGABYTES,
+    USUAL_SEEDS, USUAL_STEPS, USUAL_WORLDS, count, number, shown_of, text, word, words,
 };
 use clap::ArgMatches;
 use lab_requests::{
-    Bounds, ExploreRequest, GradeCases, GradeFormat, GradeRequest, PlayRequest, SurveyRequest,
+    Bounds, ExploreRequest, GradeCases, GradeFormat, GradeRequest, MOST_PLAYED, PlayRequest,
+    SurveyRequest,
 };
 use std::alloc::{AllocError, Global};
 
@@ -169,7 +169,7 @@ pub(crate) const PLAY_ARGUMENTS: [Argument; 7] = [
     Argument(
         "states",
         "the most states of the page, 1 to 100000 [100000]",
-        Form::Number("N", 1, MOST_PLAYED),
+        Form::Number("N", 1, MOST_PLAYED as u64),
     ),
     Argument("title", help::TITLE, Form::Option("TEXT")),
     Argument(
@@ -199,7 +199,7 @@ pub(crate) fn play_of<'a>(found: &ArgMatches<'a>) -> PlayRequest<'a> {
         program: word(found, "PROGRAM"),
         expected: text(found, "expect"),
         from: text(found, "from"),
-        states: count(found, "states", MOST_PLAYED as usize),
+        states: count(found, "states", MOST_PLAYED),
         title: text(found, "title"),
         goal: text(found, "goal"),
         out: word(found, "out"),

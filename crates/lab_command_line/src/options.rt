@@ -31,9 +31,6 @@ pub(crate) const USUAL_MEGABYTES: usize = 200;
 /// The most submissions that `grade` may be asked to judge side by side.
 pub(crate) const MOST_JOBS: u64 = 256;
 
-/// The most states of a page of `play`, and how many it has at most, where none are said.
-pub(crate) const MOST_PLAYED: u64 = 100_000;
-
 /// How many seeds `grade` tries, where none are said.
 pub(crate) const USUAL_SEEDS: usize = 200;
 

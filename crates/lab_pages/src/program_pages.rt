@@ -4,11 +4,10 @@ use crate::playing::{Played, page_text};
 use command_parts::{LabFault, Program};
 use lab_ends::Wishes;
 use lab_explorer::Console;
-use lab_requests::PlayRequest;
+use lab_requests::{MOST_PLAYED, PlayRequest};
 use lab_texts::ProgramNames;
 use processor::Step;
 use replay_page::{MOST_STEPS, RunNames, RunVerdict, page_of_run};
-use schedule_page::MOST_STATES;
 use std::alloc::{AllocError, Global};
 use std::io::Write;
 use std::time::Clock;
@@ -53,7 +52,7 @@ pub fn play_page<C: Clock, E: Write>(
         program: asked.called,
         expected: None,
         from: None,
-        states: MOST_STATES,
+        states: MOST_PLAYED,
         title: Some(asked.called),
         goal: None,
         out: asked.called,

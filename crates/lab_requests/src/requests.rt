@@ -97,6 +97,9 @@ pub struct PageRequest<'a> {
     pub out: &'a str,
 }
 
+/// The most states of a page of `play`, and how many it has at most, where none are said.
+pub const MOST_PLAYED: usize = 100_000;
+
 /// What `play` is asked.
 #[derive(Clone, Copy, Debug)]
 pub struct PlayRequest<'a> {
@@ -106,7 +109,7 @@ pub struct PlayRequest<'a> {
     pub expected: Option<&'a str>,
     /// The file of the schedule that all schedules begin with.
     pub from: Option<&'a str>,
-    /// The most states, at least 1.
+    /// The most states, at least 1 and at most [`MOST_PLAYED`].
     pub states: usize,
     /// What the program is called; None where its file's name says it.
     pub title: Option<&'a str>,

@@ -16,6 +16,3 @@ mod shared_states;
 pub use ends::is_right_end;
 pub use graphs::{GraphNames, graph_json};
 pub use pages::page_of_graph;
-
-/// The most states of a page.
-pub const MOST_STATES: usize = 100_000;
