@@ -13,7 +13,7 @@ from build import HERE, PAGES, hash_of
 
 CRATES = HERE.parent / "crates"
 # the functions of the texts between what is filled in, the title and the data, and where they stand
-SECTIONS = {"head": "before the title", "middle": "between the title and the data", "tail": "behind the data"}
+SECTIONS = {"head": "before the title", "middle": "between the title and the data", "tail": "after the data"}
 # the longest line in the layout of rt fmt
 LINE = 100
 

@@ -5,7 +5,7 @@ const codeWords = data.code.map((digits) => BigInt(`0x${digits}`));
 const IS_ANSWERED = [false, true, false, true, true, false, false];
 const [CALL, XCHG, TSET, TGET, XGET, RESERVE, QUIT, QUITP] = [3, 4, 5, 6, 7, 8, 10, 11];
 
-/** What an instruction word computes from what, of the registers of its stream (docs/FORMATS.md, "Instruction words"). */
+/** What an instruction word computes from which registers of its stream (docs/FORMATS.md, "Instruction words"). */
 function flowOf(word) {
   const bits = (low, many) => Number((word >> BigInt(low)) & ((1n << BigInt(many)) - 1n));
   if (bits(63, 1)) return bits(57, 3) === 2 ? { wide: true, target: bits(52, 3) } : { wide: true,

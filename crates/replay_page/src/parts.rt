@@ -48,7 +48,7 @@ pub(crate) fn push_middle(page: &mut String) -> Result<(), AllocError> {
     page.push_str(template_3::TEXT)
 }
 
-/// Adds what stands behind the data.
+/// Adds what stands after the data.
 pub(crate) fn push_tail(page: &mut String) -> Result<(), AllocError> {
     page.push_str(template_4::TEXT)?;
     page.push_str(elements_script::TEXT)?;
@@ -88,7 +88,7 @@ pub(crate) fn push_pair_middle(page: &mut String) -> Result<(), AllocError> {
     page.push_str(template_3::TEXT)
 }
 
-/// Adds what stands behind the data, on a page of two runs.
+/// Adds what stands after the data, on a page of two runs.
 pub(crate) fn push_pair_tail(page: &mut String) -> Result<(), AllocError> {
     page.push_str(template_4::TEXT)?;
     page.push_str(elements_script::TEXT)?;

@@ -1,8 +1,8 @@
 //! A text of the page: page/run.js. Made by page/embed.py.
 
 pub(crate) const TEXT: &str =
-    r#"// Shows a run, or two, which stand as JSON in #run (docs/LAB_REFERENCE.md has its form). The script computes nothing of the
-// machine: a position is reached by putting recorded values in place, forwards or backwards.
+    r#"// Shows a run, or two, which stand as JSON in #run (docs/LAB_REFERENCE.md has its form). The script computes nothing of
+// the machine: a position is reached by putting recorded values in place, forwards or backwards.
 
 const data = JSON.parse(byId("run").textContent);
 const head = data; // the program, its source and data, for what all pages name by it
