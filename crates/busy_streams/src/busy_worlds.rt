@@ -1,6 +1,6 @@
 //! The first world of a space from which a stream loops alone.
 
-ghost use Rattle.std.specs.Prelude.{◌≡◌, ◌<◌, ◌↔◌, IfOk, IsTrue, MatchOption, None, Err};
+ghost use Rattle.std.specs.Prelude.{◌≡◌, ◌<◌, ◌↔◌, IfOk, MatchOption, None, Err};
 ghost use Rattle.processor.specs.declared.steps.Step.{Step};
 ghost use Rattle.schedule_space.specs.Spaces.{count, world_of};
 ghost use Rattle.busy_streams.specs.Busy.{IsShortestCycle, IsNeverBusy};

@@ -1,10 +1,9 @@
 //! The command `asm`.
 
-use command_parts::{CommandAnswer, Inputs, LabFault, Status, is_image, program_of};
+use command_parts::{CommandAnswer, Inputs, LabFault, is_image, program_of};
 use image_file::write_image;
 use std::alloc::Global;
-use std::fs;
-use std::io::{Read, Write};
+use std::io::Read;
 use std::rt::Files;
 
 /// Assembles a source text. The image is written beside its place and renamed to there, so what was there is kept

@@ -1,6 +1,6 @@
 //! Ends that are told alike, counted.
 
-ghost use Rattle.std.specs.Prelude.{ℕ, ◌≡◌, ◌+◌, ◌<◌, ◌↔◌, length, slice_get, take, All, IsTrue};
+ghost use Rattle.std.specs.Prelude.{ℕ, ◌≡◌, ◌+◌, ◌<◌, ◌↔◌, length, slice_get, take, IsTrue};
 ghost use Rattle.std.specs.Prelude.{IfOk, IfSome, OnOk, Some, None};
 ghost use Rattle.schedule_survey.specs.declared.end_groups.EndGroup.{EndGroup};
 ghost use Rattle.schedule_survey.specs.Groups.{AreAlike, AreGroups, IsOf, all_runs};

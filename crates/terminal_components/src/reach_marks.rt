@@ -1,8 +1,8 @@
 //! Marks of places: 0 where a place is marked, else 1. How they spread to the places that can reach a marked one, and those
 //! by which the terminal components are found.
 
-ghost use Rattle.std.specs.Prelude.{◌≡◌, ◌<◌, ◌↔◌, length, map, reverse, IfOk, IsTrue, nat_eq, slice_index};
-ghost use Rattle.terminal_components.specs.ReachMarks.{AreSpreadMarks, AreExitMarks, IsExit, AreStrayMarks, AreRootMarks, IsRoot, AreMemberMarks, flip};
+ghost use Rattle.std.specs.Prelude.{◌≡◌, ◌<◌, ◌↔◌, length, map, reverse, IfOk, IsTrue};
+ghost use Rattle.terminal_components.specs.ReachMarks.{AreSpreadMarks, AreExitMarks, IsExit, AreStrayMarks, AreRootMarks, AreMemberMarks, flip};
 
 use crate::links::Link;
 use crate::relaxation::lowest_of;
