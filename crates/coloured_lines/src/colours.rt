@@ -1,4 +1,4 @@
-//! Colours, as a terminal is told of them.
+//! Colours, as a terminal takes them.
 
 /// What a colour says.
 #[derive(Clone, Copy, Debug, PartialEq, Eq)]

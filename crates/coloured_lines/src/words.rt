@@ -4,16 +4,16 @@ use crate::colours::Colour;
 
 /// Where a word stands that has a colour.
 #[derive(Clone, Copy)]
-enum Place {
-    /// At the head of a message: at a line's beginning or behind a colon and a blank.
+enum WordPosition {
+    /// At the head of a message: at a line's beginning or after a colon and a blank.
     Head,
-    /// In a column of its own: at a line's beginning, or behind a tab, two blanks, or a colon and a blank; and before a
+    /// In a column of its own: at a line's beginning, or after a tab, two blanks, or a colon and a blank; and before a
     /// tab, two blanks, a colon, a comma or the line's end.
     Column,
-    /// What a word of memory is: behind its address or its name, a comma, an arrow, or `to be`; and before an arrow, a
+    /// What a word of memory is: after its address or its name, a comma, an arrow, or `to be`; and before an arrow, a
     /// mark, two blanks, its comment in brackets or the line's end.
     State,
-    /// At the beginning of a line, perhaps behind blanks.
+    /// At the beginning of a line, perhaps after blanks.
     Beginning,
     /// Anywhere.
     Anywhere,
@@ -21,42 +21,42 @@ enum Place {
 
 /// A word with its colour.
 #[derive(Clone, Copy)]
-struct Word(&'static str, Colour, Place);
+struct ColouredWord(&'static str, Colour, WordPosition);
 
 /// The words that have one; of two that begin alike the longer one first.
-const WORDS: [Word; 27] = [
-    Word("error:", Colour::Bad, Place::Head),
-    Word("warning:", Colour::Doubtful, Place::Head),
-    Word("mta_lab:", Colour::Bad, Place::Beginning),
-    Word("right", Colour::Good, Place::Column),
-    Word("done", Colour::Good, Place::Column),
-    Word("finished", Colour::Good, Place::Column),
-    Word("nobody runs", Colour::Good, Place::Head),
-    Word("wrong", Colour::Bad, Place::Column),
-    Word("deadlock", Colour::Bad, Place::Column),
-    Word("stopped", Colour::Bad, Place::Column),
-    Word("trap", Colour::Bad, Place::Column),
-    Word("source fault", Colour::Bad, Place::Column),
-    Word("not read", Colour::Doubtful, Place::Column),
-    Word("not decided", Colour::Doubtful, Place::Column),
-    Word("spinning", Colour::Doubtful, Place::Column),
-    Word("spins", Colour::Doubtful, Place::Column),
-    Word("out of steps", Colour::Doubtful, Place::Column),
-    Word("ran out of steps", Colour::Doubtful, Place::Column),
-    Word("lost update", Colour::Bad, Place::Beginning),
-    Word("torn read", Colour::Bad, Place::Beginning),
-    Word("unread store", Colour::Doubtful, Place::Beginning),
-    Word("NOT as expected", Colour::Bad, Place::Anywhere),
-    Word("broken", Colour::Bad, Place::Column),
-    Word("holds", Colour::Good, Place::Column),
-    Word("as expected", Colour::Good, Place::Column),
-    Word("full", Colour::Full, Place::State),
-    Word("empty", Colour::Empty, Place::State),
+const WORDS: [ColouredWord; 27] = [
+    ColouredWord("error:", Colour::Bad, WordPosition::Head),
+    ColouredWord("warning:", Colour::Doubtful, WordPosition::Head),
+    ColouredWord("mta_lab:", Colour::Bad, WordPosition::Beginning),
+    ColouredWord("right", Colour::Good, WordPosition::Column),
+    ColouredWord("done", Colour::Good, WordPosition::Column),
+    ColouredWord("finished", Colour::Good, WordPosition::Column),
+    ColouredWord("nobody runs", Colour::Good, WordPosition::Head),
+    ColouredWord("wrong", Colour::Bad, WordPosition::Column),
+    ColouredWord("deadlock", Colour::Bad, WordPosition::Column),
+    ColouredWord("stopped", Colour::Bad, WordPosition::Column),
+    ColouredWord("trap", Colour::Bad, WordPosition::Column),
+    ColouredWord("source fault", Colour::Bad, WordPosition::Column),
+    ColouredWord("not read", Colour::Doubtful, WordPosition::Column),
+    ColouredWord("not decided", Colour::Doubtful, WordPosition::Column),
+    ColouredWord("spinning", Colour::Doubtful, WordPosition::Column),
+    ColouredWord("spins", Colour::Doubtful, WordPosition::Column),
+    ColouredWord("out of steps", Colour::Doubtful, WordPosition::Column),
+    ColouredWord("ran out of steps", Colour::Doubtful, WordPosition::Column),
+    ColouredWord("lost update", Colour::Bad, WordPosition::Beginning),
+    ColouredWord("torn read", Colour::Bad, WordPosition::Beginning),
+    ColouredWord("unread store", Colour::Doubtful, WordPosition::Beginning),
+    ColouredWord("NOT as expected", Colour::Bad, WordPosition::Anywhere),
+    ColouredWord("broken", Colour::Bad, WordPosition::Column),
+    ColouredWord("holds", Colour::Good, WordPosition::Column),
+    ColouredWord("as expected", Colour::Good, WordPosition::Column),
+    ColouredWord("full", Colour::Full, WordPosition::State),
+    ColouredWord("empty", Colour::Empty, WordPosition::State),
 ];
 
 /// The word with a colour that stands between these two parts of a line, at the beginning of the second.
 pub(crate) fn word_at(before: &str, rest: &str) -> Option<(&'static str, Colour)> {
-    for Word(word, colour, place) in WORDS {
+    for ColouredWord(word, colour, place) in WORDS {
         if let Some(behind) = rest.strip_prefix(word)
             && stands(place, before, behind)
         {
@@ -67,13 +67,13 @@ pub(crate) fn word_at(before: &str, rest: &str) -> Option<(&'static str, Colour)
 }
 
 /// Whether a word between these parts of a line stands where it has its colour.
-fn stands(place: Place, before: &str, behind: &str) -> bool {
+fn stands(place: WordPosition, before: &str, behind: &str) -> bool {
     match place {
-        Place::Head => before.is_empty() || before.ends_with(": "),
-        Place::Column => begins_column(before) && ends_column(behind),
-        Place::State => is_behind_state(before) && ends_state(behind),
-        Place::Beginning => before.bytes().all(|byte| byte == b' '),
-        Place::Anywhere => true,
+        WordPosition::Head => before.is_empty() || before.ends_with(": "),
+        WordPosition::Column => begins_column(before) && ends_column(behind),
+        WordPosition::State => is_behind_state(before) && ends_state(behind),
+        WordPosition::Beginning => before.bytes().all(|byte| byte == b' '),
+        WordPosition::Anywhere => true,
     }
 }
 

@@ -1,7 +1,7 @@
 //! Verdicts as the results that Gradescope reads.
 
 use crate::json_report::push_object;
-use crate::reports::Judgement;
+use crate::reports::JudgedSubmission;
 use crate::text_report::why_of;
 use crate::verdicts::VerdictKind;
 use lab_json::{List, Object};
@@ -12,7 +12,7 @@ use std::alloc::{AllocError, Global};
 /// The results of all submissions: a test with one point for each, in one object.
 pub(crate) fn gradescope_report(
     alloc: Global,
-    judgements: &[Judgement<'_>],
+    judgements: &[JudgedSubmission<'_>],
 ) -> Result<String, AllocError> {
     let results = results_value(alloc, judgements)?;
     let mut out = String::new(alloc);
@@ -21,7 +21,7 @@ pub(crate) fn gradescope_report(
 }
 
 /// The object with the tests of all submissions.
-fn results_value(alloc: Global, judgements: &[Judgement<'_>]) -> Result<Value, AllocError> {
+fn results_value(alloc: Global, judgements: &[JudgedSubmission<'_>]) -> Result<Value, AllocError> {
     let mut tests = List::new(alloc);
     for judgement in judgements {
         tests.put(test_value(alloc, judgement));
@@ -32,7 +32,7 @@ fn results_value(alloc: Global, judgements: &[Judgement<'_>]) -> Result<Value, A
 }
 
 /// The test that a submission is.
-fn test_value(alloc: Global, judgement: &Judgement<'_>) -> Result<Value, AllocError> {
+fn test_value(alloc: Global, judgement: &JudgedSubmission<'_>) -> Result<Value, AllocError> {
     let kind = judgement.verdict.kind;
     let score: u64 = if kind == VerdictKind::Right { 1 } else { 0 };
     let mut test = Object::new(alloc);
@@ -44,12 +44,12 @@ fn test_value(alloc: Global, judgement: &Judgement<'_>) -> Result<Value, AllocEr
 }
 
 /// The path of a submission, without control bytes.
-fn name_value(alloc: Global, judgement: &Judgement<'_>) -> Result<Value, AllocError> {
+fn name_value(alloc: Global, judgement: &JudgedSubmission<'_>) -> Result<Value, AllocError> {
     Ok(Value::String(plain(alloc, judgement.submission)?))
 }
 
 /// What a submission is, and why, without control bytes.
-fn output_value(alloc: Global, judgement: &Judgement<'_>) -> Result<Value, AllocError> {
+fn output_value(alloc: Global, judgement: &JudgedSubmission<'_>) -> Result<Value, AllocError> {
     let word = judgement.verdict.kind.word();
     let why = plain(alloc, &why_of(alloc, judgement)?)?;
     Ok(Value::String(format!(in alloc; "{word}: {why}")?))

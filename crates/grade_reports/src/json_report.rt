@@ -1,6 +1,6 @@
 //! Verdicts as JSON ("JSON", docs/LAB_REFERENCE.md).
 
-use crate::reports::Judgement;
+use crate::reports::JudgedSubmission;
 use crate::verdicts::{CountedEnd, Known, Verdict, WishLine, Witness};
 use lab_json::{List, Object, digits, line_value, text_value, turns_value};
 use serde_json::Value;
@@ -10,7 +10,7 @@ use std::alloc::{AllocError, Global};
 pub(crate) fn push_json(
     alloc: Global,
     out: &mut String,
-    judgement: &Judgement<'_>,
+    judgement: &JudgedSubmission<'_>,
 ) -> Result<(), AllocError> {
     let grade = grade_value(alloc, judgement)?;
     push_object(alloc, out, &grade)
@@ -28,7 +28,7 @@ pub(crate) fn push_object(
 }
 
 /// The object of a submission.
-fn grade_value(alloc: Global, judgement: &Judgement<'_>) -> Result<Value, AllocError> {
+fn grade_value(alloc: Global, judgement: &JudgedSubmission<'_>) -> Result<Value, AllocError> {
     let verdict = judgement.verdict;
     let mut grade = Object::of_kind(alloc, "grade");
     grade.put_text("submission", judgement.submission);

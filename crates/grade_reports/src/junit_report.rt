@@ -1,6 +1,6 @@
 //! Verdicts as the XML of JUnit's reports.
 
-use crate::reports::Judgement;
+use crate::reports::JudgedSubmission;
 use crate::text_report::why_of;
 use crate::verdicts::VerdictKind;
 use plain_text::plain;
@@ -9,7 +9,7 @@ use std::alloc::{AllocError, Global};
 /// The report of all submissions: a test suite with a test case for each.
 pub(crate) fn junit_report(
     alloc: Global,
-    judgements: &[Judgement<'_>],
+    judgements: &[JudgedSubmission<'_>],
 ) -> Result<String, AllocError> {
     let tests = judgements.len();
     let (failures, errors) = counts_of(judgements);
@@ -24,7 +24,7 @@ pub(crate) fn junit_report(
 }
 
 /// How many submissions are not right, and how many did not run.
-fn counts_of(judgements: &[Judgement<'_>]) -> (usize, usize) {
+fn counts_of(judgements: &[JudgedSubmission<'_>]) -> (usize, usize) {
     let (mut failures, mut errors): (usize, usize) = (0, 0);
     for judgement in judgements {
         let kind = judgement.verdict.kind;
@@ -38,7 +38,11 @@ fn counts_of(judgements: &[Judgement<'_>]) -> (usize, usize) {
 }
 
 /// Adds the test case of a submission.
-fn push_case(alloc: Global, out: &mut String, judgement: &Judgement<'_>) -> Result<(), AllocError> {
+fn push_case(
+    alloc: Global,
+    out: &mut String,
+    judgement: &JudgedSubmission<'_>,
+) -> Result<(), AllocError> {
     let kind = judgement.verdict.kind;
     out.push_str("<testcase classname=\"mta_lab\" name=\"")?;
     push_xml(alloc, out, judgement.submission)?;

@@ -11,7 +11,7 @@ use std::alloc::{AllocError, Global};
 
 /// A submission, what is said of it, and by how many cases it was judged.
 #[derive(Clone, Copy)]
-pub(crate) struct Judgement<'a> {
+pub(crate) struct JudgedSubmission<'a> {
     /// Its path.
     pub submission: &'a str,
     /// What is said of it.
@@ -30,7 +30,7 @@ pub fn report_of(
 ) -> Result<String, AllocError> {
     let mut judgements = Vec::new(alloc);
     for (path, verdict) in submissions.iter().zip(verdicts.iter()) {
-        judgements.push(Judgement {
+        judgements.push(JudgedSubmission {
             submission: *path,
             verdict,
             cases,
@@ -45,11 +45,11 @@ pub fn report_of(
     }
 }
 
-/// A line a submission; of texts behind the names of the columns, where they are several.
+/// A line a submission; of texts after the names of the columns, where they are several.
 fn lines_of(
     alloc: Global,
     format: GradeFormat,
-    judgements: &[Judgement<'_>],
+    judgements: &[JudgedSubmission<'_>],
 ) -> Result<String, AllocError> {
     let mut out = String::new(alloc);
     if format == GradeFormat::Text && judgements.len() > 1 {

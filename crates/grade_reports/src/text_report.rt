@@ -1,6 +1,6 @@
 //! Verdicts in words.
 
-use crate::reports::Judgement;
+use crate::reports::JudgedSubmission;
 use crate::verdicts::{CountedEnd, Known, Verdict, VerdictKind, WishLine, Witness};
 use plain_text::{plain, push_plain};
 use processor::Step;
@@ -11,7 +11,7 @@ use trace_text::write_schedule;
 pub(crate) fn push_row(
     alloc: Global,
     out: &mut String,
-    judgement: &Judgement<'_>,
+    judgement: &JudgedSubmission<'_>,
 ) -> Result<(), AllocError> {
     let verdict = judgement.verdict;
     push_plain(out, judgement.submission)?;
@@ -24,7 +24,7 @@ pub(crate) fn push_row(
 
 /// Why a submission that was judged by so many cases is what it is said to be, in words without control bytes.
 pub fn reason_of(alloc: Global, verdict: &Verdict, cases: usize) -> Result<String, AllocError> {
-    let judgement = Judgement {
+    let judgement = JudgedSubmission {
         submission: "",
         verdict,
         cases,
@@ -33,7 +33,10 @@ pub fn reason_of(alloc: Global, verdict: &Verdict, cases: usize) -> Result<Strin
 }
 
 /// Why a submission is what it is said to be, in words, which may have control bytes of its comments.
-pub(crate) fn why_of(alloc: Global, judgement: &Judgement<'_>) -> Result<String, AllocError> {
+pub(crate) fn why_of(
+    alloc: Global,
+    judgement: &JudgedSubmission<'_>,
+) -> Result<String, AllocError> {
     let verdict = judgement.verdict;
     let mut why = String::new(alloc);
     if let Some(case) = &verdict.case {
@@ -55,7 +58,7 @@ pub(crate) fn why_of(alloc: Global, judgement: &Judgement<'_>) -> Result<String,
 }
 
 /// Adds what was looked at: `every schedule, 36 states`, `200 seeds`, or both, and of how many cases.
-fn push_known(why: &mut String, judgement: &Judgement<'_>) -> Result<(), AllocError> {
+fn push_known(why: &mut String, judgement: &JudgedSubmission<'_>) -> Result<(), AllocError> {
     let known = judgement.verdict.known;
     if judgement.cases > 0 && judgement.verdict.kind == VerdictKind::Right {
         let cases = judgement.cases;

@@ -1,6 +1,6 @@
 //! Verdicts as fields that are apart by tabs.
 
-use crate::reports::Judgement;
+use crate::reports::JudgedSubmission;
 use crate::text_report::push_turns;
 use crate::verdicts::Witness;
 use plain_text::push_plain;
@@ -12,7 +12,7 @@ use std::alloc::{AllocError, Global};
 pub(crate) fn push_tsv(
     alloc: Global,
     out: &mut String,
-    judgement: &Judgement<'_>,
+    judgement: &JudgedSubmission<'_>,
 ) -> Result<(), AllocError> {
     let verdict = judgement.verdict;
     push_plain(out, judgement.submission)?;

@@ -28,7 +28,7 @@ const CHUNK: usize = 4_096;
 const WAITING: usize = 4;
 
 /// What the thread that reads passes on of a message: its request, unless memory was refused for it.
-type Heard = Result<DapRequest, AllocError>;
+type ReceivedRequest = Result<DapRequest, AllocError>;
 
 /// Answers the requests on standard input. A thread reads them, so that one is seen while a search is under way.
 pub fn adapt<X: Threads + Wait + Clock + Sync, F: Files, R: Read + Send, W: Write>(
@@ -57,7 +57,7 @@ fn read_if_first<X: Wait, R: Read>(
     alloc: Global,
     is_begun: &AtomicBool,
     input: &mut R,
-    sender: Sender<Heard, Global>,
+    sender: Sender<ReceivedRequest, Global>,
 ) {
     if !is_begun.swap(true, Ordering::SeqCst) {
         read_frames(rt, alloc, input, sender);
@@ -70,7 +70,7 @@ fn serve_if_begun<X: Wait + Clock, F: Files, W: Write>(
     alloc: Global,
     is_begun: &AtomicBool,
     files: &F,
-    receiver: Receiver<Heard, Global>,
+    receiver: Receiver<ReceivedRequest, Global>,
     output: &mut W,
 ) -> Result<Status, LabFault> {
     if !has_begun(rt, is_begun) {
@@ -84,7 +84,7 @@ fn read_frames<X: Wait, R: Read>(
     rt: &X,
     alloc: Global,
     input: &mut R,
-    sender: Sender<Heard, Global>,
+    sender: Sender<ReceivedRequest, Global>,
 ) {
     let mut frames = Frames::new(alloc);
     let mut chunk = [0u8; CHUNK];
@@ -109,7 +109,7 @@ fn pass_on<X: Wait>(
     alloc: Global,
     frames: &mut Frames,
     byte: u8,
-    sender: &Sender<Heard, Global>,
+    sender: &Sender<ReceivedRequest, Global>,
 ) -> bool {
     match frames.take(byte) {
         Ok(None) => true,
@@ -119,7 +119,11 @@ fn pass_on<X: Wait>(
 }
 
 /// Passes on what was heard. Whether more is to be read: not after a request for the end.
-fn send_on<X: Wait>(rt: &X, heard: Heard, sender: &Sender<Heard, Global>) -> bool {
+fn send_on<X: Wait>(
+    rt: &X,
+    heard: ReceivedRequest,
+    sender: &Sender<ReceivedRequest, Global>,
+) -> bool {
     let is_last = match &heard {
         Ok(request) => request.kind == Some(DapCommand::Disconnect),
         Err(_) => true,
@@ -128,7 +132,7 @@ fn send_on<X: Wait>(rt: &X, heard: Heard, sender: &Sender<Heard, Global>) -> boo
 }
 
 /// The request of a frame; one of an empty command where it is none.
-fn request_of(alloc: Global, frame: &Frame) -> Heard {
+fn request_of(alloc: Global, frame: &Frame) -> ReceivedRequest {
     let bytes = match frame {
         Frame::Message(bytes) => bytes.as_slice(),
         Frame::TooLong | Frame::NoMessage => b"",
@@ -141,7 +145,7 @@ fn serve_all<X: Wait, F: Files, W: Write>(
     rt: &X,
     alloc: Global,
     files: &F,
-    receiver: Receiver<Heard, Global>,
+    receiver: Receiver<ReceivedRequest, Global>,
     output: &mut W,
 ) -> Result<Status, LabFault> {
     let mut transport = Transport {
@@ -338,7 +342,7 @@ fn run_asked<'r>(launch: &LaunchRequest<'r>) -> RunChoice<'r> {
 /// Where messages come from, and where they go.
 #[derive(Drop)]
 struct Transport<'a, W> {
-    receiver: Receiver<Heard, Global>,
+    receiver: Receiver<ReceivedRequest, Global>,
     connection: Connection,
     output: &'a mut W,
 }

@@ -67,7 +67,7 @@ fn check_file<F: Files, R: Read>(
 ) -> Result<Status, LabFault> {
     let bytes = inputs.read(alloc, path)?;
     let kind = kind_of(request.kind, path, &bytes);
-    let Judged { text, messages } = judge(alloc, kind, bytes, program)?;
+    let CheckedFile { text, messages } = judge(alloc, kind, bytes, program)?;
     if request.json {
         push_objects(alloc, told, path, &messages)?;
     } else {
@@ -122,7 +122,7 @@ fn kind_of(said: Option<FileKind>, path: &str, bytes: &[u8]) -> FileKind {
 
 /// A file that was judged.
 #[derive(Drop)]
-struct Judged {
+struct CheckedFile {
     /// The text whose lines are shown; an image has none.
     text: Vec<u8>,
     /// What is to be said of it.
@@ -135,7 +135,7 @@ fn judge(
     kind: FileKind,
     bytes: Vec<u8>,
     program: Option<&Image>,
-) -> Result<Judged, LabFault> {
+) -> Result<CheckedFile, LabFault> {
     match kind {
         FileKind::Source => {
             let source = SourceText::of(alloc, bytes)?;
@@ -143,16 +143,16 @@ fn judge(
             add_slips(alloc, source.ascii(), &mut messages)?;
             add_names(alloc, source.ascii(), &mut messages)?;
             let text = source.into_written();
-            Ok(Judged { text, messages })
+            Ok(CheckedFile { text, messages })
         }
         FileKind::Schedule => {
             let messages = check_loose_schedule(alloc, &bytes, program)?;
-            Ok(Judged {
+            Ok(CheckedFile {
                 text: bytes,
                 messages,
             })
         }
-        FileKind::Image => Ok(Judged {
+        FileKind::Image => Ok(CheckedFile {
             text: Vec::new(alloc),
             messages: image_messages(alloc, &bytes)?,
         }),

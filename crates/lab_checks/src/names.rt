@@ -8,7 +8,7 @@ use std::str;
 /// The number of the warning.
 const TWICE: u8 = 114;
 
-/// The most such names that are told of a text.
+/// The most such names that are reported of a text.
 const MOST_TOLD: usize = 100;
 
 /// Adds to the messages about a source text a warning for each name that a line of data says and does not have: another
@@ -41,7 +41,7 @@ fn message_of(
     places: &SourcePlaces<'_>,
     name: &DataName<'_>,
 ) -> Result<Message, AllocError> {
-    let Spot { start, column } = spot_of(text, name);
+    let NamePosition { start, column } = spot_of(text, name);
     let shown = str::from_utf8(name.name).unwrap_or("");
     let words = match other_line(places, name) {
         Some(line) => format!(in alloc; "{shown} names no word: line {line} has this name too")?,
@@ -79,7 +79,7 @@ fn other_line(places: &SourcePlaces<'_>, name: &DataName<'_>) -> Option<usize> {
 
 /// Where a name stands.
 #[derive(Clone, Copy)]
-struct Spot {
+struct NamePosition {
     /// How many bytes of the text stand before its line.
     start: usize,
     /// Its first byte on the line, from 1.
@@ -87,16 +87,16 @@ struct Spot {
 }
 
 /// Where a name of a text stands.
-fn spot_of(text: &[u8], name: &DataName<'_>) -> Spot {
+fn spot_of(text: &[u8], name: &DataName<'_>) -> NamePosition {
     let mut start: usize = 0;
     for (number, line) in text.split(|byte| *byte == b'\n').enumerate() {
         if number == name.number {
             let column = column_of(line, name.name).saturating_add(1);
-            return Spot { start, column };
+            return NamePosition { start, column };
         }
         start = start.saturating_add(line.len()).saturating_add(1);
     }
-    Spot {
+    NamePosition {
         start: 0,
         column: 1,
     }

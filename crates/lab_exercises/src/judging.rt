@@ -14,7 +14,7 @@ use std::time::Clock;
 
 /// How far a program is looked at.
 #[derive(Clone, Copy)]
-pub(crate) struct Reach {
+pub(crate) struct SearchLimits {
     /// The most worlds of each case.
     pub worlds: usize,
     /// How many seeds are tried where that is not all.
@@ -24,14 +24,14 @@ pub(crate) struct Reach {
 }
 
 /// How far the program of one exercise is looked at: in seconds.
-pub(crate) const THOROUGH: Reach = Reach {
+pub(crate) const THOROUGH: SearchLimits = SearchLimits {
     worlds: 200_000,
     seeds: 200,
     steps: 10_000,
 };
 
 /// The same where all exercises are listed: each in a fraction of a second.
-pub(crate) const QUICK: Reach = Reach {
+pub(crate) const QUICK: SearchLimits = SearchLimits {
     worlds: 20_000,
     seeds: 20,
     steps: 2_000,
@@ -64,7 +64,7 @@ pub(crate) fn judge<X: Threads + Sync + Clock, F: Files, R: Read, E: Write>(
     alloc: Global,
     inputs: &mut Inputs<'_, F, R>,
     exercise: &Exercise,
-    reach: Reach,
+    reach: SearchLimits,
     console: &mut Console<'_, X, E>,
 ) -> Result<Judgement, LabFault> {
     let cases = exercise.file(alloc, "cases")?;

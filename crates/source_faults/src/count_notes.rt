@@ -2,7 +2,7 @@
 
 use crate::data_words::data_help;
 use crate::examples::example_of;
-use crate::form::Form;
+use crate::form::OperandForm;
 use crate::notes::Notes;
 use crate::operand_notes::Taking;
 use crate::operand_words::COMMENTS;
@@ -50,7 +50,7 @@ fn count_help(
         return said(alloc, COMMENTS);
     }
     for piece in pieces {
-        if let Some(help) = data_help(notes, reader, Form::Base, piece.bytes)? {
+        if let Some(help) = data_help(notes, reader, OperandForm::Base, piece.bytes)? {
             return Ok(Some(help));
         }
     }

@@ -1,14 +1,14 @@
 //! Where the data words of a text stand in memory.
 
 use crate::lines::Lines;
-use crate::reader::{Reader, Source};
+use crate::reader::{Reader, SourceFacts};
 use crate::text_notes::MAX_CELLS;
 use asm_line::Item;
 use std::alloc::{AllocError, Global};
 
 /// A line that adds data words: its number, from 0, and the first of them.
 #[derive(Clone, Copy)]
-struct DataLine {
+struct DataStart {
     number: usize,
     first: usize,
 }
@@ -17,14 +17,14 @@ struct DataLine {
 /// them.
 #[derive(Drop)]
 pub(crate) struct DataLines {
-    lines: Vec<DataLine>,
+    lines: Vec<DataStart>,
 }
 
 impl DataLines {
     /// Of this text.
     pub(crate) fn of<'t>(
         alloc: Global,
-        source: &Source<'t>,
+        source: &SourceFacts<'t>,
         text: &'t [u8],
     ) -> Result<DataLines, AllocError> {
         let mut lines = Vec::new(alloc);
@@ -34,7 +34,7 @@ impl DataLines {
             if let Ok(Item::Cells { count, .. }) = Reader::at(source, line).own_item() {
                 let next = first.saturating_add(count as usize);
                 if next <= MAX_CELLS {
-                    lines.push(DataLine { number, first })?;
+                    lines.push(DataStart { number, first })?;
                     first = next;
                 }
             }

@@ -1,6 +1,6 @@
 //! Labels of data where an operand stands.
 
-use crate::form::Form;
+use crate::form::OperandForm;
 use crate::label_notes::is_name;
 use crate::notes::Notes;
 use crate::reader::Reader;
@@ -14,7 +14,7 @@ const LAST_DISPLACEMENT: usize = 31;
 pub(crate) fn data_help(
     notes: &mut Notes,
     reader: &Reader,
-    form: Form,
+    form: OperandForm,
     operand: &[u8],
 ) -> Result<Option<String>, AllocError> {
     let alloc = notes.alloc();
@@ -26,7 +26,7 @@ pub(crate) fn data_help(
         _ if words > LAST_DISPLACEMENT => {
             format!(in alloc; "this data is [{address}]: write LIT r2, {address} and then r2, 0")?
         }
-        Form::Base | Form::Displacement => {
+        OperandForm::Base | OperandForm::Displacement => {
             format!(in alloc; "this data is [{address}]: write r0, {words}")?
         }
         _ => {

@@ -1,6 +1,6 @@
 //! Statements of the right form.
 
-use crate::form::Form;
+use crate::form::OperandForm;
 use crate::phrases::shown;
 use crate::reader::Reader;
 use crate::token::Token;
@@ -12,7 +12,7 @@ pub(crate) fn example_of(
     alloc: Global,
     reader: &Reader,
     head: &[u8],
-    forms: &[Form],
+    forms: &[OperandForm],
     words: &[Token],
 ) -> Result<String, AllocError> {
     let mut text = shown(alloc, head)?;
@@ -35,7 +35,7 @@ pub(crate) fn example_of(
 fn fitting<'t>(
     alloc: Global,
     reader: &Reader,
-    form: Form,
+    form: OperandForm,
     word: Option<Token<'t>>,
 ) -> Result<Option<Token<'t>>, AllocError> {
     let Some(word) = word else {
@@ -48,24 +48,24 @@ fn fitting<'t>(
 }
 
 /// An operand of this form.
-fn usual<'t>(reader: &Reader<'_, 't>, form: Form) -> &'t [u8] {
+fn usual<'t>(reader: &Reader<'_, 't>, form: OperandForm) -> &'t [u8] {
     match form {
-        Form::Register => b"r1",
-        Form::Base => b"r0",
-        Form::Target => b"t1",
-        Form::Condition => b"ALWAYS",
-        Form::Pc | Form::Distance | Form::Entry => {
+        OperandForm::Register => b"r1",
+        OperandForm::Base => b"r0",
+        OperandForm::Target => b"t1",
+        OperandForm::Condition => b"ALWAYS",
+        OperandForm::Pc | OperandForm::Distance | OperandForm::Entry => {
             reader.names().first().copied().unwrap_or(b"0")
         }
-        Form::Source | Form::Value | Form::Tags | Form::Profile => b"1",
-        Form::Slim => b"8",
-        Form::Count => b"10",
-        Form::Displacement
-        | Form::Code
-        | Form::Mask
-        | Form::Chain
-        | Form::Retry
-        | Form::Word
-        | Form::Lookahead => b"0",
+        OperandForm::Source | OperandForm::Value | OperandForm::Tags | OperandForm::Profile => b"1",
+        OperandForm::Slim => b"8",
+        OperandForm::Count => b"10",
+        OperandForm::Displacement
+        | OperandForm::Code
+        | OperandForm::Mask
+        | OperandForm::Chain
+        | OperandForm::Retry
+        | OperandForm::Word
+        | OperandForm::Lookahead => b"0",
     }
 }

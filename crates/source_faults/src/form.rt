@@ -2,7 +2,7 @@
 
 /// What an operand has to be.
 #[derive(Clone, Copy)]
-pub(crate) enum Form {
+pub(crate) enum OperandForm {
     /// A register.
     Register,
     /// The register that holds a pointer.
@@ -11,7 +11,7 @@ pub(crate) enum Form {
     Target,
     /// The last operand of an arithmetic operation.
     Source,
-    /// How many words behind the pointer.
+    /// How many words after the pointer.
     Displacement,
     /// A number of 32 bits or a label, for a register.
     Value,
@@ -41,65 +41,65 @@ pub(crate) enum Form {
     Tags,
     /// How many data words.
     Count,
-    /// The number behind the `@` of a lookahead.
+    /// The number after the `@` of a lookahead.
     Lookahead,
 }
 
-impl Form {
-    /// What stands before and behind an operand of this form in a statement that has no fault but the operand's.
+impl OperandForm {
+    /// What stands before and after an operand of this form in a statement that has no fault but the operand's.
     pub(crate) fn frame(self) -> (&'static str, &'static str) {
         match self {
-            Form::Register => ("XGET ", ""),
-            Form::Base => ("LOAD r0, ", ", 0"),
-            Form::Target => ("XCHG ", ""),
-            Form::Source => ("ADD r0, r0, ", ""),
-            Form::Displacement => ("LOAD r0, r0, ", ""),
-            Form::Value | Form::Pc => ("LIT r0, ", ""),
-            Form::Condition => ("JUMP ", ", 0, t0"),
-            Form::Code => ("JUMP ALWAYS, ", ", t0"),
-            Form::Distance => ("SKIP ALWAYS, 0, ", ""),
-            Form::Mask => ("MASK ", ""),
-            Form::Profile => (".profile ", ""),
-            Form::Slim => (".slim ", ""),
-            Form::Chain => (".chain ", ""),
-            Form::Retry => (".retry ", ""),
-            Form::Entry => (".entry ", ""),
-            Form::Word => (".word ", ""),
-            Form::Tags => (".data 0, ", ""),
-            Form::Count => (".fill ", ", 0, 0"),
-            Form::Lookahead => ("@", " NOP"),
+            OperandForm::Register => ("XGET ", ""),
+            OperandForm::Base => ("LOAD r0, ", ", 0"),
+            OperandForm::Target => ("XCHG ", ""),
+            OperandForm::Source => ("ADD r0, r0, ", ""),
+            OperandForm::Displacement => ("LOAD r0, r0, ", ""),
+            OperandForm::Value | OperandForm::Pc => ("LIT r0, ", ""),
+            OperandForm::Condition => ("JUMP ", ", 0, t0"),
+            OperandForm::Code => ("JUMP ALWAYS, ", ", t0"),
+            OperandForm::Distance => ("SKIP ALWAYS, 0, ", ""),
+            OperandForm::Mask => ("MASK ", ""),
+            OperandForm::Profile => (".profile ", ""),
+            OperandForm::Slim => (".slim ", ""),
+            OperandForm::Chain => (".chain ", ""),
+            OperandForm::Retry => (".retry ", ""),
+            OperandForm::Entry => (".entry ", ""),
+            OperandForm::Word => (".word ", ""),
+            OperandForm::Tags => (".data 0, ", ""),
+            OperandForm::Count => (".fill ", ", 0, 0"),
+            OperandForm::Lookahead => ("@", " NOP"),
         }
     }
 
     /// What the operand is.
     pub(crate) fn noun(self) -> &'static str {
         match self {
-            Form::Register | Form::Base => "a register",
-            Form::Target => "a target register",
-            Form::Source => "a register or number",
-            Form::Displacement => "a number of words",
-            Form::Value | Form::Pc | Form::Entry => "a number or label",
-            Form::Condition => "a condition",
-            Form::Code => "the number of a code",
-            Form::Distance => "a number of words or a label",
-            Form::Mask
-            | Form::Profile
-            | Form::Slim
-            | Form::Chain
-            | Form::Retry
-            | Form::Word
-            | Form::Tags
-            | Form::Count
-            | Form::Lookahead => "a number",
+            OperandForm::Register | OperandForm::Base => "a register",
+            OperandForm::Target => "a target register",
+            OperandForm::Source => "a register or number",
+            OperandForm::Displacement => "a number of words",
+            OperandForm::Value | OperandForm::Pc | OperandForm::Entry => "a number or label",
+            OperandForm::Condition => "a condition",
+            OperandForm::Code => "the number of a code",
+            OperandForm::Distance => "a number of words or a label",
+            OperandForm::Mask
+            | OperandForm::Profile
+            | OperandForm::Slim
+            | OperandForm::Chain
+            | OperandForm::Retry
+            | OperandForm::Word
+            | OperandForm::Tags
+            | OperandForm::Count
+            | OperandForm::Lookahead => "a number",
         }
     }
 
     /// What the operand is, in a list of operands.
     pub(crate) fn listed(self) -> &'static str {
         match self {
-            Form::Word => "a value",
-            Form::Tags => "tags",
-            Form::Count => "a count",
+            OperandForm::Word => "a value",
+            OperandForm::Tags => "tags",
+            OperandForm::Count => "a count",
             _ => self.noun(),
         }
     }
@@ -107,49 +107,49 @@ impl Form {
     /// What the operand is, with its limits.
     pub(crate) fn limits(self) -> &'static str {
         match self {
-            Form::Register | Form::Base => "a register r0 to r31",
-            Form::Target => "a target register t0 to t7",
-            Form::Source => "a register or a number 0 to 31",
-            Form::Displacement => "-32 to 31 words",
-            Form::Value | Form::Pc | Form::Retry => "a number of 32 bits",
-            Form::Condition => "a condition",
-            Form::Code => "0 to 3",
-            Form::Distance => "-128 to 127 words",
-            Form::Mask | Form::Lookahead => "0 to 7",
-            Form::Profile => "1 or 2",
-            Form::Slim => "1 to 128",
-            Form::Chain => "0 to 64",
-            Form::Entry => "the number of an instruction line, from 0",
-            Form::Word => "a number of 64 bits",
-            Form::Tags => "0 to 15",
-            Form::Count => "1 to 262144",
+            OperandForm::Register | OperandForm::Base => "a register r0 to r31",
+            OperandForm::Target => "a target register t0 to t7",
+            OperandForm::Source => "a register or a number 0 to 31",
+            OperandForm::Displacement => "-32 to 31 words",
+            OperandForm::Value | OperandForm::Pc | OperandForm::Retry => "a number of 32 bits",
+            OperandForm::Condition => "a condition",
+            OperandForm::Code => "0 to 3",
+            OperandForm::Distance => "-128 to 127 words",
+            OperandForm::Mask | OperandForm::Lookahead => "0 to 7",
+            OperandForm::Profile => "1 or 2",
+            OperandForm::Slim => "1 to 128",
+            OperandForm::Chain => "0 to 64",
+            OperandForm::Entry => "the number of an instruction line, from 0",
+            OperandForm::Word => "a number of 64 bits",
+            OperandForm::Tags => "0 to 15",
+            OperandForm::Count => "1 to 262144",
         }
     }
 
     /// What to write for such an operand.
     pub(crate) fn advice(self) -> &'static str {
         match self {
-            Form::Register => "registers are r0 to r31",
-            Form::Base => "the pointer stands in a register, r0 to r31; r0 is always 0",
-            Form::Target => "target registers are t0 to t7",
-            Form::Source => "write r0 to r31, or a number 0 to 31",
-            Form::Displacement => "write a number of words, -32 to 31",
-            Form::Condition =>
+            OperandForm::Register => "registers are r0 to r31",
+            OperandForm::Base => "the pointer stands in a register, r0 to r31; r0 is always 0",
+            OperandForm::Target => "target registers are t0 to t7",
+            OperandForm::Source => "write r0 to r31, or a number 0 to 31",
+            OperandForm::Displacement => "write a number of words, -32 to 31",
+            OperandForm::Condition =>
                 "ALWAYS, EQ, NE, LT, GE, LE, GT, LTU, GEU, LEU, GTU, NEG, POS, OV or NOV",
-            Form::Code => "0 is the newest code, 3 the oldest",
-            Form::Tags => "0 is an empty word, 1 a full one",
-            Form::Value
-            | Form::Pc
-            | Form::Distance
-            | Form::Mask
-            | Form::Profile
-            | Form::Slim
-            | Form::Chain
-            | Form::Retry
-            | Form::Entry
-            | Form::Word
-            | Form::Count
-            | Form::Lookahead => "numbers are decimal, or 0x and hexadecimal digits",
+            OperandForm::Code => "0 is the newest code, 3 the oldest",
+            OperandForm::Tags => "0 is an empty word, 1 a full one",
+            OperandForm::Value
+            | OperandForm::Pc
+            | OperandForm::Distance
+            | OperandForm::Mask
+            | OperandForm::Profile
+            | OperandForm::Slim
+            | OperandForm::Chain
+            | OperandForm::Retry
+            | OperandForm::Entry
+            | OperandForm::Word
+            | OperandForm::Count
+            | OperandForm::Lookahead => "numbers are decimal, or 0x and hexadecimal digits",
         }
     }
 }

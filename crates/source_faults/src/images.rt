@@ -7,7 +7,7 @@ use image_file::{CountField, ImageFault};
 use std::alloc::{AllocError, Global};
 
 /// Where in a file a fault stands, and the words for it.
-struct Told {
+struct FaultPlace {
     place: usize,
     width: usize,
     words: String,
@@ -21,7 +21,7 @@ pub fn image_fault_words(
     bytes: &[u8],
     fault: ImageFault,
 ) -> Result<Message, AllocError> {
-    let Told {
+    let FaultPlace {
         place,
         width,
         words,
@@ -39,23 +39,23 @@ pub fn image_fault_words(
     })
 }
 
-fn fault_told(alloc: Global, bytes: &[u8], fault: ImageFault) -> Result<Told, AllocError> {
-    let layout = Layout::of(bytes);
+fn fault_told(alloc: Global, bytes: &[u8], fault: ImageFault) -> Result<FaultPlace, AllocError> {
+    let layout = HeaderCounts::of(bytes);
     let length = bytes.len();
     Ok(match fault {
-        ImageFault::Short => Told {
+        ImageFault::Short => FaultPlace {
             place: length,
             width: 1,
             words: format!(in alloc; "the file ends too soon, after {length} bytes")?,
             help: "it was cut off: copy or assemble it again",
         },
-        ImageFault::Magic => Told {
+        ImageFault::Magic => FaultPlace {
             place: 0,
             width: 4,
             words: String::from_str(alloc, "the file does not begin with the letters MTAP")?,
             help: "it is no image: sources are assembled first",
         },
-        ImageFault::Version => Told {
+        ImageFault::Version => FaultPlace {
             place: 4,
             width: 2,
             words: format!(in alloc; "the version is {}, and not 1 or 2", number_at(bytes, 4, 2))?,
@@ -64,13 +64,13 @@ fn fault_told(alloc: Global, bytes: &[u8], fault: ImageFault) -> Result<Told, Al
         ImageFault::Count(field) => layout.count_told(alloc, bytes, field)?,
         ImageFault::Entry(processor) => layout.entry_told(alloc, bytes, processor)?,
         ImageFault::TagByte(word) => layout.tags_told(alloc, bytes, word)?,
-        ImageFault::Trailing => Told {
+        ImageFault::Trailing => FaultPlace {
             place: layout.length(),
             width: 1,
             words: String::from_str(alloc, "bytes follow the last data word")?,
             help: "the file was joined with something else, or its counts are wrong",
         },
-        ImageFault::NoMemory => Told {
+        ImageFault::NoMemory => FaultPlace {
             place: 0,
             width: 1,
             words: String::from_str(alloc, "there is no memory for the image")?,
@@ -81,18 +81,18 @@ fn fault_told(alloc: Global, bytes: &[u8], fault: ImageFault) -> Result<Told, Al
 
 /// How much the header of an image says there is ("Image files", docs/FORMATS.md).
 #[derive(Clone, Copy)]
-struct Layout {
+struct HeaderCounts {
     header: u8,
     processors: u32,
     words: u32,
     cells: u32,
 }
 
-impl Layout {
-    fn of(bytes: &[u8]) -> Layout {
+impl HeaderCounts {
+    fn of(bytes: &[u8]) -> HeaderCounts {
         let header = if number_at(bytes, 4, 2) == 2 { 28 } else { 26 };
         let counts = usize::from(header) - 8;
-        Layout {
+        HeaderCounts {
             header,
             processors: number_at(bytes, 6, 2),
             words: number_at(bytes, counts, 4),
@@ -117,7 +117,7 @@ impl Layout {
         alloc: Global,
         bytes: &[u8],
         field: CountField,
-    ) -> Result<Told, AllocError> {
+    ) -> Result<FaultPlace, AllocError> {
         let counts = usize::from(self.header).saturating_sub(8);
         let (place, width, name, limits) = match field {
             CountField::Processors => (6, 2, "number of processors", "1 to 16"),
@@ -134,7 +134,7 @@ impl Layout {
             }
         };
         let number = number_at(bytes, place, width);
-        Ok(Told {
+        Ok(FaultPlace {
             place,
             width,
             words: format!(in alloc; "the {name} is {number}, and not {limits}")?,
@@ -142,11 +142,16 @@ impl Layout {
         })
     }
 
-    fn entry_told(self, alloc: Global, bytes: &[u8], processor: u8) -> Result<Told, AllocError> {
+    fn entry_told(
+        self,
+        alloc: Global,
+        bytes: &[u8],
+        processor: u8,
+    ) -> Result<FaultPlace, AllocError> {
         let place = usize::from(self.header) + 4 * usize::from(processor);
         let entry = number_at(bytes, place, 4);
         let words = self.words;
-        Ok(Told {
+        Ok(FaultPlace {
             place,
             width: 4,
             words: format!(in alloc;
@@ -156,10 +161,10 @@ impl Layout {
         })
     }
 
-    fn tags_told(self, alloc: Global, bytes: &[u8], word: u32) -> Result<Told, AllocError> {
+    fn tags_told(self, alloc: Global, bytes: &[u8], word: u32) -> Result<FaultPlace, AllocError> {
         let place = self.cells_place() + 9 * word as usize + 8;
         let tags = number_at(bytes, place, 1);
-        Ok(Told {
+        Ok(FaultPlace {
             place,
             width: 1,
             words: format!(in alloc; "data word {word} has the tags {tags}, and not 0 to 15")?,

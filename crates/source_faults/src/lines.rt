@@ -12,7 +12,7 @@ use text_parts::cut;
 
 /// A line of a source text.
 #[derive(Clone, Copy)]
-pub(crate) struct Line<'t> {
+pub(crate) struct TextLine<'t> {
     /// Its number, from 0.
     pub(crate) number: usize,
     /// How many bytes of the text stand before it.
@@ -26,7 +26,7 @@ pub(crate) struct Line<'t> {
     ghost counted: { number < 2 ^ 63 },
 }
 
-impl<'t> Line<'t> {
+impl<'t> TextLine<'t> {
     /// The place of a piece of the line in the text.
     pub(crate) fn spot(&self, token: Token) -> Spot {
         Spot {
@@ -93,7 +93,7 @@ impl<'t> Lines<'t> {
         }
     }
 
-    /// Goes to the next line that has a byte, or behind the last line.
+    /// Goes to the next line that has a byte, or after the last line.
     fn pass_empty(&mut self)
         ensures { rest_length (option_copied self.new.rest) ≤ rest_length (option_copied self.old.rest) }
     {
@@ -111,18 +111,18 @@ impl<'t> Lines<'t> {
 }
 
 impl<'t> Iterator for Lines<'t> {
-    type Item = Line<'t>;
+    type Item = TextLine<'t>;
 
     ghost remaining = { λ s. at_most (rest_length (option_copied s.rest)) };
 
-    fn next(&mut self) -> Option<Line<'t>> {
+    fn next(&mut self) -> Option<TextLine<'t>> {
         if !self.has_empty {
             self.pass_empty();
         }
         let rest = self.rest?;
         let (bytes, following) = cut(rest, b'\n');
         let source = cut_line(bytes);
-        let line = Line {
+        let line = TextLine {
             number: self.number,
             start: self.text.len() - rest.len(),
             here: self.here,

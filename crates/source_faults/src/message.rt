@@ -99,7 +99,7 @@ fn push_page(out: &mut String, message: &Message) -> Result<(), AllocError> {
     }
 }
 
-/// The line that begins behind so many bytes of a text; the empty one where the text has fewer.
+/// The line that begins after so many bytes of a text; the empty one where the text has fewer.
 fn line_at(text: &[u8], start: usize) -> &[u8] {
     match text.get(start..) {
         Some(rest) => cut(rest, b'\n').0,

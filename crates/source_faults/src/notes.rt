@@ -14,19 +14,19 @@ const MOST_SUGGESTIONS: usize = 16;
 
 /// One thing that is found: where, what it is, and how it may be mended.
 #[derive(Drop)]
-struct Found {
+struct Note {
     spot: Spot,
     number: Option<u8>,
     words: String,
     help: Option<String>,
 }
 
-impl Found {
+impl Note {
     /// The message that tells it.
     fn message(self, severity: Severity) -> Message
         ensures { result.severity ≡ severity }
     {
-        let Found {
+        let Note {
             spot,
             number,
             words,
@@ -51,7 +51,7 @@ pub(crate) struct Notes {
     alloc: Global,
     suggestions: usize,
     number: Option<u8>,
-    found: Vec<Found>,
+    found: Vec<Note>,
 }
 
 impl Notes {
@@ -95,7 +95,7 @@ impl Notes {
     {
         let number = self.number.take();
         if self.found.len() < MOST_FOUND {
-            self.found.push(Found {
+            self.found.push(Note {
                 spot,
                 number,
                 words,
@@ -136,7 +136,7 @@ impl Notes {
         }
     }
 
-    /// Tells what is found by messages behind others.
+    /// Tells what is found by messages after others.
     pub(crate) fn tell(
         self,
         severity: Severity,

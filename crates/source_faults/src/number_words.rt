@@ -1,13 +1,13 @@
 //! Numbers that are written as on other machines.
 
-use crate::form::Form;
+use crate::form::OperandForm;
 use crate::phrases::{said, shown};
 use std::alloc::{AllocError, Global};
 
 /// What to write for an operand of this form that looks like a number; None where it looks like none.
 pub(crate) fn number_help(
     alloc: Global,
-    form: Form,
+    form: OperandForm,
     operand: &[u8],
 ) -> Result<Option<String>, AllocError> {
     match operand {
@@ -35,23 +35,27 @@ pub(crate) fn number_help(
     }
 }
 
-/// Words, and a piece of the text behind them.
+/// Words, and a piece of the text after them.
 fn written(alloc: Global, words: &str, digits: &[u8]) -> Result<Option<String>, AllocError> {
     let digits = shown(alloc, digits)?;
     Ok(Some(format!(in alloc; "{words}{digits}")?))
 }
 
 /// What to write for a number with a minus before these digits.
-fn negative_help(alloc: Global, form: Form, digits: &[u8]) -> Result<Option<String>, AllocError> {
+fn negative_help(
+    alloc: Global,
+    form: OperandForm,
+    digits: &[u8],
+) -> Result<Option<String>, AllocError> {
     let shown = shown(alloc, digits)?;
     let help = match form {
-        Form::Source => {
+        OperandForm::Source => {
             format!(in alloc; "no sign may stand here: SUB subtracts {shown}, ADD adds it")?
         }
-        Form::Value | Form::Pc => {
+        OperandForm::Value | OperandForm::Pc => {
             format!(in alloc; "no sign may stand here: LIT r1, {shown} and then SUB r1, r0, r1")?
         }
-        Form::Word => match shown.as_str().parse::<u64>() {
+        OperandForm::Word => match shown.as_str().parse::<u64>() {
             Ok(number) => {
                 let word = 0u64.wrapping_sub(number);
                 format!(in alloc; "no sign may stand here: write 0x{word:X}")?

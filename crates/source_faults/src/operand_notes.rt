@@ -2,7 +2,7 @@
 
 use crate::count_notes::note_count;
 use crate::data_words::data_help;
-use crate::form::Form;
+use crate::form::OperandForm;
 use crate::notes::Notes;
 use crate::operand_words::{form_help, missing_label_help, range_help, range_words};
 use crate::phrases::shown;
@@ -15,7 +15,7 @@ use std::alloc::{AllocError, Global};
 #[derive(Clone, Copy)]
 pub(crate) struct Taking<'a> {
     pub(crate) name: &'a str,
-    pub(crate) forms: &'static [Form],
+    pub(crate) forms: &'static [OperandForm],
     pub(crate) least: usize,
 }
 
@@ -30,7 +30,7 @@ impl Taking<'_> {
     }
 }
 
-/// Tells what is wrong with the operands that stand behind a head.
+/// Tells what is wrong with the operands that stand after a head.
 pub(crate) fn note_operands(
     notes: &mut Notes,
     reader: &Reader,
@@ -57,7 +57,7 @@ fn note_operand(
     reader: &Reader,
     taking: Taking,
     place: usize,
-    form: Form,
+    form: OperandForm,
     operand: Token,
 ) -> Result<(), AllocError> {
     let alloc = notes.alloc();
@@ -82,7 +82,7 @@ fn note_missing_label(
     operand: Token,
 ) -> Result<(), AllocError> {
     let alloc = notes.alloc();
-    let help = match data_help(notes, reader, Form::Value, operand.bytes)? {
+    let help = match data_help(notes, reader, OperandForm::Value, operand.bytes)? {
         Some(help) => Some(help),
         None => missing_label_help(notes, reader, operand.bytes)?,
     };
@@ -97,7 +97,7 @@ fn note_range(
     notes: &mut Notes,
     reader: &Reader,
     name: &str,
-    form: Form,
+    form: OperandForm,
     operand: Token,
 ) -> Result<(), AllocError> {
     let alloc = notes.alloc();
@@ -112,7 +112,7 @@ fn note_missing_operand(
     notes: &mut Notes,
     reader: &Reader,
     name: &str,
-    form: Form,
+    form: OperandForm,
     operand: Token,
 ) -> Result<(), AllocError> {
     let alloc = notes.alloc();
@@ -128,7 +128,7 @@ fn note_form(
     notes: &mut Notes,
     reader: &Reader,
     name: &str,
-    form: Form,
+    form: OperandForm,
     operand: Token,
 ) -> Result<(), AllocError> {
     let alloc = notes.alloc();

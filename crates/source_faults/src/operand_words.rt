@@ -1,7 +1,7 @@
 //! The words for an operand that has a fault.
 
 use crate::foreign_names::foreign_condition;
-use crate::form::Form;
+use crate::form::OperandForm;
 use crate::nearest::Nearest;
 use crate::notes::Notes;
 use crate::number_words::{are_capital_digits, number_help};
@@ -18,20 +18,22 @@ pub(crate) const COMMENTS: &str = "a comment begins with ;";
 pub(crate) fn range_words(
     alloc: Global,
     reader: &Reader,
-    form: Form,
+    form: OperandForm,
     operand: &[u8],
     name: &str,
 ) -> Result<String, AllocError> {
     let text = shown(alloc, operand)?;
     match (form, reader.place_of(operand)) {
-        (Form::Distance, Some(place)) => {
+        (OperandForm::Distance, Some(place)) => {
             let (far, direction) = distance(reader.here(), place.value);
             format!(in alloc;
                 "{text} is {far} words {direction}, and SKIP reaches 128 on or 127 back"
             )
         }
-        (Form::Entry, Some(_)) => { format!(in alloc; "{text} is after the last instruction line") }
-        (Form::Entry, None) => {
+        (OperandForm::Entry, Some(_)) => {
+            format!(in alloc; "{text} is after the last instruction line")
+        }
+        (OperandForm::Entry, None) => {
             let words = reader.words();
             format!(in alloc;
                 "{text} is past the program, whose words are numbered from 0 to {}",
@@ -58,15 +60,15 @@ fn distance(here: usize, value: usize) -> (usize, &'static str) {
 pub(crate) fn range_help(
     alloc: Global,
     reader: &Reader,
-    form: Form,
+    form: OperandForm,
     operand: &[u8],
 ) -> Result<Option<String>, AllocError> {
     match form {
-        Form::Source => said(alloc, "LIT puts a greater number into a register"),
-        Form::Displacement => displacement_help(alloc, operand),
-        Form::Value => said(alloc, "LITH sets the 32 high bits of a register"),
-        Form::Entry => said(alloc, "a processor begins at an instruction line"),
-        Form::Distance if reader.place_of(operand).is_some() => {
+        OperandForm::Source => said(alloc, "LIT puts a greater number into a register"),
+        OperandForm::Displacement => displacement_help(alloc, operand),
+        OperandForm::Value => said(alloc, "LITH sets the 32 high bits of a register"),
+        OperandForm::Entry => said(alloc, "a processor begins at an instruction line"),
+        OperandForm::Distance if reader.place_of(operand).is_some() => {
             let text = shown(alloc, operand)?;
             let help = format!(in alloc;
                 "TLIT t1, {text} and then JUMP ALWAYS, 0, t1 goes anywhere"
@@ -98,7 +100,7 @@ fn displacement_help(alloc: Global, operand: &[u8]) -> Result<Option<String>, Al
 pub(crate) fn form_help(
     alloc: Global,
     reader: &Reader,
-    form: Form,
+    form: OperandForm,
     operand: Token,
 ) -> Result<String, AllocError> {
     if operand.has_comment() {
@@ -132,12 +134,12 @@ fn joined_help(operand: Token) -> Option<&'static str> {
 }
 
 /// What to write where a label stands that may not.
-fn label_help(alloc: Global, form: Form, label: &[u8]) -> Result<String, AllocError> {
+fn label_help(alloc: Global, form: OperandForm, label: &[u8]) -> Result<String, AllocError> {
     match form {
-        Form::Register | Form::Base | Form::Source => {
+        OperandForm::Register | OperandForm::Base | OperandForm::Source => {
             String::from_str(alloc, "LIT puts the value of a label into a register")
         }
-        Form::Target => {
+        OperandForm::Target => {
             let label = shown(alloc, label)?;
             format!(in alloc;
                 "TLIT t1, {label} comes first, and then t1; SKIP takes a label itself"
@@ -148,11 +150,15 @@ fn label_help(alloc: Global, form: Form, label: &[u8]) -> Result<String, AllocEr
 }
 
 /// What to write for an operand of this form that is written as on other machines; None where it is not.
-fn written_help(alloc: Global, form: Form, operand: &[u8]) -> Result<Option<String>, AllocError> {
+fn written_help(
+    alloc: Global,
+    form: OperandForm,
+    operand: &[u8],
+) -> Result<Option<String>, AllocError> {
     match form {
-        Form::Condition => Ok(Some(condition_help(alloc, operand)?)),
-        Form::Base => base_help(alloc, operand),
-        Form::Register | Form::Target => Ok(None),
+        OperandForm::Condition => Ok(Some(condition_help(alloc, operand)?)),
+        OperandForm::Base => base_help(alloc, operand),
+        OperandForm::Register | OperandForm::Target => Ok(None),
         _ => number_help(alloc, form, operand),
     }
 }
@@ -174,26 +180,29 @@ fn base_help(alloc: Global, operand: &[u8]) -> Result<Option<String>, AllocError
 }
 
 /// What to write in place of a text that is no label.
-fn advice(form: Form, operand: &[u8]) -> &'static str {
+fn advice(form: OperandForm, operand: &[u8]) -> &'static str {
     match (form, operand) {
-        (Form::Register | Form::Base | Form::Source, [b'R', ..]) => "registers have a small r",
-        (Form::Register | Form::Base, [b't', ..]) => {
+        (OperandForm::Register | OperandForm::Base | OperandForm::Source, [b'R', ..]) =>
+            "registers have a small r",
+        (OperandForm::Register | OperandForm::Base, [b't', ..]) => {
             "TGET moves a target register to a register; TLIT sets one"
         }
-        (Form::Register | Form::Base | Form::Source, [b'r', b'0', _, ..]) => {
+        (OperandForm::Register | OperandForm::Base | OperandForm::Source, [b'r', b'0', _, ..]) => {
             "registers have no zeros in front"
         }
-        (Form::Register, [b'0'..=b'9', ..]) => {
+        (OperandForm::Register, [b'0'..=b'9', ..]) => {
             "LIT puts a number into a register; r0 is always 0"
         }
-        (Form::Target, [b'r', ..]) => {
+        (OperandForm::Target, [b'r', ..]) => {
             "TSET moves a register to a target register; LIT sets a register"
         }
-        (Form::Target, [b'T', ..]) => "target registers have a small t",
-        (Form::Tags, b"empty") => "write 0 for an empty word",
-        (Form::Tags, b"full") => "write 1 for a full word",
-        (Form::Value | Form::Pc | Form::Entry | Form::Distance, [b'A'..=b'Z' | b'a'..=b'z', ..]) =>
-            { "a label has letters, digits and _, at most 32 of them" }
+        (OperandForm::Target, [b'T', ..]) => "target registers have a small t",
+        (OperandForm::Tags, b"empty") => "write 0 for an empty word",
+        (OperandForm::Tags, b"full") => "write 1 for a full word",
+        (
+            OperandForm::Value | OperandForm::Pc | OperandForm::Entry | OperandForm::Distance,
+            [b'A'..=b'Z' | b'a'..=b'z', ..],
+        ) => { "a label has letters, digits and _, at most 32 of them" }
         _ => form.advice(),
     }
 }
@@ -207,7 +216,7 @@ fn condition_help(alloc: Global, operand: &[u8]) -> Result<String, AllocError> {
             let name = shown(alloc, name)?;
             format!(in alloc; "did you mean {name}?")
         }
-        None => String::from_str(alloc, Form::Condition.advice()),
+        None => String::from_str(alloc, OperandForm::Condition.advice()),
     }
 }
 

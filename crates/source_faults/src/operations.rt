@@ -1,6 +1,6 @@
 //! The operations and directives by their names, with the operands that they take.
 
-use crate::form::Form;
+use crate::form::OperandForm;
 use crate::nearest::Nearest;
 use asm_line::{Directive, names};
 use insn_word::{ArithmeticOp, Condition, ControlOp, MemoryOp, WideOp};
@@ -71,37 +71,56 @@ impl Named {
     }
 
     /// The operands that it takes.
-    pub(crate) fn operands(self) -> &'static [Form] {
+    pub(crate) fn operands(self) -> &'static [OperandForm] {
         match self {
             Named::Nop => &[],
             Named::Wide(op) => wide_operands(op),
-            Named::Memory(_) => &[Form::Register, Form::Base, Form::Displacement],
-            Named::Arithmetic(ArithmeticOp::Tally) => &[Form::Register, Form::Register],
-            Named::Arithmetic(_) => &[Form::Register, Form::Register, Form::Source],
+            Named::Memory(_) => &[
+                OperandForm::Register,
+                OperandForm::Base,
+                OperandForm::Displacement,
+            ],
+            Named::Arithmetic(ArithmeticOp::Tally) => &[
+                OperandForm::Register,
+                OperandForm::Register,
+            ],
+            Named::Arithmetic(_) => &[
+                OperandForm::Register,
+                OperandForm::Register,
+                OperandForm::Source,
+            ],
             Named::Control(op) => control_operands(op),
         }
     }
 }
 
-fn wide_operands(op: WideOp) -> &'static [Form] {
+fn wide_operands(op: WideOp) -> &'static [OperandForm] {
     match op {
-        WideOp::Literal | WideOp::LiteralHigh => &[Form::Register, Form::Value],
-        WideOp::TargetLiteral => &[Form::Target, Form::Pc],
+        WideOp::Literal | WideOp::LiteralHigh => &[OperandForm::Register, OperandForm::Value],
+        WideOp::TargetLiteral => &[OperandForm::Target, OperandForm::Pc],
     }
 }
 
-fn control_operands(op: ControlOp) -> &'static [Form] {
+fn control_operands(op: ControlOp) -> &'static [OperandForm] {
     match op {
         ControlOp::Nop | ControlOp::Quit | ControlOp::QuitKeep => &[],
-        ControlOp::Jump => &[Form::Condition, Form::Code, Form::Target],
-        ControlOp::Skip => &[Form::Condition, Form::Code, Form::Distance],
-        ControlOp::Call => &[Form::Target, Form::Target],
-        ControlOp::Exchange => &[Form::Target],
-        ControlOp::TargetSet | ControlOp::Create => &[Form::Target, Form::Register],
-        ControlOp::TargetGet => &[Form::Register, Form::Target],
-        ControlOp::TrapGet => &[Form::Register],
-        ControlOp::Reserve => &[Form::Register, Form::Register],
-        ControlOp::Mask => &[Form::Mask],
+        ControlOp::Jump => &[
+            OperandForm::Condition,
+            OperandForm::Code,
+            OperandForm::Target,
+        ],
+        ControlOp::Skip => &[
+            OperandForm::Condition,
+            OperandForm::Code,
+            OperandForm::Distance,
+        ],
+        ControlOp::Call => &[OperandForm::Target, OperandForm::Target],
+        ControlOp::Exchange => &[OperandForm::Target],
+        ControlOp::TargetSet | ControlOp::Create => &[OperandForm::Target, OperandForm::Register],
+        ControlOp::TargetGet => &[OperandForm::Register, OperandForm::Target],
+        ControlOp::TrapGet => &[OperandForm::Register],
+        ControlOp::Reserve => &[OperandForm::Register, OperandForm::Register],
+        ControlOp::Mask => &[OperandForm::Mask],
     }
 }
 
@@ -188,16 +207,16 @@ pub(crate) fn nearest_directive(text: &[u8]) -> Option<&'static [u8]> {
 }
 
 /// The operands that a directive takes at most.
-pub(crate) fn directive_operands(directive: Directive) -> &'static [Form] {
+pub(crate) fn directive_operands(directive: Directive) -> &'static [OperandForm] {
     match directive {
-        Directive::Profile => &[Form::Profile],
-        Directive::Slim => &[Form::Slim],
-        Directive::Chain => &[Form::Chain],
-        Directive::Retry => &[Form::Retry],
-        Directive::Trap => &[Form::Pc],
-        Directive::Entry => &[Form::Entry],
-        Directive::Word => &[Form::Word],
-        Directive::Data => &[Form::Word, Form::Tags],
-        Directive::Fill => &[Form::Count, Form::Word, Form::Tags],
+        Directive::Profile => &[OperandForm::Profile],
+        Directive::Slim => &[OperandForm::Slim],
+        Directive::Chain => &[OperandForm::Chain],
+        Directive::Retry => &[OperandForm::Retry],
+        Directive::Trap => &[OperandForm::Pc],
+        Directive::Entry => &[OperandForm::Entry],
+        Directive::Word => &[OperandForm::Word],
+        Directive::Data => &[OperandForm::Word, OperandForm::Tags],
+        Directive::Fill => &[OperandForm::Count, OperandForm::Word, OperandForm::Tags],
     }
 }

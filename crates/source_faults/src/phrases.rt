@@ -1,6 +1,6 @@
 //! Parts of sentences.
 
-use crate::form::Form;
+use crate::form::OperandForm;
 use std::alloc::{AllocError, Global};
 
 /// How many bytes of a text a sentence shows at most.
@@ -46,7 +46,7 @@ fn separator(place: usize, count: usize) -> &'static str {
 /// Operands of these forms, of which the first so many have to stand there.
 pub(crate) fn operands_listed(
     alloc: Global,
-    forms: &[Form],
+    forms: &[OperandForm],
     least: usize,
 ) -> Result<String, AllocError> {
     if forms.is_empty() {

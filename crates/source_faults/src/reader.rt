@@ -1,9 +1,9 @@
 //! Pieces of a statement, each judged by what a line of its own with it would be answered.
 
 use crate::data_lines::DataLines;
-use crate::form::Form;
+use crate::form::OperandForm;
 use crate::label_notes::is_name;
-use crate::lines::{Line, Lines};
+use crate::lines::{Lines, TextLine};
 use crate::message::Spot;
 use crate::token::Token;
 use asm_line::{Fault, Item, Place, SourceLine, read_line};
@@ -14,15 +14,15 @@ use std::alloc::{AllocError, Global};
 
 /// What is known of a text before its lines are read.
 #[derive(Drop)]
-pub(crate) struct Source<'t> {
+pub(crate) struct SourceFacts<'t> {
     text: &'t [u8],
     outline: Outline<'t>,
     names: Vec<&'t [u8]>,
 }
 
-impl<'t> Source<'t> {
+impl<'t> SourceFacts<'t> {
     /// Of this text.
-    pub(crate) fn of(alloc: Global, text: &'t [u8]) -> Result<Source<'t>, AllocError> {
+    pub(crate) fn of(alloc: Global, text: &'t [u8]) -> Result<SourceFacts<'t>, AllocError> {
         let mut names = Vec::new(alloc);
         for line in Lines::filled(text) {
             match line.source.label {
@@ -30,7 +30,7 @@ impl<'t> Source<'t> {
                 _ => {}
             }
         }
-        Ok(Source {
+        Ok(SourceFacts {
             text,
             outline: outline_of(alloc, text)?,
             names,
@@ -59,18 +59,18 @@ impl<'t> Source<'t> {
 /// Reads statements in the place of a line of a text.
 #[derive(Clone, Copy)]
 pub(crate) struct Reader<'s, 't> {
-    source: &'s Source<'t>,
-    line: Line<'t>,
+    source: &'s SourceFacts<'t>,
+    line: TextLine<'t>,
 }
 
 impl<'s, 't> Reader<'s, 't> {
     /// In the place of this line.
-    pub(crate) fn at(source: &'s Source<'t>, line: Line<'t>) -> Reader<'s, 't> {
+    pub(crate) fn at(source: &'s SourceFacts<'t>, line: TextLine<'t>) -> Reader<'s, 't> {
         Reader { source, line }
     }
 
     /// The line.
-    pub(crate) fn line(&self) -> &Line<'t> {
+    pub(crate) fn line(&self) -> &TextLine<'t> {
         &self.line
     }
 
@@ -176,7 +176,7 @@ impl<'s, 't> Reader<'s, 't> {
     pub(crate) fn operand_fault(
         &self,
         alloc: Global,
-        form: Form,
+        form: OperandForm,
         operand: &[u8],
     ) -> Result<Option<Fault>, AllocError> {
         let (before, behind) = form.frame();

@@ -1,6 +1,6 @@
 //! What is wrong with a line of a schedule.
 
-use crate::lines::Line;
+use crate::lines::TextLine;
 use crate::notes::Notes;
 use crate::phrases::shown;
 use crate::token::Token;
@@ -9,7 +9,7 @@ use text_parts::{Base, Number, find_either, read_digits};
 
 /// What a line of a schedule says: so many steps of a stream of a processor.
 #[derive(Clone, Copy)]
-pub(crate) struct Fields<'t> {
+pub(crate) struct ScheduleLine<'t> {
     pub(crate) processor: u8,
     pub(crate) stream: u8,
     pub(crate) times: u64,
@@ -47,9 +47,9 @@ const TIMES: Counted = Counted {
 /// first line that has one.
 pub(crate) fn note_fields<'t>(
     notes: &mut Notes,
-    line: &Line<'t>,
+    line: &TextLine<'t>,
     has_returns: &mut bool,
-) -> Result<Option<Fields<'t>>, AllocError> {
+) -> Result<Option<ScheduleLine<'t>>, AllocError> {
     let token = note_return(notes, line, has_returns)?;
     if note_layout(notes, line, token)? {
         return Ok(None);
@@ -71,7 +71,7 @@ pub(crate) fn note_fields<'t>(
         None => Some(1),
     };
     Ok(match (processor, stream, times) {
-        (Some(processor), Some(stream), Some(times)) => Some(Fields {
+        (Some(processor), Some(stream), Some(times)) => Some(ScheduleLine {
             processor,
             stream,
             times,
@@ -86,8 +86,8 @@ fn byte(number: u64) -> Option<u8> {
     u8::try_from(number).ok()
 }
 
-/// Tells what is wrong with what stands behind a line's second number, and answers its third number.
-fn note_times(notes: &mut Notes, line: &Line, rest: Token) -> Result<Option<u64>, AllocError> {
+/// Tells what is wrong with what stands after a line's second number, and answers its third number.
+fn note_times(notes: &mut Notes, line: &TextLine, rest: Token) -> Result<Option<u64>, AllocError> {
     let (third, behind) = rest.cut(b' ');
     if let Some(behind) = behind {
         let help = "write p s or p s n";
@@ -100,7 +100,7 @@ fn note_times(notes: &mut Notes, line: &Line, rest: Token) -> Result<Option<u64>
 /// Tells that a line ends with a carriage return, if no line before it did, and answers the line without it.
 fn note_return<'t>(
     notes: &mut Notes,
-    line: &Line<'t>,
+    line: &TextLine<'t>,
     has_returns: &mut bool,
 ) -> Result<Token<'t>, AllocError> {
     let token = Token::of_line(line.bytes);
@@ -120,7 +120,7 @@ fn note_return<'t>(
 }
 
 /// Tells that a line has something besides numbers and single spaces, if it has.
-fn note_layout(notes: &mut Notes, line: &Line, token: Token) -> Result<bool, AllocError> {
+fn note_layout(notes: &mut Notes, line: &TextLine, token: Token) -> Result<bool, AllocError> {
     let Some(fault) = layout_fault(token) else {
         return Ok(false);
     };
@@ -167,7 +167,7 @@ fn layout_fault<'t>(token: Token<'t>) -> Option<LayoutFault<'t>> {
     })
 }
 
-/// Where a space stands at an end of the line, or behind another one.
+/// Where a space stands at an end of the line, or after another one.
 fn blank_place(token: Token) -> Option<usize> {
     if token.begins(b' ') {
         return Some(0);
@@ -184,7 +184,7 @@ fn blank_place(token: Token) -> Option<usize> {
 /// Tells what is wrong with a number, and answers it where it is right.
 fn note_number(
     notes: &mut Notes,
-    line: &Line,
+    line: &TextLine,
     token: Token,
     counted: Counted,
 ) -> Result<Option<u64>, AllocError> {

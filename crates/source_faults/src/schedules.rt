@@ -4,10 +4,10 @@ ghost use Rattle.std.specs.Prelude.{◌≡◌, ◌<◌, ◌||◌, is_err, is_som
 ghost use Rattle.trace_text.specs.Schedules.{schedule_of};
 ghost use Rattle.source_faults.specs.Messages.{has_error};
 
-use crate::lines::{Line, Lines};
+use crate::lines::{Lines, TextLine};
 use crate::message::{Message, Severity, Spot};
 use crate::notes::{Notes, in_order};
-use crate::schedule_notes::{Fields, note_fields};
+use crate::schedule_notes::{ScheduleLine, note_fields};
 use crate::streams::Streams;
 use image_file::Image;
 use std::alloc::{AllocError, Global};
@@ -104,9 +104,9 @@ fn note_lines(
 /// Tells that a line takes the steps, which are so many before it, past the limit, and answers how many they are then.
 fn note_steps(
     notes: &mut Notes,
-    line: &Line,
+    line: &TextLine,
     before: u64,
-    fields: Fields,
+    fields: ScheduleLine,
 ) -> Result<u64, AllocError> {
     let steps = before.saturating_add(fields.times);
     if before <= MAX_STEPS && steps > MAX_STEPS {

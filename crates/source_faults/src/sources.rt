@@ -8,7 +8,7 @@ use crate::label_notes::note_label;
 use crate::lines::Lines;
 use crate::message::{Message, Severity, Spot};
 use crate::notes::{Notes, in_order};
-use crate::reader::{Reader, Source};
+use crate::reader::{Reader, SourceFacts};
 use crate::statement_notes::note_statement;
 use crate::text_notes::{Totals, last_line, note_foreign};
 use crate::warnings::warnings_of;
@@ -26,7 +26,7 @@ const KINDS: &str = "see the faults of a text in WRITING_PROGRAMS.md";
 pub fn check_source(alloc: Global, text: &[u8]) -> Result<Vec<Message>, AllocError>
     ensures { IfOk result (λ messages. has_error messages.items ≡ is_err (meaning_of text.now)) }
 {
-    let source = Source::of(alloc, text)?;
+    let source = SourceFacts::of(alloc, text)?;
     let meaning = image_of(alloc, text)?;
     let mut messages = Vec::new(alloc);
     tell_faults(alloc, &source, text, &meaning, &mut messages)?;
@@ -55,7 +55,7 @@ fn image_of(alloc: Global, text: &[u8]) -> Result<Result<Image, AsmFault>, Alloc
 /// Tells the faults of a text that is refused for one.
 fn tell_faults<'t>(
     alloc: Global,
-    source: &Source<'t>,
+    source: &SourceFacts<'t>,
     text: &'t [u8],
     meaning: &Result<Image, AsmFault>,
     messages: &mut Vec<Message>,
@@ -72,7 +72,7 @@ fn tell_faults<'t>(
 /// The faults of a text of which this is one.
 fn faults_of<'t>(
     alloc: Global,
-    source: &Source<'t>,
+    source: &SourceFacts<'t>,
     text: &'t [u8],
     fault: AsmFault,
 ) -> Result<Notes, AllocError>
@@ -94,7 +94,7 @@ fn faults_of<'t>(
 /// Tells the faults of all lines, and then those of the text as a whole.
 fn note_faults<'t>(
     notes: &mut Notes,
-    source: &Source<'t>,
+    source: &SourceFacts<'t>,
     text: &'t [u8],
 ) -> Result<(), AllocError> {
     let mut totals = Totals::NONE;

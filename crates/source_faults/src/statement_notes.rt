@@ -1,13 +1,13 @@
 //! What is wrong with a statement.
 
-use crate::form::Form;
+use crate::form::OperandForm;
 use crate::head_notes::{note_unknown_directive, note_unknown_operation};
 use crate::notes::Notes;
 use crate::operand_notes::{Taking, note_operands};
 use crate::operations::{Named, directive_named, directive_operands, operation_named};
 use crate::reader::Reader;
 use crate::token::Token;
-use crate::word_notes::{Operation, note_word};
+use crate::word_notes::{WrittenOperation, note_word};
 use asm_line::{Directive, Fault, names};
 use std::alloc::AllocError;
 
@@ -68,7 +68,7 @@ fn note_pieces(
     for piece in pieces {
         if let Some(named) = note_operation(notes, reader, *piece)? {
             let piece = *piece;
-            operations.push(Operation { named, piece })?;
+            operations.push(WrittenOperation { named, piece })?;
         }
     }
     if operations.len() < pieces.len() {
@@ -77,7 +77,7 @@ fn note_pieces(
     note_word(notes, reader, &operations, notes.len() == before)
 }
 
-/// Tells what is wrong with the lookahead of an instruction, if it has one, and answers what stands behind it.
+/// Tells what is wrong with the lookahead of an instruction, if it has one, and answers what stands after it.
 fn note_lookahead<'t>(
     notes: &mut Notes,
     reader: &Reader,
@@ -88,7 +88,7 @@ fn note_lookahead<'t>(
     }
     let (head, behind) = statement.split_head();
     let number = head.behind(1).bytes;
-    if let Some(fault) = reader.operand_fault(notes.alloc(), Form::Lookahead, number)? {
+    if let Some(fault) = reader.operand_fault(notes.alloc(), OperandForm::Lookahead, number)? {
         let help = "a blank comes after it";
         let kind = if behind.bytes.is_empty() {
             Fault::Unknown

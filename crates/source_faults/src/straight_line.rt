@@ -12,15 +12,15 @@ use std::alloc::{AllocError, Global};
 
 /// What is known of a register.
 #[derive(Clone, Copy)]
-struct Known<'t> {
+struct KnownRegister<'t> {
     /// Its high 32 bits.
     high: Option<u32>,
     /// The label whose value it holds.
     label: Option<&'t [u8]>,
 }
 
-impl Known<'_> {
-    const NOTHING: Known<'static> = Known {
+impl KnownRegister<'_> {
+    const NOTHING: KnownRegister<'static> = KnownRegister {
         high: None,
         label: None,
     };
@@ -34,13 +34,13 @@ impl Known<'_> {
 /// What is known of the registers where a stream has come here word by word, without a jump.
 #[derive(Clone, Copy)]
 pub(crate) struct StraightLine<'t> {
-    registers: [Known<'t>; 32],
+    registers: [KnownRegister<'t>; 32],
 }
 
 impl<'t> StraightLine<'t> {
     /// Nothing.
     pub(crate) const NEW: StraightLine<'static> = StraightLine {
-        registers: [Known::NOTHING; 32],
+        registers: [KnownRegister::NOTHING; 32],
     };
 
     /// Takes a word of the program, None for one that spells no instruction, and warns of its reference.
@@ -62,14 +62,14 @@ impl<'t> StraightLine<'t> {
         Ok(())
     }
 
-    fn known(&self, register: u8) -> Known<'t> {
+    fn known(&self, register: u8) -> KnownRegister<'t> {
         match self.registers.get(usize::from(register)) {
             Some(known) => *known,
-            None => Known::NOTHING,
+            None => KnownRegister::NOTHING,
         }
     }
 
-    fn set(&mut self, register: u8, known: Known<'t>) {
+    fn set(&mut self, register: u8, known: KnownRegister<'t>) {
         let place = usize::from(register);
         if place > 0 && place < self.registers.len() {
             self.registers[place] = known;
@@ -80,14 +80,14 @@ impl<'t> StraightLine<'t> {
         match op {
             WideOp::Literal => self.set(
                 register,
-                Known {
+                KnownRegister {
                     high: Some(0),
                     label: label_operand(reader),
                 },
             ),
             WideOp::LiteralHigh => self.set(
                 register,
-                Known {
+                KnownRegister {
                     high: Some(immediate),
                     label: None,
                 },
@@ -97,9 +97,9 @@ impl<'t> StraightLine<'t> {
     }
 
     fn take_normal(&mut self, m: MPart, a: APart, c: CPart) {
-        self.set(m.destination(), Known::NOTHING);
-        self.set(a.destination(), Known::NOTHING);
-        self.set(c.destination(), Known::NOTHING);
+        self.set(m.destination(), KnownRegister::NOTHING);
+        self.set(a.destination(), KnownRegister::NOTHING);
+        self.set(c.destination(), KnownRegister::NOTHING);
         if leaves(c) {
             *self = StraightLine::NEW;
         }
@@ -135,7 +135,7 @@ fn note_reference(
     reader: &Reader,
     data_lines: &DataLines,
     m: MPart,
-    known: Known,
+    known: KnownRegister,
 ) -> Result<(), AllocError> {
     if m.op == MemoryOp::Nop {
         return Ok(());

@@ -1,8 +1,8 @@
 //! The processors and streams that a schedule names.
 
-use crate::lines::Line;
+use crate::lines::TextLine;
 use crate::notes::Notes;
-use crate::schedule_notes::Fields;
+use crate::schedule_notes::ScheduleLine;
 use crate::token::Token;
 use image_file::Image;
 use std::alloc::{AllocError, Global};
@@ -39,10 +39,10 @@ impl Streams {
     pub(crate) fn see(
         &mut self,
         notes: &mut Notes,
-        line: &Line,
-        fields: Fields,
+        line: &TextLine,
+        fields: ScheduleLine,
     ) -> Result<(), AllocError> {
-        let Fields {
+        let ScheduleLine {
             processor,
             stream,
             ..
@@ -73,11 +73,11 @@ impl Streams {
     fn note_processor(
         &self,
         notes: &mut Notes,
-        line: &Line,
-        fields: Fields,
+        line: &TextLine,
+        fields: ScheduleLine,
     ) -> Result<(), AllocError> {
         let alloc = notes.alloc();
-        let Fields { processor, .. } = fields;
+        let ScheduleLine { processor, .. } = fields;
         let words = format!(in alloc; "processor {processor} is not there")?;
         let help = match self.processors {
             1 => String::from_str(alloc, "the program has processor 0 alone")?,
@@ -93,11 +93,11 @@ impl Streams {
     fn note_stream(
         &self,
         notes: &mut Notes,
-        line: &Line,
-        fields: Fields,
+        line: &TextLine,
+        fields: ScheduleLine,
     ) -> Result<(), AllocError> {
         let alloc = notes.alloc();
-        let Fields {
+        let ScheduleLine {
             processor,
             stream,
             ..

@@ -1,11 +1,11 @@
 //! What is wrong with a text as a whole.
 
-use crate::lines::Line;
+use crate::lines::TextLine;
 use crate::message::Spot;
 use crate::notes::Notes;
 use crate::operations::directive_named;
 use crate::phrases::shown;
-use crate::reader::Source;
+use crate::reader::SourceFacts;
 use crate::token::Token;
 use asm_line::{Directive, Fault, Item};
 use std::alloc::AllocError;
@@ -47,7 +47,7 @@ impl Totals {
     };
 
     /// Takes a line by its form, whatever fault it has.
-    pub(crate) fn see(&mut self, line: &Line) {
+    pub(crate) fn see(&mut self, line: &TextLine) {
         let head = match line.label() {
             Some(label) if label.begins(b'.') => label.trim(),
             _ => line.statement().split_head().0,
@@ -66,7 +66,7 @@ impl Totals {
     pub(crate) fn take(
         &mut self,
         notes: &mut Notes,
-        line: &Line,
+        line: &TextLine,
         item: Item,
     ) -> Result<(), AllocError> {
         match item {
@@ -82,7 +82,7 @@ impl Totals {
         }
     }
 
-    fn take_entry(&mut self, notes: &mut Notes, line: &Line) -> Result<(), AllocError> {
+    fn take_entry(&mut self, notes: &mut Notes, line: &TextLine) -> Result<(), AllocError> {
         self.entries = self.entries.saturating_add(1);
         if self.entries == MAX_ENTRIES + 1 {
             let help = "a machine has at most 16 processors";
@@ -95,7 +95,7 @@ impl Totals {
     fn take_cells(
         &mut self,
         notes: &mut Notes,
-        line: &Line,
+        line: &TextLine,
         count: usize,
     ) -> Result<(), AllocError> {
         let before = self.cells;
@@ -112,7 +112,7 @@ impl Totals {
     pub(crate) fn note_missing(
         &self,
         notes: &mut Notes,
-        source: &Source,
+        source: &SourceFacts,
         end: Spot,
     ) -> Result<(), AllocError> {
         if !self.has_entry {
@@ -140,7 +140,7 @@ impl Totals {
 }
 
 /// Tells that the text has no entry.
-fn note_no_entry(notes: &mut Notes, source: &Source) -> Result<(), AllocError> {
+fn note_no_entry(notes: &mut Notes, source: &SourceFacts) -> Result<(), AllocError> {
     let alloc = notes.alloc();
     let entry = match source.first_label() {
         Some(label) => shown(alloc, label)?,
@@ -167,12 +167,16 @@ pub(crate) fn last_line(text: &[u8]) -> Spot {
 }
 
 /// The place of the head of a line's statement.
-fn head_spot(line: &Line) -> Spot {
+fn head_spot(line: &TextLine) -> Spot {
     line.spot(line.statement().split_head().0)
 }
 
 /// Tells that a directive stands a second time, or keeps where it stands first.
-fn note_once(notes: &mut Notes, line: &Line, first: &mut Option<usize>) -> Result<(), AllocError> {
+fn note_once(
+    notes: &mut Notes,
+    line: &TextLine,
+    first: &mut Option<usize>,
+) -> Result<(), AllocError> {
     let Some(number) = *first else {
         *first = Some(line.number + 1);
         return Ok(());
@@ -184,7 +188,7 @@ fn note_once(notes: &mut Notes, line: &Line, first: &mut Option<usize>) -> Resul
     notes.add_with(head_spot(line), words, "it may stand once")
 }
 
-fn take_word(notes: &mut Notes, line: &Line) -> Result<(), AllocError> {
+fn take_word(notes: &mut Notes, line: &TextLine) -> Result<(), AllocError> {
     if line.here == MAX_PROGRAM_WORDS {
         let words = "a program has at most 65536 words, and this is one more";
         notes.number(Fault::Limit.number());
@@ -194,7 +198,7 @@ fn take_word(notes: &mut Notes, line: &Line) -> Result<(), AllocError> {
 }
 
 /// Tells that a byte of the line is above 7F.
-pub(crate) fn note_foreign(notes: &mut Notes, line: &Line) -> Result<(), AllocError> {
+pub(crate) fn note_foreign(notes: &mut Notes, line: &TextLine) -> Result<(), AllocError> {
     let Some(place) = line.bytes.iter().position(|b| !b.is_ascii()) else {
         return Ok(());
     };

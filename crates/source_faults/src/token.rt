@@ -38,7 +38,7 @@ impl<'t> Token<'t> {
         }
     }
 
-    /// What stands before the first of a byte, and what stands behind it, if it is there.
+    /// What stands before the first of a byte, and what stands after it, if it is there.
     pub(crate) fn cut(self, byte: u8) -> (Token<'t>, Option<Token<'t>>)
         ensures { IfSome result.1 (λ rest. length rest.bytes.now < length self.entry.bytes.now) }
     {
@@ -59,7 +59,7 @@ impl<'t> Token<'t> {
         }
     }
 
-    /// What stands before the first blank, and what stands behind it, without blanks at its ends.
+    /// What stands before the first blank, and what stands after it, without blanks at its ends.
     pub(crate) fn split_head(self) -> (Token<'t>, Token<'t>) {
         match self.bytes.iter().position(|b| is_blank(*b)) {
             Some(place) => (self.before(place), self.behind(place).trim()),
@@ -79,7 +79,7 @@ impl<'t> Token<'t> {
         Ok(pieces)
     }
 
-    /// Whether the piece has what begins a comment on other machines: `//`, `/*`, or `#` with no digit behind it.
+    /// Whether the piece has what begins a comment on other machines: `//`, `/*`, or `#` with no digit after it.
     pub(crate) fn has_comment(self) -> bool {
         for (place, byte) in self.bytes.iter().enumerate() {
             let next = self.bytes.get(place.saturating_add(1)).copied();

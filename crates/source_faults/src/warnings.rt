@@ -6,7 +6,7 @@ use crate::message::Spot;
 use crate::notes::Notes;
 use crate::numbers::{DATA_LABEL, EARLIER_CODE};
 use crate::phrases::shown;
-use crate::reader::{Reader, Source};
+use crate::reader::{Reader, SourceFacts};
 use crate::straight_line::StraightLine;
 use crate::token::Token;
 use crate::unreached::note_unreached;
@@ -19,7 +19,7 @@ use std::alloc::{AllocError, Global};
 /// program that no way reaches.
 pub(crate) fn warnings_of<'t>(
     alloc: Global,
-    source: &Source<'t>,
+    source: &SourceFacts<'t>,
     text: &'t [u8],
     image: Option<&Image>,
 ) -> Result<Notes, AllocError> {
@@ -37,7 +37,7 @@ pub(crate) fn warnings_of<'t>(
 fn note_lines<'t>(
     notes: &mut Notes,
     spots: &mut Vec<Spot>,
-    source: &Source<'t>,
+    source: &SourceFacts<'t>,
     data_lines: &DataLines,
     text: &'t [u8],
 ) -> Result<(), AllocError> {

@@ -10,7 +10,7 @@ use std::alloc::AllocError;
 
 /// An operation of a word, and what says it.
 #[derive(Clone, Copy)]
-pub(crate) struct Operation<'t> {
+pub(crate) struct WrittenOperation<'t> {
     pub(crate) named: Named,
     pub(crate) piece: Token<'t>,
 }
@@ -19,7 +19,7 @@ pub(crate) struct Operation<'t> {
 pub(crate) fn note_word(
     notes: &mut Notes,
     reader: &Reader,
-    operations: &[Operation],
+    operations: &[WrittenOperation],
     are_right: bool,
 ) -> Result<(), AllocError> {
     if operations.len() < 2 {
@@ -36,9 +36,9 @@ pub(crate) fn note_word(
 fn note_order(
     notes: &mut Notes,
     reader: &Reader,
-    operations: &[Operation],
+    operations: &[WrittenOperation],
 ) -> Result<bool, AllocError> {
-    let mut earlier: Option<(Operation, Part)> = None;
+    let mut earlier: Option<(WrittenOperation, Part)> = None;
     for operation in operations {
         let Some(part) = operation.named.part() else {
             note_alone(notes, reader, *operation)?;
@@ -57,7 +57,11 @@ fn note_order(
 }
 
 /// Tells that an operation stands in a word of its own.
-fn note_alone(notes: &mut Notes, reader: &Reader, operation: Operation) -> Result<(), AllocError> {
+fn note_alone(
+    notes: &mut Notes,
+    reader: &Reader,
+    operation: WrittenOperation,
+) -> Result<(), AllocError> {
     let alloc = notes.alloc();
     let name = operation.named.name();
     let words = format!(in alloc; "{name} stands alone in its word")?;
@@ -69,12 +73,12 @@ fn note_alone(notes: &mut Notes, reader: &Reader, operation: Operation) -> Resul
     )
 }
 
-/// Tells that an operation of this part does not stand behind another.
+/// Tells that an operation of this part does not stand after another.
 fn note_pair(
     notes: &mut Notes,
     reader: &Reader,
     before: Named,
-    operation: Operation,
+    operation: WrittenOperation,
     part: Part,
 ) -> Result<(), AllocError> {
     let alloc = notes.alloc();
@@ -102,7 +106,7 @@ fn note_pair(
 fn note_writers(
     notes: &mut Notes,
     reader: &Reader,
-    operations: &[Operation],
+    operations: &[WrittenOperation],
 ) -> Result<(), AllocError> {
     for (place, operation) in operations.iter().enumerate() {
         let register = destination(reader, *operation);
@@ -116,10 +120,10 @@ fn note_writers(
 /// The first of so many operations that writes a register; none writes r0.
 fn first_writer<'t>(
     reader: &Reader,
-    operations: &[Operation<'t>],
+    operations: &[WrittenOperation<'t>],
     count: usize,
     register: u8,
-) -> Option<Operation<'t>> {
+) -> Option<WrittenOperation<'t>> {
     if register == 0 {
         return None;
     }
@@ -132,7 +136,7 @@ fn first_writer<'t>(
 }
 
 /// The register that an operation writes; 0 for none.
-fn destination(reader: &Reader, operation: Operation) -> u8 {
+fn destination(reader: &Reader, operation: WrittenOperation) -> u8 {
     match reader.item(None, operation.piece.bytes) {
         Ok(Item::Instruction(Insn::Normal { m, a, c, .. })) => {
             m.destination().max(a.destination()).max(c.destination())
@@ -145,8 +149,8 @@ fn destination(reader: &Reader, operation: Operation) -> u8 {
 fn note_both(
     notes: &mut Notes,
     reader: &Reader,
-    before: Operation,
-    operation: Operation,
+    before: WrittenOperation,
+    operation: WrittenOperation,
     register: u8,
 ) -> Result<(), AllocError> {
     let alloc = notes.alloc();

@@ -1,7 +1,7 @@
 //! Addresses that are no word's.
 
-use crate::references::Reference;
-use crate::spots::{Kind, Slips};
+use crate::references::ProgramReference;
+use crate::spots::{SlipKind, Slips};
 use std::alloc::{AllocError, Global};
 
 /// The least address that only a displacement below 0 makes.
@@ -10,7 +10,7 @@ const BELOW: u64 = 0xFFFF_FFFF_0000;
 /// Warns of each reference whose address is known and is that of no word, of so many data words.
 pub(crate) fn warn_of_addresses(
     slips: &mut Slips,
-    references: &[Reference],
+    references: &[ProgramReference],
     cells: usize,
 ) -> Result<(), AllocError> {
     let end = (cells as u64).saturating_mul(8);
@@ -26,7 +26,7 @@ pub(crate) fn warn_of_addresses(
 
 fn warn_unaligned(
     slips: &mut Slips,
-    reference: &Reference,
+    reference: &ProgramReference,
     address: u64,
 ) -> Result<(), AllocError> {
     let alloc = slips.alloc();
@@ -42,12 +42,12 @@ fn warn_unaligned(
             "an address counts bytes: data words are [0], [8], [16] and so on",
         )?
     };
-    slips.warn(Kind::NoDataWord, reference.place, words, help)
+    slips.warn(SlipKind::NoDataWord, reference.place, words, help)
 }
 
 fn warn_past(
     slips: &mut Slips,
-    reference: &Reference,
+    reference: &ProgramReference,
     address: u64,
     end: u64,
 ) -> Result<(), AllocError> {
@@ -55,18 +55,22 @@ fn warn_past(
     if address >= BELOW {
         let words = String::from_str(alloc, "the address here is below 0: the reference traps")?;
         let help = String::from_str(alloc, "the first data word is [0]")?;
-        return slips.warn(Kind::NoDataWord, reference.place, words, help);
+        return slips.warn(SlipKind::NoDataWord, reference.place, words, help);
     }
     let last = end.saturating_sub(8);
     let words = format!(in alloc;
         "the address here is [{address}], and the last data word is [{last}]: the reference traps"
     )?;
     let help = past_help(alloc, reference, address)?;
-    slips.warn(Kind::NoDataWord, reference.place, words, help)
+    slips.warn(SlipKind::NoDataWord, reference.place, words, help)
 }
 
 /// How an address that is past the end may be mended.
-fn past_help(alloc: Global, reference: &Reference, address: u64) -> Result<String, AllocError> {
+fn past_help(
+    alloc: Global,
+    reference: &ProgramReference,
+    address: u64,
+) -> Result<String, AllocError> {
     let displacement = reference.part.disp;
     if displacement > 0 {
         return format!(in alloc;

@@ -49,7 +49,7 @@ fn is_aimed(table: &[Option<u8>], anywhere: Option<u8>, place: u32) -> bool
     }
 }
 
-/// How many codes are made behind an instruction that makes one, or none.
+/// How many codes are made after an instruction that makes one, or none.
 fn count_after(makes: bool, count: u8) -> u32
     ensures { result ≡ count_after makes count }
 {

@@ -1,18 +1,18 @@
 //! Conditions on codes that nothing has made.
 
-use crate::program::Program;
-use crate::spots::{Kind, Slips};
+use crate::program::ProgramWords;
+use crate::spots::{SlipKind, Slips};
 use crate::unmade::unmade_codes;
 use asm_line::names;
 use image_file::Image;
 use insn_word::{APart, ArithmeticOp, CPart, Condition, Insn};
-use std::alloc::{AllocError, Global};
+use std::alloc::AllocError;
 
 /// Warns of each SKIP and JUMP that asks a code which no `.T` has made on any way to it.
 pub(crate) fn warn_of_codes(
     slips: &mut Slips,
     image: &Image,
-    program: &Program,
+    program: &ProgramWords,
 ) -> Result<(), AllocError> {
     for unmade in unmade_codes(slips.alloc(), image)?.iter() {
         let place = unmade.place as usize;
@@ -26,7 +26,7 @@ pub(crate) fn warn_of_codes(
 /// Warns of a condition that asks a code of which so many are made at most.
 fn warn_of_code(
     slips: &mut Slips,
-    program: &Program,
+    program: &ProgramWords,
     place: usize,
     c: CPart,
     most: u8,
@@ -55,7 +55,7 @@ fn warn_of_code(
         Some((word, op)) => tested_help(slips, word, op)?,
         None => String::from_str(alloc, "make a code first, as by SUB.T r0, r1, 10")?,
     };
-    slips.warn(Kind::NoCode, place, words, help)
+    slips.warn(SlipKind::NoCode, place, words, help)
 }
 
 /// That the operation of a word may be meant with `.T`.
@@ -69,7 +69,7 @@ fn tested_help(slips: &Slips, word: usize, op: ArithmeticOp) -> Result<String, A
 }
 
 /// The last word before a place, of those that lead straight to it, that has an arithmetic operation.
-fn untested(program: &Program, place: usize) -> Option<(usize, ArithmeticOp)> {
+fn untested(program: &ProgramWords, place: usize) -> Option<(usize, ArithmeticOp)> {
     for back in 0..place {
         let word = place.saturating_sub(back).saturating_sub(1);
         if !program.goes_on(word) {

@@ -1,7 +1,7 @@
 //! Streams that run on where none is meant to.
 
-use crate::program::Program;
-use crate::spots::{Kind, Slips};
+use crate::program::ProgramWords;
+use crate::spots::{SlipKind, Slips};
 use crate::straight_ways::{past_ends, runs_into};
 use image_file::Image;
 use insn_word::{ControlOp, Insn, MemoryOp};
@@ -11,7 +11,7 @@ use std::alloc::AllocError;
 pub(crate) fn warn_of_falls(
     slips: &mut Slips,
     image: &Image,
-    program: &Program,
+    program: &ProgramWords,
 ) -> Result<(), AllocError> {
     let ends = past_ends(slips.alloc(), image)?;
     for end in ends.iter() {
@@ -32,11 +32,11 @@ fn warn_of_end(slips: &mut Slips, place: usize) -> Result<(), AllocError> {
     let words = "a stream that goes on from here is past the end of the program, and traps";
     let words = String::from_str(alloc, words)?;
     let help = String::from_str(alloc, "did you forget QUIT?")?;
-    slips.warn(Kind::PastEnd, place, words, help)
+    slips.warn(SlipKind::PastEnd, place, words, help)
 }
 
-/// Whether a processor begins at a word and does not end there, behind code of another one's that refers to memory.
-fn is_others_entry(program: &Program, place: usize) -> bool {
+/// Whether a processor begins at a word and does not end there, after code of another one's that refers to memory.
+fn is_others_entry(program: &ProgramWords, place: usize) -> bool {
     if !is_entry(program, place) || is_end(program, place) {
         return false;
     }
@@ -51,19 +51,19 @@ fn is_others_entry(program: &Program, place: usize) -> bool {
     false
 }
 
-fn is_entry(program: &Program, place: usize) -> bool {
+fn is_entry(program: &ProgramWords, place: usize) -> bool {
     program.entries.iter().any(|entry| *entry as usize == place)
 }
 
 /// Whether a stream ends at a word.
-fn is_end(program: &Program, place: usize) -> bool {
+fn is_end(program: &ProgramWords, place: usize) -> bool {
     match program.insn(place) {
         Some(Insn::Normal { c, .. }) => { c.op == ControlOp::Quit || c.op == ControlOp::QuitKeep }
         _ => false,
     }
 }
 
-fn has_reference(program: &Program, place: usize) -> bool {
+fn has_reference(program: &ProgramWords, place: usize) -> bool {
     match program.insn(place) {
         Some(Insn::Normal { m, .. }) => m.op != MemoryOp::Nop,
         _ => false,
@@ -76,5 +76,5 @@ fn warn_of_entry(slips: &mut Slips, place: usize, processor: usize) -> Result<()
         "a stream goes on from here into the code of processor {processor}"
     )?;
     let help = String::from_str(alloc, "did you forget QUIT?")?;
-    slips.warn(Kind::OthersCode, place, words, help)
+    slips.warn(SlipKind::OthersCode, place, words, help)
 }

@@ -1,7 +1,7 @@
 //! References that wait for what never comes.
 
-use crate::references::Reference;
-use crate::spots::{Kind, Slips};
+use crate::references::ProgramReference;
+use crate::spots::{SlipKind, Slips};
 use asm_line::names;
 use image_file::Image;
 use insn_word::{Access, MemoryOp};
@@ -9,17 +9,21 @@ use std::alloc::{AllocError, Global};
 
 /// Which words of memory may be filled and which emptied.
 #[derive(Drop)]
-struct Turns {
+struct FullBitChanges {
     filled: Vec<bool>,
     emptied: Vec<bool>,
     fills_any: bool,
     empties_any: bool,
 }
 
-impl Turns {
+impl FullBitChanges {
     /// By these references, of so many words.
-    fn of(alloc: Global, references: &[Reference], cells: usize) -> Result<Turns, AllocError> {
-        let mut turns = Turns {
+    fn of(
+        alloc: Global,
+        references: &[ProgramReference],
+        cells: usize,
+    ) -> Result<FullBitChanges, AllocError> {
+        let mut turns = FullBitChanges {
             filled: vec![in alloc; false; cells]?,
             emptied: vec![in alloc; false; cells]?,
             fills_any: false,
@@ -31,7 +35,7 @@ impl Turns {
         Ok(turns)
     }
 
-    fn see(&mut self, reference: &Reference) {
+    fn see(&mut self, reference: &ProgramReference) {
         let (fills, empties) = (reference.may_fill(), reference.may_empty());
         match reference.address() {
             Some(address) => {
@@ -65,7 +69,7 @@ impl Turns {
 pub(crate) fn warn_of_full_bits(
     slips: &mut Slips,
     image: &Image,
-    references: &[Reference],
+    references: &[ProgramReference],
 ) -> Result<(), AllocError> {
     let cells = image.cells();
     let fills = references.iter().any(|reference| reference.may_fill());
@@ -75,7 +79,7 @@ pub(crate) fn warn_of_full_bits(
     if image.retry_limit() > 0 || !fills || sets_tags {
         return Ok(());
     }
-    let turns = Turns::of(slips.alloc(), references, cells.len())?;
+    let turns = FullBitChanges::of(slips.alloc(), references, cells.len())?;
     for reference in references {
         if slips.is_full() {
             return Ok(());
@@ -93,8 +97,8 @@ pub(crate) fn warn_of_full_bits(
 /// Warns of a reference to a data word, where that begins as it must not be and nothing turns it.
 fn warn_of_word(
     slips: &mut Slips,
-    turns: &Turns,
-    reference: &Reference,
+    turns: &FullBitChanges,
+    reference: &ProgramReference,
     cell: usize,
     is_full: bool,
 ) -> Result<(), AllocError> {
@@ -106,7 +110,7 @@ fn warn_of_word(
 }
 
 /// Whether a reference waits until its word is full; None where it does not wait.
-fn waits_for(reference: &Reference) -> Option<bool> {
+fn waits_for(reference: &ProgramReference) -> Option<bool> {
     match (reference.part.op, reference.access()?) {
         (MemoryOp::Store, Access::Sync) => Some(false),
         (MemoryOp::Load | MemoryOp::Store | MemoryOp::FetchAdd, Access::Future | Access::Sync) => {
@@ -116,7 +120,11 @@ fn waits_for(reference: &Reference) -> Option<bool> {
     }
 }
 
-fn warn_of_empty(slips: &mut Slips, reference: &Reference, cell: usize) -> Result<(), AllocError> {
+fn warn_of_empty(
+    slips: &mut Slips,
+    reference: &ProgramReference,
+    cell: usize,
+) -> Result<(), AllocError> {
     let alloc = slips.alloc();
     let name = names::memory(reference.part.op);
     let address = cell.saturating_mul(8);
@@ -129,10 +137,14 @@ fn warn_of_empty(slips: &mut Slips, reference: &Reference, cell: usize) -> Resul
         }
         None => String::from_str(alloc, "fill it by STORE.S, or let it begin full: .data 0")?,
     };
-    slips.warn(Kind::EndlessWait, reference.place, words, help)
+    slips.warn(SlipKind::EndlessWait, reference.place, words, help)
 }
 
-fn warn_of_full(slips: &mut Slips, reference: &Reference, cell: usize) -> Result<(), AllocError> {
+fn warn_of_full(
+    slips: &mut Slips,
+    reference: &ProgramReference,
+    cell: usize,
+) -> Result<(), AllocError> {
     let alloc = slips.alloc();
     let name = names::memory(reference.part.op);
     let address = cell.saturating_mul(8);
@@ -145,5 +157,5 @@ fn warn_of_full(slips: &mut Slips, reference: &Reference, cell: usize) -> Result
         }
         None => String::from_str(alloc, "let it begin empty: .data 0, 0; or write STORE.N")?,
     };
-    slips.warn(Kind::EndlessWait, reference.place, words, help)
+    slips.warn(SlipKind::EndlessWait, reference.place, words, help)
 }

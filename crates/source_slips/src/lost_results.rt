@@ -1,20 +1,23 @@
 //! Results that r0 does not keep.
 
-use crate::program::Program;
-use crate::spots::{Kind, Slips};
+use crate::program::ProgramWords;
+use crate::spots::{SlipKind, Slips};
 use asm_line::names;
 use insn_word::{ArithmeticOp, Insn, WideOp};
 use std::alloc::AllocError;
 
 /// Warns of each number and each result that goes to r0 and makes no code.
-pub(crate) fn warn_of_lost_results(slips: &mut Slips, program: &Program) -> Result<(), AllocError> {
+pub(crate) fn warn_of_lost_results(
+    slips: &mut Slips,
+    program: &ProgramWords,
+) -> Result<(), AllocError> {
     let alloc = slips.alloc();
     for place in 0..program.insns.len() {
         match program.insn(place) {
             Some(Insn::Wide { op, reg, .. }) if reg == 0 && op != WideOp::TargetLiteral => {
                 let words = String::from_str(alloc, "r0 is always 0: this number is lost")?;
                 let help = String::from_str(alloc, "write r1 to r31")?;
-                slips.warn(Kind::LostResult, place, words, help)?;
+                slips.warn(SlipKind::LostResult, place, words, help)?;
             }
             Some(Insn::Normal { a, .. }) if a.rd == 0 && !a.test && a.op != ArithmeticOp::Nop => {
                 let name = names::arithmetic(a.op);
@@ -22,7 +25,7 @@ pub(crate) fn warn_of_lost_results(slips: &mut Slips, program: &Program) -> Resu
                 let help = format!(in alloc;
                     "write r1 to r31; or {name}.T, which makes a code for a later SKIP"
                 )?;
-                slips.warn(Kind::LostResult, place, words, help)?;
+                slips.warn(SlipKind::LostResult, place, words, help)?;
             }
             _ => {}
         }

@@ -1,6 +1,6 @@
 //! How many condition codes the ways to each word of a program make at most.
 
-use crate::program::Program;
+use crate::program::ProgramWords;
 use insn_word::{ControlOp, Insn};
 use std::alloc::{AllocError, Global};
 
@@ -12,14 +12,14 @@ const CODES: u8 = 4;
 
 /// For each word how many codes a way to it makes at most; None where no way was found.
 #[derive(Drop)]
-pub(crate) struct Made {
+pub(crate) struct CodeCounts {
     pub(crate) most: Vec<Option<u8>>,
     /// The most with which a stream goes to a target register.
     pub(crate) anywhere: Option<u8>,
     is_changed: bool,
 }
 
-impl Made {
+impl CodeCounts {
     fn at(&self, place: usize) -> Option<u8> {
         self.most.get(place).copied().flatten()
     }
@@ -42,8 +42,11 @@ impl Made {
 }
 
 /// How many codes ways make at most; None where they were not all followed.
-pub(crate) fn codes_made(alloc: Global, program: &Program) -> Result<Option<Made>, AllocError> {
-    let mut made = Made {
+pub(crate) fn codes_made(
+    alloc: Global,
+    program: &ProgramWords,
+) -> Result<Option<CodeCounts>, AllocError> {
+    let mut made = CodeCounts {
         most: vec![in alloc; None; program.insns.len()]?,
         anywhere: None,
         is_changed: false,
@@ -64,7 +67,7 @@ pub(crate) fn codes_made(alloc: Global, program: &Program) -> Result<Option<Made
 }
 
 /// Follows the ways from a word on.
-fn follow(program: &Program, made: &mut Made, place: usize) {
+fn follow(program: &ProgramWords, made: &mut CodeCounts, place: usize) {
     let Some(before) = made.at(place) else {
         return;
     };
@@ -82,7 +85,7 @@ fn follow(program: &Program, made: &mut Made, place: usize) {
 }
 
 /// Follows the ways of a word by target registers: any that was set may be gone to by any word that goes to one.
-fn follow_targets(program: &Program, made: &mut Made, place: usize, count: u8) {
+fn follow_targets(program: &ProgramWords, made: &mut CodeCounts, place: usize, count: u8) {
     if let Some(Insn::Normal { c, .. }) = program.insn(place) {
         match c.op {
             ControlOp::Jump | ControlOp::Call => {

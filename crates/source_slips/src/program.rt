@@ -7,7 +7,7 @@ use std::alloc::{AllocError, Global};
 
 /// The words of a program, and which of them streams may come to.
 #[derive(Drop)]
-pub(crate) struct Program {
+pub(crate) struct ProgramWords {
     /// What each word spells; None for no instruction.
     pub(crate) insns: Vec<Option<Insn>>,
     /// Whether a way leads to each word.
@@ -21,9 +21,9 @@ pub(crate) struct Program {
     pub(crate) goes_anywhere: bool,
 }
 
-impl Program {
+impl ProgramWords {
     /// Of an image.
-    pub(crate) fn of(alloc: Global, image: &Image) -> Result<Program, AllocError> {
+    pub(crate) fn of(alloc: Global, image: &Image) -> Result<ProgramWords, AllocError> {
         let mut insns = Vec::new(alloc);
         for word in image.program().iter() {
             insns.push(decode_as(image.profile(), *word))?;
@@ -34,7 +34,7 @@ impl Program {
         }
         let has_handler = (image.trap_entry() as usize) < insns.len();
         let goes_anywhere = has_handler || insns.iter().any(|insn| sets_status(*insn));
-        let mut program = Program {
+        let mut program = ProgramWords {
             reached: reachable_places(alloc, image)?,
             begins: vec![in alloc; goes_anywhere; insns.len()]?,
             insns,

@@ -1,7 +1,7 @@
 //! References of a program, and the words of memory that they reach.
 
-use crate::program::Program;
-use crate::registers::Registers;
+use crate::program::ProgramWords;
+use crate::registers::KnownRegisters;
 use insn_word::{Access, Insn, MPart, MemoryOp};
 use std::alloc::{AllocError, Global};
 
@@ -10,7 +10,7 @@ const ADDRESS: u64 = 0xFFFF_FFFF_FFFF;
 
 /// A reference of a word of the program that streams may come to.
 #[derive(Clone, Copy)]
-pub(crate) struct Reference {
+pub(crate) struct ProgramReference {
     /// The word of the program.
     pub(crate) place: usize,
     /// What it does.
@@ -19,7 +19,7 @@ pub(crate) struct Reference {
     pub(crate) pointer: Option<u64>,
 }
 
-impl Reference {
+impl ProgramReference {
     /// Its address, where it is known.
     pub(crate) fn address(&self) -> Option<u64> {
         Some(self.pointer? & ADDRESS)
@@ -67,13 +67,13 @@ impl Reference {
 /// The references of the words that streams may come to.
 pub(crate) fn references_of(
     alloc: Global,
-    program: &Program,
-) -> Result<Vec<Reference>, AllocError> {
+    program: &ProgramWords,
+) -> Result<Vec<ProgramReference>, AllocError> {
     let mut found = Vec::new(alloc);
-    let mut registers = Registers::NEW;
+    let mut registers = KnownRegisters::NEW;
     for place in 0..program.insns.len() {
         if program.is_beginning(place) {
-            registers = Registers::NEW;
+            registers = KnownRegisters::NEW;
         }
         match program.insn(place) {
             Some(insn) => {
@@ -84,14 +84,14 @@ pub(crate) fn references_of(
                 }
                 registers.take(&insn);
             }
-            None => registers = Registers::NEW,
+            None => registers = KnownRegisters::NEW,
         }
     }
     Ok(found)
 }
 
 /// The reference of a part, whose base holds this.
-fn reference_at(place: usize, part: MPart, base: Option<u64>) -> Reference {
+fn reference_at(place: usize, part: MPart, base: Option<u64>) -> ProgramReference {
     let pointer = match base {
         Some(base) => {
             let bytes = i64::from(part.disp).wrapping_mul(8).cast_unsigned();
@@ -100,7 +100,7 @@ fn reference_at(place: usize, part: MPart, base: Option<u64>) -> Reference {
         }
         None => None,
     };
-    Reference {
+    ProgramReference {
         place,
         part,
         pointer,

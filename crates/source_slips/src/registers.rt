@@ -4,13 +4,13 @@ use insn_word::{APart, ArithmeticOp, Insn, WideOp};
 
 /// The registers whose values are known where a stream has come to a word by the words right before it.
 #[derive(Clone, Copy)]
-pub(crate) struct Registers {
+pub(crate) struct KnownRegisters {
     values: [Option<u64>; 32],
 }
 
-impl Registers {
+impl KnownRegisters {
     /// None is known.
-    pub(crate) const NEW: Registers = Registers { values: [None; 32] };
+    pub(crate) const NEW: KnownRegisters = KnownRegisters { values: [None; 32] };
 
     /// What a register holds, if it is known.
     pub(crate) fn value(&self, register: u8) -> Option<u64> {

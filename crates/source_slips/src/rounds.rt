@@ -1,13 +1,13 @@
-//! Loops that never end once they go round.
+//! Loops that never end once they repeat.
 
-use crate::program::Program;
-use crate::spots::{Kind, Slips};
+use crate::program::ProgramWords;
+use crate::spots::{SlipKind, Slips};
 use insn_word::{APart, ArithmeticOp, CPart, Condition, ControlOp, Insn, MemoryOp, WideOp};
 use std::alloc::AllocError;
 
 /// Words one after the other that do arithmetic alone.
 #[derive(Clone, Copy)]
-struct Round {
+struct LoopBody {
     /// The registers that are read before they are written, a bit each.
     read: u32,
     /// The registers that are written.
@@ -16,8 +16,8 @@ struct Round {
     codes: u8,
 }
 
-impl Round {
-    const NEW: Round = Round {
+impl LoopBody {
+    const NEW: LoopBody = LoopBody {
         read: 0,
         written: 0,
         codes: 0,
@@ -74,7 +74,7 @@ fn bit_of(register: u8) -> u32 {
 }
 
 /// Warns of each loop of arithmetic alone in which nothing changes that it asks.
-pub(crate) fn warn_of_rounds(slips: &mut Slips, program: &Program) -> Result<(), AllocError> {
+pub(crate) fn warn_of_rounds(slips: &mut Slips, program: &ProgramWords) -> Result<(), AllocError> {
     for place in 0..program.insns.len() {
         let (Some(target), Some(Insn::Normal { m, a, c, .. })) = (
             program.skip_target(place),
@@ -90,10 +90,10 @@ pub(crate) fn warn_of_rounds(slips: &mut Slips, program: &Program) -> Result<(),
     Ok(())
 }
 
-/// Whether a loop from a word to the SKIP that goes back never ends once it goes round. One SKIP alone that always goes to
+/// Whether a loop from a word to the SKIP that goes back never ends once it repeats. One SKIP alone that always goes to
 /// itself is how a stream stays at its end.
-fn never_ends(program: &Program, first: usize, last: usize, a: APart, c: CPart) -> bool {
-    let mut round = Round::NEW;
+fn never_ends(program: &ProgramWords, first: usize, last: usize, a: APart, c: CPart) -> bool {
+    let mut round = LoopBody::NEW;
     for place in first..last {
         if !round.take_word(program.insn(place)) {
             return false;
@@ -122,7 +122,7 @@ fn warn_of_round(slips: &mut Slips, place: usize, c: CPart) -> Result<(), AllocE
         )
     };
     slips.warn(
-        Kind::EndlessLoop,
+        SlipKind::EndlessLoop,
         place,
         String::from_str(alloc, words)?,
         String::from_str(alloc, help)?,

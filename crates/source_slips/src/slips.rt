@@ -5,7 +5,7 @@ use crate::codes::warn_of_codes;
 use crate::falls::warn_of_falls;
 use crate::full_bits::warn_of_full_bits;
 use crate::lost_results::warn_of_lost_results;
-use crate::program::Program;
+use crate::program::ProgramWords;
 use crate::references::references_of;
 use crate::rounds::warn_of_rounds;
 use crate::spots::{Slip, Slips};
@@ -22,7 +22,7 @@ pub fn source_slips(alloc: Global, text: &[u8]) -> Result<Vec<Slip>, AllocError>
         Err(_) => return Ok(Vec::new(alloc)),
     };
     let is_plain = image.cells().iter().all(|cell| cell.tag_number() <= 1);
-    let program = Program::of(alloc, &image)?;
+    let program = ProgramWords::of(alloc, &image)?;
     let references = references_of(alloc, &program)?;
     let mut slips = Slips::of(alloc, text)?;
     warn_of_codes(&mut slips, &image, &program)?;

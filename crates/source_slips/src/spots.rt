@@ -8,7 +8,7 @@ const MOST_SLIPS: usize = 1000;
 
 /// What a slip is, with the number of its page of `explain` (docs/words/faults.txt).
 #[derive(Clone, Copy)]
-pub(crate) enum Kind {
+pub(crate) enum SlipKind {
     /// A condition asks a code that nothing has made.
     NoCode = 107,
     /// A stream goes on past the end.
@@ -94,7 +94,7 @@ impl<'t> Slips<'t> {
     /// Warns of a word of the program.
     pub(crate) fn warn(
         &mut self,
-        kind: Kind,
+        kind: SlipKind,
         word: usize,
         words: String,
         help: String,

@@ -224,7 +224,7 @@ fn skip_by(c: &CPart, place: u32) -> Option<u32>
     }
 }
 
-/// The place so many words behind the next one, modulo 2^32.
+/// The place so many words after the next one, modulo 2^32.
 pub(crate) fn skipped(place: u32, words: i8) -> u32
     ensures { result ≡ skip_pc place words }
 {

@@ -1,6 +1,6 @@
 //! Conditions that ask a code which no run has made.
 
-ghost use Rattle.std.specs.Prelude.{◌≡◌, ◌≢◌, ℕ, All, IsTrue, IfOk};
+ghost use Rattle.std.specs.Prelude.{◌≢◌, All, IsTrue, IfOk};
 ghost use Rattle.insn_word.specs.declared.operations.Condition.TheVariants as condition;
 ghost use Rattle.source_slips.specs.Places.{insn_at};
 ghost use Rattle.source_slips.specs.Codes.{HasCondition, AsksNoCode};
@@ -8,7 +8,7 @@ ghost use Rattle.source_slips.specs.Made.{AsksFrom, AsksIf};
 
 use crate::closed_codes::{is_closed, most_at};
 use crate::made_codes::codes_made;
-use crate::program::Program;
+use crate::program::ProgramWords;
 use crate::straight_ways::insn_at;
 use image_file::Image;
 use insn_word::{CPart, Condition, ControlOp, Insn};
@@ -29,7 +29,7 @@ pub struct UnmadeCode {
 pub fn unmade_codes(alloc: Global, image: &Image) -> Result<Vec<UnmadeCode>, AllocError>
     ensures { IfOk result (λ found. All (λ u. AsksNoCode image.now u.place) found.items) }
 {
-    let program = Program::of(alloc, image)?;
+    let program = ProgramWords::of(alloc, image)?;
     if program.goes_anywhere {
         return Ok(Vec::new(alloc));
     }
