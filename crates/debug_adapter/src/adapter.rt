@@ -9,7 +9,7 @@ use crate::greeting::{Client, no_command};
 use crate::json_text::Json;
 use crate::refusals::Refusal;
 use crate::requests::DapRequest;
-use crate::searching::Search;
+use crate::searching::OngoingMove;
 use crate::stop_conditions::StopConditions;
 use lab_texts::{Columns, ProgramNames};
 use named_session::NamedSession;
@@ -32,7 +32,7 @@ pub struct Origin<'a> {
     pub client: Client,
 }
 
-/// What comes behind a request.
+/// What comes after a request.
 #[derive(Clone, Copy, PartialEq, Eq)]
 pub enum Flow {
     /// The next request.
@@ -56,7 +56,7 @@ pub struct Adapter<'a, 'i, 't> {
     /// At what the session stops beside its points.
     pub(crate) conditions: StopConditions,
     /// What is under way.
-    pub(crate) search: Option<Search>,
+    pub(crate) search: Option<OngoingMove>,
     /// The stream of the last stop.
     pub(crate) last_stream: Step,
 }
@@ -89,7 +89,7 @@ impl<'a, 'i, 't> Adapter<'a, 'i, 't> {
         self.search.is_some()
     }
 
-    /// Answers a request: by one response, which has its number, and the events that come behind.
+    /// Answers a request: by one response, which has its number, and the events that come after.
     pub fn handle(
         &mut self,
         connection: &mut Connection,

@@ -183,7 +183,7 @@ impl<'a, 'i, 't> Adapter<'a, 'i, 't> {
         Ok(())
     }
 
-    /// What watches the word of a text: `[8]`, `[8] total` or `total` for its value and tags, with `full/empty` behind it for
+    /// What watches the word of a text: `[8]`, `[8] total` or `total` for its value and tags, with `full/empty` after it for
     /// its tags.
     fn watch_of(&self, text: &str) -> Option<Command> {
         let (name, is_tags) = match text.trim().strip_suffix("full/empty") {

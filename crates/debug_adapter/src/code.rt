@@ -57,7 +57,7 @@ impl<'a, 'i, 't> Adapter<'a, 'i, 't> {
             .saturating_sub(1)
     }
 
-    /// The first program word on a line of the client or behind it.
+    /// The first program word on a line of the client or after it.
     pub(crate) fn word_of_client_line(&self, line: u64) -> Option<u32> {
         let line = line
             .saturating_add(1)
@@ -65,7 +65,7 @@ impl<'a, 'i, 't> Adapter<'a, 'i, 't> {
         self.named.word_of_line(line as usize)
     }
 
-    /// The places that `goto` can go to from a line: the program word on it or behind it.
+    /// The places that `goto` can go to from a line: the program word on it or after it.
     pub(crate) fn goto_targets(
         &self,
         request: &DapRequest,
@@ -148,7 +148,7 @@ impl<'a, 'i, 't> Adapter<'a, 'i, 't> {
     }
 }
 
-/// The number of a reference: decimal, or behind `0x` hexadecimal, perhaps in brackets.
+/// The number of a reference: decimal, or after `0x` hexadecimal, perhaps in brackets.
 pub(crate) fn read_reference(text: &str) -> Option<u64> {
     let text = text.trim();
     let inner = match text.strip_prefix("[") {

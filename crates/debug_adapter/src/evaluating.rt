@@ -1,4 +1,4 @@
-//! What stands behind a name.
+//! What names and expressions stand for.
 
 use crate::adapter::Adapter;
 use crate::json_text::Json;
@@ -11,7 +11,7 @@ use processor::Step;
 use step_views::{Place, StreamPart};
 
 impl<'a, 'i, 't> Adapter<'a, 'i, 't> {
-    /// What stands behind an expression: a register, a word, a stream, a label or a line.
+    /// What an expression stands for: a register, a word, a stream, a label or a line.
     pub(crate) fn evaluate(&self, request: &DapRequest, body: &mut Json) -> Result<(), Refusal> {
         let stream = match request.number("frameId") {
             Some(id) => self.stream_of(id)?,

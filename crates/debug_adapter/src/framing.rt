@@ -120,7 +120,7 @@ fn is_line_end(head: &[u8], place: usize) -> bool {
     }
 }
 
-/// The number at the begin of a text, behind blanks; None where there is none, or it is no 64-bit number.
+/// The number at the begin of a text, after blanks; None where there is none, or it is no 64-bit number.
 fn number_at(text: &[u8]) -> Option<u64> {
     let mut number = None;
     for byte in text {

@@ -116,7 +116,7 @@ impl Json {
         self.number(number);
     }
 
-    /// Writes a member that is a reference: a number as a text, hexadecimal behind `0x`.
+    /// Writes a member that is a reference: a number as a text, hexadecimal after `0x`.
     pub fn reference_of(&mut self, name: &str, number: u64) {
         self.key(name);
         self.is_fresh = false;

@@ -5,7 +5,7 @@ use crate::connection::Events;
 use crate::json_text::Json;
 use crate::refusals::Refusal;
 use crate::requests::DapRequest;
-use crate::searching::{Search, Stop};
+use crate::searching::{OngoingMove, StopReason};
 use crate::stop_conditions::{StopConditions, first_found, last_found, runs};
 use processor::Step;
 
@@ -18,7 +18,7 @@ impl<'a, 'i, 't> Adapter<'a, 'i, 't> {
         if self.origin.stops_on_entry {
             return self.tell("entry", None, events);
         }
-        self.search = Some(Search::forward(self.end(), None, self.conditions));
+        self.search = Some(OngoingMove::forward(self.end(), None, self.conditions));
         Ok(())
     }
 
@@ -48,7 +48,7 @@ impl<'a, 'i, 't> Adapter<'a, 'i, 't> {
 
     /// On to the next stop, or to the end.
     pub(crate) fn go_forward(&mut self, body: &mut Json) -> Result<(), Refusal> {
-        self.search = Some(Search::forward(self.end(), None, self.conditions));
+        self.search = Some(OngoingMove::forward(self.end(), None, self.conditions));
         push_all_go_on(body);
         Ok(())
     }
@@ -56,7 +56,7 @@ impl<'a, 'i, 't> Adapter<'a, 'i, 't> {
     /// Back to the last stop, or to the start.
     pub(crate) fn go_backward(&mut self, body: &mut Json) -> Result<(), Refusal> {
         let position = self.named.session.position();
-        self.search = Some(Search::backward(position, 0, None, self.conditions));
+        self.search = Some(OngoingMove::backward(position, 0, None, self.conditions));
         push_all_go_on(body);
         Ok(())
     }
@@ -64,7 +64,7 @@ impl<'a, 'i, 't> Adapter<'a, 'i, 't> {
     /// On by one step, whoever's.
     pub(crate) fn step_once(&mut self) -> Result<(), Refusal> {
         let goal = self.named.session.position().saturating_add(1);
-        self.search = Some(Search::forward(goal.min(self.end()), None, self.conditions));
+        self.search = Some(OngoingMove::forward(goal.min(self.end()), None, self.conditions));
         Ok(())
     }
 
@@ -76,7 +76,7 @@ impl<'a, 'i, 't> Adapter<'a, 'i, 't> {
             .session
             .next_of(stream.p, stream.s)
             .unwrap_or(self.end());
-        self.search = Some(Search::forward(goal, Some(stream), self.conditions));
+        self.search = Some(OngoingMove::forward(goal, Some(stream), self.conditions));
         Ok(())
     }
 
@@ -92,7 +92,7 @@ impl<'a, 'i, 't> Adapter<'a, 'i, 't> {
             end_of: Some(stream),
             ..self.conditions
         };
-        self.search = Some(Search::forward(goal, Some(stream), conditions));
+        self.search = Some(OngoingMove::forward(goal, Some(stream), conditions));
         Ok(())
     }
 
@@ -106,7 +106,7 @@ impl<'a, 'i, 't> Adapter<'a, 'i, 't> {
                 goal = place as u64;
             }
         }
-        self.search = Some(Search::backward(position, goal, Some(stream), self.conditions));
+        self.search = Some(OngoingMove::backward(position, goal, Some(stream), self.conditions));
         Ok(())
     }
 
@@ -162,15 +162,15 @@ impl<'a, 'i, 't> Adapter<'a, 'i, 't> {
     /// Tells where a move ended.
     pub(crate) fn tell_stop(
         &mut self,
-        stop: Stop,
+        stop: StopReason,
         stream: Option<Step>,
         events: &mut Events,
     ) -> Result<(), Refusal> {
         let last = self.named.session.last_step();
         match stop {
-            Stop::Point => self.tell_points(events),
-            Stop::Exception => self.tell("exception", last, events),
-            Stop::Goal => self.tell("step", stream, events),
+            StopReason::Point => self.tell_points(events),
+            StopReason::Exception => self.tell("exception", last, events),
+            StopReason::Goal => self.tell("step", stream, events),
         }
     }
 }

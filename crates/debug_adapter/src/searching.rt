@@ -12,7 +12,7 @@ const SLICE: u64 = 10_000;
 
 /// A move that is under way.
 #[derive(Clone, Copy)]
-pub(crate) struct Search {
+pub(crate) struct OngoingMove {
     /// Whether it goes back.
     is_back: bool,
     /// The position at which it ends at last.
@@ -29,7 +29,7 @@ pub(crate) struct Search {
 
 /// Why a move ends.
 #[derive(Clone, Copy, PartialEq, Eq)]
-pub(crate) enum Stop {
+pub(crate) enum StopReason {
     /// A point.
     Point,
     /// A step that trapped or was blocked.
@@ -38,10 +38,14 @@ pub(crate) enum Stop {
     Goal,
 }
 
-impl Search {
+impl OngoingMove {
     /// A move forward to a position.
-    pub(crate) fn forward(goal: u64, stream: Option<Step>, conditions: StopConditions) -> Search {
-        Search {
+    pub(crate) fn forward(
+        goal: u64,
+        stream: Option<Step>,
+        conditions: StopConditions,
+    ) -> OngoingMove {
+        OngoingMove {
             is_back: false,
             goal,
             stream,
@@ -57,8 +61,8 @@ impl Search {
         goal: u64,
         stream: Option<Step>,
         conditions: StopConditions,
-    ) -> Search {
-        Search {
+    ) -> OngoingMove {
+        OngoingMove {
             is_back: true,
             goal,
             stream,
@@ -90,7 +94,7 @@ impl<'a, 'i, 't> Adapter<'a, 'i, 't> {
     }
 
     /// A slice forward; why it ends there, or None where it goes on.
-    fn slice_forward(&mut self, search: Search) -> Result<Option<Stop>, Refusal> {
+    fn slice_forward(&mut self, search: OngoingMove) -> Result<Option<StopReason>, Refusal> {
         let position = self.named.session.position();
         let slice = search.goal.saturating_sub(position).min(SLICE);
         let found = self.found_ahead(slice, &search.conditions)?;
@@ -101,12 +105,12 @@ impl<'a, 'i, 't> Adapter<'a, 'i, 't> {
         let why = self.named.session.go_on_within(count)?;
         let here = self.named.session.position();
         if why == Some(Why::Stop) {
-            return Ok(Some(Stop::Point));
+            return Ok(Some(StopReason::Point));
         }
         match found {
-            Some((_, Match::Exception)) => Ok(Some(Stop::Exception)),
-            Some((_, Match::Goal)) => Ok(Some(Stop::Goal)),
-            None if here >= search.goal || why == Some(Why::End) => Ok(Some(Stop::Goal)),
+            Some((_, Match::Exception)) => Ok(Some(StopReason::Exception)),
+            Some((_, Match::Goal)) => Ok(Some(StopReason::Goal)),
+            None if here >= search.goal || why == Some(Why::End) => Ok(Some(StopReason::Goal)),
             None => Ok(None),
         }
     }
@@ -134,10 +138,10 @@ impl<'a, 'i, 't> Adapter<'a, 'i, 't> {
     }
 
     /// A slice back; why it ends there, or None where it goes on.
-    fn slice_back(&mut self, search: Search) -> Result<Option<Stop>, Refusal> {
+    fn slice_back(&mut self, search: OngoingMove) -> Result<Option<StopReason>, Refusal> {
         if self.points.is_empty() && !search.conditions.is_any() {
             self.to(search.goal)?;
-            return Ok(Some(Stop::Goal));
+            return Ok(Some(StopReason::Goal));
         }
         let before = self.named.session.position();
         let why = self.named.session.back_within(search.budget)?;
@@ -146,17 +150,17 @@ impl<'a, 'i, 't> Adapter<'a, 'i, 't> {
             && position >= search.goal
         {
             self.to(position)?;
-            return Ok(Some(Stop::Exception));
+            return Ok(Some(StopReason::Exception));
         }
         if here < search.goal || (here == search.goal && why != Some(Why::Stop)) {
             self.to(search.goal)?;
-            return Ok(Some(Stop::Goal));
+            return Ok(Some(StopReason::Goal));
         }
         match why {
-            Some(Why::Stop) => Ok(Some(Stop::Point)),
-            Some(_) => Ok(Some(Stop::Goal)),
+            Some(Why::Stop) => Ok(Some(StopReason::Point)),
+            Some(_) => Ok(Some(StopReason::Goal)),
             None => {
-                self.search = Some(Search {
+                self.search = Some(OngoingMove {
                     high: here.saturating_add(1),
                     budget: if here == before {
                         search.budget.saturating_mul(2)
@@ -171,7 +175,7 @@ impl<'a, 'i, 't> Adapter<'a, 'i, 't> {
     }
 
     /// The last position above the session's, and below where this slice began, after a step that meets the conditions.
-    fn found_behind(&self, search: Search) -> Result<Option<u64>, Refusal> {
+    fn found_behind(&self, search: OngoingMove) -> Result<Option<u64>, Refusal> {
         if !search.conditions.is_any() {
             return Ok(None);
         }

@@ -13,7 +13,7 @@ pub(crate) struct StopConditions {
     pub blocked: bool,
     /// A step with which this stream no longer runs.
     pub end_of: Option<Step>,
-    /// A step behind which a stream runs and stands at a program word.
+    /// A step after which a stream runs and stands at a program word.
     pub place: Option<(Step, u32)>,
 }
 
@@ -42,7 +42,7 @@ impl StopConditions {
         self.traps || self.blocked || self.end_of.is_some() || self.place.is_some()
     }
 
-    /// What a step is of this, given the machine behind it.
+    /// What a step is of this, given the machine after it.
     fn find(&self, machine: &Machine<'_, 128>, step: Step, outcome: Outcome) -> Option<Match> {
         let is_exception = match outcome {
             Outcome::Trapped(_) | Outcome::Stopped(_) => self.traps,

@@ -6,7 +6,7 @@ use crate::connection::Events;
 use crate::json_text::Json;
 use crate::refusals::Refusal;
 use crate::streams::thread_id;
-use lab_texts::{NumberStyle, push_step_line, push_trap};
+use lab_texts::{Notation, NumberStyle, push_step_line, push_trap};
 use named_session::LastStep;
 use processor::Step;
 use step_views::StepView;
@@ -107,17 +107,12 @@ impl<'a, 'i, 't> Adapter<'a, 'i, 't> {
         };
         let position = self.named.session.position();
         let mut line = String::new(self.alloc);
-        let style = NumberStyle::Decimal;
+        let notation = Notation {
+            names: self.names,
+            style: NumberStyle::Decimal,
+        };
         let number = position as usize;
-        push_step_line(
-            &mut line,
-            self.names,
-            style,
-            self.columns,
-            number,
-            &view,
-            &machine,
-        )?;
+        push_step_line(&mut line, notation, self.columns, number, &view, &machine)?;
         Ok(Some((view, line)))
     }
 

@@ -45,7 +45,7 @@ impl<'a, 'i, 't> Adapter<'a, 'i, 't> {
         Some(stream.status())
     }
 
-    /// The streams that run, have stopped, or were told of last.
+    /// The streams that run, have stopped, or were reported last.
     pub(crate) fn threads(&self, body: &mut Json) -> Result<(), Refusal> {
         let slim = self.named.session.machine().image().slim();
         body.open();

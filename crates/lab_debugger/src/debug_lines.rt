@@ -24,15 +24,15 @@ pub(crate) enum NextLine {
 
 /// What was read and not yet taken.
 #[derive(Drop)]
-pub(crate) struct Lines {
+pub(crate) struct InputLines {
     rest: Vec<u8>,
     first: usize,
 }
 
-impl Lines {
+impl InputLines {
     /// Nothing was read.
-    pub(crate) fn new(alloc: Global) -> Lines {
-        Lines {
+    pub(crate) fn new(alloc: Global) -> InputLines {
+        InputLines {
             rest: Vec::new(alloc),
             first: 0,
         }

@@ -41,7 +41,7 @@ impl<'a, 'i, 't, const S: usize> DebugRepl<'a, 'i, 't, S> {
         self.put_states(step, &STATES, out);
     }
 
-    /// Adds a register of a stream that is not 0, behind so many others, and counts it.
+    /// Adds a register of a stream that is not 0, after so many others, and counts it.
     fn put_if_set(
         &self,
         step: Step,
@@ -70,7 +70,7 @@ impl<'a, 'i, 't, const S: usize> DebugRepl<'a, 'i, 't, S> {
         out.put("\n");
     }
 
-    /// Adds so many words as the size behind `x/` says, from a byte address on.
+    /// Adds so many words as the size after `x/` says, from a byte address on.
     pub(crate) fn examine(
         &self,
         size: &str,

@@ -4,7 +4,7 @@ use crate::debug_tries::Dropped;
 use crate::debug_words::{DebugWord, debug_word, put_help, put_no_word};
 use command_parts::LabFault;
 use debug_commands::{Answer, Command, DebugFault, Why};
-use lab_texts::{Columns, NumberStyle, ProgramNames, TextWriter, put_step_line};
+use lab_texts::{Columns, Notation, NumberStyle, ProgramNames, TextWriter, put_step_line};
 use named_session::{LastStep, NamedSession, UserName, fault_words, read_name};
 use processor::Step;
 use std::alloc::Global;
@@ -23,7 +23,7 @@ pub(crate) struct DebugRepl<'a, 'i, 't, const S: usize> {
 /// What is said where no step comes.
 pub(crate) const ENDS_HERE: &str = "the schedule ends here\n";
 
-/// What comes behind an answer.
+/// What comes after an answer.
 #[derive(Clone, Copy)]
 pub(crate) enum AfterLine<'l> {
     /// The next line.
@@ -35,7 +35,7 @@ pub(crate) enum AfterLine<'l> {
 }
 
 impl<'a, 'i, 't, const S: usize> DebugRepl<'a, 'i, 't, S> {
-    /// Adds the answer to a line, and says what comes behind it.
+    /// Adds the answer to a line, and says what comes after it.
     pub(crate) fn answer<'l>(
         &mut self,
         line: &'l str,
@@ -62,7 +62,7 @@ impl<'a, 'i, 't, const S: usize> DebugRepl<'a, 'i, 't, S> {
         Ok(AfterLine::On)
     }
 
-    /// Adds the answer to a word with what stands behind it.
+    /// Adds the answer to a word with what stands after it.
     fn answer_word(
         &mut self,
         word: DebugWord,
@@ -197,16 +197,11 @@ impl<'a, 'i, 't, const S: usize> DebugRepl<'a, 'i, 't, S> {
             return Ok(());
         };
         let number = self.named.session.position() as usize;
-        let style = NumberStyle::Decimal;
-        put_step_line(
-            out,
-            self.names,
-            style,
-            self.columns,
-            number,
-            &view,
-            &machine,
-        );
+        let notation = Notation {
+            names: self.names,
+            style: NumberStyle::Decimal,
+        };
+        put_step_line(out, notation, self.columns, number, &view, &machine);
         Ok(())
     }
 

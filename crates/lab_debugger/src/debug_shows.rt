@@ -9,7 +9,7 @@ use processor::Step;
 use step_views::{Content, Place, StreamPart};
 use waiting::{Wait, running_streams};
 
-/// How many program words `list` shows before and behind the stream's.
+/// How many program words `list` shows before and after the stream's.
 const AROUND: u32 = 4;
 
 /// What is said of a stream that the program does not have.

@@ -1,6 +1,6 @@
 //! The command `debug`.
 
-use crate::debug_lines::{LINE_LIMIT, Lines, NextLine};
+use crate::debug_lines::{InputLines, LINE_LIMIT, NextLine};
 use crate::debug_repl::{AfterLine, DebugRepl};
 use crate::sessions::named_of;
 use command_parts::{Inputs, LabFault, Program, Status, read_program, steps_of, write_out};
@@ -71,7 +71,7 @@ fn talk<const S: usize, F: Files, R: Read, W: Write, E: Write>(
     repl: &mut DebugRepl<'_, '_, '_, S>,
     screen: &mut Screen<'_, W, E>,
 ) -> Result<(), LabFault> {
-    let mut lines = Lines::new(alloc);
+    let mut lines = InputLines::new(alloc);
     let mut line = String::new(alloc);
     let mut out = String::new(alloc);
     let mut text = TextWriter::take(&mut out);
@@ -136,7 +136,7 @@ fn push_too_long(out: &mut String) -> Result<bool, LabFault> {
 /// Reads the next line in place of the last one, which one that is empty or too long leaves as it is.
 fn read_line<R: Read>(
     alloc: Global,
-    lines: &mut Lines,
+    lines: &mut InputLines,
     input: &mut R,
     line: &mut String,
 ) -> Result<Heard, LabFault> {

@@ -36,13 +36,3 @@ pub fn put_text(
     let value = Value::String(String::from_str(alloc, text)?);
     serde_json::put(fields, alloc, name, value)
 }
-
-/// Puts a field that is true or false.
-pub fn put_flag(
-    alloc: Global,
-    fields: &mut Fields,
-    name: &str,
-    is: bool,
-) -> Result<(), AllocError> {
-    serde_json::put(fields, alloc, name, Value::from(is))
-}

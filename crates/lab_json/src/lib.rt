@@ -19,7 +19,7 @@ mod values;
 
 pub use differences::{difference_value, parting_value};
 pub use ends::{end_part, end_value};
-pub use fields::{Fields, object_of, put_flag, put_number, put_text};
+pub use fields::{Fields, object_of, put_number, put_text};
 pub use findings::findings_value;
 pub use heads::{RunTitle, head_value};
 pub use lines::line_value;
@@ -27,7 +27,7 @@ pub use places::{content_value, digits, outcome_name, place_name};
 pub use runs::put_run;
 pub use steps::{reference_value, step_part, step_value};
 pub use streams::{put_streams, stream_value};
-pub use turns::{put_turns, turns_value};
+pub use turns::turns_value;
 pub use values::{List, Object, text_value};
 
 /// The version of the objects.

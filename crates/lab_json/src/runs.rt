@@ -1,4 +1,4 @@
-//! What is told of a run beside its steps, where a command tells of many.
+//! What is said of a run beside its steps, where a command tells of many.
 
 use crate::changed_words::put_words;
 use crate::ends::put_end;

@@ -1,22 +1,11 @@
 //! Schedules.
 
-use crate::fields::Fields;
 use crate::values::List;
 use processor::Step;
 use serde_json::Value;
 use std::alloc::{AllocError, Global};
 
-/// Puts a field with a schedule: of each stream that takes steps in a row its processor, its own number, and how many.
-pub fn put_turns(
-    alloc: Global,
-    fields: &mut Fields,
-    name: &str,
-    steps: &[Step],
-) -> Result<(), AllocError> {
-    serde_json::put(fields, alloc, name, turns_value(alloc, steps)?)
-}
-
-/// A schedule, a list for each turn.
+/// A schedule: of each stream that takes steps in a row its processor, its own number, and how many.
 pub fn turns_value(alloc: Global, steps: &[Step]) -> Result<Value, AllocError> {
     let mut turns = List::new(alloc);
     let mut at: usize = 0;

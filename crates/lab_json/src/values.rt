@@ -81,7 +81,7 @@ impl List {
         }
     }
 
-    /// Puts a value behind the others, unless memory was refused for it.
+    /// Puts a value after the others, unless memory was refused for it.
     pub fn put(&mut self, value: Result<Value, AllocError>) {
         let is_put = match value {
             Ok(value) => self.values.push(value).is_ok(),
@@ -90,7 +90,7 @@ impl List {
         self.lacks_values = self.lacks_values || !is_put;
     }
 
-    /// Puts a number behind the others.
+    /// Puts a number after the others.
     pub fn put_number(&mut self, number: u64) {
         self.put(Ok(Value::from(number)));
     }

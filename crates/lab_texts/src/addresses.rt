@@ -88,7 +88,7 @@ impl<'t> DataNames<'t> {
 }
 
 impl<'t> ProgramNames<'t> {
-    /// The byte address that a text says: a number, as `8` or `0x8`, or a name, as `total`, or `ring+1` for a word behind
+    /// The byte address that a text says: a number, as `8` or `0x8`, or a name, as `total`, or `ring+1` for a word after
     /// the first of its line; each perhaps in brackets. None where it is neither; a number need be no word's address.
     pub fn address_of(&self, text: &str) -> Option<u64> {
         let text = without_brackets(text);
@@ -160,7 +160,7 @@ impl<'t> ProgramNames<'t> {
         }
     }
 
-    /// Adds a byte address in brackets, and behind them the name of its word, where it has one: `[8] total`.
+    /// Adds a byte address in brackets, and after them the name of its word, where it has one: `[8] total`.
     pub fn push_address(&self, out: &mut String, address: u64) -> Result<(), AllocError> {
         let mut text = TextWriter::take(out);
         self.put_address(&mut text, address);
@@ -253,7 +253,7 @@ fn without_brackets(text: &str) -> &str {
     }
 }
 
-/// A number, decimal or behind `0x` hexadecimal.
+/// A number, decimal or after `0x` hexadecimal.
 fn number_of(text: &str) -> Option<u64> {
     match text.strip_prefix("0x") {
         Some(digits) => u64::from_str_radix(digits, 16).ok(),

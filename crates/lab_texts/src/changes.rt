@@ -1,10 +1,10 @@
 //! What a step changed, in words.
 
 use crate::names::ProgramNames;
+use crate::notation::Notation;
 use crate::text_writer::TextWriter;
 use crate::values::{NumberStyle, put_content};
 use processor::Step;
-use std::alloc::AllocError;
 use step_views::{Change, Content, Place, StepView, StreamPart};
 use stream_core::{Outcome, Status, StatusWord};
 use tag_memory::{MemOp, Reply};
@@ -26,13 +26,12 @@ enum Quit {
     KeepsPlace,
 }
 
-/// Adds what a step changed, behind what stands there since `begin`. The place of the next line of the stream tells its
+/// Adds what a step changed, after what stands there since `begin`. The place of the next line of the stream tells its
 /// pc, where it is not the next word's; its end stands for each part that became zero and for the counts, and a start
 /// for the count of streams.
 pub(crate) fn put_changes(
     out: &mut TextWriter,
-    names: &ProgramNames,
-    style: NumberStyle,
+    notation: Notation<'_, '_>,
     view: &StepView,
     begin: usize,
 ) {
@@ -43,8 +42,8 @@ pub(crate) fn put_changes(
         Quit::KeepsPlace => put_part_of(out, begin, "the stream ends, its slot is kept"),
     }
     let writer = ChangeWriter {
-        names,
-        style,
+        names: notation.names,
+        style: notation.style,
         view,
         begin,
         has_ended: quit != Quit::Not,
@@ -55,19 +54,6 @@ pub(crate) fn put_changes(
 }
 
 /// Adds a part of a stream and what stands in it, as `r1 16` and `t0 no handler`.
-pub fn push_stream_part(
-    out: &mut String,
-    names: &ProgramNames,
-    style: NumberStyle,
-    part: StreamPart,
-    content: Content,
-) -> Result<(), AllocError> {
-    let mut text = TextWriter::take(out);
-    put_stream_part(&mut text, names, style, part, content);
-    text.give_back(out)
-}
-
-/// Adds what [`push_stream_part`] does.
 pub fn put_stream_part(
     out: &mut TextWriter,
     names: &ProgramNames,
@@ -79,15 +65,7 @@ pub fn put_stream_part(
     put_named_content(out, names, style, content);
 }
 
-/// Adds something that a step did, behind what stands there since `begin`.
-pub fn push_part_of(out: &mut String, begin: usize, text: &str) -> Result<(), AllocError> {
-    if out.len() > begin {
-        out.push_str(BETWEEN)?;
-    }
-    out.push_str(text)
-}
-
-/// Adds what [`push_part_of`] does.
+/// Adds something that a step did, after what stands there since `begin`.
 pub fn put_part_of(out: &mut TextWriter, begin: usize, text: &str) {
     if out.len() > begin {
         out.put(BETWEEN);
@@ -194,7 +172,7 @@ impl ChangeWriter<'_, '_> {
         }
     }
 
-    /// Adds a change of a stream that the step started; its pc stands behind its name.
+    /// Adds a change of a stream that the step started; its pc stands after its name.
     fn put_other(&self, out: &mut TextWriter, stream: Step, part: StreamPart, change: &Change) {
         match part {
             StreamPart::Pc => {}
@@ -235,7 +213,7 @@ impl ChangeWriter<'_, '_> {
         self.put_both(out, change);
     }
 
-    /// Adds the tags of a word, before and after, behind its value where that changed too.
+    /// Adds the tags of a word, before and after; they follow its value where that changed too.
     fn put_memory_tags(&self, out: &mut TextWriter, address: u64, change: &Change) {
         if has_value(self.view, address) {
             out.put(", ");
@@ -248,7 +226,7 @@ impl ChangeWriter<'_, '_> {
         self.put_both(out, change);
     }
 
-    /// Adds the value that the step read of a word, where it read one, and what goes on behind it.
+    /// Adds the value that the step read of a word, where it read one, and what goes on after it.
     fn put_value_read(&self, out: &mut TextWriter, address: u64) {
         if let Some(value) = value_read(self.view, address) {
             out.put("is ");

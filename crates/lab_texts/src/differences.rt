@@ -2,6 +2,7 @@
 
 use crate::changes::put_part;
 use crate::names::ProgramNames;
+use crate::notation::Notation;
 use crate::text_writer::TextWriter;
 use crate::values::{NumberStyle, put_content, put_tags};
 use machine::Machine;
@@ -54,7 +55,7 @@ fn put_word_line(
 }
 
 /// Adds the words of the memory that are not the image's in one line, as `[0] 0 -> 4 (the sum), [8] 0 -> 2 (the max)`:
-/// the comment of a line stands after the last of its words, behind blanks where there is one word alone.
+/// the comment of a line stands after the last of its words, after blanks where there is one word alone.
 pub fn push_changed_words<const S: usize>(
     out: &mut String,
     names: &ProgramNames,
@@ -84,7 +85,7 @@ pub fn push_changed_words<const S: usize>(
 }
 
 /// Adds what stands before the next word that differs: the comment of the word before it, where the two have not the
-/// same, and a comma behind what there is.
+/// same, and a comma after what there is.
 fn put_between(out: &mut TextWriter, names: &ProgramNames, before: Option<u64>, address: u64) {
     if let Some(before) = before
         && names.comment(before) != names.comment(address)
@@ -143,10 +144,10 @@ fn put_word_change(
     }
 }
 
-/// Adds places in which two worlds differ, as `0.0.pc 1 | 0`.
+/// Adds places in which two worlds differ, a word's with its name, as `0.0.pc 1 | 0, [8] total 7 | 0`.
 pub fn push_differences(
     out: &mut String,
-    style: NumberStyle,
+    notation: Notation<'_, '_>,
     differences: &[Change],
 ) -> Result<(), AllocError> {
     let mut text = TextWriter::take(out);
@@ -154,21 +155,21 @@ pub fn push_differences(
         if index > 0 {
             text.put(", ");
         }
-        put_difference(&mut text, style, change);
+        put_difference(&mut text, notation, change);
     }
     text.give_back(out)
 }
 
 /// Adds a place in which two worlds differ.
-fn put_difference(out: &mut TextWriter, style: NumberStyle, change: &Change) {
-    put_place_name(out, change.place);
-    put_content(out, style, change.before);
+fn put_difference(out: &mut TextWriter, notation: Notation<'_, '_>, change: &Change) {
+    put_place_name(out, notation.names, change.place);
+    put_content(out, notation.style, change.before);
     out.put(" | ");
-    put_content(out, style, change.after);
+    put_content(out, notation.style, change.after);
 }
 
-/// Adds the name of a place, as `2.0.r5 ` and `[8] `.
-fn put_place_name(out: &mut TextWriter, place: Place) {
+/// Adds the name of a place, as `2.0.r5 ` and `[8] total `.
+fn put_place_name(out: &mut TextWriter, names: &ProgramNames, place: Place) {
     match place {
         Place::Stream { p, s, part } => {
             out.put_stream(p, s);
@@ -178,9 +179,8 @@ fn put_place_name(out: &mut TextWriter, place: Place) {
         Place::Current { p } => put_count_name(out, p, " streams "),
         Place::Reserved { p } => put_count_name(out, p, " slots "),
         Place::Value { address } | Place::Tags { address } => {
-            out.put("[");
-            out.put_number(address);
-            out.put("] ");
+            names.put_address(out, address);
+            out.put(" ");
         }
     }
 }

@@ -180,7 +180,7 @@ impl Telling<'_, '_> {
         action.access
     }
 
-    /// Adds the comments of the words of a torn read, each behind its address, and ends the line.
+    /// Adds the comments of the words of a torn read, each after its address, and ends the line.
     fn end_torn(&self, out: &mut TextWriter, torn: &TornRead) {
         let (first, second) = (torn.stale.min(torn.fresh), torn.stale.max(torn.fresh));
         let is_first = self.put_comment_of(out, first, "   [");
@@ -188,7 +188,7 @@ impl Telling<'_, '_> {
         out.put("\n");
     }
 
-    /// Adds the comment of a word behind its address, where it has one, and says whether.
+    /// Adds the comment of a word after its address, where it has one, and says whether.
     fn put_comment_of(&self, out: &mut TextWriter, word: u64, before: &str) -> bool {
         let comment = self.names.remark(word);
         if comment.is_empty() {

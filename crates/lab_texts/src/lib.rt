@@ -9,12 +9,13 @@ mod ends;
 mod findings;
 mod findings_of_run;
 mod names;
+mod notation;
 mod step_lines;
 mod text_writer;
 mod values;
 mod waits;
 
-pub use changes::{push_part_of, push_stream_part, put_part_of, put_stream_part};
+pub use changes::{put_part_of, put_stream_part};
 pub use differences::{
     push_changed_words, push_differences, push_differing_words, put_differing_words,
 };
@@ -22,6 +23,7 @@ pub use ends::{RunEnd, StoppedStream, end_of, push_end, put_end, stopped_streams
 pub use findings::{Telling, push_findings, push_first_finding, put_findings};
 pub use findings_of_run::{FindingsOfRun, MOST_STEPS_OF_TORN};
 pub use names::ProgramNames;
+pub use notation::Notation;
 pub use step_lines::{
     Columns, push_lane_head, push_lane_text, push_step_head, push_step_line, push_step_number,
     push_step_text, put_step_line,

@@ -14,7 +14,7 @@ struct WordName<'t> {
     line: usize,
     /// The last label at or before it; empty where there is none.
     label: &'t str,
-    /// How many words it stands behind the label, or behind the program's begin.
+    /// How many words it stands after the label, or after the program's begin.
     offset: usize,
     /// Its instruction.
     statement: &'t str,
@@ -148,7 +148,7 @@ impl<'t> ProgramNames<'t> {
             .is_empty())
     }
 
-    /// Adds that comment as a terminal may have it, without the word's name and behind blanks, where there is one.
+    /// Adds that comment as a terminal may have it, without the word's name and after blanks, where there is one.
     pub(crate) fn put_comment(&self, out: &mut TextWriter, address: u64) {
         let comment = self.remark(address);
         if !comment.is_empty() {
@@ -168,7 +168,7 @@ impl<'t> ProgramNames<'t> {
     }
 }
 
-/// Adds how many words something stands behind what was added, where it does.
+/// Adds how many words something stands after what was added, where it does.
 pub(crate) fn put_offset(out: &mut TextWriter, offset: usize) {
     if offset > 0 {
         out.put("+");

@@ -2,8 +2,9 @@
 
 use crate::changes::put_changes;
 use crate::names::ProgramNames;
+use crate::notation::Notation;
 use crate::text_writer::TextWriter;
-use crate::values::{NumberStyle, put_word, trap_words};
+use crate::values::{put_word, trap_words};
 use crate::waits::wanted_word;
 use machine::Machine;
 use processor::Step;
@@ -55,23 +56,21 @@ impl Columns {
 /// Adds the line of a step of this number, with its end. The machine has just taken it.
 pub fn push_step_line<const S: usize>(
     out: &mut String,
-    names: &ProgramNames,
-    style: NumberStyle,
+    notation: Notation<'_, '_>,
     columns: Columns,
     number: usize,
     view: &StepView,
     machine: &Machine<'_, S>,
 ) -> Result<(), AllocError> {
     let mut text = TextWriter::take(out);
-    put_step_line(&mut text, names, style, columns, number, view, machine);
+    put_step_line(&mut text, notation, columns, number, view, machine);
     text.give_back(out)
 }
 
 /// Adds what [`push_step_line`] does.
 pub fn put_step_line<const S: usize>(
     out: &mut TextWriter,
-    names: &ProgramNames,
-    style: NumberStyle,
+    notation: Notation<'_, '_>,
     columns: Columns,
     number: usize,
     view: &StepView,
@@ -79,7 +78,7 @@ pub fn put_step_line<const S: usize>(
 ) {
     out.put_right(number as u64, columns.number);
     out.put("  ");
-    put_step_text(out, names, style, columns, view, machine);
+    put_step_text(out, notation, columns, view, machine);
 }
 
 /// Adds the number of a step, with which its line begins.
@@ -95,31 +94,29 @@ pub fn push_step_number(
 /// Adds what stands after the number in the line of a step, with the line's end.
 pub fn push_step_text<const S: usize>(
     out: &mut String,
-    names: &ProgramNames,
-    style: NumberStyle,
+    notation: Notation<'_, '_>,
     columns: Columns,
     view: &StepView,
     machine: &Machine<'_, S>,
 ) -> Result<(), AllocError> {
     let mut text = TextWriter::take(out);
-    put_step_text(&mut text, names, style, columns, view, machine);
+    put_step_text(&mut text, notation, columns, view, machine);
     text.give_back(out)
 }
 
 /// Adds what [`push_step_text`] does.
 fn put_step_text<const S: usize>(
     out: &mut TextWriter,
-    names: &ProgramNames,
-    style: NumberStyle,
+    notation: Notation<'_, '_>,
     columns: Columns,
     view: &StepView,
     machine: &Machine<'_, S>,
 ) {
-    put_instruction(out, names, columns, view);
+    put_instruction(out, notation.names, columns, view);
     let begin = out.len();
-    put_what(out, names, style, view, machine);
+    put_what(out, notation, view, machine);
     if let Some(address) = met_word(view) {
-        put_remark(out, names, begin, columns.changes, address);
+        put_remark(out, notation.names, begin, columns.changes, address);
     }
     out.end_line();
 }
@@ -138,7 +135,7 @@ fn put_instruction(out: &mut TextWriter, names: &ProgramNames, columns: Columns,
     out.pad(begin, columns.statement.saturating_add(4));
 }
 
-/// Adds the comment of a word, where it has one, behind a column that began at a place in the text.
+/// Adds the comment of a word, where it has one, after a column that began at a place in the text.
 fn put_remark(
     out: &mut TextWriter,
     names: &ProgramNames,
@@ -188,8 +185,7 @@ fn put_head(out: &mut TextWriter, name: &str, width: usize) {
 /// which its instruction stands, and what the step did.
 pub fn push_lane_text<const S: usize>(
     out: &mut String,
-    names: &ProgramNames,
-    style: NumberStyle,
+    notation: Notation<'_, '_>,
     columns: Columns,
     lanes: &[Step],
     view: &StepView,
@@ -200,11 +196,11 @@ pub fn push_lane_text<const S: usize>(
     for lane in lanes {
         let begin = text.len();
         if *lane == view.step {
-            names.put_statement(&mut text, view.pc);
+            notation.names.put_statement(&mut text, view.pc);
         }
         text.pad(begin, width);
     }
-    put_what(&mut text, names, style, view, machine);
+    put_what(&mut text, notation, view, machine);
     text.end_line();
     text.give_back(out)
 }
@@ -240,12 +236,12 @@ fn met_word(view: &StepView) -> Option<u64> {
 /// Adds what a step did.
 fn put_what<const S: usize>(
     out: &mut TextWriter,
-    names: &ProgramNames,
-    style: NumberStyle,
+    notation: Notation<'_, '_>,
     view: &StepView,
     machine: &Machine<'_, S>,
 ) {
     let begin = out.len();
+    let names = notation.names;
     match view.outcome {
         Outcome::Skipped => {
             out.put(why_skipped(view, machine));
@@ -253,9 +249,9 @@ fn put_what<const S: usize>(
         }
         Outcome::Trapped(trap) | Outcome::Stopped(trap) => put_trapped(out, names, trap, view),
         Outcome::Blocked => put_blocked(out, names, view, machine),
-        Outcome::Done => put_unchanged_word(out, names, style, view, machine),
+        Outcome::Done => put_unchanged_word(out, notation, view, machine),
     }
-    put_changes(out, names, style, view, begin);
+    put_changes(out, notation, view, begin);
 }
 
 /// Why a step was skipped.
@@ -301,8 +297,7 @@ fn put_blocked<const S: usize>(
 /// Adds the word that a done reference met, where it left it as it was.
 fn put_unchanged_word<const S: usize>(
     out: &mut TextWriter,
-    names: &ProgramNames,
-    style: NumberStyle,
+    notation: Notation<'_, '_>,
     view: &StepView,
     machine: &Machine<'_, S>,
 ) {
@@ -314,9 +309,9 @@ fn put_unchanged_word<const S: usize>(
         return;
     };
     if !has_changed(view, address) {
-        names.put_address(out, address);
+        notation.names.put_address(out, address);
         out.put(verb_of(reference.request.op));
-        put_word(out, style, word);
+        put_word(out, notation.style, word);
     }
 }
 

@@ -17,7 +17,7 @@ const NEGATIVE_FROM: u64 = 0xFFFF_FFFF_0000_0000;
 pub enum NumberStyle {
     /// In decimal digits; those within 2^32 of 2^64 as the negative ones that are meant.
     Decimal,
-    /// In hexadecimal digits behind `0x`.
+    /// In hexadecimal digits after `0x`.
     Hexadecimal,
 }
 

@@ -9,14 +9,14 @@ use lab_ends::push_findings_of_run;
 use lab_json::{difference_value, end_value, parting_value};
 use lab_requests::{RunChoice, Shown};
 use lab_texts::{
-    ProgramNames, end_of, push_differences, push_differing_words, push_end, push_stream,
+    Notation, ProgramNames, end_of, push_differences, push_differing_words, push_end, push_stream,
 };
 use machine::{LoadFault, Machine};
 use processor::Step;
 use std::alloc::{AllocError, Global};
 use std::io::Read;
 use std::rt::Files;
-use step_views::{Change, Place, StepView};
+use step_views::StepView;
 use whole_runs::{Difference, first_difference, run_views};
 
 /// Shows where two schedules of a program part, where the worlds first differ, and both ends.
@@ -47,7 +47,7 @@ fn compare_on<const S: usize>(
     shown: Shown,
 ) -> Result<(String, Status), AllocError> {
     let names = ProgramNames::of(alloc, &program.text)?;
-    let runs = Pair {
+    let runs = ComparedRuns {
         one: Run::<S>::of(alloc, program, first)?,
         other: Run::<S>::of(alloc, program, second)?,
         shown,
@@ -139,14 +139,14 @@ impl<'i, const S: usize> Run<'i, S> {
 
 /// Two runs of a program, and how they are shown.
 #[derive(Drop)]
-struct Pair<'i, 'n, 't, const S: usize> {
+struct ComparedRuns<'i, 'n, 't, const S: usize> {
     one: Run<'i, S>,
     other: Run<'i, S>,
     shown: Shown,
     names: &'n ProgramNames<'t>,
 }
 
-impl<const S: usize> Pair<'_, '_, '_, S> {
+impl<'n, 't, const S: usize> ComparedRuns<'_, 'n, 't, S> {
     /// Adds the step at which they part, which is that of this place; each says whether it took one.
     fn push_parting(
         &self,
@@ -179,30 +179,16 @@ impl<const S: usize> Pair<'_, '_, '_, S> {
             return push_object(alloc, out, &value);
         }
         write!(out, "position {position}: ")?;
-        self.push_places(alloc, out, &difference.places)?;
+        push_differences(out, self.notation(), &difference.places)?;
         out.push_str("\n")
     }
 
-    /// Adds places in which the worlds differ, a word's with its name: `0.0.pc 4 | 3, [8] total 7 | 0`.
-    fn push_places(
-        &self,
-        alloc: Global,
-        out: &mut String,
-        places: &[Change],
-    ) -> Result<(), AllocError> {
-        for (index, change) in places.iter().enumerate() {
-            out.push_str(if index == 0 { "" } else { ", " })?;
-            let mut text = String::new(alloc);
-            push_differences(&mut text, style_of(self.shown), &[*change])?;
-            match (change.place, text.split_once(']')) {
-                (Place::Value { address } | Place::Tags { address }, Some((_, rest))) => {
-                    self.names.push_address(out, address)?;
-                    out.push_str(rest)?;
-                }
-                _ => out.push_str(&text)?,
-            }
+    /// How the runs are written.
+    fn notation(&self) -> Notation<'n, 't> {
+        Notation {
+            names: self.names,
+            style: style_of(self.shown),
         }
-        Ok(())
     }
 
     /// Adds how both ended. The exit status is the worse of theirs.

@@ -152,7 +152,7 @@ impl StepLines {
             && self.named.binary_search(&other.number).is_err()
     }
 
-    /// The text of a line behind its number.
+    /// The text of a line after its number.
     fn text_of(&self, line: StepLine) -> &str {
         self.text.get(line.begin..line.end).unwrap_or("")
     }

@@ -11,8 +11,8 @@ use lab_ends::RunFindings;
 use lab_json::{RunTitle, end_value, head_value, step_value};
 use lab_requests::{RunChoice, ViewRequest};
 use lab_texts::{
-    Columns, ProgramNames, RunEnd, end_of, push_differing_words, push_end, push_lane_head,
-    push_lane_text, push_step_head, push_step_text,
+    Columns, Notation, ProgramNames, RunEnd, end_of, push_differing_words, push_end,
+    push_lane_head, push_lane_text, push_step_head, push_step_text,
 };
 use machine::Machine;
 use processor::Step;
@@ -324,23 +324,26 @@ impl Layout<'_, '_> {
         Ok(views)
     }
 
-    /// Adds the line of a step behind its number.
+    /// Adds the line of a step after its number.
     fn push_step<const S: usize>(
         &self,
         out: &mut String,
         view: &StepView,
         machine: &Machine<'_, S>,
     ) -> Result<(), AllocError> {
-        let style = style_of(self.request.shown);
-        let (names, columns, lanes) = (self.names, self.columns, &self.lanes);
+        let notation = Notation {
+            names: self.names,
+            style: style_of(self.request.shown),
+        };
+        let (columns, lanes) = (self.columns, &self.lanes);
         if lanes.is_empty() {
-            push_step_text(out, names, style, columns, view, machine)
+            push_step_text(out, notation, columns, view, machine)
         } else {
-            push_lane_text(out, names, style, columns, lanes, view, machine)
+            push_lane_text(out, notation, columns, lanes, view, machine)
         }
     }
 
-    /// Adds the lines of steps of a run of so many, behind the heads of their columns.
+    /// Adds the lines of steps of a run of so many, after the heads of their columns.
     fn push_lines(
         &self,
         out: &mut String,
