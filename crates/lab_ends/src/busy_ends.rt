@@ -1,4 +1,4 @@
-//! The first world from which a stream goes round alone, as an end.
+//! The first world from which a stream loops alone, as an end.
 
 use crate::cycles::push_cycle;
 use crate::every_end::{EndKey, SpaceEnd, SpaceEndKind, new_end};

@@ -90,7 +90,7 @@ fn word_form(alloc: Global, words: &[&str]) -> Result<ClaimForm, ClaimFault> {
     Ok(ClaimForm::Word { address, test })
 }
 
-/// `above NUMBER` or `below NUMBER`, with the word behind it, if there is one: signed where that is `signed`, and where
+/// `above NUMBER` or `below NUMBER`, with the word after it, if there is one: signed where that is `signed`, and where
 /// the number has a sign.
 fn compared(
     alloc: Global,

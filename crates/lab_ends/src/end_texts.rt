@@ -9,7 +9,7 @@ use processor::Step;
 use std::alloc::{AllocError, Global};
 use waiting::{running_streams, wait_of};
 
-/// What is told of a world at which a run ended.
+/// What is said of a world at which a run ended.
 #[derive(Drop)]
 pub struct EndText {
     /// Who was stopped, who waits, and the words that changed.
@@ -18,7 +18,7 @@ pub struct EndText {
     pub stopped: Vec<StoppedStream>,
 }
 
-/// What is told of the world of a machine.
+/// What is said of the world of a machine.
 pub fn end_text_of<const S: usize>(
     alloc: Global,
     machine: &Machine<'_, S>,

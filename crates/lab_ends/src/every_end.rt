@@ -15,7 +15,7 @@ use crate::wishes::Wishes;
 use busy_streams::Busy;
 use end_kinds::{EndKind, Status, end_kind_of, status_of};
 use expectations::{Expectation, first_missed};
-use lab_texts::{NumberStyle, ProgramNames};
+use lab_texts::Notation;
 use processor::Step;
 use schedule_space::{Fate, Space};
 use std::alloc::{AllocError, Global};
@@ -75,8 +75,8 @@ pub struct SpaceEnd {
     pub schedule: Vec<Step>,
     /// The first finding of that schedule's run, and how many more there are; empty where there is none.
     pub finding: String,
-    /// The steps of a way round from there to a world for which that one stands, along the steps that were looked at a
-    /// shortest one; empty where it does not go round.
+    /// The steps of a cycle from there to a world for which that one stands, along the steps that were looked at a
+    /// shortest one; empty where it does not loop.
     pub cycle: Vec<Step>,
     /// The same in words.
     pub cycle_words: String,
@@ -102,13 +102,12 @@ impl SpaceEnd {
 }
 
 /// The ends of a space by the names of its program, in the order of their shortest schedules; then, where the space is
-/// complete, the sets of worlds that spin; then the first world from which a stream goes round alone, where that is to be
-/// told; then the worlds that break claims, those of each claim as one, also those on the way through the steps that all
-/// its schedules begin with.
+/// complete, the sets of worlds that spin; then the first world from which a stream loops alone, where one is given; then
+/// the worlds that break claims, those of each claim as one, also those on the way through the steps that all its
+/// schedules begin with.
 pub fn space_ends<const S: usize>(
     alloc: Global,
-    names: &ProgramNames<'_>,
-    style: NumberStyle,
+    notation: Notation<'_, '_>,
     wishes: &Wishes,
     space: &Space<'_>,
     is_complete: bool,
@@ -117,18 +116,16 @@ pub fn space_ends<const S: usize>(
     ensures broken { IfOk result (λ ends. HasBrokenEnds space.now wishes.now.claims.items
         (map string_bytes wishes.now.claim_texts.items) (map value_of ends.items)) }
 {
-    let mut ends = unbroken_ends::<S>(alloc, names, style, wishes, space, is_complete, busy)?;
+    let mut ends = unbroken_ends::<S>(alloc, notation, wishes, space, is_complete, busy)?;
     add_broken::<S>(alloc, &mut ends, wishes, space)?;
-    tell_more::<S>(alloc, &mut ends, names, style, space)?;
+    tell_more::<S>(alloc, &mut ends, notation, space)?;
     Ok(ends)
 }
 
-/// The ends of a space, where it is complete the sets of worlds that spin, and the world from which a stream goes round
-/// alone.
+/// The ends of a space, where it is complete the sets of worlds that spin, and the world from which a stream loops alone.
 fn unbroken_ends<const S: usize>(
     alloc: Global,
-    names: &ProgramNames<'_>,
-    style: NumberStyle,
+    notation: Notation<'_, '_>,
     wishes: &Wishes,
     space: &Space<'_>,
     is_complete: bool,
@@ -137,15 +134,15 @@ fn unbroken_ends<const S: usize>(
     let mut ends = Vec::new(alloc);
     for place in 0..space.len() {
         if place < space.len() && space.fate(place) != Fate::GoesOn {
-            add_end::<S>(alloc, &mut ends, names, style, &wishes.ends, space, place)?;
+            add_end::<S>(alloc, &mut ends, notation, &wishes.ends, space, place)?;
         }
     }
     if is_complete {
-        add_spinning::<S>(alloc, &mut ends, names, style, space)?;
+        add_spinning::<S>(alloc, &mut ends, notation.names, notation.style, space)?;
     }
     if let Some(busy) = busy {
         let line = wishes.never_busy.unwrap_or(0);
-        ends.push(busy_end::<S>(alloc, names, space, busy, line)?)?;
+        ends.push(busy_end::<S>(alloc, notation.names, space, busy, line)?)?;
     }
     Ok(ends)
 }
@@ -154,8 +151,7 @@ fn unbroken_ends<const S: usize>(
 fn tell_more<const S: usize>(
     alloc: Global,
     ends: &mut [SpaceEnd],
-    names: &ProgramNames<'_>,
-    style: NumberStyle,
+    notation: Notation<'_, '_>,
     space: &Space<'_>,
 ) -> Result<(), AllocError>
     ensures { OnOk result (map value_of ends.new ≡ map value_of ends.old) }
@@ -163,7 +159,13 @@ fn tell_more<const S: usize>(
     let sources = sources_of(alloc, space, ends)?;
     for (index, end) in ends.iter_mut().enumerate() {
         end.sources = sources.get(index).copied().unwrap_or(0);
-        end.finding = first_finding::<S>(alloc, names, style, space.image(), &end.schedule)?;
+        end.finding = first_finding::<S>(
+            alloc,
+            notation.names,
+            notation.style,
+            space.image(),
+            &end.schedule,
+        )?;
     }
     Ok(())
 }
@@ -172,13 +174,12 @@ fn tell_more<const S: usize>(
 fn add_end<const S: usize>(
     alloc: Global,
     ends: &mut Vec<SpaceEnd>,
-    names: &ProgramNames<'_>,
-    style: NumberStyle,
+    notation: Notation<'_, '_>,
     expected: &[Expectation],
     space: &Space<'_>,
     place: usize,
 ) -> Result<(), AllocError> {
-    let told = key_at::<S>(alloc, names, style, expected, space, place)?;
+    let told = key_at::<S>(alloc, notation, expected, space, place)?;
     match ends.iter_mut().find(|end| has_key(end, &told)) {
         Some(end) => {
             end.sets = end.sets.saturating_add(1);
@@ -224,14 +225,13 @@ fn has_key(end: &SpaceEnd, told: &EndKey) -> bool {
 /// What the end at a place is told by.
 fn key_at<const S: usize>(
     alloc: Global,
-    names: &ProgramNames<'_>,
-    style: NumberStyle,
+    notation: Notation<'_, '_>,
     expected: &[Expectation],
     space: &Space<'_>,
     place: usize,
 ) -> Result<EndKey, AllocError> {
     let machine = machine_at::<S>(alloc, space, place)?;
-    let EndText { text, stopped } = end_text_of(alloc, &machine, names, style)?;
+    let EndText { text, stopped } = end_text_of(alloc, &machine, notation.names, notation.style)?;
     Ok(EndKey {
         kind: SpaceEndKind::End(end_kind_of(&machine)),
         text,

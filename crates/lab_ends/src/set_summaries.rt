@@ -1,4 +1,4 @@
-//! What is told of a set of worlds: which streams run in it and which only wait, and the words that change.
+//! What is said of a set of worlds: which streams run in it and which only wait, and the words that change.
 
 use crate::machines::machine_at;
 use lab_texts::{NumberStyle, ProgramNames, TextWriter, push_changed_words, put_part_of};
@@ -44,16 +44,19 @@ struct GoingStream {
 
 /// What was seen of worlds.
 #[derive(Drop)]
-struct Seen {
+struct WorldsSeen {
     /// The streams that run in the first of them.
     streams: Vec<GoingStream>,
     /// For each word whether some two worlds differ in it.
     is_changing: Vec<bool>,
 }
 
-impl Seen {
+impl WorldsSeen {
     /// Of one world, a machine's.
-    fn of<const S: usize>(alloc: Global, machine: &Machine<'_, S>) -> Result<Seen, AllocError> {
+    fn of<const S: usize>(
+        alloc: Global,
+        machine: &Machine<'_, S>,
+    ) -> Result<WorldsSeen, AllocError> {
         let mut streams = Vec::new(alloc);
         for stream in &running_streams(alloc, machine)? {
             streams.push(GoingStream {
@@ -62,7 +65,7 @@ impl Seen {
             })?;
         }
         let words = machine.image().cells().len();
-        Ok(Seen {
+        Ok(WorldsSeen {
             streams,
             is_changing: vec![in alloc; false; words]?,
         })
@@ -74,8 +77,8 @@ impl Seen {
         space: &Space<'_>,
         first: &Machine<'_, S>,
         others: &[usize],
-    ) -> Result<Seen, AllocError> {
-        let mut seen = Seen::of(alloc, first)?;
+    ) -> Result<WorldsSeen, AllocError> {
+        let mut seen = WorldsSeen::of(alloc, first)?;
         for place in others {
             seen.add_at(alloc, space, first, *place)?;
         }
@@ -115,7 +118,7 @@ fn going_of<const S: usize>(machine: &Machine<'_, S>, stream: Step) -> Going {
     }
 }
 
-/// What is told of a set of worlds.
+/// What is said of a set of worlds.
 #[derive(Drop)]
 pub(crate) struct SetSummary {
     /// Who runs in it and who waits in each of its worlds, the words that differ from the image in its first one, and
@@ -127,7 +130,7 @@ pub(crate) struct SetSummary {
     pub changing: Vec<u64>,
 }
 
-/// What is told of the set of the worlds at these places.
+/// What is said of the set of the worlds at these places.
 pub(crate) fn set_summary<const S: usize>(
     alloc: Global,
     names: &ProgramNames<'_>,
@@ -137,17 +140,17 @@ pub(crate) fn set_summary<const S: usize>(
     others: &[usize],
 ) -> Result<SetSummary, AllocError> {
     let machine = machine_at::<S>(alloc, space, first)?;
-    let seen = Seen::over(alloc, space, &machine, others)?;
+    let seen = WorldsSeen::over(alloc, space, &machine, others)?;
     summary_of(alloc, names, style, &machine, &seen)
 }
 
-/// What is told of a set of worlds, the first of which is a machine's, by what was seen of them.
+/// What is said of a set of worlds, the first of which is a machine's, by what was seen of them.
 fn summary_of<const S: usize>(
     alloc: Global,
     names: &ProgramNames<'_>,
     style: NumberStyle,
     machine: &Machine<'_, S>,
-    seen: &Seen,
+    seen: &WorldsSeen,
 ) -> Result<SetSummary, AllocError> {
     let changing = changing_words(alloc, &seen.is_changing)?;
     let mut text = String::new(alloc);

@@ -31,12 +31,23 @@ pub struct Wishes {
     pub claim_lines: Vec<usize>,
     /// What the program itself has to be.
     pub rules: Vec<RuleLine>,
-    /// The line, counted from 1, that says that no stream ever goes round alone; None where none does.
+    /// The line, counted from 1, that says that no stream ever loops alone; None where none does.
     pub never_busy: Option<usize>,
 }
 
 /// The words of that line.
 pub const NEVER_BUSY: &str = "never busy";
+
+/// What a line of a text of wishes says.
+#[derive(Clone, Copy)]
+struct SaidLine<'w, 't> {
+    /// Its number, counted from 1.
+    number: usize,
+    /// Its words.
+    words: &'w [&'t str],
+    /// The words as they were written, where they name a data word; else empty.
+    written: &'w str,
+}
 
 /// Why a text says no wishes.
 #[derive(Clone, Copy, PartialEq, Eq)]
@@ -98,7 +109,7 @@ impl Wishes {
             && self.never_busy.is_none()
     }
 
-    /// The wishes of a text of a program, by its names and its image: a line `never busy` says that no stream ever goes round
+    /// The wishes of a text of a program, by its names and its image: a line `never busy` says that no stream ever loops
     /// alone, another one that begins with `always`, `never` or `some` is a claim, one that begins with `entries`, `at`,
     /// `forbid` or `require` says rules of programs, the others are expectations.
     ///
@@ -115,14 +126,17 @@ impl Wishes {
         let mut others = Vec::with_capacity(alloc, text.len())?;
         for (index, line) in text.split(|byte| *byte == b'\n').enumerate() {
             let words = line_words(alloc, line)?;
-            let number = index.saturating_add(1);
-            let written = match written.get(index) {
-                Some(words) => words.as_str(),
-                None => "",
+            let said = SaidLine {
+                number: index.saturating_add(1),
+                words: &words,
+                written: match written.get(index) {
+                    Some(words) => words.as_str(),
+                    None => "",
+                },
             };
-            if !wishes.add_said(alloc, number, &words, written, names, image)? {
+            if !wishes.add_said(alloc, said, names, image)? {
                 others.extend_from_slice(line)?;
-                wishes.note_end(alloc, number, line, written)?;
+                wishes.note_end(alloc, line, said)?;
             }
             others.push(b'\n')?;
         }
@@ -132,22 +146,20 @@ impl Wishes {
         Ok(wishes)
     }
 
-    /// Adds what a line says, by its number, its words, and these as they were written if they have a name, unless that is
-    /// an expectation; whether it is none.
+    /// Adds what a line says, unless that is an expectation; whether it is none.
     fn add_said(
         &mut self,
         alloc: Global,
-        number: usize,
-        words: &[&str],
-        written: &str,
+        said: SaidLine<'_, '_>,
         names: &ProgramNames<'_>,
         image: &Image,
     ) -> Result<bool, WishFault> {
+        let SaidLine { number, words, .. } = said;
         let first = words.first().copied().unwrap_or("");
         if is_never_busy(words) {
             self.never_busy.get_or_insert(number);
         } else if is_claim_word(first) {
-            self.add_claim(alloc, number, words, written, names, image)?;
+            self.add_claim(alloc, said, names, image)?;
         } else if is_rule_word(first) {
             self.add_rules(alloc, number, words)?;
         } else {
@@ -156,24 +168,22 @@ impl Wishes {
         Ok(true)
     }
 
-    /// Adds the claim that the words of a line say about a program, and how they were written, if they have a name.
+    /// Adds the claim that a line says about a program.
     fn add_claim(
         &mut self,
         alloc: Global,
-        line: usize,
-        words: &[&str],
-        written: &str,
+        said: SaidLine<'_, '_>,
         names: &ProgramNames<'_>,
         image: &Image,
     ) -> Result<(), WishFault> {
-        let ClaimLine { mut text, claim } = claim_at(alloc, line, words, names, image)?;
-        if !written.is_empty() {
+        let ClaimLine { mut text, claim } = claim_at(alloc, said.number, said.words, names, image)?;
+        if !said.written.is_empty() {
             text.clear();
-            text.push_str(written)?;
+            text.push_str(said.written)?;
         }
         self.claims.push(claim)?;
         self.claim_texts.push(text)?;
-        self.claim_lines.push(line)?;
+        self.claim_lines.push(said.number)?;
         Ok(())
     }
 
@@ -181,13 +191,12 @@ impl Wishes {
     fn note_end(
         &mut self,
         alloc: Global,
-        number: usize,
         line: &[u8],
-        written: &str,
+        said: SaidLine<'_, '_>,
     ) -> Result<(), AllocError> {
         if has_words(line) {
-            self.end_texts.push(String::from_str(alloc, written)?)?;
-            self.end_lines.push(number)?;
+            self.end_texts.push(String::from_str(alloc, said.written)?)?;
+            self.end_lines.push(said.number)?;
         }
         Ok(())
     }
@@ -202,7 +211,7 @@ impl Wishes {
     }
 }
 
-/// Whether the words of a line say that no stream ever goes round alone.
+/// Whether the words of a line say that no stream ever loops alone.
 fn is_never_busy(words: &[&str]) -> bool {
     match words {
         ["never", "busy"] => true,

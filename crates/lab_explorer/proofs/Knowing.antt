@@ -45,15 +45,11 @@ IsAnswerKnown expected claims found =
     → IsComplete found.0 ⊎ (AreNamed expected found.0.live.names × IsFollowedForClaims found.0 claims)
 
 module _ {E : Type 0} where
-  pub known_if : (r : Result (SpaceValue × Bool) E) (asked expected : List Expectation) (told claims : List Claim)
-      → asked ≡ expected → told ≡ claims → IfOk r (λ found. AreNamed asked found.0.live.names)
-      → IfOk r (λ found. IsTrue found.1 → IsFollowedForClaims found.0 told) → IfOk r (IsAnswerKnown expected claims)
-  known_if (Ok found) asked expected told claims names places named shown = λ on.
-      inr (
-        subst (λ (es : List Expectation). AreNamed es found.0.live.names) names named,
-        subst (IsFollowedForClaims found.0) places (shown on),
-      )
-  known_if (Err f) asked expected told claims names places named shown = named
+  pub known_if : (r : Result (SpaceValue × Bool) E) (expected : List Expectation) (claims : List Claim)
+      → IfOk r (λ found. AreNamed expected found.0.live.names)
+      → IfOk r (λ found. IsTrue found.1 → IsFollowedForClaims found.0 claims) → IfOk r (IsAnswerKnown expected claims)
+  known_if (Ok found) expected claims named shown = λ on. inr (named, shown on)
+  known_if (Err f) expected claims named shown = named
 
   pub taken_if : (r : Result (SpaceValue × Bool) E) → IfOk r (λ found. IsTrue found.1 → AllFollowed found.0)
       → IfOk r (λ found. IsTrue found.1 → (IsComplete found.0 × HasAllEdges found.0) ⊎ AllFollowed found.0)

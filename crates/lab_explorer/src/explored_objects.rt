@@ -1,4 +1,4 @@
-//! What is told of a search as objects (docs/LAB_REFERENCE.md, "JSON").
+//! What is said of a search as objects (docs/LAB_REFERENCE.md, "JSON").
 
 use crate::expected_lines::ExpectedLines;
 use crate::searches::Explored;
@@ -57,7 +57,7 @@ fn bound_value(alloc: Global, bound: Option<SearchBound>) -> Result<Value, Alloc
     }
 }
 
-/// What is told of the run to an end.
+/// What is said of the run to an end.
 fn run_fields(alloc: Global, image: &Image, end: &SpaceEnd) -> Result<Fields, AllocError> {
     let mut fields = object_of(alloc, "search_end")?;
     put_run(alloc, &mut fields, image, &end.schedule)?;

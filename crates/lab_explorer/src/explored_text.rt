@@ -1,4 +1,4 @@
-//! What is told of a search: its head and its ends, in words or as objects.
+//! What is said of a search: its head and its ends, in words or as objects.
 
 use crate::end_columns::{EndCells, EndColumns, end_line};
 use crate::expectation_texts::push_expected;
@@ -14,10 +14,10 @@ use plain_text::push_plain;
 use std::alloc::{AllocError, Global};
 use trace_text::write_schedule;
 
-/// The most turns of a schedule that are told of a claim that it breaks.
+/// The most turns of a schedule that are shown with a claim that it breaks.
 const MOST_TURNS: usize = 40;
 
-/// What is told of a search among the schedules of an image, of which this is wished.
+/// What is said of a search among the schedules of an image, of which this is wished.
 pub(crate) fn answer_of(
     alloc: Global,
     is_json: bool,
@@ -107,7 +107,7 @@ fn schedules_of(found: &Explored) -> &'static str {
     }
 }
 
-/// What stands behind a word that is counted.
+/// What stands after a word that is counted.
 fn plural(count: usize) -> &'static str {
     if count == 1 { "" } else { "s" }
 }
@@ -195,7 +195,7 @@ fn push_missed(out: &mut String, wishes: &Wishes, end: &SpaceEnd) -> Result<(), 
     }
 }
 
-/// Adds that an end is not as expected, apart from what is told of it before.
+/// Adds that an end is not as expected, apart from what is said of it before.
 fn push_missed_head(out: &mut String, text: &str) -> Result<(), AllocError> {
     out.push_str(if text.is_empty() { "" } else { "   " })?;
     out.push_str("NOT as expected")

@@ -4,7 +4,7 @@ use crate::end_folders::{make_folders, write_folders};
 use crate::end_pages::FoundProgram;
 use crate::explored_text::answer_of;
 use crate::graphs::write_graph;
-use crate::searches::{Search, explore_program};
+use crate::searches::{SpaceSearch, explore_program};
 use crate::watching::{Console, Watcher};
 use crate::wished::wishes_of;
 use command_parts::{CommandAnswer, Inputs, LabFault, Program, read_program, read_steps, style_of};
@@ -77,8 +77,12 @@ fn wishes_asked<F: Files, R: Read>(
 }
 
 /// The search that is asked for.
-fn search_asked<'a>(request: &ExploreRequest, wishes: &'a Wishes, begin: &'a [Step]) -> Search<'a> {
-    Search {
+fn search_asked<'a>(
+    request: &ExploreRequest,
+    wishes: &'a Wishes,
+    begin: &'a [Step],
+) -> SpaceSearch<'a> {
+    SpaceSearch {
         wishes,
         begin,
         most: request.bounds.worlds,

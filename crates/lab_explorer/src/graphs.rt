@@ -48,7 +48,7 @@ fn too_many(alloc: Global, path: &str, found: &Explored) -> Result<LabFault, All
     )?))
 }
 
-/// A graph behind comments that say of what it is.
+/// A graph after comments that say of what it is.
 fn with_head(alloc: Global, found: &Explored, graph: &str) -> Result<String, AllocError> {
     let mut text = String::from_str(alloc, "// ")?;
     push_head_line(&mut text, found)?;

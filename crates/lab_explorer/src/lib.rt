@@ -24,7 +24,7 @@ pub use expectation_texts::push_expected;
 pub use expected_lines::ExpectedLines;
 pub use explored_objects::put_bound;
 pub use exploring::show_every_end;
-pub use searches::{Explored, Search, explore_program};
+pub use searches::{Explored, SpaceSearch, explore_program};
 pub use unkept::{Unkept, push_unkept, push_unkept_objects};
 pub use watching::{Console, SearchBound, Watcher};
 pub use wished::{wish_fault, wishes_of};

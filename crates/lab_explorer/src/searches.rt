@@ -1,6 +1,6 @@
 //! What is looked for among the schedules of a program, and what the search comes to.
 
-ghost use Rattle.std.specs.Prelude.{◌≡◌, ◌⊎◌, ◌↔◌, is_some, IsTrue, IsSome, IsNone, IfOk, None};
+ghost use Rattle.std.specs.Prelude.{◌≡◌, ◌≤◌, ◌⊎◌, ◌↔◌, is_some, IsTrue, IsSome, IsNone, IfOk, None};
 ghost use Rattle.schedule_space.specs.Spaces.{IsComplete, HasAllEdges};
 ghost use Rattle.schedule_space.specs.Followed.{AllFollowed};
 ghost use Rattle.busy_streams.specs.Busy.{IsNeverBusy};
@@ -20,7 +20,7 @@ use command_parts::{Program, Status};
 use end_kinds::EndKind;
 use image_file::Image;
 use lab_ends::{SpaceEnd, SpaceEndKind, Wishes, are_rules_kept, first_broken_rule, space_ends};
-use lab_texts::{NumberStyle, ProgramNames};
+use lab_texts::{Notation, NumberStyle, ProgramNames};
 use machine::LoadFault;
 use processor::Step;
 use schedule_space::Space;
@@ -31,7 +31,7 @@ use std::time::Clock;
 
 /// What is looked for among the schedules of a program.
 #[derive(Clone, Copy)]
-pub struct Search<'a> {
+pub struct SpaceSearch<'a> {
     /// What is wished of the program.
     pub wishes: &'a Wishes,
     /// The schedule that all begin with.
@@ -46,7 +46,7 @@ pub struct Search<'a> {
     pub style: NumberStyle,
 }
 
-impl Search<'_> {
+impl SpaceSearch<'_> {
     /// Whether something is wished of the program, and it keeps the rules of programs that are.
     fn is_judged(&self, image: &Image) -> bool
         ensures { IsTrue result ↔ IsJudged image.now self.now.wishes.now }
@@ -55,7 +55,7 @@ impl Search<'_> {
     }
 
     /// Whether it is to be judged by what was found: that is complete, something is wished, the program keeps the rules,
-    /// each claim that has to hold of one world at least does, and no stream was found that goes round alone.
+    /// each claim that has to hold of one world at least does, and no stream was found that loops alone.
     fn judges(
         &self,
         image: &Image,
@@ -69,7 +69,14 @@ impl Search<'_> {
         is_complete && self.is_judged(image) && unshown.is_none() && busy.is_none()
     }
 
-    /// Whether all worlds are looked for: where it is asked for, and where no stream is wished to go round alone.
+    /// The most worlds that are looked for: at least one.
+    pub(crate) fn most_worlds(&self) -> usize
+        ensures { 1 ≤ result }
+    {
+        self.most.max(1)
+    }
+
+    /// Whether all worlds are looked for: where it is asked for, and where no stream is wished to loop alone.
     pub(crate) fn takes_all(&self) -> bool
         ensures { IsSome self.now.wishes.now.never_busy → IsTrue result }
     {
@@ -101,7 +108,7 @@ pub struct Explored {
     /// The graph of the worlds, where it is asked for, and they are no more than a graph has.
     pub graph: Option<String>,
     /// Whether they are all, something is wished, the program keeps the rules, every schedule is right, its end and each
-    /// world on its way, each claim that has to hold of one world at least does, and no stream goes round alone where that
+    /// world on its way, each claim that has to hold of one world at least does, and no stream loops alone where that
     /// is wished (PROMISES.md, "Every schedule is right").
     pub is_right: bool,
 }
@@ -130,12 +137,7 @@ impl Explored {
 
     /// The exit status: the worst over all ends, broken claims and rules, and over the bound, where the search came to it.
     pub fn status(&self) -> Status {
-        let status = worst_of(self.is_complete, &self.ends);
-        let unkept = self.unkept();
-        if unkept.rule.is_some() || unkept.unshown.is_some() {
-            return status.worse(Status::Unexpected);
-        }
-        status
+        worst_of(self.is_complete, &self.ends).worse(self.unkept().status(true))
     }
 }
 
@@ -144,7 +146,7 @@ pub fn explore_program<C: Clock, E: Write>(
     alloc: Global,
     program: &Program,
     names: &ProgramNames<'_>,
-    asked: &Search<'_>,
+    asked: &SpaceSearch<'_>,
     watcher: &mut Watcher<'_, '_, C, E>,
 ) -> Result<Explored, AllocError>
     ensures right { IfOk result (λ e. let wishes = asked.now.wishes.now in IsTrue e.is_right
@@ -165,7 +167,7 @@ fn explore_on<const S: usize, C: Clock, E: Write>(
     alloc: Global,
     program: &Program,
     names: &ProgramNames<'_>,
-    asked: &Search<'_>,
+    asked: &SpaceSearch<'_>,
     watcher: &mut Watcher<'_, '_, C, E>,
 ) -> Result<Explored, AllocError>
     ensures right { IfOk result (λ e. let wishes = asked.now.wishes.now in IsTrue e.is_right
@@ -176,7 +178,9 @@ fn explore_on<const S: usize, C: Clock, E: Write>(
     let (space, is_complete) = space_of::<S, C, E>(alloc, &program.image, asked, watcher)?;
     let wishes = asked.wishes;
     let busy = busy_in::<S>(alloc, wishes, &space, is_complete)?;
-    let ends = space_ends::<S>(alloc, names, asked.style, wishes, &space, is_complete, busy)?;
+    let style = asked.style;
+    let notation = Notation { names, style };
+    let ends = space_ends::<S>(alloc, notation, wishes, &space, is_complete, busy)?;
     let graph = graph_asked(alloc, asked.is_drawn, &space, &ends)?;
     let unshown = unshown_in::<S>(alloc, asked.wishes, &space)?;
     let is_judged = asked.judges(&program.image, is_complete, unshown, busy);
@@ -214,7 +218,7 @@ fn unshown_in<const S: usize>(
     }
 }
 
-/// The first world of a space from which a stream goes round alone, where none is wished to and the space has all worlds.
+/// The first world of a space from which a stream loops alone, where none is wished to and the space has all worlds.
 fn busy_in<const S: usize>(
     alloc: Global,
     wishes: &Wishes,

@@ -7,10 +7,10 @@ ghost use Rattle.busy_streams.specs.BusySpaces.{HasAllWorlds};
 ghost use Rattle.schedule_verdicts.specs.NamedRegisters.{AreNamed};
 ghost use Rattle.schedule_verdicts.specs.RightSpaces.{IsFollowedForClaims};
 
-use crate::searches::Search;
+use crate::searches::SpaceSearch;
 use crate::watching::Watcher;
-use claims::{Claim, places_looked_at};
-use expectations::{Expectation, named_registers};
+use claims::places_looked_at;
+use expectations::named_registers;
 use image_file::Image;
 use machine::LoadFault;
 use processor::Step;
@@ -26,7 +26,7 @@ use std::time::Clock;
 pub(crate) fn space_of<'i, const S: usize, C: Clock, E: Write>(
     alloc: Global,
     image: &'i Image,
-    asked: &Search<'_>,
+    asked: &SpaceSearch<'_>,
     watcher: &mut Watcher<'_, '_, C, E>,
 ) -> Result<(Space<'i>, bool), AllocError>
     ensures image { IfOk result (λ found. found.0.image ≡ image.entry.now) }
@@ -39,20 +39,10 @@ pub(crate) fn space_of<'i, const S: usize, C: Clock, E: Write>(
     ensures worlds { IfOk result (λ found. IsTrue found.1 → IsSome asked.now.wishes.now.never_busy
         → HasAllWorlds found.0) }
 {
-    let most = asked.most.max(1);
     if asked.takes_all() {
-        return all_worlds::<S, C, E>(alloc, image, asked.begin, most, watcher);
+        return all_worlds::<S, C, E>(alloc, image, asked.begin, asked.most_worlds(), watcher);
     }
-    let wishes = asked.wishes;
-    all_ends::<S, C, E>(
-        alloc,
-        image,
-        asked.begin,
-        &wishes.ends,
-        &wishes.claims,
-        most,
-        watcher,
-    )
+    all_ends::<S, C, E>(alloc, image, asked, watcher)
 }
 
 /// The same of all worlds.
@@ -85,22 +75,20 @@ fn all_worlds<'i, const S: usize, C: Clock, E: Write>(
 fn all_ends<'i, const S: usize, C: Clock, E: Write>(
     alloc: Global,
     image: &'i Image,
-    begin: &[Step],
-    expected: &[Expectation],
-    claims: &[Claim],
-    most: usize,
+    asked: &SpaceSearch<'_>,
     watcher: &mut Watcher<'_, '_, C, E>,
 ) -> Result<(Space<'i>, bool), AllocError>
-    requires { 1 ≤ most }
     ensures image { IfOk result (λ found. found.0.image ≡ image.entry.now) }
-    ensures begin { IfOk result (λ found. found.0.begin ≡ begin.now) }
-    ensures named { IfOk result (λ found. AreNamed expected.now found.0.live.names) }
-    ensures shown { IfOk result (λ found. IsTrue found.1 → IsFollowedForClaims found.0 claims.now) }
+    ensures begin { IfOk result (λ found. found.0.begin ≡ asked.now.begin.now) }
+    ensures named { IfOk result (λ found. AreNamed asked.now.wishes.now.ends.items found.0.live.names) }
+    ensures shown { IfOk result (λ found. IsTrue found.1
+        → IsFollowedForClaims found.0 asked.now.wishes.now.claims.items) }
     ensures taken { IfOk result (λ found. IsTrue found.1 → AllFollowed found.0) }
 {
-    let names = named_registers(expected);
-    let places = places_looked_at(alloc, claims)?;
-    match explore_ends::<S, _>(alloc, image, begin, &names, &places, most, watcher) {
+    let most = asked.most_worlds();
+    let names = named_registers(&asked.wishes.ends);
+    let places = places_looked_at(alloc, &asked.wishes.claims)?;
+    match explore_ends::<S, _>(alloc, image, asked.begin, &names, &places, most, watcher) {
         Ok(Exploration::Complete(space)) => Ok((space, true)),
         Ok(Exploration::Bounded(space, bound)) => {
             watcher.end(bound);

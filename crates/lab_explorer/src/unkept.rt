@@ -1,7 +1,7 @@
 //! What is wished of a program as a whole, and is not so.
 
 use crate::expected_lines::ExpectedLines;
-use command_parts::push_object;
+use command_parts::{Status, push_object};
 use lab_ends::{NEVER_BUSY, Wishes};
 use lab_json::{Object, line_value};
 use serde_json::Value;
@@ -16,6 +16,20 @@ pub struct Unkept {
     pub unshown: Option<usize>,
     /// The number of the line `never busy`, where runs were looked at alone, which do not decide it.
     pub undecided: Option<usize>,
+}
+
+impl Unkept {
+    /// What it means for the exit status, by every schedule or by some runs: that no run shows a claim says nothing of other
+    /// schedules.
+    pub fn status(self, is_of_every: bool) -> Status {
+        if self.rule.is_some() || (is_of_every && self.unshown.is_some()) {
+            Status::Unexpected
+        } else if self.unshown.is_some() || self.undecided.is_some() {
+            Status::OutOfSteps
+        } else {
+            Status::Done
+        }
+    }
 }
 
 /// Adds the first rule that a program breaks, if it breaks one, and the first claim that no world shows,

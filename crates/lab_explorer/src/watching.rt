@@ -37,7 +37,7 @@ pub enum SearchBound {
 }
 
 impl SearchBound {
-    /// It in words, behind what was not come to.
+    /// It in words, which follow what was not reached.
     pub fn words(self) -> &'static str {
         match self {
             SearchBound::States => "ended by --states",

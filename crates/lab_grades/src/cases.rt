@@ -113,7 +113,7 @@ fn case_of<F: Files, R: Read>(
 }
 
 /// The names of a folder's cases, in their order: of each file NAME.data or NAME.expect the part before the point. These
-/// are the names of its files, each with a zero behind it.
+/// are the names of its files, each with a zero after it.
 fn names_of_cases(alloc: Global, folder: &str, bytes: &[u8]) -> Result<Vec<String>, LabFault> {
     let mut names: Vec<String> = Vec::new(alloc);
     for entry in bytes.split(|byte| *byte == 0) {

@@ -9,7 +9,7 @@ use command_parts::LabFault;
 use end_kinds::EndKind;
 use grade_reports::{CountedEnd, Known, Verdict, VerdictKind, WishLine, Witness};
 use lab_ends::{SpaceEnd, SpaceEndKind};
-use lab_explorer::{Console, Explored, Search, Watcher, explore_program};
+use lab_explorer::{Console, Explored, SpaceSearch, Watcher, explore_program};
 use lab_requests::Bounds;
 use std::alloc::{AllocError, Global};
 use std::io::Write;
@@ -32,7 +32,7 @@ pub(crate) fn explored_verdict<X: Threads + Sync, C: Clock, E: Write>(
         (is_some j.wishes.now.never_busy)) }
 {
     let begin = Vec::new(alloc);
-    let asked = Search {
+    let asked = SpaceSearch {
         wishes: judged.wishes,
         begin: &begin,
         most: bounds.worlds,

@@ -4,7 +4,7 @@ use plain_text::stem_of;
 use std::alloc::{AllocError, Global};
 
 /// The names of the pages of submissions, in their order, no two alike: that of the file without its ending. What a link
-/// or a system does not take is written as `_`. The second submission of a name has `-2` behind it, and so on.
+/// or a system does not take is written as `_`. The second submission of a name has `-2` after it, and so on.
 pub(crate) fn page_names(alloc: Global, paths: &[&str]) -> Result<Vec<String>, AllocError> {
     let mut stems = Vec::new(alloc);
     let mut names = Vec::new(alloc);

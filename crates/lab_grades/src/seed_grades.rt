@@ -71,7 +71,7 @@ fn verdict_of_right(
     Ok(verdict)
 }
 
-/// The same where each claim is shown that has to hold of one world at least: right, unless no stream is wished to go round
+/// The same where each claim is shown that has to hold of one world at least: right, unless no stream is wished to loop
 /// alone, which no run can show.
 fn verdict_of_shown(
     alloc: Global,

@@ -12,7 +12,7 @@ pub(crate) struct WishLines {
     pub ends: Vec<WishLine>,
     /// Those about the worlds on the way, in their order.
     pub claims: Vec<WishLine>,
-    /// Those that say that no stream ever goes round alone.
+    /// Those that say that no stream ever loops alone.
     pub busy: Vec<WishLine>,
 }
 
@@ -89,7 +89,7 @@ impl WishLines {
         }
     }
 
-    /// The first line that says that no stream ever goes round alone.
+    /// The first line that says that no stream ever loops alone.
     pub(crate) fn busy_line(&self, alloc: Global) -> Result<Option<WishLine>, AllocError> {
         copy_at(alloc, &self.busy, Some(0))
     }

@@ -10,7 +10,7 @@ use std::alloc::Global;
 
 /// By what ends are right or wrong.
 #[derive(Clone, Copy)]
-pub(crate) struct Judging {
+pub(crate) struct EndCriteria {
     /// Whether something is expected of ends, or claimed.
     pub is_judged: bool,
     /// Whether the program keeps the rules for programs, and shows each claim that has to hold of one state at least: of one
@@ -24,7 +24,7 @@ pub(crate) fn goal_place(
     alloc: Global,
     request: &PlayRequest,
     ends: &[SpaceEnd],
-    judging: Judging,
+    judging: EndCriteria,
 ) -> Result<Option<usize>, LabFault> {
     let Some(goal) = request.goal else {
         return Ok(None);
@@ -49,7 +49,7 @@ pub(crate) fn goal_place(
 }
 
 /// Whether an end is of the kind that a word says; right and wrong are those that something is expected of.
-fn is_goal(word: &str, end: &SpaceEnd, ends: &[SpaceEnd], judging: Judging) -> bool {
+fn is_goal(word: &str, end: &SpaceEnd, ends: &[SpaceEnd], judging: EndCriteria) -> bool {
     let is_right = judging.keeps_rules && is_right_end(end, ends);
     let is_finished = end.kind == SpaceEndKind::End(EndKind::Finished);
     match word {

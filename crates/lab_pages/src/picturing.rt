@@ -39,7 +39,7 @@ fn none_drawn(alloc: Global, request: &PageRequest) -> Result<LabFault, AllocErr
     Ok(LabFault::Words(format!(in alloc; "--from {from} is after --to {to}: no step is drawn")?))
 }
 
-/// What is said of steps that begin behind the last of so many.
+/// What is said of steps that begin after the last of so many.
 fn past_end(alloc: Global, from: usize, count: usize) -> Result<LabFault, AllocError> {
     let plural = if count == 1 { "" } else { "s" };
     Ok(LabFault::Words(format!(in alloc;

@@ -1,13 +1,13 @@
 //! The command `play`.
 
-use crate::goals::{Judging, goal_place};
+use crate::goals::{EndCriteria, goal_place};
 use crate::opened_pages::opened_after;
 use busy_streams::{Busy, first_busy};
 use command_parts::{CommandAnswer, Inputs, LabFault, Program, read_program, read_steps};
 use lab_ends::{NEVER_BUSY, Wishes, are_rules_kept, space_ends};
 use lab_explorer::{Console, Watcher, push_expected, wishes_of};
 use lab_requests::{Bounds, PlayRequest};
-use lab_texts::{NumberStyle, ProgramNames};
+use lab_texts::{Notation, NumberStyle, ProgramNames};
 use machine::LoadFault;
 use plain_text::stem_of;
 use processor::Step;
@@ -108,14 +108,17 @@ fn graph_on<const S: usize, C: Clock, E: Write>(
         Ok(Exploration::Bounded(_, _)) => return Err(LabFault::NoMemory),
         Err(LoadFault::NoMemory | LoadFault::Streams) => return Err(LabFault::NoMemory),
     };
-    let style = NumberStyle::Decimal;
+    let notation = Notation {
+        names: played.names,
+        style: NumberStyle::Decimal,
+    };
     let wishes = played.wishes;
     let busy = busy_in::<S>(alloc, &space, wishes)?;
-    let mut ends = space_ends::<S>(alloc, played.names, style, wishes, &space, true, busy)?;
+    let mut ends = space_ends::<S>(alloc, notation, wishes, &space, true, busy)?;
     // (a claim that only the given beginning breaks has no state on the page)
     ends.retain(|end| !end.places.is_empty());
     let expected = expected_texts(alloc, played.wishes)?;
-    let judging = Judging {
+    let judging = EndCriteria {
         is_judged: !expected.is_empty(),
         keeps_rules: are_rules_kept(image, &played.wishes.rules)
             && are_all_shown::<S>(alloc, &space, played.wishes)?,
@@ -132,7 +135,7 @@ fn graph_on<const S: usize, C: Clock, E: Write>(
     Ok(Some(graph))
 }
 
-/// The first state from which a stream goes round alone, of those of a space, where none is wished to.
+/// The first state from which a stream loops alone, of those of a space, where none is wished to.
 fn busy_in<const S: usize>(
     alloc: Global,
     space: &Space<'_>,

@@ -1,4 +1,4 @@
-//! What is told of a survey as objects (docs/LAB_REFERENCE.md, "JSON").
+//! What is said of a survey as objects (docs/LAB_REFERENCE.md, "JSON").
 
 use command_parts::{Program, made_by, push_object};
 use end_kinds::EndKind;
@@ -32,7 +32,7 @@ impl<'a> SurveyInput<'a> {
     }
 }
 
-/// Adds the objects of outcomes, made over all cores. What an outcome's words, streams and findings are is told of the run
+/// Adds the objects of outcomes, made over all cores. What an outcome's words, streams and findings are is said of the run
 /// of its seed, which is taken once more.
 pub(crate) fn push_outcome_objects<X: Threads + Sync>(
     rt: &X,
@@ -89,7 +89,7 @@ fn outcome_value(
     object.whole()
 }
 
-/// Puts the line that an outcome misses, the claim that it breaks, and what is told of the run of its seed.
+/// Puts the line that an outcome misses, the claim that it breaks, and what is said of the run of its seed.
 fn put_run_of(
     alloc: Global,
     fields: &mut Fields,

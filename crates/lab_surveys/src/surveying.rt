@@ -2,11 +2,11 @@
 
 use crate::coverage::push_every_schedule;
 use crate::survey_objects::{SurveyInput, broken_words, push_outcome_objects};
-use command_parts::{CommandAnswer, Inputs, LabFault, Program, Status, read_program, style_of};
+use command_parts::{CommandAnswer, Inputs, LabFault, read_program, style_of};
 use lab_ends::{Wishes, first_broken_rule};
 use lab_explorer::{
-    Console, EndCells, EndColumns, Explored, Search, Unkept, Watcher, end_line, explore_program,
-    push_expected, push_unkept, push_unkept_objects, wishes_of,
+    Console, EndCells, EndColumns, Explored, SpaceSearch, Unkept, Watcher, end_line,
+    explore_program, push_expected, push_unkept, push_unkept_objects, wishes_of,
 };
 use lab_requests::{Bounds, SurveyRequest};
 use lab_texts::{NumberStyle, ProgramNames};
@@ -74,7 +74,7 @@ fn survey_of<X: Threads + Sync, C: Clock, E: Write>(
     let Some(bounds) = request.explored else {
         let unkept = unkept_by_seeds(alloc, surveyed, seeds)?;
         push_whole(alloc, &mut output, is_json, surveyed, unkept, false)?;
-        let status = status.worse(status_of_seeds(unkept));
+        let status = status.worse(unkept.status(false));
         return Ok(CommandAnswer::printed(alloc, output, status));
     };
     let found = every_end(alloc, surveyed, names, seeds.style, bounds, console)?;
@@ -104,17 +104,6 @@ fn unkept_by_seeds(
         unshown: unshown_by_seeds(alloc, &program.image, &wishes.claims, tried)?,
         undecided: wishes.never_busy,
     })
-}
-
-/// What that means for the exit status. That no run shows a claim says nothing of other schedules.
-fn status_of_seeds(unkept: Unkept) -> Status {
-    if unkept.rule.is_some() {
-        Status::Unexpected
-    } else if unkept.unshown.is_some() || unkept.undecided.is_some() {
-        Status::OutOfSteps
-    } else {
-        Status::Done
-    }
 }
 
 /// Adds what of the program as a whole is not so, by every schedule or by some runs.
@@ -179,7 +168,7 @@ fn every_end<C: Clock, E: Write>(
     console: &mut Console<'_, C, E>,
 ) -> Result<Explored, LabFault> {
     let begin = Vec::new(alloc);
-    let asked = Search {
+    let asked = SpaceSearch {
         wishes: surveyed.wishes,
         begin: &begin,
         most: bounds.worlds,

@@ -10,7 +10,7 @@ const REGISTERS: usize = 32;
 /// How many target registers a stream has.
 const TARGETS: usize = 8;
 
-/// The numbers of 64 bits behind the registers and the targets: status word, trap register, retry count, and the status, which
+/// The numbers of 64 bits after the registers and the targets: status word, trap register, retry count, and the status, which
 /// is 1 if the stream runs, and above that one more than the number of the trap that stopped it.
 const STATUS_WORD: usize = 40;
 

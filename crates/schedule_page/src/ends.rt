@@ -10,7 +10,7 @@ use trace_text::write_schedule;
 
 /// What ends are judged by.
 #[derive(Clone, Copy)]
-pub(crate) struct Judging<'a> {
+pub(crate) struct EndRequirements<'a> {
     /// What each end has to be, as it is written.
     pub expected: &'a [String],
     /// Whether something is expected or claimed: without it no end is right or wrong.
@@ -24,7 +24,7 @@ pub(crate) fn ends_json(
     alloc: Global,
     ends: &[SpaceEnd],
     begin: usize,
-    judging: Judging<'_>,
+    judging: EndRequirements<'_>,
 ) -> Result<Value, AllocError> {
     let mut values = List::new(alloc);
     for end in ends {
@@ -42,7 +42,7 @@ fn end_json(
     end: &SpaceEnd,
     right: Option<bool>,
     begin: usize,
-    judging: Judging<'_>,
+    judging: EndRequirements<'_>,
 ) -> Result<Value, AllocError> {
     let steps = end.schedule.get(begin..).unwrap_or(&[]);
     let mut fields = Object::new(alloc);
@@ -86,7 +86,11 @@ fn breaks_claim(end: &SpaceEnd, ends: &[SpaceEnd]) -> bool {
 }
 
 /// The first line of the expectations that an end does not meet; null if there is none.
-fn missed_value(alloc: Global, end: &SpaceEnd, judging: Judging<'_>) -> Result<Value, AllocError> {
+fn missed_value(
+    alloc: Global,
+    end: &SpaceEnd,
+    judging: EndRequirements<'_>,
+) -> Result<Value, AllocError> {
     match end.missed.and_then(|place| judging.expected.get(place)) {
         Some(text) => text_value(alloc, text),
         None => Ok(Value::Null),

@@ -1,7 +1,7 @@
 //! The data of a page: a program, its states, the steps between them, and the ends that can still be reached.
 
 use crate::columns::{Column, column_of};
-use crate::ends::{Judging, ends_json, schedule_text, texts_json};
+use crate::ends::{EndRequirements, ends_json, schedule_text, texts_json};
 use crate::numbers::number_of;
 use crate::page_tables::{HeldContents, PageTables};
 use crate::records::Records;
@@ -93,7 +93,7 @@ fn put_ends(
     space: &Space<'_>,
     ends: &[SpaceEnd],
 ) {
-    let judging = Judging {
+    let judging = EndRequirements {
         expected: asked.expected,
         is_judged: asked.is_judged,
         are_rules_kept: asked.are_rules_kept,

@@ -19,6 +19,16 @@ pub(crate) struct HeldContents {
     pub numbers: Vec<u32>,
 }
 
+/// What a processor holds in a state.
+#[derive(Clone, Copy)]
+struct ProcessorRow<'r> {
+    /// The processor.
+    p: u8,
+    /// How many of its streams are reserved, then of each that is not idle its number and the place in the table of what
+    /// it holds.
+    numbers: &'r [u32],
+}
+
 /// The states of a space by streams, and the tables that their numbers count in.
 #[derive(Drop)]
 pub(crate) struct PageTables {
@@ -88,9 +98,11 @@ impl PageTables {
             if index == 0 {
                 shared.push(*number)?;
             } else {
-                let numbers = table.list(*number as usize).unwrap_or(&[]);
-                let p = small(index.saturating_sub(1));
-                self.add_processor(alloc, table, place, p, numbers, &mut shared)?;
+                let held = ProcessorRow {
+                    p: small(index.saturating_sub(1)),
+                    numbers: table.list(*number as usize).unwrap_or(&[]),
+                };
+                self.add_processor(alloc, table, place, held, &mut shared)?;
             }
         }
         let number = self.shared_table.place(&shared)?;
@@ -103,17 +115,16 @@ impl PageTables {
         Ok(self.shared_of.push(number)?)
     }
 
-    /// Adds what a processor holds in the state at a place: how many streams are reserved, and of each that is not idle its
-    /// number and the place in the table of what it holds. The counts are put behind what is shared.
+    /// Adds what a processor holds in the state at a place. Its counts are put after what is shared.
     fn add_processor(
         &mut self,
         alloc: Global,
         table: &Table,
         place: usize,
-        p: u8,
-        numbers: &[u32],
+        row: ProcessorRow<'_>,
         shared: &mut Vec<u32>,
     ) -> Result<(), AllocError> {
+        let ProcessorRow { p, numbers } = row;
         let reserved = numbers.first().copied().unwrap_or(0);
         let marks = numbers.get(1..).unwrap_or(&[]);
         shared.push(reserved)?;

@@ -163,7 +163,7 @@ fn push_record(rows: &mut [Vec<(u32, u32)>], pair: &[u32], record: u32) -> Resul
     }
 }
 
-/// A step as JSON: how it came out, and behind it what it asked of the memory, if it did.
+/// A step as JSON: how it came out, and after it what it asked of the memory, if it did.
 fn record_json(alloc: Global, view: &StepView) -> Result<Value, AllocError> {
     let mut parts = Vec::new(alloc);
     parts.push(Value::String(outcome_name(alloc, view.outcome)?))?;

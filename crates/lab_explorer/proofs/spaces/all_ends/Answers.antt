@@ -1,19 +1,22 @@
-use Rattle.std.proofs.Common.{subst, ap}
+use Rattle.std.proofs.Common.{subst, ap, List}
+use Rattle.expectations.specs.declared.expectation.Expectation.{Expectation}
 use Rattle.schedule_space.specs.Spaces.{SpaceValue}
 use Rattle.schedule_space.specs.Answers.{space_in}
 use Rattle.schedule_space.specs.Followed.{AllFollowed}
 use Rattle.schedule_space.specs.Quiet.{AllFollowedQuietly}
 use Rattle.schedule_verdicts.specs.NamedRegisters.{AreNamed}
+use Rattle.schedule_verdicts.specs.RightSpaces.{IsFollowedForClaims}
 use Rattle.lab_explorer.proofs.Knowing.{of_complete, shown_by, names_known}
 use Rattle.lab_explorer.proofs.spaces.all_ends.Goals as goal
 
 pub returns-in-Ok-Complete-clause-shown : goal.returns-in-Ok-Complete-clause-shown
 returns-in-Ok-Complete-clause-shown g c =
     λ yes.
-    shown_by c.in-Ok-Complete.space c.args.claims.now c.in_ok-places.places.items c.deref.result.now c.deref.ensures.value
+    subst (IsFollowedForClaims c.in-Ok-Complete.space) c.deref-2.ensures.value
+    (shown_by c.in-Ok-Complete.space c.deref-2.result.now c.in_ok-places.places.items c.deref-3.result.now c.deref-3.ensures.value
     c.in_ok-places.ensures
-    (of_complete (AllFollowedQuietly c.deref.result.now) c.in-Ok-Complete.field-0 c.in-Ok-Complete.space c.in-Ok-Complete.field-0-is
-    c.in-Ok-Complete.ensures.quiet)
+    (of_complete (AllFollowedQuietly c.deref-3.result.now) c.in-Ok-Complete.field-0 c.in-Ok-Complete.space c.in-Ok-Complete.field-0-is
+    c.in-Ok-Complete.ensures.quiet))
 
 pub returns-in-Ok-Complete-clause-taken : goal.returns-in-Ok-Complete-clause-taken
 returns-in-Ok-Complete-clause-taken g c =
@@ -23,12 +26,14 @@ returns-in-Ok-Complete-clause-taken g c =
 
 pub returns-in-Ok-Complete-clause-named : goal.returns-in-Ok-Complete-clause-named
 returns-in-Ok-Complete-clause-named g c =
-    subst (λ (v : SpaceValue). AreNamed c.args.expected.now v.live.names) (ap space_in c.in-Ok-Complete.field-0-is)
-    (names_known c.args.expected.now c.named_registers-names.result (space_in c.in-Ok-Complete.field-0).live.names
-    c.in-Ok-Complete.ensures.names c.named_registers-names.ensures)
+    subst (λ (es : List Expectation). AreNamed es c.in-Ok-Complete.space.live.names) c.deref.ensures.value
+    (subst (λ (v : SpaceValue). AreNamed c.deref.result.now v.live.names) (ap space_in c.in-Ok-Complete.field-0-is)
+    (names_known c.deref.result.now c.named_registers-names.result (space_in c.in-Ok-Complete.field-0).live.names
+    c.in-Ok-Complete.ensures.names c.named_registers-names.ensures))
 
 pub returns-in-Ok-Bounded-clause-named : goal.returns-in-Ok-Bounded-clause-named
 returns-in-Ok-Bounded-clause-named g c =
-    subst (λ (v : SpaceValue). AreNamed c.args.expected.now v.live.names) (ap space_in c.in-Ok-Bounded.field-0-is)
-    (names_known c.args.expected.now c.named_registers-names.result (space_in c.in-Ok-Bounded.field-0).live.names
-    c.in-Ok-Bounded.ensures.names c.named_registers-names.ensures)
+    subst (λ (es : List Expectation). AreNamed es c.in-Ok-Bounded.space.live.names) c.deref.ensures.value
+    (subst (λ (v : SpaceValue). AreNamed c.deref.result.now v.live.names) (ap space_in c.in-Ok-Bounded.field-0-is)
+    (names_known c.deref.result.now c.named_registers-names.result (space_in c.in-Ok-Bounded.field-0).live.names
+    c.in-Ok-Bounded.ensures.names c.named_registers-names.ensures))

@@ -4,8 +4,7 @@ use Rattle.lab_explorer.proofs.spaces.space_of.Goals as goal
 pub returns-clause-known : goal.returns-clause-known
 returns-clause-known g c =
     let wishes = c.args.asked.now.wishes.now in
-    known_if c.all_ends.result c.deref.result.now wishes.ends.items c.deref-2.result.now wishes.claims.items
-    c.deref.ensures.value c.deref-2.ensures.value c.all_ends.ensures.named c.all_ends.ensures.shown
+    known_if c.all_ends.result wishes.ends.items wishes.claims.items c.all_ends.ensures.named c.all_ends.ensures.shown
 
 pub returns-clause-taken : goal.returns-clause-taken
 returns-clause-taken g c = taken_if c.all_ends.result c.all_ends.ensures.taken
