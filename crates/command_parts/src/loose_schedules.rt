@@ -1,4 +1,4 @@
-//! Schedules as people write them: with comments behind `#`, blank lines, tabs and CR LF, and stars.
+//! Schedules as people write them: with comments after `#`, blank lines, tabs and CR LF, and stars.
 
 use crate::star_words::{past_words, star_here, star_words};
 use crate::stars::{SaidSteps, expand};
@@ -9,7 +9,7 @@ use std::alloc::{AllocError, Global};
 use std::str;
 use trace_text::{ScheduleFault, ScheduleFaultKind, read_schedule};
 
-/// How many stars of a schedule are told of at most.
+/// How many stars of a schedule are reported at most.
 const MOST_STARS_TOLD: usize = 100_000;
 
 /// Where a line stands in its text.
@@ -224,7 +224,7 @@ fn point_at(message: &mut Message, kept: &[Kept]) {
     message.width = place_of(kept, last).saturating_sub(begin).saturating_add(1);
 }
 
-/// Where a byte of the strict form stands on its line; behind the last of them where it has fewer.
+/// Where a byte of the strict form stands on its line; after the last of them where it has fewer.
 fn place_of(kept: &[Kept], index: usize) -> usize {
     match (kept.get(index), kept.last()) {
         (Some(byte), _) => byte.place,

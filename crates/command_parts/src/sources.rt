@@ -14,7 +14,7 @@ const NOT_ASCII: u8 = 106;
 /// A source text, without the byte order mark that it may begin with.
 #[derive(Drop)]
 pub struct SourceText {
-    /// The bytes of its file behind the mark.
+    /// The bytes of its file after the mark.
     written: Vec<u8>,
     /// The text with its comments in ASCII; None where it is all ASCII.
     ascii: Option<Vec<u8>>,

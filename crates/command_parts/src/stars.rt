@@ -54,7 +54,7 @@ pub(crate) struct Expanded {
     pub steps: Vec<Step>,
     /// The stars, in their order.
     pub stars: Vec<Star>,
-    /// The first line, from 0, that takes the schedule past the most steps that one has; it and those behind it add
+    /// The first line, from 0, that takes the schedule past the most steps that one has; it and those after it add
     /// nothing.
     pub past: Option<usize>,
 }

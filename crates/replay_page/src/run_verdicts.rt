@@ -19,7 +19,7 @@ pub enum RunVerdict<'a> {
 }
 
 impl RunVerdict<'_> {
-    /// Adds it behind other members of a run's object; nothing where nothing was expected.
+    /// Adds it after other members of a run's object; nothing where nothing was expected.
     pub(crate) fn push_members(self, alloc: Global, json: &mut String) -> Result<(), AllocError> {
         match self {
             RunVerdict::NotJudged => Ok(()),

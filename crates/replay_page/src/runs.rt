@@ -156,7 +156,7 @@ fn push_run<const S: usize>(
     push_member(alloc, json, "end", &end_part(alloc, &run.end)?)
 }
 
-/// Adds a member behind others.
+/// Adds a member after others.
 pub(crate) fn push_member(
     alloc: Global,
     run: &mut String,

@@ -40,7 +40,7 @@ pub(crate) fn push_streams(
     Ok(())
 }
 
-/// How many letters of a word's address and name have room behind a lane.
+/// How many letters of a word's address and name have room after a lane.
 const WAITED: usize = 16;
 
 /// How many pixels a letter in a step's sign takes.

@@ -1,4 +1,4 @@
-//! All that is told of a run.
+//! All that is said of a run.
 
 use crate::waits::{RunWait, run_waits};
 use lab_texts::{RunEnd, end_of};

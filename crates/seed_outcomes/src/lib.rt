@@ -1,4 +1,4 @@
-//! Ends of the schedules of seeds, counted by what is told of them.
+//! Ends of the schedules of seeds, counted by what is said of them.
 #![tactic(auto)]
 
 mod findings;
