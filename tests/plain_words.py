@@ -5,7 +5,8 @@ reading ease by Flesch.
   plain_words.py            says what is not plain in the documents that are held to it
   plain_words.py FILE..     says it of these files, and their reading ease
 
-Of man pages and of the help texts of mta_lab only the words are looked for, and of exercises all.
+Of man pages, of the help texts of mta_lab, of advice on exercises and of the crates' README.md only the words are looked
+for, of tasks and hints all.
 
 A sentence is at most 30 words long, and a document's reading ease is at least 60: 206.835 - 1.015 * words a sentence
 - 84.6 * syllables a word. Code doesn't count, nor do tables and headings, but for their words; a name in backquotes
@@ -22,8 +23,9 @@ HELD = ("README.md", "CONTRIBUTING.md", "docs/TUTORIAL.md", "docs/CHEAT_SHEET.md
         "docs/PLAY.md", "docs/EDITORS.md", "docs/RATTLE.md", "docs/GLOSSARY.md", "docs/FINDINGS.md", "docs/MACHINE.md",
         "docs/FORMATS.md", "docs/PROMISES.md", "docs/ARCHITECTURE.md", "docs/DECISIONS.md", "docs/SPEED.md",
         "CHANGELOG.md", "page/README.md", "exercises/README.md")
-TASKS, WORDS_ALONE = "exercises/*/task.md", ("share/man/man1/*.1", "crates/lab_command_line/src/help.rt",
-                                             "crates/lab_command_line/src/*arguments.rt")
+TASKS = ("exercises/*/task.md", "exercises/*/hints.md")
+WORDS_ALONE = ("share/man/man1/*.1", "crates/lab_command_line/src/help.rt", "crates/lab_command_line/src/*arguments.rt",
+               "exercises/*/advice", "crates/*/README.md")
 EASE, LONGEST = 60, 30
 # a word that readers stumble over, and what to write
 PLAIN = (
@@ -33,7 +35,10 @@ PLAIN = (
     (r"\b(goes|go|going) round\b", "loops"),
     (r"\bstandstills?\b", "deadlock"),
     (r"\blooked at\b", "explored"),
-    (r"\bhands? out\b|\bgives? back\b", "returns, releases"),
+    (r"\bhands? out\b|\bgives? (it )?back\b|\b(given|giving it) back\b", "returns, releases"),
+    (r"\bwish(es|ed)?\b", "requires"),
+    (r"\breckon(s|ed)?\b", "computes"),
+    (r"\b(exactly|only) where\b", "exactly if, only if"),
     (r"\bnobody (runs|can go on|else)\b", "no stream"),
     (r"\bto and fro\b", "forward and back"),
     (r"\bfor ever\b", "forever"),
@@ -89,8 +94,15 @@ def named(pattern):
     return sorted(os.path.relpath(path, ROOT) for path in glob.glob(f"{ROOT}/{pattern}"))
 
 
+def is_of_the_core(path):
+    """Whether a document may name the definitions of the proved core."""
+    return path in OF_THE_CORE or re.fullmatch(r"crates/\w+/README\.md", path)
+
+
 def words_of_file(path):
-    """The lines of a man page without its macros, or of a source without its comments and names of code."""
+    """The lines of a document, of a man page without its macros, or of a source without its comments and names of code."""
+    if path.endswith(".md"):
+        return text_of(f"{ROOT}/{path}", r"!\[")
     with open(f"{ROOT}/{path}", encoding="utf-8") as file:
         return [re.sub(r"^\s*//.*|^\.\w+ ?", "", line.rstrip()) for line in file]
 
@@ -98,7 +110,7 @@ def words_of_file(path):
 def words_at_fault(path, lines):
     """The words in lines of a file that are not plain."""
     for number, line in enumerate(lines, 1):
-        for pattern, plain in PLAIN if path in OF_THE_CORE else (*PLAIN, WORLD):
+        for pattern, plain in PLAIN if is_of_the_core(path) else (*PLAIN, WORLD):
             for found in re.finditer(pattern, re.sub(r"`[^`]*`", "", line)):
                 yield f"{path}:{number}: '{found[0]}': write {plain}"
 
@@ -116,7 +128,7 @@ def faults_of(path):
 
 
 def main():
-    for path in sys.argv[1:] or (*HELD, *named(TASKS)):
+    for path in sys.argv[1:] or (*HELD, *(path for pattern in TASKS for path in named(pattern))):
         for fault in faults_of(path):
             print(fault)
         if sys.argv[1:]:

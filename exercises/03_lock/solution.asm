@@ -1,4 +1,4 @@
-; A lock is a word that is full while it is free: LOAD.S takes it and leaves it empty, STORE.S gives it back.
+; A lock is a word that is full while it is free: LOAD.S takes it and leaves it empty, STORE.S releases it.
         .slim 1
         .entry change
         .entry change
@@ -10,5 +10,5 @@ change: LOAD.S r0, r0, 0        ; takes the lock, or waits for it
         MUL r1, r1, 3
         ADD r1, r1, 1
         STORE.N r1, r0, 1
-        STORE.S r0, r0, 0       ; gives it back
+        STORE.S r0, r0, 0       ; releases it
         QUIT

@@ -11,4 +11,4 @@ enter:  NOP                     ; write here how a place is taken
 inside: LIT r3, 1               ; in the room
 counted: FADD.N r3, r0, 1
 
-leave:  QUIT                    ; write here how it is given back
+leave:  QUIT                    ; write here how it is released

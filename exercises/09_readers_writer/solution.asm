@@ -14,7 +14,7 @@ write:  LOAD.S r0, r0, 2        ; takes the room
         ADD r1, r1, 1
         STORE.N r1, r0, 0
         STORE.N r1, r0, 1
-        STORE.S r0, r0, 2       ; gives it back
+        STORE.S r0, r0, 2       ; releases it
         QUIT
 
 ; r7: where the reader puts what it has read
@@ -34,7 +34,7 @@ enter:  ADD r1, r1, 1
         LOAD.S r1, r0, 3
         SUB.T r1, r1, 1
         SKIP NE, 0, leave
-        STORE.S r0, r0, 2       ; the last one gives it back
+        STORE.S r0, r0, 2       ; the last one releases it
 leave:  STORE.S r1, r0, 3
         STORE.N r5, r7, 0
         STORE.N r6, r7, 1

@@ -14,7 +14,7 @@ write:  LOAD.S r0, r0, 2        ; takes the room
         ADD r1, r1, 1
         STORE.N r1, r0, 0
         STORE.N r1, r0, 1
-        STORE.S r0, r0, 2       ; gives it back
+        STORE.S r0, r0, 2       ; releases it
         QUIT
 
 ; r7: where the reader puts what it has read

@@ -1,4 +1,4 @@
-; Works for the first trap alone: behind XCHG the program ends.
+; Works for the first trap alone: after XCHG the program ends.
         .slim 1
         .trap handler
         .entry start
