@@ -1,8 +1,9 @@
 //! What a step changed, in words.
 
 use crate::names::ProgramNames;
-use crate::text_writer::TextWriter;
+use crate::run_pieces::RunPieces;
 use crate::values::{NumberStyle, put_content};
+use plain_text::TextWriter;
 use processor::Step;
 use std::alloc::AllocError;
 use step_views::{Change, Content, Place, StepView, StreamPart};
