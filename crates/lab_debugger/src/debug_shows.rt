@@ -3,7 +3,7 @@
 use crate::debug_points::is_named_word;
 use crate::debug_repl::{DebugRepl, ENDS_HERE, refuse};
 use command_parts::LabFault;
-use lab_texts::{NumberStyle, ProgramNames, TextWriter, turned_word, wanted_word};
+use lab_texts::{NumberStyle, ProgramNames, RunPieces, TextWriter, turned_word, wanted_word};
 use named_session::{UserName, read_name};
 use processor::Step;
 use step_views::{Content, Place, StreamPart};

@@ -3,7 +3,7 @@
 use crate::debug_repl::{DebugRepl, refuse};
 use command_parts::LabFault;
 use debug_commands::Command;
-use lab_texts::TextWriter;
+use lab_texts::{RunPieces, TextWriter};
 use named_session::{UserName, read_name};
 use processor::Step;
 use stream_core::Status;

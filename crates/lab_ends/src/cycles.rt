@@ -1,7 +1,7 @@
 //! The steps of a cycle in a set of worlds that spins.
 
 use crate::links::links_of;
-use lab_texts::{ProgramNames, TextWriter};
+use lab_texts::{ProgramNames, RunPieces, TextWriter};
 use machine::Machine;
 use processor::Step;
 use schedule_space::{Edge, Space};

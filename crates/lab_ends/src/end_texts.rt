@@ -1,8 +1,8 @@
 //! Ends in words.
 
 use lab_texts::{
-    NumberStyle, ProgramNames, StoppedStream, TextWriter, push_changed_words, put_part_of,
-    stopped_streams,
+    NumberStyle, ProgramNames, RunPieces, StoppedStream, TextWriter, push_changed_words,
+    put_part_of, stopped_streams,
 };
 use machine::Machine;
 use processor::Step;

@@ -1,7 +1,9 @@
 //! What is said of a set of worlds: which streams run in it and which only wait, and the words that change.
 
 use crate::machines::machine_at;
-use lab_texts::{NumberStyle, ProgramNames, TextWriter, push_changed_words, put_part_of};
+use lab_texts::{
+    NumberStyle, ProgramNames, RunPieces, TextWriter, push_changed_words, put_part_of,
+};
 use machine::Machine;
 use processor::Step;
 use schedule_space::Space;

@@ -1,7 +1,7 @@
 //! Addresses of data words, by numbers and by names.
 
 use crate::names::{ProgramNames, put_offset};
-use crate::text_writer::TextWriter;
+use plain_text::TextWriter;
 use source_places::DataName;
 use std::alloc::{AllocError, Global};
 use std::collections::HashMap;

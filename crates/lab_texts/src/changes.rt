@@ -2,8 +2,9 @@
 
 use crate::names::ProgramNames;
 use crate::notation::Notation;
-use crate::text_writer::TextWriter;
+use crate::run_pieces::RunPieces;
 use crate::values::{NumberStyle, put_content};
+use plain_text::TextWriter;
 use processor::Step;
 use step_views::{Change, Content, Place, StepView, StreamPart};
 use stream_core::{Outcome, Status, StatusWord};

@@ -3,9 +3,10 @@
 use crate::changes::put_part;
 use crate::names::ProgramNames;
 use crate::notation::Notation;
-use crate::text_writer::TextWriter;
+use crate::run_pieces::RunPieces;
 use crate::values::{NumberStyle, put_content, put_tags};
 use machine::Machine;
+use plain_text::TextWriter;
 use std::alloc::AllocError;
 use step_views::{Change, Place};
 use tag_memory::Word;

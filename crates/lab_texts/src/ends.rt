@@ -1,11 +1,12 @@
 //! How a run ended.
 
 use crate::names::ProgramNames;
-use crate::text_writer::TextWriter;
+use crate::run_pieces::RunPieces;
 use crate::values::put_streams;
 use crate::waits::{turned_word, wanted_word};
 use end_kinds::{EndKind, end_kind_of};
 use machine::Machine;
+use plain_text::TextWriter;
 use processor::Step;
 use std::alloc::{AllocError, Global};
 use step_views::StepView;

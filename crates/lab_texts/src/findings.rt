@@ -2,8 +2,9 @@
 
 use crate::findings_of_run::{FindingsOfRun, MOST_OF_A_KIND};
 use crate::names::ProgramNames;
-use crate::text_writer::TextWriter;
+use crate::run_pieces::RunPieces;
 use crate::values::NumberStyle;
+use plain_text::TextWriter;
 use run_findings::{Access, Action, LostUpdate, TornRead, UnreadStore};
 use std::alloc::AllocError;
 

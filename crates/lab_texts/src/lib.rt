@@ -10,8 +10,8 @@ mod findings;
 mod findings_of_run;
 mod names;
 mod notation;
+mod run_pieces;
 mod step_lines;
-mod text_writer;
 mod values;
 mod waits;
 
@@ -24,10 +24,11 @@ pub use findings::{Telling, push_findings, push_first_finding, put_findings};
 pub use findings_of_run::{FindingsOfRun, MOST_STEPS_OF_TORN};
 pub use names::ProgramNames;
 pub use notation::Notation;
+pub use plain_text::TextWriter;
+pub use run_pieces::RunPieces;
 pub use step_lines::{
     Columns, push_lane_head, push_lane_text, push_step_head, push_step_line, push_step_number,
     push_step_text, put_step_line,
 };
-pub use text_writer::TextWriter;
 pub use values::{NumberStyle, push_stream, push_trap, push_value, push_word, put_word};
 pub use waits::{full_word, turned_word, wanted_word};

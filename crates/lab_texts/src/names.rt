@@ -1,8 +1,8 @@
 //! The names that a program's text gives its places.
 
 use crate::addresses::DataNames;
-use crate::text_writer::TextWriter;
 use image_file::MAX_PROGRAM_WORDS;
+use plain_text::TextWriter;
 use source_places::{DataLine, SourceLabel, SourcePlaces, comment_of};
 use std::alloc::{AllocError, Global};
 use std::str;

@@ -3,10 +3,11 @@
 use crate::changes::put_changes;
 use crate::names::ProgramNames;
 use crate::notation::Notation;
-use crate::text_writer::TextWriter;
+use crate::run_pieces::RunPieces;
 use crate::values::{put_word, trap_words};
 use crate::waits::wanted_word;
 use machine::Machine;
+use plain_text::TextWriter;
 use processor::Step;
 use std::alloc::AllocError;
 use step_views::{Place, StepView};

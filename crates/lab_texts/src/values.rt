@@ -1,16 +1,14 @@
 //! Numbers, streams, tags and traps as people read them.
 
-use crate::text_writer::TextWriter;
+use crate::run_pieces::RunPieces;
 use crate::waits::full_word;
 use bitflags::Flags;
+use plain_text::TextWriter;
 use processor::Step;
 use std::alloc::AllocError;
 use step_views::Content;
 use stream_core::{Code, Codes, Status, TrapKind, TrapMask};
 use tag_memory::{Tags, Word};
-
-/// From here on a number is shown as the negative one that it stands for.
-const NEGATIVE_FROM: u64 = 0xFFFF_FFFF_0000_0000;
 
 /// How numbers are shown.
 #[derive(Clone, Copy, Debug, PartialEq, Eq)]
@@ -23,19 +21,16 @@ pub enum NumberStyle {
 
 /// Adds a number.
 pub fn push_value(out: &mut String, style: NumberStyle, value: u64) -> Result<(), AllocError> {
-    match style {
-        NumberStyle::Hexadecimal => write!(out, "0x{value:x}"),
-        NumberStyle::Decimal if value >= NEGATIVE_FROM => {
-            let size = value.wrapping_neg();
-            write!(out, "-{size}")
-        }
-        NumberStyle::Decimal => write!(out, "{value}"),
-    }
+    let mut text = TextWriter::take(out);
+    text.put_value(style, value);
+    text.give_back(out)
 }
 
 /// Adds the name of a stream, as `2.0`.
 pub fn push_stream(out: &mut String, p: u8, s: u8) -> Result<(), AllocError> {
-    write!(out, "{p}.{s}")
+    let mut text = TextWriter::take(out);
+    text.put_stream(p, s);
+    text.give_back(out)
 }
 
 /// Adds a list of streams: `0.0`, `0.0 and 1.0`, `0.0, 0.1 and 1.0`.
@@ -51,13 +46,13 @@ pub(crate) fn put_streams(out: &mut TextWriter, streams: &[Step]) {
 
 /// Adds a trap's number and name: `trap 3, CREATE`.
 pub fn push_trap(out: &mut String, trap: TrapKind) -> Result<(), AllocError> {
-    let number = trap.number();
-    let name = trap_name(trap);
-    write!(out, "trap {number}, {name}")
+    let mut text = TextWriter::take(out);
+    text.put_trap(trap);
+    text.give_back(out)
 }
 
 /// The name of a trap.
-fn trap_name(trap: TrapKind) -> &'static str {
+pub(crate) fn trap_name(trap: TrapKind) -> &'static str {
     match trap {
         TrapKind::Program => "PROGRAM",
         TrapKind::Illegal => "ILLEGAL",

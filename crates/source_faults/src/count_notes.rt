@@ -1,15 +1,16 @@
 //! Too many operands, or too few.
 
-use crate::data_words::data_help;
-use crate::examples::example_of;
+use crate::data_words::put_data_help;
+use crate::examples::put_example;
 use crate::form::OperandForm;
 use crate::notes::Notes;
 use crate::operand_notes::Taking;
 use crate::operand_words::COMMENTS;
-use crate::phrases::{operands_counted, operands_listed, said, shown};
+use crate::phrases::{put_count, put_operands, put_shown};
 use crate::reader::Reader;
 use crate::token::Token;
 use asm_line::Fault;
+use plain_text::TextWriter;
 use std::alloc::{AllocError, Global};
 
 /// Tells that there are too many operands, or too few, by a statement that has as many as it takes.
@@ -21,53 +22,70 @@ pub(crate) fn note_count(
     operands: Token,
     pieces: &[Token],
 ) -> Result<(), AllocError> {
-    let alloc = notes.alloc();
-    let name = taking.name;
-    let list = operands_listed(alloc, taking.forms, taking.least)?;
-    let count = operands_counted(alloc, pieces.len())?;
-    let words = format!(in alloc; "{name} takes {list}, and has {count} here")?;
-    let help = count_help(notes, reader, taking, head, operands, pieces)?;
+    put_count_words(&mut notes.words, taking, pieces.len());
+    put_count_help(notes, reader, taking, head, operands, pieces)?;
     let marked = if operands.bytes.is_empty() {
         head
     } else {
         operands
     };
     notes.number(Fault::Operand.number());
-    notes.add(reader.spot(marked), words, help)
+    notes.add(reader.spot(marked))
 }
 
-/// How to write the statement.
-fn count_help(
+/// Adds how many operands there are, and which are taken.
+fn put_count_words(words: &mut TextWriter, taking: Taking, count: usize) {
+    words.put(taking.name);
+    words.put(" takes ");
+    put_operands(words, taking.forms, taking.least);
+    words.put(", and has ");
+    put_count(words, count);
+    words.put(" here");
+}
+
+/// Adds how to write the statement.
+fn put_count_help(
     notes: &mut Notes,
     reader: &Reader,
     taking: Taking,
     head: Token,
     operands: Token,
     pieces: &[Token],
-) -> Result<Option<String>, AllocError> {
-    let alloc = notes.alloc();
+) -> Result<(), AllocError> {
     if operands.has_comment() {
-        return said(alloc, COMMENTS);
+        notes.help.put(COMMENTS);
+        return Ok(());
     }
     for piece in pieces {
-        if let Some(help) = data_help(notes, reader, OperandForm::Base, piece.bytes)? {
-            return Ok(Some(help));
+        if put_data_help(notes, reader, OperandForm::Base, piece.bytes)? {
+            return Ok(());
         }
     }
-    let help = fixed_help(taking, operands, pieces.len());
-    if let Some(help) = help {
-        return said(alloc, help);
+    match fixed_help(taking, operands, pieces.len()) {
+        Some(words) => {
+            notes.help.put(words);
+            Ok(())
+        }
+        None => put_statement(&mut notes.help, reader, taking, head, pieces),
     }
-    let head = shown(alloc, head.bytes)?;
-    if taking.forms.is_empty() {
-        return Ok(Some(format!(in alloc; "write {head} alone")?));
+}
+
+/// Adds a statement that has as many operands as it takes.
+fn put_statement(
+    help: &mut TextWriter,
+    reader: &Reader,
+    taking: Taking,
+    head: Token,
+    pieces: &[Token],
+) -> Result<(), AllocError> {
+    let words = blank_words(help.alloc(), pieces)?;
+    let lacks_commas = words.len() > pieces.len() && pieces.len() < taking.least;
+    if lacks_commas {
+        help.put("commas stand between operands: ");
     }
-    let words = blank_words(alloc, pieces)?;
-    let statement = example_of(alloc, reader, head.as_bytes(), taking.forms, &words)?;
-    if words.len() > pieces.len() && pieces.len() < taking.least {
-        return Ok(Some(format!(in alloc; "commas stand between operands: write {statement}")?));
-    }
-    Ok(Some(format!(in alloc; "write {statement}")?))
+    help.put("write ");
+    put_shown(help, head.bytes);
+    put_example(help, reader, taking.forms, &words)
 }
 
 /// What is said of operands that are written as on other machines, or of several values in one line of data.
@@ -75,11 +93,7 @@ fn fixed_help(taking: Taking, operands: Token, count: usize) -> Option<&'static 
     if taking.name == ".data" && count > taking.forms.len() {
         return Some("write a .data line for each data word");
     }
-    let is_pointed = operands
-        .bytes
-        .iter()
-        .any(|byte| *byte == b'(' || *byte == b'[');
-    if is_pointed {
+    if operands.bytes.contains(&b'(') || operands.bytes.contains(&b'[') {
         return Some(
             "the base and the words stand apart: r0, 1 is [8], and r2, 0 is where r2 points",
         );

@@ -4,38 +4,43 @@ use crate::form::OperandForm;
 use crate::label_notes::is_name;
 use crate::notes::Notes;
 use crate::reader::Reader;
+use plain_text::TextWriter;
 use std::alloc::AllocError;
 
 /// The last displacement of a reference.
 const LAST_DISPLACEMENT: usize = 31;
 
-/// How to reach the data on the line of a label, or of a comment that is its name, in brackets or not, that stands as an
-/// operand of this form; None where there is no such data.
-pub(crate) fn data_help(
+/// Adds how to reach the data on the line of a label, or of a comment that is its name, in brackets or not, that stands as
+/// an operand of this form, and answers whether there is such data.
+pub(crate) fn put_data_help(
     notes: &mut Notes,
     reader: &Reader,
     form: OperandForm,
     operand: &[u8],
-) -> Result<Option<String>, AllocError> {
-    let alloc = notes.alloc();
+) -> Result<bool, AllocError> {
     let Some(address) = address_of(notes, reader, unbracketed(operand))? else {
-        return Ok(None);
+        return Ok(false);
     };
+    put_data_at(&mut notes.help, form, address);
+    Ok(true)
+}
+
+/// Adds how an operand of this form reaches the data at an address.
+fn put_data_at(help: &mut TextWriter, form: OperandForm, address: usize) {
     let words = address / 8;
-    let help = match form {
-        _ if words > LAST_DISPLACEMENT => {
-            format!(in alloc; "this data is [{address}]: write LIT r2, {address} and then r2, 0")?
-        }
-        OperandForm::Base | OperandForm::Displacement => {
-            format!(in alloc; "this data is [{address}]: write r0, {words}")?
-        }
-        _ => {
-            format!(in alloc;
-                "this data is [{address}]: LOAD.N and STORE.N reach it by r0, {words}"
-            )?
-        }
-    };
-    Ok(Some(help))
+    help.put("this data is [");
+    help.put_number(address as u64);
+    if words > LAST_DISPLACEMENT {
+        help.put("]: write LIT r2, ");
+        help.put_number(address as u64);
+        help.put(" and then r2, 0");
+        return;
+    }
+    help.put(match form {
+        OperandForm::Base | OperandForm::Displacement => "]: write r0, ",
+        _ => "]: LOAD.N and STORE.N reach it by r0, ",
+    });
+    help.put_number(words as u64);
 }
 
 /// The address of the data on the line of a label, or of a comment that is this name; None where there is no such data, or

@@ -1,34 +1,36 @@
 //! Statements of the right form.
 
 use crate::form::OperandForm;
-use crate::phrases::shown;
+use crate::phrases::put_shown;
 use crate::reader::Reader;
 use crate::token::Token;
+use plain_text::TextWriter;
 use std::alloc::{AllocError, Global};
 
-/// A statement of a head with operands of these forms: of some words those that fit, in their order, and usual ones
-/// where none does.
-pub(crate) fn example_of(
-    alloc: Global,
+/// Adds operands of these forms after a head: of some words those that fit, in their order, and usual ones where none
+/// does; for a head that takes none, that it stands alone.
+pub(crate) fn put_example(
+    out: &mut TextWriter,
     reader: &Reader,
-    head: &[u8],
     forms: &[OperandForm],
     words: &[Token],
-) -> Result<String, AllocError> {
-    let mut text = shown(alloc, head)?;
+) -> Result<(), AllocError> {
+    if forms.is_empty() {
+        out.put(" alone");
+    }
+    let alloc = out.alloc();
     let mut next = 0usize;
     for (place, form) in forms.iter().enumerate() {
-        text.push_str(if place == 0 { " " } else { ", " })?;
-        let operand = match fitting(alloc, reader, *form, words.get(next).copied())? {
+        out.put(if place == 0 { " " } else { ", " });
+        match fitting(alloc, reader, *form, words.get(next).copied())? {
             Some(word) => {
                 next = next.saturating_add(1);
-                shown(alloc, word.bytes)?
+                put_shown(out, word.bytes);
             }
-            None => shown(alloc, usual(reader, *form))?,
-        };
-        text.push_str(operand.as_str())?;
+            None => put_shown(out, usual(reader, *form)),
+        }
     }
-    Ok(text)
+    Ok(())
 }
 
 /// The word, where it may stand as an operand of this form.

@@ -7,10 +7,11 @@ use crate::operand_words::COMMENTS;
 use crate::operations::{
     Named, directive_named, nearest_directive, nearest_operation, operation_named,
 };
-use crate::phrases::{listed, said, shown};
+use crate::phrases::{put_listed, put_meant, put_shown};
 use crate::reader::Reader;
 use crate::token::Token;
 use asm_line::Fault;
+use plain_text::TextWriter;
 use std::alloc::{AllocError, Global};
 
 /// How a text asks for what Profile 2 alone has.
@@ -26,16 +27,19 @@ pub(crate) fn note_unknown_operation(
     head: Token,
     operands: Token,
 ) -> Result<(), AllocError> {
-    let alloc = notes.alloc();
     let name = head.cut(b'.').0;
     match operation_named(name.bytes) {
         Some(operation) if reader.knows(name.bytes) => {
             note_suffix(notes, reader, head, operation)
         }
         Some(operation) => {
-            let words = format!(in alloc; "{} is an operation of Profile 2", operation.name())?;
+            notes.words.put(operation.name());
             notes.number(Fault::Unknown.number());
-            notes.add_with(reader.spot(head), words, ASK_FOR_TWO)
+            notes.say(
+                reader.spot(head),
+                " is an operation of Profile 2",
+                ASK_FOR_TWO,
+            )
         }
         None => note_no_operation(notes, reader, head, operands),
     }
@@ -48,12 +52,14 @@ fn note_no_operation(
     head: Token,
     operands: Token,
 ) -> Result<(), AllocError> {
-    let alloc = notes.alloc();
-    let help = help_for_operation(alloc, reader, head, operands)?;
-    let text = shown(alloc, head.bytes)?;
-    let words = format!(in alloc; "no operation is called {text}")?;
+    notes.words.put("no operation is called ");
+    put_shown(&mut notes.words, head.bytes);
+    match fixed_help(head) {
+        Some(help) => notes.help.put(help),
+        None => put_operation_help(&mut notes.help, reader, head, operands)?,
+    }
     notes.number(Fault::Unknown.number());
-    notes.add(reader.spot(head), words, help)
+    notes.add(reader.spot(head))
 }
 
 /// Tells that the operation has no such suffix.
@@ -63,23 +69,25 @@ fn note_suffix(
     head: Token,
     operation: Named,
 ) -> Result<(), AllocError> {
-    let alloc = notes.alloc();
     let name = operation.name();
-    let help = suffix_help(alloc, reader, name)?;
-    let suffix = shown(alloc, head.behind(name.len()).bytes)?;
-    let words = format!(in alloc; "{name} has no suffix {suffix}")?;
+    notes.words.put(name);
+    notes.words.put(" has no suffix ");
+    put_shown(&mut notes.words, head.behind(name.len()).bytes);
+    put_suffixes(&mut notes.help, reader, name)?;
     notes.number(Fault::Unknown.number());
-    notes.add(reader.spot(head), words, Some(help))
+    notes.add(reader.spot(head))
 }
 
-/// Which suffixes the operation of a name may have.
-fn suffix_help(alloc: Global, reader: &Reader, name: &str) -> Result<String, AllocError> {
-    let known = known_suffixes(alloc, reader, name)?;
+/// Adds which suffixes the operation of a name may have.
+fn put_suffixes(help: &mut TextWriter, reader: &Reader, name: &str) -> Result<(), AllocError> {
+    let known = known_suffixes(help.alloc(), reader, name)?;
     if known.is_empty() {
-        return String::from_str(alloc, "it has none");
+        help.put("it has none");
+    } else {
+        help.put("it may have ");
+        put_listed(help, &known);
     }
-    let suffixes = listed(alloc, &known)?;
-    format!(in alloc; "it may have {suffixes}")
+    Ok(())
 }
 
 /// The suffixes that the operation of a name may have.
@@ -90,78 +98,119 @@ fn known_suffixes(
 ) -> Result<Vec<&'static str>, AllocError> {
     let mut known = Vec::new(alloc);
     for suffix in SUFFIXES.iter() {
-        if reader.knows_suffix(alloc, name, suffix)? {
+        if reader.knows_suffix(alloc, name.as_bytes(), suffix.as_bytes())? {
             known.push(*suffix)?;
         }
     }
     Ok(known)
 }
 
-/// How a statement may be mended that begins with no operation.
-fn help_for_operation(
-    alloc: Global,
+/// What is said of a head that is a comment on other machines, or a directive.
+fn fixed_help(head: Token) -> Option<&'static str> {
+    if head.begins(b'#') || head.begins(b'/') || head.begins(b'*') || head.begins(b'!') {
+        Some(COMMENTS)
+    } else if head.begins(b'.') {
+        Some("a directive stands on a line of its own")
+    } else {
+        None
+    }
+}
+
+/// Adds how a statement may be mended that begins with no operation, of which nothing fixed is said.
+fn put_operation_help(
+    help: &mut TextWriter,
     reader: &Reader,
     head: Token,
     operands: Token,
-) -> Result<Option<String>, AllocError> {
-    if head.begins(b'#') || head.begins(b'/') || head.begins(b'*') || head.begins(b'!') {
-        return said(alloc, COMMENTS);
-    }
-    if head.begins(b'.') {
-        return said(alloc, "a directive stands on a line of its own");
-    }
+) -> Result<(), AllocError> {
     let next = operands.split_head().0;
-    if is_name(head.bytes) && operation_named(next.cut(b'.').0.bytes).is_some() {
-        let text = shown(alloc, head.bytes)?;
-        return Ok(Some(format!(in alloc; "a label has a colon: {text}:")?));
-    }
     let name = head.cut(b'.').0;
-    if let Some(help) = foreign_operation(name.bytes) {
-        return said(alloc, help);
+    if is_name(head.bytes) && operation_named(next.cut(b'.').0.bytes).is_some() {
+        help.put("a label has a colon: ");
+        put_shown(help, head.bytes);
+        help.put(":");
+        Ok(())
+    } else if let Some(words) = foreign_operation(name.bytes) {
+        help.put(words);
+        Ok(())
+    } else {
+        put_meant_operation(help, reader, name.bytes, head.behind(name.bytes.len()))
     }
-    if let Some(meant) = with_dot(alloc, reader, name.bytes)? {
-        return Ok(Some(format!(in alloc; "did you mean {meant}?")?));
-    }
-    let Some(nearest) = nearest_operation(name.bytes) else {
-        return said(alloc, "CHEAT_SHEET.md has all operations");
-    };
-    let suffix = head.behind(name.bytes.len());
-    let meant = with_suffix(alloc, reader, nearest, suffix)?;
-    Ok(Some(format!(in alloc; "did you mean {meant}?")?))
 }
 
-/// The operation with its suffix, where a name is both without the dot between.
-fn with_dot(alloc: Global, reader: &Reader, name: &[u8]) -> Result<Option<String>, AllocError> {
-    let [front @ .., letter] = name else {
-        return Ok(None);
-    };
-    let Some(operation) = operation_named(front) else {
-        return Ok(None);
-    };
-    for suffix in SUFFIXES.iter() {
-        let is_it = suffix.as_bytes().get(1) == Some(letter);
-        if is_it && reader.knows_suffix(alloc, operation.name(), suffix)? {
-            return Ok(Some(format!(in alloc; "{}{suffix}", operation.name())?));
-        }
-    }
-    Ok(None)
-}
-
-/// The name with a suffix in capitals, or the name alone where it has no such suffix.
-fn with_suffix(
-    alloc: Global,
+/// Adds which operation may be meant by a name with a suffix.
+fn put_meant_operation(
+    help: &mut TextWriter,
     reader: &Reader,
     name: &[u8],
     suffix: Token,
-) -> Result<String, AllocError> {
-    let mut text = shown(alloc, suffix.bytes)?;
-    text.make_ascii_uppercase();
-    let name = shown(alloc, name)?;
-    if reader.knows_suffix(alloc, name.as_str(), text.as_str())? {
-        format!(in alloc; "{name}{text}")
-    } else {
-        Ok(name)
+) -> Result<(), AllocError> {
+    if put_with_dot(help, reader, name)? {
+        return Ok(());
     }
+    match nearest_operation(name) {
+        Some(nearest) => put_with_suffix(help, reader, nearest, suffix),
+        None => {
+            help.put("CHEAT_SHEET.md has all operations");
+            Ok(())
+        }
+    }
+}
+
+/// Adds the operation with its suffix, where a name is both without the dot between, and answers whether it is.
+fn put_with_dot(help: &mut TextWriter, reader: &Reader, name: &[u8]) -> Result<bool, AllocError> {
+    let Some((letter, front)) = name.split_last() else {
+        return Ok(false);
+    };
+    let Some(operation) = operation_named(front) else {
+        return Ok(false);
+    };
+    let Some(suffix) = suffix_of(*letter) else {
+        return Ok(false);
+    };
+    if !reader.knows_suffix(help.alloc(), front, suffix.as_bytes())? {
+        return Ok(false);
+    }
+    help.put_all(&["did you mean ", operation.name(), suffix, "?"]);
+    Ok(true)
+}
+
+/// The suffix of a letter.
+fn suffix_of(letter: u8) -> Option<&'static str> {
+    match letter {
+        b'N' => Some(".N"),
+        b'F' => Some(".F"),
+        b'S' => Some(".S"),
+        b'T' => Some(".T"),
+        _ => None,
+    }
+}
+
+/// Adds the name with a suffix in capitals, or the name alone where it has no such suffix.
+fn put_with_suffix(
+    help: &mut TextWriter,
+    reader: &Reader,
+    name: &[u8],
+    suffix: Token,
+) -> Result<(), AllocError> {
+    let alloc = help.alloc();
+    let text = capitals(alloc, suffix)?;
+    help.put("did you mean ");
+    put_shown(help, name);
+    if reader.knows_suffix(alloc, name, text.as_bytes())? {
+        help.put(text.as_str());
+    }
+    help.put("?");
+    Ok(())
+}
+
+/// A suffix as a sentence shows it, in capitals.
+fn capitals(alloc: Global, suffix: Token) -> Result<String, AllocError> {
+    let mut shown = TextWriter::new(alloc);
+    put_shown(&mut shown, suffix.bytes);
+    let mut text = shown.take_text()?;
+    text.make_ascii_uppercase();
+    Ok(text)
 }
 
 /// Tells that the head of a directive is none of the text's profile.
@@ -170,27 +219,26 @@ pub(crate) fn note_unknown_directive(
     reader: &Reader,
     head: Token,
 ) -> Result<(), AllocError> {
-    let alloc = notes.alloc();
-    let text = shown(alloc, head.bytes)?;
-    if directive_named(head.bytes).is_some() {
-        let words = format!(in alloc; "{text} is a directive of Profile 2")?;
-        notes.number(Fault::Unknown.number());
-        return notes.add_with(reader.spot(head), words, ASK_FOR_TWO);
-    }
-    let words = format!(in alloc; "no directive is called {text}")?;
-    let help = directive_help(alloc, head.bytes)?;
     notes.number(Fault::Unknown.number());
-    notes.add(reader.spot(head), words, help)
+    if directive_named(head.bytes).is_some() {
+        put_shown(&mut notes.words, head.bytes);
+        notes.words.put(" is a directive of Profile 2");
+        notes.help.put(ASK_FOR_TWO);
+    } else {
+        notes.words.put("no directive is called ");
+        put_shown(&mut notes.words, head.bytes);
+        put_directive_help(&mut notes.help, head.bytes);
+    }
+    notes.add(reader.spot(head))
 }
 
-/// Which directive may be meant by a name that none has.
-fn directive_help(alloc: Global, name: &[u8]) -> Result<Option<String>, AllocError> {
-    if let Some(help) = foreign_directive(name) {
-        return said(alloc, help);
+/// Adds which directive may be meant by a name that none has.
+fn put_directive_help(help: &mut TextWriter, name: &[u8]) {
+    if let Some(words) = foreign_directive(name) {
+        help.put(words);
+    } else if let Some(nearest) = nearest_directive(name) {
+        put_meant(help, nearest);
+    } else {
+        help.put("CHEAT_SHEET.md has all directives");
     }
-    let Some(nearest) = nearest_directive(name) else {
-        return said(alloc, "CHEAT_SHEET.md has all directives");
-    };
-    let nearest = shown(alloc, nearest)?;
-    Ok(Some(format!(in alloc; "did you mean {nearest}?")?))
 }

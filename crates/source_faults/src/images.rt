@@ -4,13 +4,14 @@ ghost use Rattle.std.specs.Prelude.{◌<◌, ◌^◌};
 
 use crate::message::{Message, Severity};
 use image_file::{CountField, ImageFault};
+use plain_text::TextWriter;
 use std::alloc::{AllocError, Global};
 
-/// Where in a file a fault stands, and the words for it.
+/// Where in a file a fault stands, and how it may be mended.
+#[derive(Clone, Copy)]
 struct FaultPlace {
     place: usize,
     width: usize,
-    words: String,
     help: &'static str,
 }
 
@@ -21,62 +22,78 @@ pub fn image_fault_words(
     bytes: &[u8],
     fault: ImageFault,
 ) -> Result<Message, AllocError> {
-    let FaultPlace {
-        place,
-        width,
-        words,
-        help,
-    } = fault_told(alloc, bytes, fault)?;
+    let mut words = TextWriter::new(alloc);
+    let FaultPlace { place, width, help } = tell_fault(&mut words, bytes, fault);
     Ok(Message {
         severity: Severity::Error,
         number: None,
         line: 1,
         column: place.saturating_add(1),
         width,
-        words,
+        words: words.take_text()?,
         help: Some(String::from_str(alloc, help)?),
         start: 0,
     })
 }
 
-fn fault_told(alloc: Global, bytes: &[u8], fault: ImageFault) -> Result<FaultPlace, AllocError> {
+/// Adds the words for a fault, and answers where it stands.
+fn tell_fault(words: &mut TextWriter, bytes: &[u8], fault: ImageFault) -> FaultPlace {
     let layout = HeaderCounts::of(bytes);
-    let length = bytes.len();
-    Ok(match fault {
-        ImageFault::Short => FaultPlace {
-            place: length,
-            width: 1,
-            words: format!(in alloc; "the file ends too soon, after {length} bytes")?,
-            help: "it was cut off: copy or assemble it again",
-        },
-        ImageFault::Magic => FaultPlace {
-            place: 0,
-            width: 4,
-            words: String::from_str(alloc, "the file does not begin with the letters MTAP")?,
-            help: "it is no image: sources are assembled first",
-        },
-        ImageFault::Version => FaultPlace {
-            place: 4,
-            width: 2,
-            words: format!(in alloc; "the version is {}, and not 1 or 2", number_at(bytes, 4, 2))?,
-            help: "another version of the tool made it: assemble its source again",
-        },
-        ImageFault::Count(field) => layout.count_told(alloc, bytes, field)?,
-        ImageFault::Entry(processor) => layout.entry_told(alloc, bytes, processor)?,
-        ImageFault::TagByte(word) => layout.tags_told(alloc, bytes, word)?,
-        ImageFault::Trailing => FaultPlace {
-            place: layout.length(),
-            width: 1,
-            words: String::from_str(alloc, "bytes follow the last data word")?,
-            help: "the file was joined with something else, or its counts are wrong",
-        },
-        ImageFault::NoMemory => FaultPlace {
-            place: 0,
-            width: 1,
-            words: String::from_str(alloc, "there is no memory for the image")?,
-            help: "give the program more memory",
-        },
-    })
+    match fault {
+        ImageFault::Short => tell_short(words, bytes.len()),
+        ImageFault::Magic => {
+            words.put("the file does not begin with the letters MTAP");
+            FaultPlace {
+                place: 0,
+                width: 4,
+                help: "it is no image: sources are assembled first",
+            }
+        }
+        ImageFault::Version => tell_version(words, bytes),
+        ImageFault::Count(field) => layout.tell_count(words, bytes, field),
+        ImageFault::Entry(processor) => layout.tell_entry(words, bytes, processor),
+        ImageFault::TagByte(word) => layout.tell_tags(words, bytes, word),
+        ImageFault::Trailing => {
+            words.put("bytes follow the last data word");
+            FaultPlace {
+                place: layout.length(),
+                width: 1,
+                help: "the file was joined with something else, or its counts are wrong",
+            }
+        }
+        ImageFault::NoMemory => {
+            words.put("there is no memory for the image");
+            FaultPlace {
+                place: 0,
+                width: 1,
+                help: "give the program more memory",
+            }
+        }
+    }
+}
+
+/// Adds that a file of so many bytes ends too soon.
+fn tell_short(words: &mut TextWriter, length: usize) -> FaultPlace {
+    words.put("the file ends too soon, after ");
+    words.put_number(length as u64);
+    words.put(" bytes");
+    FaultPlace {
+        place: length,
+        width: 1,
+        help: "it was cut off: copy or assemble it again",
+    }
+}
+
+/// Adds that the version is none of those that there are.
+fn tell_version(words: &mut TextWriter, bytes: &[u8]) -> FaultPlace {
+    words.put("the version is ");
+    words.put_number(u64::from(number_at(bytes, 4, 2)));
+    words.put(", and not 1 or 2");
+    FaultPlace {
+        place: 4,
+        width: 2,
+        help: "another version of the tool made it: assemble its source again",
+    }
 }
 
 /// How much the header of an image says there is ("Image files", docs/FORMATS.md).
@@ -112,12 +129,8 @@ impl HeaderCounts {
         self.cells_place() + 9 * self.cells as usize
     }
 
-    fn count_told(
-        self,
-        alloc: Global,
-        bytes: &[u8],
-        field: CountField,
-    ) -> Result<FaultPlace, AllocError> {
+    /// Adds that one of the counts is out of its limits.
+    fn tell_count(self, words: &mut TextWriter, bytes: &[u8], field: CountField) -> FaultPlace {
         let counts = usize::from(self.header).saturating_sub(8);
         let (place, width, name, limits) = match field {
             CountField::Processors => (6, 2, "number of processors", "1 to 16"),
@@ -133,43 +146,46 @@ impl HeaderCounts {
                 )
             }
         };
-        let number = number_at(bytes, place, width);
-        Ok(FaultPlace {
+        words.put_all(&["the ", name, " is "]);
+        words.put_number(u64::from(number_at(bytes, place, width)));
+        words.put_all(&[", and not ", limits]);
+        FaultPlace {
             place,
             width,
-            words: format!(in alloc; "the {name} is {number}, and not {limits}")?,
             help: "see Images in MACHINE.md",
-        })
+        }
     }
 
-    fn entry_told(
-        self,
-        alloc: Global,
-        bytes: &[u8],
-        processor: u8,
-    ) -> Result<FaultPlace, AllocError> {
+    /// Adds that a processor begins past the program.
+    fn tell_entry(self, words: &mut TextWriter, bytes: &[u8], processor: u8) -> FaultPlace {
         let place = usize::from(self.header) + 4 * usize::from(processor);
-        let entry = number_at(bytes, place, 4);
-        let words = self.words;
-        Ok(FaultPlace {
+        words.put("processor ");
+        words.put_number(u64::from(processor));
+        words.put(" begins at word ");
+        words.put_number(u64::from(number_at(bytes, place, 4)));
+        words.put(" of a program of ");
+        words.put_number(u64::from(self.words));
+        words.put(" words");
+        FaultPlace {
             place,
             width: 4,
-            words: format!(in alloc;
-                "processor {processor} begins at word {entry} of a program of {words} words"
-            )?,
             help: "an entry is the number of a program word, from 0",
-        })
+        }
     }
 
-    fn tags_told(self, alloc: Global, bytes: &[u8], word: u32) -> Result<FaultPlace, AllocError> {
+    /// Adds that the tags of a data word are none.
+    fn tell_tags(self, words: &mut TextWriter, bytes: &[u8], word: u32) -> FaultPlace {
         let place = self.cells_place() + 9 * word as usize + 8;
-        let tags = number_at(bytes, place, 1);
-        Ok(FaultPlace {
+        words.put("data word ");
+        words.put_number(u64::from(word));
+        words.put(" has the tags ");
+        words.put_number(u64::from(number_at(bytes, place, 1)));
+        words.put(", and not 0 to 15");
+        FaultPlace {
             place,
             width: 1,
-            words: format!(in alloc; "data word {word} has the tags {tags}, and not 0 to 15")?,
             help: "full is 1, forward 2, trap0 4, trap1 8, added up",
-        })
+        }
     }
 }
 

@@ -2,7 +2,7 @@
 
 use crate::notes::Notes;
 use crate::operations::directive_named;
-use crate::phrases::shown;
+use crate::phrases::put_shown;
 use crate::reader::Reader;
 use crate::token::Token;
 use asm_line::Fault;
@@ -20,23 +20,25 @@ pub(crate) fn note_label(notes: &mut Notes, reader: &Reader) -> Result<bool, All
         let help = "take the second label to a line of its own";
         notes.number(Fault::Unknown.number());
         notes.say(reader.spot(second), "a line has at most one label", help)?;
-        return Ok(false);
-    }
-    if directive_named(label.trim().bytes).is_some() {
+        Ok(false)
+    } else if directive_named(label.trim().bytes).is_some() {
+        let help = "take the colon away";
         notes.number(Fault::Unknown.number());
-        notes.say(
-            reader.spot(label),
-            "a directive has no colon",
-            "take the colon away",
-        )?;
-        return Ok(false);
+        notes.say(reader.spot(label), "a directive has no colon", help)?;
+        Ok(false)
+    } else {
+        note_name(notes, reader, label)?;
+        Ok(true)
     }
+}
+
+/// Tells that a label is no name, or stands on an earlier line.
+fn note_name(notes: &mut Notes, reader: &Reader, label: Token) -> Result<(), AllocError> {
     match reader.item(Some(label.bytes), b"") {
-        Ok(_) => {}
-        Err(Fault::LabelTwice) => note_twice(notes, reader, label)?,
-        Err(_) => note_malformed(notes, reader, label)?,
+        Ok(_) => Ok(()),
+        Err(Fault::LabelTwice) => note_twice(notes, reader, label),
+        Err(_) => note_malformed(notes, reader, label),
     }
-    Ok(true)
 }
 
 /// The label stands on an earlier line.
@@ -45,11 +47,12 @@ fn note_twice(notes: &mut Notes, reader: &Reader, label: Token) -> Result<(), Al
         Some(place) => place.line.saturating_add(1),
         None => reader.line().number + 1,
     };
-    let alloc = notes.alloc();
-    let name = shown(alloc, label.bytes)?;
-    let words = format!(in alloc; "the label {name} stands on line {first} already")?;
+    notes.words.put("the label ");
+    put_shown(&mut notes.words, label.bytes);
+    notes.words.put(" stands on line ");
+    notes.words.put_number(first as u64);
     notes.number(Fault::LabelTwice.number());
-    notes.add_with(reader.spot(label), words, "rename one of them")
+    notes.say(reader.spot(label), " already", "rename one of them")
 }
 
 /// The label is no name.
@@ -64,7 +67,7 @@ fn malformed_words(label: Token) -> (&'static str, &'static str) {
     let name = label.trim().bytes;
     if name.is_empty() {
         ("a label has a name", "it stands right before the colon")
-    } else if name.iter().any(|b| !is_of_name(*b)) {
+    } else if !is_of_names(name) {
         let help = "letters, digits and _ alone, and no blank";
         ("a label has characters that none may have", help)
     } else if name.len() < label.bytes.len() {
@@ -79,7 +82,17 @@ fn malformed_words(label: Token) -> (&'static str, &'static str) {
 
 /// Whether a text has only what labels may have.
 pub(crate) fn is_name(text: &[u8]) -> bool {
-    !text.is_empty() && text.len() <= LONGEST_LABEL && text.iter().all(|b| is_of_name(*b))
+    !text.is_empty() && text.len() <= LONGEST_LABEL && is_of_names(text)
+}
+
+/// Whether labels may have each byte of a text.
+fn is_of_names(text: &[u8]) -> bool {
+    for byte in text {
+        if !is_of_name(*byte) {
+            return false;
+        }
+    }
+    true
 }
 
 /// Whether a label may have this byte.

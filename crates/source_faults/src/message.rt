@@ -1,7 +1,7 @@
 //! Messages about a text, and how they are printed.
 
-use std::alloc::{AllocError, Global};
-use std::fmt::Write;
+use plain_text::TextWriter;
+use std::alloc::AllocError;
 use text_parts::cut;
 
 /// A line with more bytes than these is not printed.
@@ -75,28 +75,42 @@ pub fn push_message(
     text: &[u8],
     message: &Message,
 ) -> Result<(), AllocError> {
-    let severity = message.severity.name();
-    write!(
-        out,
-        "{file}:{}:{}: {severity}: {}",
-        message.line, message.column, message.words
-    )?;
-    push_page(out, message)?;
+    let mut words = TextWriter::take(out);
+    put_head(&mut words, file, message);
+    put_page(&mut words, message);
     let line = line_at(text, message.start);
     if is_printable(line) {
-        push_excerpt(out, line, message)
+        put_excerpt(&mut words, line, message);
     } else {
-        push_help(out, message)
+        put_help(&mut words, message);
     }
+    words.give_back(out)
+}
+
+/// Prints the place of a message, its severity and its words.
+fn put_head(out: &mut TextWriter, file: &str, message: &Message) {
+    out.put(file);
+    out.put(":");
+    out.put_number(message.line as u64);
+    out.put(":");
+    out.put_number(message.column as u64);
+    out.put(": ");
+    out.put(message.severity.name());
+    out.put(": ");
+    out.put(message.words.as_str());
 }
 
 /// Prints which page of `explain` says more of a message, and ends the line.
-fn push_page(out: &mut String, message: &Message) -> Result<(), AllocError> {
-    match (message.number, message.severity) {
-        (Some(number), Severity::Error) => writeln!(out, " (explain E{number})"),
-        (Some(number), Severity::Warning) => writeln!(out, " (explain {number})"),
-        (None, _) => out.push('\n'),
+fn put_page(out: &mut TextWriter, message: &Message) {
+    if let Some(number) = message.number {
+        out.put(match message.severity {
+            Severity::Error => " (explain E",
+            Severity::Warning => " (explain ",
+        });
+        out.put_number(u64::from(number));
+        out.put(")");
     }
+    out.put("\n");
 }
 
 /// The line that begins after so many bytes of a text; the empty one where the text has fewer.
@@ -112,68 +126,65 @@ fn is_printable(line: &[u8]) -> bool {
 }
 
 /// Prints a line with its number, and under it the mark and the help.
-fn push_excerpt(out: &mut String, line: &[u8], message: &Message) -> Result<(), AllocError> {
-    let alloc = *out.allocator();
-    let number = message.line;
-    write!(out, "{number:>5} | ")?;
-    push_printable(out, String::from_utf8_lossy(alloc, line)?.as_str())?;
-    write!(out, "\n      | ")?;
-    push_mark(out, line, message)?;
-    if let Some(help) = &message.help {
-        write!(out, " {help}")?;
+fn put_excerpt(out: &mut TextWriter, line: &[u8], message: &Message) {
+    out.put_right(message.line as u64, 5);
+    out.put(" | ");
+    match String::from_utf8_lossy(out.alloc(), line) {
+        Ok(text) => put_printable(out, text.as_str()),
+        Err(_) => out.lack_piece(),
     }
-    out.push('\n')
+    out.put("\n      | ");
+    put_mark(out, line, message);
+    if let Some(help) = &message.help {
+        out.put(" ");
+        out.put(help.as_str());
+    }
+    out.put("\n");
 }
 
 /// Prints the help alone.
-fn push_help(out: &mut String, message: &Message) -> Result<(), AllocError> {
+fn put_help(out: &mut TextWriter, message: &Message) {
     if let Some(help) = &message.help {
-        writeln!(out, "      | {help}")?;
+        out.put("      | ");
+        out.put_line(help.as_str());
     }
-    Ok(())
 }
 
 /// Prints a text of one line, in which only a tab is printed of the control characters.
-fn push_printable(out: &mut String, text: &str) -> Result<(), AllocError> {
-    for c in text.chars() {
-        if c == '\t' || !c.is_control() {
-            out.push(c)?;
-        } else if c != '\r' {
-            out.push('?')?;
+fn put_printable(out: &mut TextWriter, text: &str) {
+    for letter in text.chars() {
+        if letter == '\t' || !letter.is_control() {
+            out.put_letter(letter);
+        } else if letter != '\r' {
+            out.put("?");
         }
     }
-    Ok(())
 }
 
 /// Prints blanks up to the place on the line, and marks under it.
-fn push_mark(out: &mut String, line: &[u8], message: &Message) -> Result<(), AllocError> {
-    for (i, byte) in line.iter().enumerate() {
-        if i + 1 >= message.column {
-            break;
-        }
-        push_blank(out, *byte)?;
+fn put_mark(out: &mut TextWriter, line: &[u8], message: &Message) {
+    for byte in line.iter().take(message.column.saturating_sub(1)) {
+        put_blank(out, *byte);
     }
-    out.push('^')?;
+    out.put("^");
     let behind = line
         .iter()
         .skip(message.column)
         .take(message.width.saturating_sub(1));
     for byte in behind {
         if begins_character(*byte) {
-            out.push('^')?;
+            out.put("^");
         }
     }
-    Ok(())
 }
 
 /// Prints a blank as wide as what the byte prints.
-fn push_blank(out: &mut String, byte: u8) -> Result<(), AllocError> {
+fn put_blank(out: &mut TextWriter, byte: u8) {
     if byte == b'\t' {
-        out.push('\t')?;
+        out.put("\t");
     } else if begins_character(byte) {
-        out.push(' ')?;
+        out.put(" ");
     }
-    Ok(())
 }
 
 /// Whether a byte of a text in UTF-8 is the first of its character.

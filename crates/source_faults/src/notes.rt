@@ -4,6 +4,7 @@ ghost use Rattle.std.specs.Prelude.{◌≡◌, ◌<◌, ◌&&◌, ◌||◌, ◌=
 ghost use Rattle.source_faults.specs.Messages.{is_error, has_error};
 
 use crate::message::{Message, Severity, Spot};
+use plain_text::TextWriter;
 use std::alloc::{AllocError, Global};
 
 /// How many faults of a text, or warnings of it, are told at most.
@@ -12,13 +13,13 @@ const MOST_FOUND: usize = 100_000;
 /// How many suggestions of labels are looked for in one text, each among all labels.
 const MOST_SUGGESTIONS: usize = 16;
 
-/// One thing that is found: where, what it is, and how it may be mended.
+/// One thing that is found: where, what it is, and how it may be mended; the help is empty where nothing is said of that.
 #[derive(Drop)]
 struct Note {
     spot: Spot,
     number: Option<u8>,
     words: String,
-    help: Option<String>,
+    help: String,
 }
 
 impl Note {
@@ -39,7 +40,7 @@ impl Note {
             column: spot.column,
             width: spot.width,
             words,
-            help,
+            help: if help.is_empty() { None } else { Some(help) },
             start: spot.start,
         }
     }
@@ -48,7 +49,10 @@ impl Note {
 /// What is found in a text so far.
 #[derive(Drop)]
 pub(crate) struct Notes {
-    alloc: Global,
+    /// What is wrong, of what is added next.
+    pub(crate) words: TextWriter,
+    /// How it may be mended.
+    pub(crate) help: TextWriter,
     suggestions: usize,
     number: Option<u8>,
     found: Vec<Note>,
@@ -58,7 +62,8 @@ impl Notes {
     /// Nothing.
     pub(crate) fn new(alloc: Global) -> Notes {
         Notes {
-            alloc,
+            words: TextWriter::new(alloc),
+            help: TextWriter::new(alloc),
             suggestions: 0,
             number: None,
             found: Vec::new(alloc),
@@ -67,7 +72,7 @@ impl Notes {
 
     /// The allocator of what is found.
     pub(crate) fn alloc(&self) -> Global {
-        self.alloc
+        self.words.alloc()
     }
 
     /// How much is found.
@@ -84,16 +89,13 @@ impl Notes {
         self.number = Some(number);
     }
 
-    /// Adds what is found at a place, unless very much is found already.
-    pub(crate) fn add(
-        &mut self,
-        spot: Spot,
-        words: String,
-        help: Option<String>,
-    ) -> Result<(), AllocError>
+    /// Adds what is found at a place, with the words and the help that are written, unless very much is found already.
+    pub(crate) fn add(&mut self, spot: Spot) -> Result<(), AllocError>
         ensures { OnOk result (0 < vec_len self.new.found) }
     {
         let number = self.number.take();
+        let words = self.words.take_text()?;
+        let help = self.help.take_text()?;
         if self.found.len() < MOST_FOUND {
             self.found.push(Note {
                 spot,
@@ -105,25 +107,20 @@ impl Notes {
         Ok(())
     }
 
-    /// Adds what is found at a place in fixed words.
+    /// Adds what is found at a place, in fixed words after those that are written.
     pub(crate) fn say(&mut self, spot: Spot, words: &str, help: &str) -> Result<(), AllocError>
         ensures { OnOk result (0 < vec_len self.new.found) }
     {
-        let words = String::from_str(self.alloc, words)?;
-        self.add_with(spot, words, help)
+        self.words.put(words);
+        self.add_with(spot, help)
     }
 
-    /// Adds what is found at a place, with a help of fixed words.
-    pub(crate) fn add_with(
-        &mut self,
-        spot: Spot,
-        words: String,
-        help: &str,
-    ) -> Result<(), AllocError>
+    /// Adds what is found at a place with the words that are written, and fixed words after the help.
+    pub(crate) fn add_with(&mut self, spot: Spot, help: &str) -> Result<(), AllocError>
         ensures { OnOk result (0 < vec_len self.new.found) }
     {
-        let help = String::from_str(self.alloc, help)?;
-        self.add(spot, words, Some(help))
+        self.help.put(help);
+        self.add(spot)
     }
 
     /// Whether one suggestion more may be looked for, which is then counted.

@@ -1,100 +1,166 @@
 //! Numbers that are written as on other machines.
 
 use crate::form::OperandForm;
-use crate::phrases::{said, shown};
-use std::alloc::{AllocError, Global};
+use crate::phrases::put_shown;
+use plain_text::TextWriter;
+use text_parts::{Base, Number, read_digits};
 
-/// What to write for an operand of this form that looks like a number; None where it looks like none.
-pub(crate) fn number_help(
-    alloc: Global,
-    form: OperandForm,
-    operand: &[u8],
-) -> Result<Option<String>, AllocError> {
-    match operand {
-        [b'-', digits @ ..] if are_decimal(digits) => negative_help(alloc, form, digits),
-        [b'#' | b'$' | b'=' | b'+', digits @ ..] if are_decimal(digits) => {
-            written(alloc, "a number stands alone: write ", digits)
+/// Adds what to write for an operand of this form that looks like a number, and answers whether it looks like one.
+pub(crate) fn put_number_help(help: &mut TextWriter, form: OperandForm, operand: &[u8]) -> bool {
+    put_marked_help(help, form, operand)
+        || put_hexadecimal_help(help, hexadecimal_digits(operand))
+        || put_binary_help(help, operand)
+        || put_letter_help(help, operand)
+        || put_hexadecimal_help(help, operand)
+        || put_fixed_help(help, operand)
+}
+
+/// Adds what to write for decimal digits with a mark before them, and answers whether the operand is such.
+fn put_marked_help(help: &mut TextWriter, form: OperandForm, operand: &[u8]) -> bool {
+    let digits = operand.get(1..).unwrap_or(b"");
+    if !are_decimal(digits) {
+        return false;
+    }
+    match operand.first() {
+        Some(b'-') => put_negative_help(help, form, digits),
+        Some(b'#' | b'$' | b'=' | b'+') => {
+            put_written(help, "a number stands alone: write ", digits)
         }
-        [b'0', b'X', digits @ ..] | [b'$', digits @ ..] if are_hexadecimal(digits) => {
-            written(alloc, "hexadecimal begins with 0x: write 0x", digits)
+        _ => return false,
+    }
+    true
+}
+
+/// What are the digits of a hexadecimal number of other machines, with a mark before or after them; none where it has none.
+fn hexadecimal_digits(operand: &[u8]) -> &[u8] {
+    let length = operand.len();
+    let digits = if operand.starts_with(b"0X") {
+        operand.get(2..)
+    } else if operand.starts_with(b"$") {
+        operand.get(1..)
+    } else if operand.ends_with(b"h") || operand.ends_with(b"H") {
+        operand.get(..length.saturating_sub(1))
+    } else {
+        None
+    };
+    digits.unwrap_or(b"")
+}
+
+/// Adds how hexadecimal digits are written, and answers whether these are such.
+fn put_hexadecimal_help(help: &mut TextWriter, digits: &[u8]) -> bool {
+    let are = are_hexadecimal(digits);
+    if are {
+        put_written(help, "hexadecimal begins with 0x: write 0x", digits);
+    }
+    are
+}
+
+/// Adds what to write for a number in binary digits, and answers whether the operand is one.
+fn put_binary_help(help: &mut TextWriter, operand: &[u8]) -> bool {
+    if !operand.starts_with(b"0b") && !operand.starts_with(b"0B") {
+        return false;
+    }
+    match binary(operand.get(2..).unwrap_or(b"")) {
+        Some(number) => {
+            help.put("numbers are decimal or hexadecimal: write ");
+            help.put_number(number);
+            true
         }
-        [digits @ .., b'h' | b'H'] if are_hexadecimal(digits) => {
-            written(alloc, "hexadecimal begins with 0x: write 0x", digits)
-        }
-        [b'0', b'b' | b'B', digits @ ..] if are_binary(digits) => binary_help(alloc, digits),
-        [b'\'', letter, b'\''] => {
-            Ok(Some(format!(in alloc; "write the number of the letter, {letter}")?))
-        }
-        [b'"', ..] => said(alloc, "there are no texts: write a number"),
-        _ if are_hexadecimal(operand) => {
-            written(alloc, "hexadecimal begins with 0x: write 0x", operand)
-        }
-        [b'0'..=b'9', ..] if operand.contains(&b'.') => said(alloc, "numbers are whole"),
-        [b'0'..=b'9', ..] if operand.contains(&b'_') => said(alloc, "a number has digits alone"),
-        _ => Ok(None),
+        None => false,
     }
 }
 
-/// Words, and a piece of the text after them.
-fn written(alloc: Global, words: &str, digits: &[u8]) -> Result<Option<String>, AllocError> {
-    let digits = shown(alloc, digits)?;
-    Ok(Some(format!(in alloc; "{words}{digits}")?))
-}
-
-/// What to write for a number with a minus before these digits.
-fn negative_help(
-    alloc: Global,
-    form: OperandForm,
-    digits: &[u8],
-) -> Result<Option<String>, AllocError> {
-    let shown = shown(alloc, digits)?;
-    let help = match form {
-        OperandForm::Source => {
-            format!(in alloc; "no sign may stand here: SUB subtracts {shown}, ADD adds it")?
-        }
-        OperandForm::Value | OperandForm::Pc => {
-            format!(in alloc; "no sign may stand here: LIT r1, {shown} and then SUB r1, r0, r1")?
-        }
-        OperandForm::Word => match shown.as_str().parse::<u64>() {
-            Ok(number) => {
-                let word = 0u64.wrapping_sub(number);
-                format!(in alloc; "no sign may stand here: write 0x{word:X}")?
-            }
-            Err(_) => String::from_str(alloc, "no sign may stand here")?,
-        },
-        _ => String::from_str(alloc, "no sign may stand here")?,
-    };
-    Ok(Some(help))
-}
-
-/// What to write for a number of these binary digits.
-fn binary_help(alloc: Global, digits: &[u8]) -> Result<Option<String>, AllocError> {
+/// The number that at most 64 binary digits say.
+fn binary(digits: &[u8]) -> Option<u64> {
+    if digits.is_empty() || digits.len() > 64 {
+        return None;
+    }
     let mut number = 0u64;
-    for digit in digits.iter() {
+    for digit in digits {
+        if *digit != b'0' && *digit != b'1' {
+            return None;
+        }
         number = number.wrapping_mul(2) | u64::from(*digit & 1);
     }
-    Ok(Some(format!(in alloc; "numbers are decimal or hexadecimal: write {number}")?))
+    Some(number)
+}
+
+/// Adds what to write for a letter between two quotation marks, and answers whether the operand is one.
+fn put_letter_help(help: &mut TextWriter, operand: &[u8]) -> bool {
+    let letter = operand.get(1).copied().unwrap_or(0);
+    let is = operand.len() == 3 && operand.starts_with(b"'") && operand.ends_with(b"'");
+    if is {
+        help.put("write the number of the letter, ");
+        help.put_number(u64::from(letter));
+    }
+    is
+}
+
+/// Adds what is said of a text in quotation marks, or of digits with others among them, and answers whether it is one.
+fn put_fixed_help(help: &mut TextWriter, operand: &[u8]) -> bool {
+    let begins_digits = matches!(operand.first(), Some(b'0'..=b'9'));
+    let words = if operand.starts_with(b"\"") {
+        "there are no texts: write a number"
+    } else if begins_digits && operand.contains(&b'.') {
+        "numbers are whole"
+    } else if begins_digits && operand.contains(&b'_') {
+        "a number has digits alone"
+    } else {
+        return false;
+    };
+    help.put(words);
+    true
+}
+
+/// Adds words, and a piece of the text after them.
+fn put_written(help: &mut TextWriter, words: &str, digits: &[u8]) {
+    help.put(words);
+    put_shown(help, digits);
+}
+
+/// Adds what to write for a number with a minus before these digits.
+fn put_negative_help(help: &mut TextWriter, form: OperandForm, digits: &[u8]) {
+    help.put("no sign may stand here");
+    match (form, decimal(digits)) {
+        (OperandForm::Source, _) => {
+            put_written(help, ": SUB subtracts ", digits);
+            help.put(", ADD adds it");
+        }
+        (OperandForm::Value | OperandForm::Pc, _) => {
+            put_written(help, ": LIT r1, ", digits);
+            help.put(" and then SUB r1, r0, r1");
+        }
+        (OperandForm::Word, Some(number)) => {
+            help.put(": write 0x");
+            help.put_capital_digits(0u64.wrapping_sub(number));
+        }
+        _ => {}
+    }
+}
+
+/// The number of at most 64 bits that decimal digits say, perhaps with a plus before them.
+pub(crate) fn decimal(text: &[u8]) -> Option<u64> {
+    let signs = if text.starts_with(b"+") { 1 } else { 0 };
+    match read_digits(Base::Decimal, text.get(signs..)?)? {
+        Number::Word(number) => Some(number),
+        Number::TooLarge => None,
+    }
 }
 
 fn are_decimal(digits: &[u8]) -> bool {
-    !digits.is_empty() && digits.iter().all(|digit| digit.is_ascii_digit())
-}
-
-fn are_binary(digits: &[u8]) -> bool {
-    !digits.is_empty()
-        && digits.len() <= 64
-        && digits.iter().all(|digit| *digit == b'0' || *digit == b'1')
+    read_digits(Base::Decimal, digits).is_some()
 }
 
 fn are_hexadecimal(digits: &[u8]) -> bool {
-    digits.len() >= 2 && digits.iter().all(|digit| is_hexadecimal(*digit))
+    digits.len() >= 2 && read_digits(Base::Hexadecimal, digits).is_some()
 }
 
 /// Whether a text is hexadecimal digits, the letters among them in capitals.
 pub(crate) fn are_capital_digits(text: &[u8]) -> bool {
-    text.len() >= 2 && text.iter().all(|byte| byte.is_ascii_digit() || matches!(byte, b'A'..=b'F'))
-}
-
-fn is_hexadecimal(digit: u8) -> bool {
-    digit.is_ascii_digit() || matches!(digit, b'A'..=b'F' | b'a'..=b'f')
+    for byte in text {
+        if byte.is_ascii_lowercase() {
+            return false;
+        }
+    }
+    are_hexadecimal(text)
 }

@@ -1,14 +1,17 @@
 //! What is wrong with operands.
 
 use crate::count_notes::note_count;
-use crate::data_words::data_help;
+use crate::data_words::put_data_help;
 use crate::form::OperandForm;
 use crate::notes::Notes;
-use crate::operand_words::{form_help, missing_label_help, range_help, range_words};
-use crate::phrases::shown;
+use crate::operand_words::{
+    put_form_help, put_missing_label_help, put_range_help, put_range_words,
+};
+use crate::phrases::put_shown;
 use crate::reader::Reader;
 use crate::token::Token;
 use asm_line::Fault;
+use plain_text::TextWriter;
 use std::alloc::{AllocError, Global};
 
 /// What takes operands: its name, and their forms, of which so many have to stand there.
@@ -19,14 +22,25 @@ pub(crate) struct Taking<'a> {
     pub(crate) least: usize,
 }
 
-impl Taking<'_> {
-    /// How an operand is named, which stands at a place from 0 on.
-    fn operand_name(&self, alloc: Global, place: usize) -> Result<String, AllocError> {
-        let name = self.name;
-        match self.forms.len() {
-            1 => format!(in alloc; "the operand of {name}"),
-            _ => format!(in alloc; "operand {} of {name}", place.saturating_add(1)),
+/// An operand that is taken: of what, at which place from 0 on, and what it has to be.
+#[derive(Clone, Copy)]
+pub(crate) struct Taken<'a> {
+    taking: Taking<'a>,
+    place: usize,
+    pub(crate) form: OperandForm,
+}
+
+impl Taken<'_> {
+    /// Adds how the operand is named.
+    pub(crate) fn put_name(&self, out: &mut TextWriter) {
+        if self.taking.forms.len() == 1 {
+            out.put("the operand of ");
+        } else {
+            out.put("operand ");
+            out.put_number(self.place.saturating_add(1) as u64);
+            out.put(" of ");
         }
+        out.put(self.taking.name);
     }
 }
 
@@ -38,15 +52,42 @@ pub(crate) fn note_operands(
     head: Token,
     operands: Token,
 ) -> Result<(), AllocError> {
-    let mut pieces = Vec::new(notes.alloc());
-    if !operands.bytes.is_empty() {
-        pieces = operands.pieces(notes.alloc(), b',')?;
-    }
+    let pieces = operand_pieces(notes.alloc(), operands)?;
     if pieces.len() < taking.least || pieces.len() > taking.forms.len() {
-        return note_count(notes, reader, taking, head, operands, &pieces);
+        note_count(notes, reader, taking, head, operands, &pieces)
+    } else {
+        note_each(notes, reader, taking, &pieces)
     }
+}
+
+/// The operands that commas separate.
+fn operand_pieces<'t>(alloc: Global, operands: Token<'t>) -> Result<Vec<Token<'t>>, AllocError> {
+    if operands.bytes.is_empty() {
+        Ok(Vec::new(alloc))
+    } else {
+        operands.pieces(alloc, b',')
+    }
+}
+
+/// Tells what is wrong with each of as many operands as may stand there.
+fn note_each(
+    notes: &mut Notes,
+    reader: &Reader,
+    taking: Taking,
+    pieces: &[Token],
+) -> Result<(), AllocError> {
     for (place, (piece, form)) in pieces.iter().zip(taking.forms).enumerate() {
-        note_operand(notes, reader, taking, place, *form, *piece)?;
+        let form = *form;
+        note_operand(
+            notes,
+            reader,
+            Taken {
+                taking,
+                place,
+                form,
+            },
+            *piece,
+        )?;
     }
     Ok(())
 }
@@ -55,23 +96,17 @@ pub(crate) fn note_operands(
 fn note_operand(
     notes: &mut Notes,
     reader: &Reader,
-    taking: Taking,
-    place: usize,
-    form: OperandForm,
+    taken: Taken,
     operand: Token,
 ) -> Result<(), AllocError> {
-    let alloc = notes.alloc();
-    let Some(fault) = reader.operand_fault(alloc, form, operand.bytes)? else {
+    let Some(fault) = reader.operand_fault(notes.alloc(), taken.form, operand.bytes)? else {
         return Ok(());
     };
-    let name = taking.operand_name(alloc, place)?;
     match fault {
         Fault::LabelMissing => note_missing_label(notes, reader, operand),
-        Fault::Range => note_range(notes, reader, name.as_str(), form, operand),
-        _ if operand.bytes.is_empty() => {
-            note_missing_operand(notes, reader, name.as_str(), form, operand)
-        }
-        _ => note_form(notes, reader, name.as_str(), form, operand),
+        Fault::Range => note_range(notes, reader, taken, operand),
+        _ if operand.bytes.is_empty() => note_missing_operand(notes, reader, taken, operand),
+        _ => note_form(notes, reader, taken, operand),
     }
 }
 
@@ -81,64 +116,56 @@ fn note_missing_label(
     reader: &Reader,
     operand: Token,
 ) -> Result<(), AllocError> {
-    let alloc = notes.alloc();
-    let help = match data_help(notes, reader, OperandForm::Value, operand.bytes)? {
-        Some(help) => Some(help),
-        None => missing_label_help(notes, reader, operand.bytes)?,
-    };
-    let text = shown(alloc, operand.bytes)?;
-    let words = format!(in alloc; "no line has the label {text}")?;
+    if !put_data_help(notes, reader, OperandForm::Value, operand.bytes)? {
+        put_missing_label_help(notes, reader, operand.bytes);
+    }
+    notes.words.put("no line has the label ");
+    put_shown(&mut notes.words, operand.bytes);
     notes.number(Fault::LabelMissing.number());
-    notes.add(reader.spot(operand), words, help)
+    notes.add(reader.spot(operand))
 }
 
-/// Tells that an operand of this name is out of its limits.
+/// Tells that an operand is out of its limits.
 fn note_range(
     notes: &mut Notes,
     reader: &Reader,
-    name: &str,
-    form: OperandForm,
+    taken: Taken,
     operand: Token,
 ) -> Result<(), AllocError> {
-    let alloc = notes.alloc();
-    let words = range_words(alloc, reader, form, operand.bytes, name)?;
-    let help = range_help(alloc, reader, form, operand.bytes)?;
+    put_range_words(&mut notes.words, reader, taken, operand.bytes);
+    put_range_help(&mut notes.help, reader, taken.form, operand.bytes);
     notes.number(Fault::Range.number());
-    notes.add(reader.spot(operand), words, help)
+    notes.add(reader.spot(operand))
 }
 
-/// Tells that an operand of this name is missing.
+/// Tells that an operand is missing.
 fn note_missing_operand(
     notes: &mut Notes,
     reader: &Reader,
-    name: &str,
-    form: OperandForm,
+    taken: Taken,
     operand: Token,
 ) -> Result<(), AllocError> {
-    let alloc = notes.alloc();
-    let noun = form.noun();
-    let words = format!(in alloc; "{name} is missing")?;
-    let help = format!(in alloc; "it is {noun}")?;
+    taken.put_name(&mut notes.words);
+    notes.words.put(" is missing");
+    notes.help.put("it is ");
     notes.number(Fault::Operand.number());
-    notes.add(reader.spot(operand), words, Some(help))
+    notes.add_with(reader.spot(operand), taken.form.noun())
 }
 
-/// Tells that an operand of this name is none of its form.
+/// Tells that an operand is none of its form.
 fn note_form(
     notes: &mut Notes,
     reader: &Reader,
-    name: &str,
-    form: OperandForm,
+    taken: Taken,
     operand: Token,
 ) -> Result<(), AllocError> {
-    let alloc = notes.alloc();
-    let help = match data_help(notes, reader, form, operand.bytes)? {
-        Some(help) => help,
-        None => form_help(alloc, reader, form, operand)?,
-    };
-    let text = shown(alloc, operand.bytes)?;
-    let noun = form.noun();
-    let words = format!(in alloc; "{name} is {noun}, and {text} is none")?;
+    if !put_data_help(notes, reader, taken.form, operand.bytes)? {
+        put_form_help(&mut notes.help, reader, taken.form, operand);
+    }
+    taken.put_name(&mut notes.words);
+    notes.words.put_all(&[" is ", taken.form.noun(), ", and "]);
+    put_shown(&mut notes.words, operand.bytes);
+    notes.words.put(" is none");
     notes.number(Fault::Operand.number());
-    notes.add(reader.spot(operand), words, Some(help))
+    notes.add(reader.spot(operand))
 }

@@ -4,47 +4,51 @@ use crate::foreign_names::foreign_condition;
 use crate::form::OperandForm;
 use crate::nearest::Nearest;
 use crate::notes::Notes;
-use crate::number_words::{are_capital_digits, number_help};
+use crate::number_words::{are_capital_digits, decimal, put_number_help};
+use crate::operand_notes::Taken;
 use crate::operations::{nearest_condition, operation_named};
-use crate::phrases::{said, shown};
+use crate::phrases::{put_meant, put_shown};
 use crate::reader::Reader;
 use crate::token::Token;
-use std::alloc::{AllocError, Global};
+use plain_text::TextWriter;
 
 /// What begins a comment.
 pub(crate) const COMMENTS: &str = "a comment begins with ;";
 
-/// That an operand, which has this name, is out of its limits.
-pub(crate) fn range_words(
-    alloc: Global,
+/// Adds that an operand is out of its limits.
+pub(crate) fn put_range_words(
+    words: &mut TextWriter,
     reader: &Reader,
-    form: OperandForm,
+    taken: Taken,
     operand: &[u8],
-    name: &str,
-) -> Result<String, AllocError> {
-    let text = shown(alloc, operand)?;
-    match (form, reader.place_of(operand)) {
-        (OperandForm::Distance, Some(place)) => {
-            let (far, direction) = distance(reader.here(), place.value);
-            format!(in alloc;
-                "{text} is {far} words {direction}, and SKIP reaches 128 on or 127 back"
-            )
-        }
-        (OperandForm::Entry, Some(_)) => {
-            format!(in alloc; "{text} is after the last instruction line")
-        }
+) {
+    put_shown(words, operand);
+    match (taken.form, reader.place_of(operand)) {
+        (OperandForm::Distance, Some(place)) => put_distance(words, reader.here(), place.value),
+        (OperandForm::Entry, Some(_)) => words.put(" is after the last instruction line"),
         (OperandForm::Entry, None) => {
-            let words = reader.words();
-            format!(in alloc;
-                "{text} is past the program, whose words are numbered from 0 to {}",
-                words.saturating_sub(1)
-            )
+            words.put(" is past the program, whose words are numbered from 0 to ");
+            words.put_number(reader.words().saturating_sub(1) as u64);
         }
-        _ => {
-            let limits = form.limits();
-            format!(in alloc; "{text} is out of range: {name} is {limits}")
+        (form, _) => {
+            words.put(" is out of range: ");
+            taken.put_name(words);
+            words.put(" is ");
+            words.put(form.limits());
         }
     }
+}
+
+/// Adds how far a label is from a word, with the limits of SKIP.
+fn put_distance(words: &mut TextWriter, here: usize, value: usize) {
+    let (far, direction) = distance(here, value);
+    words.put(" is ");
+    words.put_number(far as u64);
+    words.put_all(&[
+        " words ",
+        direction,
+        ", and SKIP reaches 128 on or 127 back",
+    ]);
 }
 
 /// How many words a label is from a word, and in which direction.
@@ -56,70 +60,63 @@ fn distance(here: usize, value: usize) -> (usize, &'static str) {
     }
 }
 
-/// How to reach what an operand of this form can't say.
-pub(crate) fn range_help(
-    alloc: Global,
+/// Adds how to reach what an operand of this form can't say, if anything is said of that.
+pub(crate) fn put_range_help(
+    help: &mut TextWriter,
     reader: &Reader,
     form: OperandForm,
     operand: &[u8],
-) -> Result<Option<String>, AllocError> {
+) {
     match form {
-        OperandForm::Source => said(alloc, "LIT puts a greater number into a register"),
-        OperandForm::Displacement => displacement_help(alloc, operand),
-        OperandForm::Value => said(alloc, "LITH sets the 32 high bits of a register"),
-        OperandForm::Entry => said(alloc, "a processor begins at an instruction line"),
+        OperandForm::Source => help.put("LIT puts a greater number into a register"),
+        OperandForm::Displacement => put_displacement_help(help, operand),
+        OperandForm::Value => help.put("LITH sets the 32 high bits of a register"),
+        OperandForm::Entry => help.put("a processor begins at an instruction line"),
         OperandForm::Distance if reader.place_of(operand).is_some() => {
-            let text = shown(alloc, operand)?;
-            let help = format!(in alloc;
-                "TLIT t1, {text} and then JUMP ALWAYS, 0, t1 goes anywhere"
-            )?;
-            Ok(Some(help))
+            help.put("TLIT t1, ");
+            put_shown(help, operand);
+            help.put(" and then JUMP ALWAYS, 0, t1 goes anywhere");
         }
-        _ => Ok(None),
+        _ => {}
     }
 }
 
-/// What to write for a displacement that counts bytes.
-fn displacement_help(alloc: Global, operand: &[u8]) -> Result<Option<String>, AllocError> {
-    match String::from_utf8_lossy(alloc, operand)?
-        .as_str()
-        .parse::<u64>()
-    {
-        Ok(bytes) if bytes % 8 == 0 && bytes <= 248 => {
-            let words = bytes / 8;
-            let help = format!(in alloc;
-                "words are counted, and not bytes: {bytes} bytes are {words} words"
-            )?;
-            Ok(Some(help))
+/// Adds what to write for a displacement that counts bytes.
+fn put_displacement_help(help: &mut TextWriter, operand: &[u8]) {
+    help.put("words are counted, and not bytes");
+    match decimal(operand) {
+        Some(bytes) if bytes % 8 == 0 && bytes <= 248 => {
+            help.put(": ");
+            help.put_number(bytes);
+            help.put(" bytes are ");
+            help.put_number(bytes / 8);
+            help.put(" words");
         }
-        _ => said(alloc, "words are counted, and not bytes"),
+        _ => {}
     }
 }
 
-/// What to write for an operand that is none of this form.
-pub(crate) fn form_help(
-    alloc: Global,
+/// Adds what to write for an operand that is none of this form.
+pub(crate) fn put_form_help(
+    help: &mut TextWriter,
     reader: &Reader,
     form: OperandForm,
     operand: Token,
-) -> Result<String, AllocError> {
-    if operand.has_comment() {
-        return String::from_str(alloc, COMMENTS);
+) {
+    if let Some(words) = joined_help(operand) {
+        help.put(words);
+    } else if reader.place_of(operand.bytes).is_some() {
+        put_label_help(help, form, operand.bytes);
+    } else if !put_written_help(help, form, operand.bytes) {
+        help.put(advice(form, operand.bytes));
     }
-    if let Some(help) = joined_help(operand) {
-        return String::from_str(alloc, help);
-    }
-    if reader.place_of(operand.bytes).is_some() {
-        return label_help(alloc, form, operand.bytes);
-    }
-    if let Some(help) = written_help(alloc, form, operand.bytes)? {
-        return Ok(help);
-    }
-    String::from_str(alloc, advice(form, operand.bytes))
 }
 
-/// What to write where an operand has the next operation in it, or a suffix.
+/// What to write where an operand has a comment, the next operation in it, or a suffix.
 fn joined_help(operand: Token) -> Option<&'static str> {
+    if operand.has_comment() {
+        return Some(COMMENTS);
+    }
     let behind = operand.split_head().1;
     if operand.bytes.contains(&b'&') {
         return Some("a bar | stands between two operations of a word");
@@ -133,50 +130,51 @@ fn joined_help(operand: Token) -> Option<&'static str> {
     }
 }
 
-/// What to write where a label stands that may not.
-fn label_help(alloc: Global, form: OperandForm, label: &[u8]) -> Result<String, AllocError> {
+/// Adds what to write where a label stands that may not.
+fn put_label_help(help: &mut TextWriter, form: OperandForm, label: &[u8]) {
     match form {
         OperandForm::Register | OperandForm::Base | OperandForm::Source => {
-            String::from_str(alloc, "LIT puts the value of a label into a register")
+            help.put("LIT puts the value of a label into a register")
         }
         OperandForm::Target => {
-            let label = shown(alloc, label)?;
-            format!(in alloc;
-                "TLIT t1, {label} comes first, and then t1; SKIP takes a label itself"
-            )
+            help.put("TLIT t1, ");
+            put_shown(help, label);
+            help.put(" comes first, and then t1; SKIP takes a label itself");
         }
-        _ => String::from_str(alloc, form.advice()),
+        _ => help.put(form.advice()),
     }
 }
 
-/// What to write for an operand of this form that is written as on other machines; None where it is not.
-fn written_help(
-    alloc: Global,
-    form: OperandForm,
-    operand: &[u8],
-) -> Result<Option<String>, AllocError> {
+/// Adds what to write for an operand of this form that is written as on other machines, and answers whether it is.
+fn put_written_help(help: &mut TextWriter, form: OperandForm, operand: &[u8]) -> bool {
     match form {
-        OperandForm::Condition => Ok(Some(condition_help(alloc, operand)?)),
-        OperandForm::Base => base_help(alloc, operand),
-        OperandForm::Register | OperandForm::Target => Ok(None),
-        _ => number_help(alloc, form, operand),
+        OperandForm::Condition => {
+            put_condition_help(help, operand);
+            true
+        }
+        OperandForm::Base => put_base_help(help, operand),
+        OperandForm::Register | OperandForm::Target => false,
+        _ => put_number_help(help, form, operand),
     }
 }
 
-/// What to write for an address where a register belongs; None where the operand is none.
-fn base_help(alloc: Global, operand: &[u8]) -> Result<Option<String>, AllocError> {
-    let address = match String::from_utf8_lossy(alloc, operand)?
-        .as_str()
-        .parse::<u64>()
-    {
-        Ok(address) => address,
-        Err(_) => return Ok(None),
+/// Adds what to write for an address where a register belongs, and answers whether the operand is one.
+fn put_base_help(help: &mut TextWriter, operand: &[u8]) -> bool {
+    let Some(address) = decimal(operand) else {
+        return false;
     };
     if address % 8 == 0 && address <= 248 {
-        let words = address / 8;
-        return Ok(Some(format!(in alloc; "write r0, {words} for the word [{address}]")?));
+        help.put("write r0, ");
+        help.put_number(address / 8);
+    } else {
+        help.put("LIT r2, ");
+        help.put_number(address);
+        help.put(" and then r2, 0");
     }
-    Ok(Some(format!(in alloc; "LIT r2, {address} and then r2, 0 for the word [{address}]")?))
+    help.put(" for the word [");
+    help.put_number(address);
+    help.put("]");
+    true
 }
 
 /// What to write in place of a text that is no label.
@@ -207,44 +205,49 @@ fn advice(form: OperandForm, operand: &[u8]) -> &'static str {
     }
 }
 
-fn condition_help(alloc: Global, operand: &[u8]) -> Result<String, AllocError> {
+/// Adds which condition may be meant.
+fn put_condition_help(help: &mut TextWriter, operand: &[u8]) {
     if let Some(name) = foreign_condition(operand) {
-        return format!(in alloc; "did you mean {name}?");
-    }
-    match nearest_condition(operand) {
-        Some(name) => {
-            let name = shown(alloc, name)?;
-            format!(in alloc; "did you mean {name}?")
-        }
-        None => String::from_str(alloc, OperandForm::Condition.advice()),
+        help.put_all(&["did you mean ", name, "?"]);
+    } else if let Some(name) = nearest_condition(operand) {
+        put_meant(help, name);
+    } else {
+        help.put(OperandForm::Condition.advice());
     }
 }
 
-/// What may be meant by a label that stands on no line.
-pub(crate) fn missing_label_help(
-    notes: &mut Notes,
-    reader: &Reader,
-    name: &[u8],
-) -> Result<Option<String>, AllocError> {
-    let alloc = notes.alloc();
-    let text = shown(alloc, name)?;
+/// Adds what may be meant by a label that stands on no line.
+pub(crate) fn put_missing_label_help(notes: &mut Notes, reader: &Reader, name: &[u8]) {
     match name {
         [b'r', b'0'..=b'9', ..] => {
-            return Ok(Some(format!(in alloc; "ADD with 0 copies a register: ADD r1, {text}, 0")?));
+            notes.help.put("ADD with 0 copies a register: ADD r1, ");
+            put_shown(&mut notes.help, name);
+            notes.help.put(", 0");
         }
         [b't', b'0'..=b'7'] => {
-            return Ok(Some(format!(in alloc; "JUMP ALWAYS, 0, {text} goes where {text} says")?));
+            notes.help.put("JUMP ALWAYS, 0, ");
+            put_shown(&mut notes.help, name);
+            notes.help.put(" goes where ");
+            put_shown(&mut notes.help, name);
+            notes.help.put(" says");
         }
-        _ => {}
+        _ => match nearest_label(notes, reader, name) {
+            Some(label) => put_meant(&mut notes.help, label),
+            None => put_no_label_help(&mut notes.help, name),
+        },
     }
-    if let Some(label) = nearest_label(notes, reader, name) {
-        let label = shown(alloc, label)?;
-        return Ok(Some(format!(in alloc; "did you mean {label}?")?));
-    }
+}
+
+/// Adds how a name is written that is near no label.
+fn put_no_label_help(help: &mut TextWriter, name: &[u8]) {
     if are_capital_digits(name) {
-        return Ok(Some(format!(in alloc; "hexadecimal begins with 0x: write 0x{text}")?));
+        help.put("hexadecimal begins with 0x: write 0x");
+        put_shown(help, name);
+    } else {
+        help.put("write ");
+        put_shown(help, name);
+        help.put(": before the instruction that it names");
     }
-    Ok(Some(format!(in alloc; "write {text}: before the instruction that it names")?))
 }
 
 /// The label that is nearest to a name, if one is near enough and few were looked for.

@@ -194,7 +194,12 @@ const DIRECTIVES: [Directive; 9] = [
 
 /// The directive of a name with its dot, in whatever profile.
 pub(crate) fn directive_named(name: &[u8]) -> Option<Directive> {
-    DIRECTIVES.iter().copied().find(|directive| names::directive(*directive).as_bytes() == name)
+    for directive in DIRECTIVES.iter() {
+        if names::directive(*directive).as_bytes() == name {
+            return Some(*directive);
+        }
+    }
+    None
 }
 
 /// The directive whose name is nearest to a text, if one is near enough.

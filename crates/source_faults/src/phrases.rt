@@ -1,33 +1,43 @@
 //! Parts of sentences.
 
 use crate::form::OperandForm;
-use std::alloc::{AllocError, Global};
+use plain_text::TextWriter;
 
 /// How many bytes of a text a sentence shows at most.
 const LONGEST: usize = 40;
 
-/// A piece of a text as a sentence shows it: at most 40 bytes, in which each control character is a question mark.
-pub(crate) fn shown(alloc: Global, bytes: &[u8]) -> Result<String, AllocError> {
+/// Adds a piece of a text as a sentence shows it: at most 40 bytes, in which each control character is a question mark.
+pub(crate) fn put_shown(out: &mut TextWriter, bytes: &[u8]) {
     let front = bytes.get(..LONGEST).unwrap_or(bytes);
-    let mut text = String::new(alloc);
-    let front = String::from_utf8_lossy(alloc, front)?;
-    for c in front.as_str().chars() {
-        text.push(if c.is_control() { '?' } else { c })?;
+    match String::from_utf8_lossy(out.alloc(), front) {
+        Ok(front) => put_letters(out, front.as_str()),
+        Err(_) => out.lack_piece(),
     }
     if bytes.len() > LONGEST {
-        text.push_str("..")?;
+        out.put("..");
     }
-    Ok(text)
 }
 
-/// Some words with commas between them, and `and` before the last.
-pub(crate) fn listed(alloc: Global, words: &[&str]) -> Result<String, AllocError> {
-    let mut text = String::new(alloc);
-    for (place, word) in words.iter().enumerate() {
-        text.push_str(separator(place, words.len()))?;
-        text.push_str(word)?;
+/// Adds a text in which each control character is a question mark.
+fn put_letters(out: &mut TextWriter, text: &str) {
+    for letter in text.chars() {
+        out.put_letter(if letter.is_control() { '?' } else { letter });
     }
-    Ok(text)
+}
+
+/// Adds which name may be meant.
+pub(crate) fn put_meant(out: &mut TextWriter, name: &[u8]) {
+    out.put("did you mean ");
+    put_shown(out, name);
+    out.put("?");
+}
+
+/// Adds some words with commas between them, and `and` before the last.
+pub(crate) fn put_listed(out: &mut TextWriter, words: &[&str]) {
+    for (place, word) in words.iter().enumerate() {
+        out.put(separator(place, words.len()));
+        out.put(*word);
+    }
 }
 
 /// What stands before the word at a place of so many.
@@ -43,35 +53,25 @@ fn separator(place: usize, count: usize) -> &'static str {
     }
 }
 
-/// Operands of these forms, of which the first so many have to stand there.
-pub(crate) fn operands_listed(
-    alloc: Global,
-    forms: &[OperandForm],
-    least: usize,
-) -> Result<String, AllocError> {
+/// Adds which operands have these forms, of which the first so many have to stand there.
+pub(crate) fn put_operands(out: &mut TextWriter, forms: &[OperandForm], least: usize) {
     if forms.is_empty() {
-        return String::from_str(alloc, "no operands");
+        out.put("no operands");
     }
-    let mut text = String::new(alloc);
     for (place, form) in forms.iter().enumerate() {
-        text.push_str(separator(place, forms.len()))?;
+        out.put(separator(place, forms.len()));
         if place >= least {
-            text.push_str("perhaps ")?;
+            out.put("perhaps ");
         }
-        text.push_str(form.listed())?;
-    }
-    Ok(text)
-}
-
-/// How many operands.
-pub(crate) fn operands_counted(alloc: Global, count: usize) -> Result<String, AllocError> {
-    match count {
-        0 => String::from_str(alloc, "none"),
-        count => format!(in alloc; "{count}"),
+        out.put(form.listed());
     }
 }
 
-/// A help of fixed words.
-pub(crate) fn said(alloc: Global, words: &str) -> Result<Option<String>, AllocError> {
-    Ok(Some(String::from_str(alloc, words)?))
+/// Adds how many operands there are.
+pub(crate) fn put_count(out: &mut TextWriter, count: usize) {
+    if count == 0 {
+        out.put("none");
+    } else {
+        out.put_number(count as u64);
+    }
 }

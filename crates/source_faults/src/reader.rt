@@ -23,13 +23,7 @@ pub(crate) struct SourceFacts<'t> {
 impl<'t> SourceFacts<'t> {
     /// Of this text.
     pub(crate) fn of(alloc: Global, text: &'t [u8]) -> Result<SourceFacts<'t>, AllocError> {
-        let mut names = Vec::new(alloc);
-        for line in Lines::filled(text) {
-            match line.source.label {
-                Some(label) if is_name(label) => names.push(label)?,
-                _ => {}
-            }
-        }
+        let names = names_of(alloc, text)?;
         Ok(SourceFacts {
             text,
             outline: outline_of(alloc, text)?,
@@ -54,6 +48,18 @@ impl<'t> SourceFacts<'t> {
         }
         first
     }
+}
+
+/// The labels of a text that are names, in the order of their lines.
+fn names_of<'t>(alloc: Global, text: &'t [u8]) -> Result<Vec<&'t [u8]>, AllocError> {
+    let mut names = Vec::new(alloc);
+    for line in Lines::filled(text) {
+        match line.source.label {
+            Some(label) if is_name(label) => names.push(label)?,
+            _ => {}
+        }
+    }
+    Ok(names)
 }
 
 /// Reads statements in the place of a line of a text.
@@ -142,13 +148,13 @@ impl<'s, 't> Reader<'s, 't> {
         self.item(self.line.source.label, self.line.source.statement)
     }
 
-    /// The operations of the line's instruction.
-    pub(crate) fn operations(&self, alloc: Global) -> Result<Vec<Token<'t>>, AllocError> {
+    /// The line's instruction, without its lookahead.
+    pub(crate) fn instruction(&self) -> Token<'t> {
         let statement = self.line.statement();
         if statement.begins(b'@') {
-            statement.split_head().1.pieces(alloc, b'|')
+            statement.split_head().1
         } else {
-            statement.pieces(alloc, b'|')
+            statement
         }
     }
 
@@ -164,12 +170,12 @@ impl<'s, 't> Reader<'s, 't> {
     pub(crate) fn knows_suffix(
         &self,
         alloc: Global,
-        name: &str,
-        suffix: &str,
+        name: &[u8],
+        suffix: &[u8],
     ) -> Result<bool, AllocError> {
-        let mut head = String::from_str(alloc, name)?;
-        head.push_str(suffix)?;
-        Ok(self.knows(head.as_bytes()))
+        let mut head = Vec::from_slice(alloc, name)?;
+        head.extend_from_slice(suffix)?;
+        Ok(self.knows(&head))
     }
 
     /// What is wrong with an operand of this form.

@@ -2,8 +2,9 @@
 
 use crate::lines::TextLine;
 use crate::notes::Notes;
-use crate::phrases::shown;
+use crate::phrases::put_shown;
 use crate::token::Token;
+use plain_text::TextWriter;
 use std::alloc::AllocError;
 use text_parts::{Base, Number, find_either, read_digits};
 
@@ -64,8 +65,8 @@ pub(crate) fn note_fields<'t>(
         return Ok(None);
     };
     let (second, rest) = rest.cut(b' ');
-    let processor = note_number(notes, line, first, PROCESSOR)?.and_then(byte);
-    let stream = note_number(notes, line, second, STREAM)?.and_then(byte);
+    let processor = note_byte(notes, line, first, PROCESSOR)?;
+    let stream = note_byte(notes, line, second, STREAM)?;
     let times = match rest {
         Some(third) => note_times(notes, line, third)?,
         None => Some(1),
@@ -81,9 +82,17 @@ pub(crate) fn note_fields<'t>(
     })
 }
 
-/// A number up to 255 as a byte.
-fn byte(number: u64) -> Option<u8> {
-    u8::try_from(number).ok()
+/// Tells what is wrong with a number up to 255, and answers it where it is right.
+fn note_byte(
+    notes: &mut Notes,
+    line: &TextLine,
+    token: Token,
+    counted: Counted,
+) -> Result<Option<u8>, AllocError> {
+    match note_number(notes, line, token, counted)? {
+        Some(number) => Ok(u8::try_from(number).ok()),
+        None => Ok(None),
+    }
 }
 
 /// Tells what is wrong with what stands after a line's second number, and answers its third number.
@@ -188,21 +197,28 @@ fn note_number(
     token: Token,
     counted: Counted,
 ) -> Result<Option<u64>, AllocError> {
-    let alloc = notes.alloc();
-    let text = shown(alloc, token.bytes)?;
-    let Some(number) = read_digits(Base::Decimal, token.bytes) else {
-        let words = format!(in alloc; "{text} is no number")?;
-        let help = "write p s or p s n, in decimal digits";
-        notes.add_with(line.spot(token), words, help)?;
-        return Ok(None);
-    };
-    match number {
-        Number::Word(value) if value >= counted.least && value <= counted.most => Ok(Some(value)),
-        Number::Word(_) | Number::TooLarge => {
-            let Counted { name, least, most } = counted;
-            let words = format!(in alloc; "{text} is out of range: {name} is {least} to {most}")?;
-            notes.add(line.spot(token), words, None)?;
-            Ok(None)
+    match read_digits(Base::Decimal, token.bytes) {
+        Some(Number::Word(value)) if value >= counted.least && value <= counted.most => {
+            return Ok(Some(value));
+        }
+        Some(_) => {
+            put_shown(&mut notes.words, token.bytes);
+            put_limits(&mut notes.words, counted);
+        }
+        None => {
+            put_shown(&mut notes.words, token.bytes);
+            notes.words.put(" is no number");
+            notes.help.put("write p s or p s n, in decimal digits");
         }
     }
+    notes.add(line.spot(token))?;
+    Ok(None)
+}
+
+/// Adds the least and the greatest value of a number that is neither nor between.
+fn put_limits(words: &mut TextWriter, counted: Counted) {
+    words.put_all(&[" is out of range: ", counted.name, " is "]);
+    words.put_number(counted.least);
+    words.put(" to ");
+    words.put_number(counted.most);
 }

@@ -3,12 +3,13 @@
 use crate::data_lines::DataLines;
 use crate::notes::Notes;
 use crate::numbers::{LABEL_ADDRESS, POINTER_CONTROL};
-use crate::phrases::shown;
+use crate::phrases::put_shown;
 use crate::reader::Reader;
 use crate::token::Token;
 use asm_line::names;
 use insn_word::{APart, Access, CPart, Condition, ControlOp, Insn, MPart, MemoryOp, WideOp};
-use std::alloc::{AllocError, Global};
+use plain_text::TextWriter;
+use std::alloc::AllocError;
 
 /// What is known of a register.
 #[derive(Clone, Copy)]
@@ -161,25 +162,29 @@ fn note_label_address(
     m: MPart,
     label: &[u8],
 ) -> Result<(), AllocError> {
-    let alloc = notes.alloc();
-    let spot = reader.spot(base_operand(alloc, reader)?);
-    let words = holder_words(alloc, m.base, label)?;
-    notes.number(LABEL_ADDRESS);
     match label_address(reader, data_lines, label) {
         Some(address) => {
-            let help = format!(in alloc; "the data on the label's line is at address {address}")?;
-            notes.add(spot, words, Some(help))
+            notes
+                .help
+                .put("the data on the label's line is at address ");
+            notes.help.put_number(address as u64);
         }
-        None => notes.add_with(spot, words, "data words are at the addresses 0, 8, 16, .."),
+        None => notes
+            .help
+            .put("data words are at the addresses 0, 8, 16, .."),
     }
+    put_holder(&mut notes.words, m.base, label);
+    notes.number(LABEL_ADDRESS);
+    notes.add(reader.spot(base_operand(reader)))
 }
 
-/// What a register with this label's value holds.
-fn holder_words(alloc: Global, register: u8, label: &[u8]) -> Result<String, AllocError> {
-    let name = shown(alloc, label)?;
-    format!(in alloc;
-        "r{register} holds the label {name}, which is the number of an instruction line and no address"
-    )
+/// Adds what a register with this label's value holds.
+fn put_holder(words: &mut TextWriter, register: u8, label: &[u8]) {
+    words.put("r");
+    words.put_number(u64::from(register));
+    words.put(" holds the label ");
+    put_shown(words, label);
+    words.put(", which is the number of an instruction line and no address");
 }
 
 /// The address of the data on the line of a label, if there is any.
@@ -195,28 +200,36 @@ fn note_control(
     m: MPart,
     control: u32,
 ) -> Result<(), AllocError> {
-    let alloc = notes.alloc();
-    let spot = reader.spot(base_operand(alloc, reader)?);
-    let name = names::memory(m.op);
-    let control = match control {
+    notes.words.put("the pointer in r");
+    notes.words.put_number(u64::from(m.base));
+    notes.words.put_all(&[
+        " gives this ",
+        names::memory(m.op),
+        " ",
+        control_name(control),
+    ]);
+    notes.number(POINTER_CONTROL);
+    notes.say(
+        reader.spot(base_operand(reader)),
+        ": its bits 59 and 60 are set so",
+        "a suffix .N, .F or .S says it in the program",
+    )
+}
+
+/// What a pointer with these bits 59 and 60 gives.
+fn control_name(control: u32) -> &'static str {
+    match control {
         1 => "reserved control, and traps",
         2 => "future control",
         _ => "sync control",
-    };
-    let words = format!(in alloc;
-        "the pointer in r{} gives this {name} {control}: its bits 59 and 60 are set so",
-        m.base
-    )?;
-    notes.number(POINTER_CONTROL);
-    notes.add_with(spot, words, "a suffix .N, .F or .S says it in the program")
+    }
 }
 
 /// The base of a line's reference, which stands in its first operation.
-fn base_operand<'t>(alloc: Global, reader: &Reader<'_, 't>) -> Result<Token<'t>, AllocError> {
-    let operations = reader.operations(alloc)?;
-    let Some(first) = operations.first() else {
-        return Ok(reader.line().statement());
-    };
-    let operands = first.split_head().1.pieces(alloc, b',')?;
-    Ok(operands.get(1).copied().unwrap_or(*first))
+fn base_operand<'t>(reader: &Reader<'_, 't>) -> Token<'t> {
+    let first = reader.instruction().cut(b'|').0.trim();
+    match first.split_head().1.cut(b',').1 {
+        Some(behind) => behind.cut(b',').0.trim(),
+        None => first,
+    }
 }

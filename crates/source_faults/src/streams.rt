@@ -5,6 +5,7 @@ use crate::notes::Notes;
 use crate::schedule_notes::ScheduleLine;
 use crate::token::Token;
 use image_file::Image;
+use plain_text::TextWriter;
 use std::alloc::{AllocError, Global};
 
 /// How many pairs of a processor's and a stream's number there are.
@@ -76,18 +77,19 @@ impl Streams {
         line: &TextLine,
         fields: ScheduleLine,
     ) -> Result<(), AllocError> {
-        let alloc = notes.alloc();
-        let ScheduleLine { processor, .. } = fields;
-        let words = format!(in alloc; "processor {processor} is not there")?;
-        let help = match self.processors {
-            1 => String::from_str(alloc, "the program has processor 0 alone")?,
-            count => {
-                let last = count.saturating_sub(1);
-                format!(in alloc; "the program has the processors 0 to {last}")?
-            }
-        };
+        notes.words.put("processor ");
+        notes.words.put_number(u64::from(fields.processor));
+        notes.words.put(" is not there");
+        if self.processors == 1 {
+            notes.help.put("the program has processor 0 alone");
+        } else {
+            notes.help.put("the program has the processors 0 to ");
+            notes
+                .help
+                .put_number(self.processors.saturating_sub(1) as u64);
+        }
         let field = Token::of_line(line.bytes).cut(b' ').0;
-        notes.add(line.spot(field), words, Some(help))
+        notes.add(line.spot(field))
     }
 
     fn note_stream(
@@ -96,21 +98,28 @@ impl Streams {
         line: &TextLine,
         fields: ScheduleLine,
     ) -> Result<(), AllocError> {
-        let alloc = notes.alloc();
-        let ScheduleLine {
-            processor,
-            stream,
-            ..
-        } = fields;
-        let words = format!(in alloc; "stream {stream} of processor {processor} is not there")?;
-        let slim = self.slim;
-        let last = slim.saturating_sub(1);
-        let help = match slim {
-            1 => String::from_str(alloc, "a processor has stream 0 alone (.slim 1)")?,
-            _ => format!(in alloc; "a processor has the streams 0 to {last} (.slim {slim})")?,
-        };
+        notes.words.put("stream ");
+        notes.words.put_number(u64::from(fields.stream));
+        notes.words.put(" of processor ");
+        notes.words.put_number(u64::from(fields.processor));
+        notes.words.put(" is not there");
+        put_streams(&mut notes.help, self.slim);
         let (first, rest) = Token::of_line(line.bytes).cut(b' ');
         let field = rest.unwrap_or(first).cut(b' ').0;
-        notes.add(line.spot(field), words, Some(help))
+        notes.add(line.spot(field))
+    }
+}
+
+/// Adds which streams a processor has.
+fn put_streams(help: &mut TextWriter, slim: u16) {
+    help.put("a processor has ");
+    if slim == 1 {
+        help.put("stream 0 alone (.slim 1)");
+    } else {
+        help.put("the streams 0 to ");
+        help.put_number(u64::from(slim.saturating_sub(1)));
+        help.put(" (.slim ");
+        help.put_number(u64::from(slim));
+        help.put(")");
     }
 }

@@ -4,7 +4,7 @@ use crate::lines::TextLine;
 use crate::message::Spot;
 use crate::notes::Notes;
 use crate::operations::directive_named;
-use crate::phrases::shown;
+use crate::phrases::put_shown;
 use crate::reader::SourceFacts;
 use crate::token::Token;
 use asm_line::{Directive, Fault, Item};
@@ -141,17 +141,14 @@ impl Totals {
 
 /// Tells that the text has no entry.
 fn note_no_entry(notes: &mut Notes, source: &SourceFacts) -> Result<(), AllocError> {
-    let alloc = notes.alloc();
-    let entry = match source.first_label() {
-        Some(label) => shown(alloc, label)?,
-        None => String::from_str(alloc, "0")?,
-    };
-    let words = String::from_str(alloc, "the text has no .entry")?;
-    let help = format!(in alloc;
-        "write .entry {entry} on a line of its own: a processor begins there"
-    )?;
+    notes.help.put("write .entry ");
+    put_shown(&mut notes.help, source.first_label().unwrap_or(b"0"));
     notes.number(Fault::Directive.number());
-    notes.add(Spot::FIRST, words, Some(help))
+    notes.say(
+        Spot::FIRST,
+        "the text has no .entry",
+        " on a line of its own: a processor begins there",
+    )
 }
 
 /// Where the last line of a text begins; what follows its last line feed is a line where it has a byte.
@@ -181,11 +178,11 @@ fn note_once(
         *first = Some(line.number + 1);
         return Ok(());
     };
-    let alloc = notes.alloc();
-    let name = shown(alloc, line.statement().split_head().0.bytes)?;
-    let words = format!(in alloc; "{name} stands on line {number} already")?;
+    put_shown(&mut notes.words, line.statement().split_head().0.bytes);
+    notes.words.put(" stands on line ");
+    notes.words.put_number(number as u64);
     notes.number(Fault::Directive.number());
-    notes.add_with(head_spot(line), words, "it may stand once")
+    notes.say(head_spot(line), " already", "it may stand once")
 }
 
 fn take_word(notes: &mut Notes, line: &TextLine) -> Result<(), AllocError> {
@@ -199,19 +196,27 @@ fn take_word(notes: &mut Notes, line: &TextLine) -> Result<(), AllocError> {
 
 /// Tells that a byte of the line is above 7F.
 pub(crate) fn note_foreign(notes: &mut Notes, line: &TextLine) -> Result<(), AllocError> {
-    let Some(place) = line.bytes.iter().position(|b| !b.is_ascii()) else {
+    let rest = Token::of_line(line.bytes).behind(length_of(line.bytes, true));
+    let Some(byte) = rest.bytes.first() else {
         return Ok(());
     };
-    let rest = Token::of_line(line.bytes).behind(place);
-    let length = rest.bytes.iter().position(|b| b.is_ascii());
-    let marked = rest.before(length.unwrap_or(rest.bytes.len()));
-    let byte = rest.bytes.first().copied().unwrap_or(0);
-    let alloc = notes.alloc();
-    let words = format!(in alloc; "the byte {byte:02X} is above 7F")?;
+    let marked = rest.before(length_of(rest.bytes, false));
+    notes.words.put("the byte ");
+    notes.words.put_capital_digits(u64::from(*byte));
     notes.number(Fault::NotAscii.number());
-    notes.add_with(
+    notes.say(
         line.spot(marked),
-        words,
+        " is above 7F",
         "outside comments a text is ASCII alone",
     )
+}
+
+/// How many bytes a text begins with that are ASCII, or that are not.
+fn length_of(text: &[u8], is_ascii: bool) -> usize {
+    for (place, byte) in text.iter().enumerate() {
+        if byte.is_ascii() != is_ascii {
+            return place;
+        }
+    }
+    text.len()
 }

@@ -5,10 +5,9 @@ use crate::lines::Lines;
 use crate::message::Spot;
 use crate::notes::Notes;
 use crate::numbers::{DATA_LABEL, EARLIER_CODE};
-use crate::phrases::shown;
+use crate::phrases::put_shown;
 use crate::reader::{Reader, SourceFacts};
 use crate::straight_line::StraightLine;
-use crate::token::Token;
 use crate::unreached::note_unreached;
 use asm_line::Item;
 use image_file::Image;
@@ -90,23 +89,19 @@ fn note_data_label(
     let Some(label) = reader.line().label() else {
         return Ok(());
     };
-    let alloc = notes.alloc();
-    let words = label_words(alloc, reader, label)?;
-    let help = match data_lines.address(reader.line().number) {
-        Some(address) => Some(format!(in alloc; "this data is at address {address}")?),
-        None => None,
-    };
+    if let Some(address) = data_lines.address(reader.line().number) {
+        notes.help.put("this data is at address ");
+        notes.help.put_number(address as u64);
+    }
+    notes.words.put("the label ");
+    put_shown(&mut notes.words, label.bytes);
+    notes
+        .words
+        .put(" is the number of the next instruction line, ");
+    notes.words.put_number(reader.here() as u64);
+    notes.words.put(", and no address");
     notes.number(DATA_LABEL);
-    notes.add(reader.spot(label), words, help)
-}
-
-/// What the label of a line of data is.
-fn label_words(alloc: Global, reader: &Reader, label: Token) -> Result<String, AllocError> {
-    let name = shown(alloc, label.bytes)?;
-    let here = reader.here();
-    format!(in alloc;
-        "the label {name} is the number of the next instruction line, {here}, and no address"
-    )
+    notes.add(reader.spot(label))
 }
 
 /// Warns of a condition in the word of the operation whose code it seems to ask.
@@ -121,7 +116,7 @@ fn note_code(notes: &mut Notes, reader: &Reader, insn: Insn) -> Result<(), Alloc
     if a.test && is_asked {
         let words = "the condition asks the code from before this word";
         let help = "the code that .T makes here counts from the next word on";
-        let operations = reader.operations(notes.alloc())?;
+        let operations = reader.instruction().pieces(notes.alloc(), b'|')?;
         let last = operations
             .last()
             .copied()

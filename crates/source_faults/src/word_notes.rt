@@ -62,13 +62,11 @@ fn note_alone(
     reader: &Reader,
     operation: WrittenOperation,
 ) -> Result<(), AllocError> {
-    let alloc = notes.alloc();
-    let name = operation.named.name();
-    let words = format!(in alloc; "{name} stands alone in its word")?;
+    notes.words.put(operation.named.name());
     notes.number(Fault::Operand.number());
-    notes.add_with(
+    notes.say(
         reader.spot(operation.piece),
-        words,
+        " stands alone in its word",
         "write it on a line of its own",
     )
 }
@@ -81,25 +79,21 @@ fn note_pair(
     operation: WrittenOperation,
     part: Part,
 ) -> Result<(), AllocError> {
-    let alloc = notes.alloc();
     let (first, second) = (before.name(), operation.named.name());
-    let (words, help) = if before.part() == Some(part) {
+    if before.part() == Some(part) {
         let name = part.name();
-        let words = format!(in alloc; "{first} and {second} are both {name} operations")?;
-        (
-            words,
-            String::from_str(
-                alloc,
-                "a word has one operation of each part: use two words",
-            )?,
-        )
+        notes.words.put_all(&[first, " and ", second, " are both ", name, " operations"]);
+        notes
+            .help
+            .put("a word has one operation of each part: use two words");
     } else {
-        let words = "the order in a word is memory, arithmetic, control";
-        let help = format!(in alloc; "write {second} before {first}")?;
-        (String::from_str(alloc, words)?, help)
-    };
+        notes
+            .words
+            .put("the order in a word is memory, arithmetic, control");
+        notes.help.put_all(&["write ", second, " before ", first]);
+    }
     notes.number(Fault::Operand.number());
-    notes.add(reader.spot(operation.piece), words, Some(help))
+    notes.add(reader.spot(operation.piece))
 }
 
 /// Tells which two operations write one register.
@@ -153,15 +147,13 @@ fn note_both(
     operation: WrittenOperation,
     register: u8,
 ) -> Result<(), AllocError> {
-    let alloc = notes.alloc();
     let (first, second) = (before.named.name(), operation.named.name());
-    let words = format!(in alloc; "{first} and {second} both write r{register}")?;
+    notes
+        .words
+        .put_all(&[first, " and ", second, " both write r"]);
+    notes.words.put_number(u64::from(register));
     let operands = operation.piece.split_head().1;
     let written = operands.cut(b',').0.trim();
     notes.number(Fault::TwoWriters.number());
-    notes.add_with(
-        reader.spot(written),
-        words,
-        "use two words, or another register",
-    )
+    notes.add_with(reader.spot(written), "use two words, or another register")
 }

@@ -1,10 +1,8 @@
 //! Texts that are put together piece by piece.
 
-use crate::values::{NumberStyle, push_stream, push_trap, push_value};
-use plain_text::push_plain;
-use std::alloc::AllocError;
+use crate::escaping::push_plain;
+use std::alloc::{AllocError, Global};
 use std::mem;
-use stream_core::TrapKind;
 
 /// A text that is being put together. Where memory is refused for a piece, the text lacks it, and
 /// [`TextWriter::give_back`] says so at the end; so a writer has one place to look, and not one a piece.
@@ -15,6 +13,14 @@ pub struct TextWriter {
 }
 
 impl TextWriter {
+    /// An empty text.
+    pub fn new(alloc: Global) -> TextWriter {
+        TextWriter {
+            text: String::new(alloc),
+            lacks_pieces: false,
+        }
+    }
+
     /// Takes a text, to add to it; it is empty until it is given back.
     pub fn take(text: &mut String) -> TextWriter {
         let empty = String::new(*text.allocator());
@@ -38,6 +44,27 @@ impl TextWriter {
         }
     }
 
+    /// Takes what is written out of the writer, which is then as a new one; memory may have been refused for a piece.
+    pub fn take_text(&mut self) -> Result<String, AllocError> {
+        let empty = String::new(self.alloc());
+        let text = mem::replace(&mut self.text, empty);
+        if mem::replace(&mut self.lacks_pieces, false) {
+            Err(AllocError)
+        } else {
+            Ok(text)
+        }
+    }
+
+    /// The allocator of the text.
+    pub fn alloc(&self) -> Global {
+        *self.text.allocator()
+    }
+
+    /// Notes that memory was refused for a piece.
+    pub fn lack_piece(&mut self) {
+        self.lacks_pieces = true;
+    }
+
     /// Keeps whether a piece could be added.
     fn keep(&mut self, added: Result<(), AllocError>) {
         if added.is_err() {
@@ -48,6 +75,19 @@ impl TextWriter {
     /// Adds a piece as it is.
     pub fn put(&mut self, piece: &str) {
         let added = self.text.push_str(piece);
+        self.keep(added);
+    }
+
+    /// Adds pieces as they are, one behind the other.
+    pub fn put_all(&mut self, pieces: &[&str]) {
+        for piece in pieces {
+            self.put(*piece);
+        }
+    }
+
+    /// Adds a character.
+    pub fn put_letter(&mut self, letter: char) {
+        let added = self.text.push(letter);
         self.keep(added);
     }
 
@@ -70,26 +110,14 @@ impl TextWriter {
     }
 
     /// Adds a number in hexadecimal digits after `0x`.
-    pub(crate) fn put_bits(&mut self, bits: u64) {
+    pub fn put_bits(&mut self, bits: u64) {
         let added = write!(self.text, "0x{bits:x}");
         self.keep(added);
     }
 
-    /// Adds a number in the style of values.
-    pub fn put_value(&mut self, style: NumberStyle, value: u64) {
-        let added = push_value(&mut self.text, style, value);
-        self.keep(added);
-    }
-
-    /// Adds the name of a stream, as `2.0`.
-    pub fn put_stream(&mut self, p: u8, s: u8) {
-        let added = push_stream(&mut self.text, p, s);
-        self.keep(added);
-    }
-
-    /// Adds a trap's number and name: `trap 3, CREATE`.
-    pub fn put_trap(&mut self, trap: TrapKind) {
-        let added = push_trap(&mut self.text, trap);
+    /// Adds a number in hexadecimal digits, the letters in capitals.
+    pub fn put_capital_digits(&mut self, bits: u64) {
+        let added = write!(self.text, "{bits:X}");
         self.keep(added);
     }
 
@@ -113,7 +141,7 @@ impl TextWriter {
     }
 
     /// Ends a line, without blanks at its end.
-    pub(crate) fn end_line(&mut self) {
+    pub fn end_line(&mut self) {
         for _ in 0..self.text.len() {
             if !self.text.ends_with(' ') {
                 break;
