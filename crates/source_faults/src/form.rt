@@ -10,7 +10,7 @@ pub(crate) enum OperandForm {
     /// A target register.
     Target,
     /// The last operand of an arithmetic operation.
-    SourceFacts,
+    Source,
     /// How many words after the pointer.
     Displacement,
     /// A number of 32 bits or a label, for a register.
