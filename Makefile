@@ -9,7 +9,7 @@ SOURCE ?= examples/lock.asm
 SCHEDULE ?= examples/lock.lost_update.schedule
 # the crates whose edits make edits tries, all of them without any; those that make prove and make affected are asked of
 CRATES ?=
-# on how many processors make fits reckons the gate
+# on how many processors make fits computes the gate
 PROCESSORS ?= 2
 # how many crates' edits are tried side by side
 JOBS ?= $(shell nproc)
@@ -91,7 +91,7 @@ crates:
 affected:
 	@python3 tests/minutes.py affected $(CRATES)
 
-# how long the gate takes on so many processors, reckoned from the table of what a check costs
+# how long the gate takes on so many processors, computed from the table of what a check costs
 fits:
 	@python3 tests/minutes.py fits $(PROCESSORS)
 
@@ -150,7 +150,7 @@ documents: build
 
 # puts the built programs, their examples and documents in place
 install:
-	@test -x $(PROGRAM) && test -x $(LAB) || { echo "make run proves and builds the programs first"; exit 1; }
+	@test -x $(PROGRAM) && test -x $(LAB) || { echo "install needs both programs: make run and make run-lab prove and build them"; exit 1; }
 	install -D -m 755 $(PROGRAM) $(DESTDIR)$(PREFIX)/bin/mta_sim
 	install -D -m 755 $(LAB) $(DESTDIR)$(PREFIX)/bin/mta_lab
 	install -D -m 644 share/man/man1/mta_sim.1 $(SHARE)/man/man1/mta_sim.1
@@ -170,7 +170,7 @@ install:
 	install -m 644 docs/*.md $(SHARE)/doc/mta_sim/docs
 	test ! -e out/TRUST.md || install -m 644 out/TRUST.md $(SHARE)/doc/mta_sim/docs
 	install -d $(SHARE)/doc/mta_sim/docs/images
-	install -m 644 docs/images/*.png docs/images/*.svg $(SHARE)/doc/mta_sim/docs/images
+	install -m 644 docs/images/*.png $(SHARE)/doc/mta_sim/docs/images
 
 uninstall:
 	rm -f $(DESTDIR)$(PREFIX)/bin/mta_sim $(SHARE)/man/man1/mta_sim.1 $(SHARE)/bash-completion/completions/mta_sim

@@ -1,7 +1,7 @@
 ; A barrier for two processors that is used in two rounds. Of each round the last to arrive opens the way on.
-; Processors 0 and 1 have two gates: behind the first, both have arrived; behind the second, both have left, and the
-; first is closed again. Processors 2 and 3 have one gate, which the first of a round closes. Where one comes round again
-; before the other has left, it closes the gate in front of it: both wait at one gate, in different rounds, for ever.
+; Processors 0 and 1 have two gates: after the first, both have arrived; after the second, both have left, and the
+; first is closed again. Processors 2 and 3 have one gate, which the first of a round closes. If one begins a new round
+; before the other has left, it closes the gate in front of it: both wait at one gate, in different rounds, forever.
 ; Look at: r7, the round, of the two streams that end BLOCKED; what word 0 and word 4 count.
         .slim 1
         .entry two_gates

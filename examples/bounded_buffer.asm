@@ -1,5 +1,5 @@
 ; A ring of two slots between two producers and a consumer. A slot is full while it holds a number: a producer waits
-; for an empty one, the consumer for a full one. FADD hands out tickets, so no two producers take the same turn.
+; for an empty one, the consumer for a full one. FADD returns tickets, so no two producers take the same turn.
 ; Look at: who is BLOCKED at put and take, and the sum in word 1. Processors 3 and 4 count their places by LOAD and
 ; STORE: where both read the place before one has stored it, the 9 overwrites the 7.
         .slim 1
@@ -37,7 +37,7 @@ take:   AND r3, r2, 1           ; r2: how many were taken
 seven:  LIT r4, 7
         SKIP ALWAYS, 0, careless
 nine:   LIT r4, 9
-careless: LOAD.N r2, r0, 4      ; r2: my place, if nobody else reads it before the STORE.N
+careless: LOAD.N r2, r0, 4      ; r2: my place, if no other stream reads it before the STORE.N
         ADD r3, r2, 1
         STORE.N r3, r0, 4
         SHL r3, r2, 3

@@ -1,6 +1,6 @@
 ; Five philosophers, five forks. A fork is a word that is full while it lies on the table; who takes it leaves it
-; empty. Processor 0 to 4 take the fork on the left, then the one on the right: where all have taken their left one,
-; each waits for the next, for ever. Processor 5 is the fifth philosopher with another order: the lower fork first.
+; empty. Processor 0 to 4 take the fork on the left, then the one on the right: if all have taken their left one,
+; each waits for the next, forever. Processor 5 is the fifth philosopher with another order: the lower fork first.
 ; With it in the place of processor 4 no circle can close.
 ; Look at: BLOCKED at the second fork, and word 5, which counts meals.
         .slim 1

@@ -1,6 +1,6 @@
 ; Two words that have to be equal, one writer, two readers. Processors 0 to 2 keep the rule that a writer is alone:
 ; readers count themselves in word 3, which is empty while one of them changes it; the first of them takes the room
-; (word 2) and the last gives it back. Processors 3 and 4 do without.
+; (word 2) and the last releases it. Processors 3 and 4 do without.
 ; Look at: r5 and r6 of a reader. They differ where the read is torn: the first word is old, the second is new.
         .slim 1
         .entry write
@@ -16,7 +16,7 @@ write:  LIT r1, 2
         LOAD.S r0, r0, 2        ; takes the room
         STORE.N r1, r0, 0
         STORE.N r1, r0, 1
-        STORE.S r0, r0, 2       ; gives it back
+        STORE.S r0, r0, 2       ; releases it
         QUIT
 
 read:   LOAD.S r1, r0, 3
@@ -30,7 +30,7 @@ enter:  ADD r1, r1, 1
         LOAD.S r1, r0, 3
         SUB.T r1, r1, 1
         SKIP NE, 0, leave
-        STORE.S r0, r0, 2       ; the last one gives it back
+        STORE.S r0, r0, 2       ; the last one releases it
 leave:  STORE.S r1, r0, 3
 end:    SKIP ALWAYS, 0, end     ; stays, so that r5 and r6 can be seen
 

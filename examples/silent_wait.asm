@@ -1,4 +1,4 @@
-; A word that nobody fills. Processor 1 forgets its STORE.S, so processor 0 waits for ever. Without a retry limit nothing
+; A word that stays empty. Processor 1 forgets its STORE.S, so processor 0 waits forever. Without a retry limit nothing
 ; at the end shows it. See limited_wait.asm.
 ; Look at: the steps of processor 0, each BLOCKED; and the end, which says Running, as of a stream that works.
         .slim 1

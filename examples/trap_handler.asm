@@ -14,7 +14,7 @@ start:  LIT r1, 1               ; no multiple of 8
 
 handler: XGET r5                ; why and where: 5 is ALIGN, and 256 times the address
         ANDN r1, r1, 7
-        XCHG t0                 ; back to the word that trapped; the next trap goes on behind this word
+        XCHG t0                 ; back to the word that trapped; the next trap goes on after this word
         SKIP ALWAYS, 0, handler
 
 lost:   TLIT t0, 0xFFFFFFFF     ; names no handler

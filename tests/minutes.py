@@ -4,7 +4,7 @@
   minutes.py watch COMMAND..   runs a command that proves crates, and writes to out/minutes.tsv what it took of each crate
   minutes.py table             writes the table of docs/ARCHITECTURE.md ("What a check costs") from out/minutes.tsv
   minutes.py affected CRATE..  says which crates a change of these proves again, and their minutes by that table
-  minutes.py fits PROCESSORS   says how long the gate takes on so many processors: reckoned from that table, not measured
+  minutes.py fits PROCESSORS   says how long the gate takes on so many processors: computed from that table, not measured
 
 `watch` looks at the kit's provers below the command twice a second: each names its crate, and whether it proves the crate,
 its tests or one of its edits. Of what a run took from earlier ones the seconds stay that stood there. It needs Linux."""

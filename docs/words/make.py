@@ -10,7 +10,8 @@ import sys
 HERE = pathlib.Path(__file__).resolve().parent
 PAGES = HERE.parent.parent / "crates/lab_words/src/pages"
 SHEET = HERE.parent / "CHEAT_SHEET.md"
-NAMES = ("memory", "arithmetic", "control", "accesses", "conditions", "directives", "outcomes", "faults")
+NAMES = ("memory", "arithmetic", "control", "accesses", "conditions", "directives", "outcomes", "concepts",
+         "faults")
 # the kinds of rows that have a third column
 NOTED = ("memory",)
 

@@ -9,7 +9,7 @@ function lead() {
   }
   const n = data.ends.length;
   const goods = data.ends.filter((end) => end.right).length;
-  const always = n > 1 ? "" : { spinning: " No schedule ends: it runs for ever.",
+  const always = n > 1 ? "" : { spinning: " No schedule ends: it runs forever.",
     deadlock: " Every schedule ends in a deadlock." }[data.ends[0].kind]
     ?? " Every schedule that ends comes to the same end.";
   const verdict = !isJudged ? always

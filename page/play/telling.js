@@ -47,12 +47,12 @@ function resultTitle(e) {
   const text = values.length ? `: ${and(values.map(([a, , is]) => `${fullName(a)} is ${number(is)}`))}` : "";
   if (end.kind === "deadlock") {
     const who = end.waiting.map(([name]) => name);
-    return `Deadlock: ${and(who)} wait${who.length > 1 ? "" : "s"} for ever`;
+    return `Deadlock: ${and(who)} wait${who.length > 1 ? "" : "s"} forever`;
   }
   const stopped = and(end.stopped.map(([who, trap]) => `${who} (${trapName(trap)})`));
   if (end.kind === "stopped") return `Stopped by a trap: ${stopped}`;
   if (end.kind === "broken") return `A claim does not hold here: ${end.text}`;
-  if (end.kind === "spinning") return "It runs for ever from here: no schedule ends it";
+  if (end.kind === "spinning") return "It runs forever from here: no schedule ends it";
   return `${end.right === null ? "Finished" : end.right ? "Finished, and right" : "Finished, but wrong"}${text}`;
 }
 

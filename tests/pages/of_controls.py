@@ -140,8 +140,8 @@ def waits(page):
 
 def ends(page):
     for name, title, words in (
-        ("philosophers.deadlock", "0.0, 1.0, 2.0, 3.0 and 4.0 wait, and nobody who has begun", "5.0 has not begun"),
-        ("barrier.mixes_rounds", "2.0 and 3.0 wait, and nobody who has begun can go on", "it emptied itself"),
+        ("philosophers.deadlock", "0.0, 1.0, 2.0, 3.0 and 4.0 wait, and no stream that has begun", "5.0 has not begun"),
+        ("barrier.mixes_rounds", "2.0 and 3.0 wait, and no stream that has begun can go on", "it emptied itself"),
         ("lock.lost_update", "with a lost update", "which is lost"),
         ("lock.ends", "All who began have quit after 13 steps", "2.0 and 3.0 have not begun"),
         ("readers_writer.torn_read", "with a torn read", "saw half of a change: it read the old [0], 1, in step 1"),

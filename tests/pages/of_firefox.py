@@ -62,7 +62,7 @@ def is_led(browser):
         browser.press(key)
         tally.same(f"Firefox: a key leads to {wanted}", browser.script(WHERE), wanted)
     title = browser.script("return document.querySelector('h1').textContent")
-    tally.check("Firefox: the end in words", "nobody who has begun can go on" in title, title)
+    tally.check("Firefox: the end in words", "no stream that has begun can go on" in title, title)
     saved = browser.script("return savedPicture()")
     tally.check("Firefox: the saved picture", saved.startswith("<svg") and "var(" not in saved, saved[:200])
     browser.script("const s = document.createElement('script'); s.textContent = 'evil = 1'; document.body.append(s)")

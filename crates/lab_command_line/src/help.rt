@@ -7,7 +7,7 @@ Exit status:
   1  an error: standard error says what is wrong, or the table of grade does
   2  the command line asks for no command
   3  some end is not as expected        4  some end is a deadlock
-  5  some run ended at its bound";
+  5  some run ran out of steps, a loop never ends (spinning), or a search did not come to its end";
 
 pub(crate) const TOOL: &str = "\
 Shows what programs of the Tera MTA do: what is wrong with a source text, a run step by step,
@@ -100,10 +100,11 @@ Shows every end that schedules of a program can reach: how many states, the numb
 schedule (a shortest one, unless the line says otherwise), who waits or was stopped, and the words
 that changed. If it says complete, no schedule of any length ends differently.
 
-Some steps concern their own stream alone, or end the last running stream of their processor. If
-such a step leads to a state that is still to be explored, the other streams wait: their steps
-commute with it. So fewer states are explored. If --expect claims something about streams at some
-addresses, steps from and to these are not taken so. --plain explores all states.
+Some steps concern their own stream alone. A QUIT or QUITP is such a step too, if no other running
+stream of its processor can come to a RESERVE or CREATE. If such a step leads to a state that is
+still to be explored, the other streams wait: their steps commute with it. So fewer states are
+explored. If --expect claims something about streams at some addresses, steps from and to these are
+not explored so. --plain explores all states.
 
 Beside lines about ends the file of --expect may have claims: always, never or some, and then
 word ADDRESS is|above|below VALUE, word ADDRESS full|empty, or at most N of P.S .. in FIRST..LAST.
@@ -161,8 +162,8 @@ Example:
 pub(crate) const EXPLAIN: &str = "\
 Says what a word means: an operation, an access as .S, a condition, a directive, a trap by its
 number, a value of the trap register as 0x806, the letters of a code, a fault as E2 or a warning as
-101. Each page has the meaning, an example that runs, and what to do. Without WORD it lists all
-words that have a page.
+101, or a word of the field, as race or stream. Each page has the meaning, an example that runs or a
+command, and what to do. Without WORD it lists all words that have a page.
 
 Example:
   mta_lab explain LOAD.S";

@@ -2,6 +2,7 @@
 
 mod accesses;
 mod arithmetic;
+mod concepts;
 mod conditions;
 mod control;
 mod directives;
@@ -10,7 +11,7 @@ mod memory;
 mod outcomes;
 
 /// The texts of all pages, in the order in which they are shown.
-pub(crate) const TEXTS: [&str; 8] = [
+pub(crate) const TEXTS: [&str; 9] = [
     memory::TEXT,
     arithmetic::TEXT,
     control::TEXT,
@@ -18,5 +19,6 @@ pub(crate) const TEXTS: [&str; 8] = [
     conditions::TEXT,
     directives::TEXT,
     outcomes::TEXT,
+    concepts::TEXT,
     faults::TEXT,
 ];

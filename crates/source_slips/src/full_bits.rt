@@ -129,7 +129,7 @@ fn warn_of_empty(
     let name = names::memory(reference.part.op);
     let address = cell.saturating_mul(8);
     let words = format!(in alloc;
-        "[{address}] begins empty, and nothing fills it: this {name} waits for ever"
+        "[{address}] begins empty, and nothing fills it: this {name} waits forever"
     )?;
     let help = match slips.data_line(cell) {
         Some(line) => {
@@ -149,7 +149,7 @@ fn warn_of_full(
     let name = names::memory(reference.part.op);
     let address = cell.saturating_mul(8);
     let words = format!(in alloc;
-        "[{address}] begins full, and nothing empties it: this {name} waits for ever"
+        "[{address}] begins full, and nothing empties it: this {name} waits forever"
     )?;
     let help = match slips.data_line(cell) {
         Some(line) => {

@@ -47,7 +47,7 @@ The suffix .T of an arithmetic operation makes a condition code. SKIP and JUMP o
 
 A stream keeps its four newest codes: 0 is the newest, 3 the oldest.
 
-= full empty
+= full empty full/empty
 Each word of memory is full or empty, beside its value. .F and .S accesses wait for it.
 
   .data 0       a word that begins full

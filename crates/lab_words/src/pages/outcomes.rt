@@ -63,7 +63,7 @@ Outcome SKIPPED: the schedule names a stream that does not run, and nothing chan
 = deadlock
 Deadlock: every running stream is blocked forever. No schedule goes on from there.
 
-What to do: view names who waits for whom. Take locks in one order, or give back what is held before you wait.
+What to do: view names who waits for whom. Take locks in one order, or release what is held before you wait.
 
 = spinning
 Spinning: streams go on forever and nothing new happens, as a loop that polls a word that nobody changes.

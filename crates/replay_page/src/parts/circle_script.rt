@@ -11,7 +11,7 @@ const wordNode = (x, y, text) => node("word", x, y, text, 10 + 8 * text.length, 
 const edgeHead = (x, y, degrees) =>
   svg("path", { class: "edge-head", d: "M0 0l-10 -5v10z", transform: `translate(${x} ${y}) rotate(${degrees})` });
 
-const waitWords = (wait) => `${wait.stream} waits for ${fullName(wait.word)} of ${wait.by ?? "nobody"}`;
+const waitWords = (wait) => `${wait.stream} waits for ${fullName(wait.word)} of ${wait.by ?? "no stream"}`;
 
 /** A picture of waits, which a screen reader reads as words. */
 const waitPicture = (width, height, waits) =>
@@ -104,7 +104,7 @@ function drawWaitRows(waits) {
   waits.forEach((wait, i) => {
     const y = ROW_HEIGHT * i + 18;
     const isOwn = wait.by === wait.stream;
-    const other = wait.by === null || wait.by === undefined ? "nobody" : isOwn ? "itself" : wait.by;
+    const other = wait.by === null || wait.by === undefined ? "none" : isOwn ? "itself" : wait.by;
     picture.append(
       svg("path", { class: "edge", d: `M60 ${y}H288` }), edgeHead(298, y, 0),
       streamNode(40, y, wait.stream), wordNode(170, y, `${cut(namedWord(wait.word), IN_ROW)} ${wait.for}`),
@@ -112,7 +112,7 @@ function drawWaitRows(waits) {
     );
   });
   const y = ROW_HEIGHT * waits.length + 14;
-  picture.append(svg("text", { class: "small", x: 200, y }, "each arrow: waits for this word, which the other turned"));
+  picture.append(svg("text", { class: "small", x: 200, y }, "each arrow: waits for a word that the other changed"));
   return picture;
 }
 "#;

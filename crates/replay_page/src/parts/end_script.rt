@@ -36,7 +36,7 @@ function waitsTitle() {
   const rest = stuck.length > circle.length ? ", and others for them" : "";
   if (circle.length) return `Deadlock: ${andMore(circle)} wait for each other in a circle${rest}`;
   const waits = `${andMore(stuck)} wait${stuck.length > 1 ? "" : "s"}`;
-  return isDeadlock() ? `Deadlock: ${waits} for ever` : `${waits}, and nobody who has begun can go on`;
+  return isDeadlock() ? `Deadlock: ${waits} forever` : `${waits}, and no stream that has begun can go on`;
 }
 
 /** The end in a line: its sign, and why the run ended so. An end that is as expected has no sign of a fault. */

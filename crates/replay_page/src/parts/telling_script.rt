@@ -52,7 +52,7 @@ const OUTCOMES = {
 
 const FINDINGS = {
   lost: { title: "An update is lost here: ", one: "a lost update", many: "lost updates" },
-  unread: { title: "Overwritten unread: ", one: "a store that nobody read", many: "stores that nobody read" },
+  unread: { title: "Overwritten unread: ", one: "a store that no stream read", many: "stores that no stream read" },
   torn: { title: "A torn read: ", one: "a torn read", many: "torn reads" },
 };
 const WROTE = { FADD: "added", PURGE: "purged it to" };
@@ -68,7 +68,7 @@ function findingText(finding, isHere) {
     : [html("b", {}, stored.who), ` stored ${value} into ${fullName(finding.word)} in `, stepLink(finding.stored)];
   const overLink = stepLink(finding.over);
   if (finding.kind === "unread") {
-    return [...start, ` over the ${number(over.ref[4])} of ${over.who} in `, overLink, ", which nobody had read."];
+    return [...start, ` over the ${number(over.ref[4])} of ${over.who} in `, overLink, ", which no stream had read."];
   }
   const read = steps[finding.read - 1];
   const made = `, made from the ${number(read.ref[5])} that ${stored.who} had read in `;

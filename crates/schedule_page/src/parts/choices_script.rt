@@ -27,7 +27,7 @@ function badgesAfter(w, to) {
 function showChoice(node, w, k) {
   const { pc } = content(w, k);
   const isIdle = leadsNowhere(w, k);
-  const effect = isBlocked(w, k) ? waitParts(recordOf(w, k), view.at) : isIdle ? ["changes nothing, for ever"]
+  const effect = isBlocked(w, k) ? waitParts(recordOf(w, k), view.at) : isIdle ? ["changes nothing, forever"]
     : joined(effectParts(w, k));
   if (isBlocked(w, k)) effect.push(isIdle ? ". A step now changes nothing." : ". A step counts one more try.");
   const isBadged = isAheadShown() && !isIdle && endsAhead(w).length > 1;
@@ -70,8 +70,8 @@ function showChoices() {
   const isDead = kinds[endHere()] === "deadlock"; // then the result tells who waits for what
   byId("choices").hidden = isDead;
   const canStep = names.some((_, k) => runs(w, k) && !leadsNowhere(w, k));
-  byId("choices-title").textContent = canStep ? "Who takes the next step?" : running.length ? "Nobody can go on"
-    : "Nobody runs any more";
+  byId("choices-title").textContent = canStep ? "Who takes the next step?" : running.length ? "No stream can go on"
+    : "No stream runs any more";
   byId("choices-title").parentElement.hidden = !canStep && endIn.has(w);
   const isOnly = isAheadShown() && canStep && endsAhead(w).length === 1 && data.ends.length > 1;
   const isBadged = isAheadShown() && canStep && endsAhead(w).length > 1;

@@ -11,7 +11,7 @@ function goalText(e) {
   const kind = kinds[e];
   if (kind === "deadlock") return `reach the ${end.label}`;
   if (kind === "stopped") return `make it trap: ${end.label}`;
-  if (kind === "spinning") return "make it spin for ever";
+  if (kind === "spinning") return "make it spin forever";
   if (kind === "right") return `bring it to a right end: ${end.label.replace(/^finished /, "")}`;
   if (kind === "broken") return `break the claim: ${end.text}`;
   const isLost = end.findings.some((text) => text.startsWith("lost update"));
@@ -23,7 +23,7 @@ function wonText(e) {
   if (kinds[e] === "broken") return "the claim does not hold";
   if (kinds[e] === "wrong") return data.ends[e].findings.some((text) => text.startsWith("lost update"))
     ? "you lost an update" : "you made it go wrong";
-  if (kinds[e] === "deadlock") return "nobody can go on";
+  if (kinds[e] === "deadlock") return "no stream can go on";
   return { right: "it ends right", stopped: "a trap stops it", spinning: "it never ends" }[kinds[e]] ?? label(e);
 }
 const goalOrder = data.ends.map((_, e) => e)

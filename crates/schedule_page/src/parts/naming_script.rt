@@ -17,9 +17,9 @@ function endText(e) {
   const tail = values.length ? `: ${and(values.slice(0, 4))}` : "";
   if (end.kind === "finished") return `finished${tail}`;
   if (end.kind === "broken") return `a claim does not hold: ${end.text}`;
-  if (end.kind === "deadlock") return `deadlock: ${and(end.waiting.map(([who]) => who))} wait for ever`;
+  if (end.kind === "deadlock") return `deadlock: ${and(end.waiting.map(([who]) => who))} wait forever`;
   if (end.kind === "stopped") return `stopped by a trap: ${and(end.stopped.map(([who]) => who))}`;
-  return "spinning: it runs for ever";
+  return "spinning: it runs forever";
 }
 
 const signOf = (e, tag = "span") => html(tag, { class: `sign ${kinds[e]}`, "aria-hidden": "true" }, SIGNS[kinds[e]]);
