@@ -17,7 +17,7 @@ Schedule: it says which stream takes each step. A line 1 0 4 means: processor 1,
 What to do: mta_lab schedule fair lock.asm prints one. mta_lab explore lock.asm tries all of them.
 
 = seed
-Seed: the number of which a random schedule is made. A run with this seed ends so on every machine.
+Seed: the number that a random schedule is made from. The same seed gives the same run on every machine.
 
 What to do: mta_lab survey lock.asm --seeds 100 shows a seed for each end, and mta_lab view lock.asm --seed 7 a run.
 
