@@ -84,7 +84,7 @@ continue            on to the next stop, or to the end
 reverse-continue    back to the last stop, or to the start
 until ADDRESS       on until a stream is to step at a label, a label and a number of words, as eat+1, or a line
 break [P] ADDRESS   a stop when a stream, or one of processor P, is to step at such an address
-watch [A]           a stop where the word at this byte address has changed; watch [A] tags: its full/empty bit or other tags
+watch [A]           a stop when the word at this byte address has changed; watch [A] tags: its full/empty bit or other tags
 delete N            takes the point of this number away
 info WHAT           streams: who runs and where; points: the stops; waiting: who waits; registers [P.S]: a stream's
 print WHAT          r1 of the stream that comes next, 2.0.r1 of another, [A] a word, 2.0 a stream with all registers
