@@ -5,22 +5,22 @@ use Rattle.std.specs.Prelude.{Result, Ok, Err, OnOk}
 use Rattle.std.proofs.lemmas.Bool.{cases_lt}
 use Rattle.machine.specs.MachineValue.{MachineValue}
 use Rattle.processor.specs.declared.steps.Step.{Step}
-use Rattle.waiting.specs.Running.{AreRunning}
+use Rattle.processor.specs.World.{World}
 use Rattle.local_steps.specs.FreeSteps.{IsFreeStep}
-use Rattle.schedule_space.specs.Spaces.{SpaceValue, count, schedule_of, machine_after}
-use Rattle.schedule_space.specs.Finding.{IsGrown, IsTakenTo, IsExpanded}
+use Rattle.schedule_space.specs.Spaces.{SpaceValue, count, schedule_of, world_of, machine_after}
+use Rattle.schedule_space.specs.Finding.{IsGrown, IsTakenTo, IsExpanded, HasRunning}
 use Rattle.schedule_space.specs.Followed.{IsFollowed, AllFollowed}
 use Rattle.schedule_space.specs.Quiet.{IsQuietStep, IsTakenQuietly, IsFollowedQuietly, AllFollowedQuietly}
-use Rattle.schedule_space.proofs.Growing.{taken_still, expanded_grown}
+use Rattle.schedule_space.proofs.Growing.{world_grown, taken_still, expanded_grown}
 use Rattle.schedule_space.proofs.Taking.{AreAllTaken, AreTakenOrWait, all_taken, waits_taken, machine_grown}
 
 -- where each stream that runs takes its step, the world is expanded
-pub expanded_if : {E : Type 0} (r : Result Unit E) (v w : SpaceValue) (from : ℕ) (m : MachineValue) (ts : List Step)
-    → IsGrown v w → from < count v → m ≡ machine_after v.image (schedule_of v from) → AreRunning m.world ts
-    → OnOk r (AreAllTaken w from ts) → OnOk r (IsExpanded w from)
-expanded_if (Ok a) v w from m ts g below is running all =
-    all_taken w from m ts (omega (arith, below, g.more)) (machine_grown v w from m g below is) running all
-expanded_if (Err e) v w from m ts g below is running all = all
+pub expanded_if : {E : Type 0} (r : Result Unit E) (v w : SpaceValue) (from : ℕ) (ts : List Step) → IsGrown v w
+    → from < count v → HasRunning (world_of v from) ts → OnOk r (AreAllTaken w from ts) → OnOk r (IsExpanded w from)
+expanded_if (Ok a) v w from ts g below running all =
+    all_taken w from ts (omega (arith, below, g.more))
+    (subst (λ (x : World). HasRunning x ts) (sym (world_grown v w from g below)) running) all
+expanded_if (Err e) v w from ts g below running all = all
 
 pub followed_if : {E : Type 0} (r : Result Unit E) (looked_at : List Bool) (v : SpaceValue) (from : ℕ)
     → OnOk r (IsExpanded v from) → OnOk r (IsFollowedQuietly looked_at v from)

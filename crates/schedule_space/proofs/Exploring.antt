@@ -1,5 +1,5 @@
 -- The search from its first world on, and what is known where it ends.
-use Rattle.std.proofs.Common.{◌≡◌, ℕ, ◌<◌, refl, sym, ap, ◌∙◌, subst, arith, List, [], ◌∷◌, length, map, drop, false}
+use Rattle.std.proofs.Common.{◌≡◌, ℕ, ◌<◌, refl, sym, ap, ◌∙◌, subst, arith, List, [], None, false}
 use Rattle.std.specs.Prelude.{Result, Ok, Err, OnOk}
 use Rattle.std.specs.Result.{is_err}
 use Rattle.image_file.specs.ImageValue.{ImageValue}
@@ -7,9 +7,10 @@ use Rattle.machine.specs.MachineValue.{MachineValue}
 use Rattle.processor.specs.World.{start, steps}
 use Rattle.processor.specs.declared.steps.Step.{Step}
 use Rattle.dead_registers.specs.Clearing.{LiveValue, IsLive}
-use Rattle.schedule_space.specs.Spaces.{schedules, SpaceValue, count, machine_after, AreAllApart, IsShortest}
-use Rattle.schedule_space.specs.Finding.{space_of, IsGrown, IsExpanded, IsFrontier, IsBreadthFirst}
-use Rattle.schedule_space.proofs.Schedules.{one_schedule}
+use Rattle.schedule_space.specs.Spaces.{SpaceValue, count, machine_after, AreAllApart, IsShortest}
+use Rattle.schedule_space.specs.Finding.{space_of, IsGrown, IsExpanded, IsBreadthFirst}
+use Rattle.schedule_space.specs.Kept.{KeptValue, AreKept}
+use Rattle.std.proofs.lemmas.List.Elements.{All-nil}
 use Rattle.schedule_space.proofs.Growing.{expanded_grown}
 use Rattle.schedule_space.proofs.Breadth.{shortest_below}
 
@@ -21,14 +22,16 @@ loaded image m n begin is ran =
     let at : n ≡ machine_after image begin = ran ∙ ap (λ (x : MachineValue). record x { world = steps x.image x.world begin }) is in
     at ∙ sym (ap (λ (i : ImageValue). machine_after i begin) (ap (λ (x : MachineValue). x.image) at))
 
--- the frontier of the first world
-pub begun_frontier : (v : SpaceValue) (m : MachineValue) (ms : List MachineValue) (live : LiveValue)
-    (begin : List Step) → v ≡ space_of m.image live begin [] [] → m ≡ machine_after m.image begin → ms ≡ m ∷ [] → IsFrontier v ms 0
-begun_frontier v m ms live begin is at one =
-    one
-    ∙ (λ i. at i ∷ [])
-    ∙ sym (ap (map (machine_after m.image)) (one_schedule begin))
-    ∙ ap (λ (x : SpaceValue). map (machine_after x.image) (drop 0 (schedules x.begin x.links))) (sym is)
+-- the machines that are kept at first
+pub begun_kept : (v : SpaceValue) (m : MachineValue) (ms : KeptValue) (live : LiveValue) (begin : List Step)
+    → v ≡ space_of m.image live begin [] [] → m ≡ machine_after m.image begin
+    → ms ≡ record { first = m; here = None; places = []; waiting = [] } → AreKept v ms
+begun_kept v m ms live begin is at one =
+    subst (AreKept v) (sym one) (record {
+      first = at ∙ ap (λ (x : SpaceValue). machine_after x.image x.begin) (sym is);
+      each = refl;
+      there = All-nil (λ k. k < count v);
+    })
 
 -- where an expansion stopped before its end, schedules are as short as any
 pub shortest_stopped : (v w : SpaceValue) (n : ℕ) → IsGrown v w → n < count v
@@ -36,11 +39,6 @@ pub shortest_stopped : (v w : SpaceValue) (n : ℕ) → IsGrown v w → n < coun
     → IsShortest w
 shortest_stopped v w n g inside all breadth live apart =
     shortest_below w n live apart breadth (λ k less. expanded_grown v w k g (omega (arith, less, inside)) (all k less))
-
--- where nothing was taken from the front there is nothing
-pub nothing_left : (ms rest : List MachineValue) → ms ≡ rest → rest ≡ drop 1 ms → ms ≡ []
-nothing_left [] rest same taken = refl
-nothing_left (m ∷ ms) rest same taken = absurd (omega (arith, ap length (same ∙ taken)))
 
 -- what is expanded in a space is so in the same one
 pub same_expanded : (v w : SpaceValue) → w ≡ v → ((k : ℕ) → k < count v → IsExpanded v k) → (k : ℕ) → k < count w

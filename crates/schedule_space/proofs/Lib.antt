@@ -9,6 +9,9 @@ pub mod KnownSteps
 pub mod StreamSteps
 pub mod Agreeing
 pub mod Growing
+pub mod Kept
+pub mod Before
+pub mod KeyStreams
 pub mod Parts
 pub mod Keys
 pub mod Breadth

@@ -20,7 +20,7 @@ use Rattle.schedule_space.specs.declared.fates.Fate.{Fate}
 use Rattle.schedule_space.specs.declared.fates.Fate.TheVariants as fate
 use Rattle.schedule_space.specs.Spaces.{schedules, SpaceValue, count, schedule_of, world_of, machine_after, IsEdgeToStandIn}
 use Rattle.schedule_space.specs.Fates.{IsFate}
-use Rattle.schedule_space.specs.Finding.{space_of, with_link, with_edge, IsSpace, IsKeyed, IsFrontier, cleared_after}
+use Rattle.schedule_space.specs.Finding.{space_of, with_link, with_edge, IsSpace, IsKeyed, cleared_after}
 use Rattle.schedule_space.proofs.Schedules.{one_more, schedules-push, length-schedules, run-push, one_schedule}
 use Rattle.schedule_space.proofs.Growing.{world_grown, count-link}
 use Rattle.schedule_space.proofs.Growing.{last_world, with_link_grown, with_edge_grown, edge_grown}
@@ -176,55 +176,3 @@ keys_many v table keys is =
     ap length is.keys
     ∙ length-map (schedules v.begin v.links) (key_after table v)
     ∙ length-schedules v.begin v.links
-
--- Frontiers.
-
-pub frontier_stays : (v w : SpaceValue) (ms : List MachineValue) (n : ℕ) → w.image ≡ v.image → w.begin ≡ v.begin
-    → w.links ≡ v.links → IsFrontier v ms n → IsFrontier w ms n
-frontier_stays v w ms n image begin links is =
-    is ∙ (λ i. map (machine_after (sym image i)) (drop n (schedules (sym begin i) (sym links i))))
-
-pub frontier_more : (v : SpaceValue) (ms more : List MachineValue) (n : ℕ) (m : MachineValue) (l : Link)
-    → IsFrontier v ms n → n ≤ count v → m.image ≡ v.image → m.world ≡ after v.image (world_of v l.from) l.step
-    → more ≡ ms ++ m ∷ [] → IsFrontier (with_link v l) more n
-frontier_more v ms more n m l is below image world pushed =
-    let last : m ≡ machine_after v.image (one_more (schedules v.begin v.links) l) =
-    λ i. record { image = image i; world = (world ∙ sym (run-push v.image (schedule_of v l.from) l.step)) i } in
-    pushed
-    ∙ (λ i. is i ++ last i ∷ [])
-    ∙ sym (map-append (machine_after v.image) (drop n (schedules v.begin v.links)) (one_more (schedules v.begin v.links) l ∷ []))
-    ∙ ap (map (machine_after v.image))
-    (sym (drop-append-le n (schedules v.begin v.links) (one_more (schedules v.begin v.links) l ∷ [])
-    (omega (arith, below, length-schedules v.begin v.links))))
-    ∙ ap (λ xs. map (machine_after v.image) (drop n xs)) (sym (schedules-push v.begin v.links l))
-
-drop_first : (image : ImageValue) (xs : List (List Step)) (k : ℕ) (m : MachineValue) (rest : List MachineValue)
-    → m ∷ rest ≡ map (machine_after image) (drop k xs)
-    → (k < length xs)
-    × ((m ≡ machine_after image (get_or xs k [])) × (rest ≡ map (machine_after image) (drop (k + 1) xs)))
-drop_first image [] zero m rest same = absurd cc
-drop_first image [] (suc k) m rest same = absurd cc
-drop_first image (x ∷ xs) zero m rest same =
-    (omega arith, (ap (λ zs. get_or zs 0 m) same, ap (drop 1) same))
-drop_first image (x ∷ xs) (suc k) m rest same =
-    let there = drop_first image xs k m rest same in
-    let at : suc k + 1 ≡ suc (k + 1) = omega arith in (
-      omega (arith, there.0),
-      (there.1.0, there.1.1 ∙ ap (λ n. map (machine_after image) (drop n (x ∷ xs))) (sym at)),
-    )
-
--- the first machine of the frontier is at the world of its place, and the others are the frontier of the next
-pub frontier_front : (v : SpaceValue) (ms rest : List MachineValue) (m : MachineValue) (n : ℕ) → IsFrontier v ms n
-    → ms ≡ m ∷ rest
-    → (n < count v) × ((m ≡ machine_after v.image (schedule_of v n)) × IsFrontier v rest (n + 1))
-frontier_front v ms rest m n is split =
-    let all = drop_first v.image (schedules v.begin v.links) n m rest (sym split ∙ is) in
-    (omega (arith, all.0, length-schedules v.begin v.links), all.1)
-
--- where the frontier is empty no place is left
-pub frontier_empty : (v : SpaceValue) (ms : List MachineValue) (n : ℕ) → IsFrontier v ms n → ms ≡ []
-    → count v ≤ n
-frontier_empty v ms n is none =
-    let few : length (drop n (schedules v.begin v.links)) ≡ 0 =
-    sym (length-map (drop n (schedules v.begin v.links)) (machine_after v.image)) ∙ sym (ap length is) ∙ ap length none in
-    omega (arith, few, length-drop n (schedules v.begin v.links), length-schedules v.begin v.links)

@@ -20,10 +20,11 @@ use Rattle.schedule_space.specs.Spaces.{SpaceValue, count, schedule_of, world_of
 use Rattle.schedule_space.specs.Fates.{IsFate}
 use Rattle.schedule_space.specs.declared.known_steps.StepsSeen.{StepsSeen}
 use Rattle.schedule_space.specs.StreamSteps.{AreAllLeft}
-use Rattle.schedule_space.specs.Finding.{space_of, with_link, with_edge, IsKeyed, IsFound, IsGrown, IsFrontier, IsBreadthFirst, IsExpanding}
+use Rattle.schedule_space.specs.Finding.{space_of, with_link, with_edge, IsKeyed, IsFound, IsGrown, IsBreadthFirst, IsExpanding}
+use Rattle.schedule_space.specs.Kept.{machine_next}
 use Rattle.schedule_space.proofs.Agreeing.{agree_same}
 use Rattle.schedule_space.proofs.Growing.{last_world, with_link_grown, count-link}
-use Rattle.schedule_space.proofs.Parts.{key_at, keys_many, keyed_later, frontier_more, frontier_stays}
+use Rattle.schedule_space.proofs.Parts.{key_at, keys_many, keyed_later}
 use Rattle.schedule_space.proofs.Keys.{found_world, kept_world, found_later, found_more, found_edge}
 use Rattle.schedule_space.proofs.Breadth.{breadth_more, breadth_stays}
 
@@ -86,10 +87,6 @@ pub lent_is : (o : Option (Bor MachineValue)) (b : Bor MachineValue) (s : Option
 lent_is o b s m copied is some = let e : Some b.now ≡ Some m = sym (ap option_copied is) ∙ copied ∙ some in cc
 
 -- The machine after a step of it.
-
--- as contracts see it
-abbrev pub machine_next : MachineValue → Step → MachineValue
-machine_next m u = record { image = m.image; world = after m.image m.world u }
 
 pub next_image : (w : SpaceValue) (k : ℕ) (m n : MachineValue) (u : Step) → m ≡ machine_after w.image (schedule_of w k)
     → n ≡ machine_next m u → n.image ≡ w.image
@@ -179,15 +176,11 @@ placed_stands v w l m k is at world =
     agree_same w.live (world_of w k) m.world
     (ap (λ (x : SpaceValue). world_of x k) is ∙ ap (world_of (with_link v l)) at ∙ last_world v l ∙ sym world)
 
-pub placed_expanding : (v w : SpaceValue) (ms more : List MachineValue) (m : MachineValue) (l : Link) (most : ℕ)
-    → w ≡ with_link v l → count w ≤ most → m.image ≡ v.image → m.world ≡ after v.image (world_of v l.from) l.step
-    → more ≡ ms ++ m ∷ [] → IsExpanding v ms l.from most → IsExpanding w more l.from most
-placed_expanding v w ms more m l most is few image world pushed e = record {
+pub placed_expanding : (v w : SpaceValue) (l : Link) (most : ℕ) → w ≡ with_link v l → count w ≤ most
+    → IsExpanding v l.from most → IsExpanding w l.from most
+placed_expanding v w l most is few e = record {
   there = omega (arith, e.there, ap count is, count-link v l);
   within = few;
-  frontier =
-      subst (λ (x : SpaceValue). IsFrontier x more (l.from + 1)) (sym is)
-      (frontier_more v ms more (l.from + 1) m l e.frontier (omega (arith, e.there)) image world pushed);
   breadth = subst (λ (x : SpaceValue). IsBreadthFirst x l.from) (sym is) (breadth_more v l e.there e.breadth);
 }
 
@@ -207,13 +200,12 @@ edge_put image live begin links edges more v e fates table keys is view pushed e
     subst (λ (es : List Edge). IsFound (space_of image live begin links es) fates table keys) (sym pushed)
     (found_edge w fates table keys e is (subst (λ (x : SpaceValue). IsEdgeToStandIn x e) (sym view) edge))
 
-pub edge_expanding : (v w : SpaceValue) (e : Edge) (ms : List MachineValue) (from most : ℕ) → w ≡ with_edge v e
-    → IsExpanding v ms from most → IsExpanding w ms from most
-edge_expanding v w e ms from most is x =
-    subst (λ (y : SpaceValue). IsExpanding y ms from most) (sym is) (record {
+pub edge_expanding : (v w : SpaceValue) (e : Edge) (from most : ℕ) → w ≡ with_edge v e → IsExpanding v from most
+    → IsExpanding w from most
+edge_expanding v w e from most is x =
+    subst (λ (y : SpaceValue). IsExpanding y from most) (sym is) (record {
       there = x.there;
       within = x.within;
-      frontier = frontier_stays v (with_edge v e) ms (from + 1) refl refl refl x.frontier;
       breadth = breadth_stays v (with_edge v e) from refl refl x.breadth;
     })
 
@@ -232,8 +224,5 @@ pub kept_view : (image : ImageValue) (live : LiveValue) (begin : List Step) (lin
     → space_of image live begin links edges ≡ v → ls ≡ links → space_of image live begin ls edges ≡ v
 kept_view image live begin links ls edges v view linked = ap (λ (xs : List Link). space_of image live begin xs edges) linked ∙ view
 
-pub stays_expanding : (v w : SpaceValue) (ms more : List MachineValue) (from most : ℕ) → w ≡ v → more ≡ ms
-    → IsExpanding v ms from most → IsExpanding w more from most
-stays_expanding v w ms more from most is same x =
-    subst (λ (y : SpaceValue). IsExpanding y more from most) (sym is)
-    (subst (λ (ns : List MachineValue). IsExpanding v ns from most) (sym same) x)
+pub stays_expanding : (v w : SpaceValue) (from most : ℕ) → w ≡ v → IsExpanding v from most → IsExpanding w from most
+stays_expanding v w from most is x = subst (λ (y : SpaceValue). IsExpanding y from most) (sym is) x

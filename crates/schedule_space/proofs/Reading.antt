@@ -1,5 +1,5 @@
 -- The schedule of a place, read back from its links.
-use Rattle.std.proofs.Common.{◌≡◌, ℕ, ◌+◌, ◌<◌, ◌≤◌, sym, ap, ◌∙◌, subst, List, [], ◌∷◌, ◌++◌}
+use Rattle.std.proofs.Common.{◌≡◌, ℕ, zero, suc, ◌+◌, ◌<◌, ◌≤◌, refl, sym, ap, ◌∙◌, subst, arith, List, [], ◌∷◌, ◌++◌}
 use Rattle.std.proofs.Common.{length, get_or, append_assoc, reverse}
 use Rattle.std.proofs.lemmas.List.{reverse-append}
 use Rattle.processor.specs.declared.steps.Step.{Step}
@@ -31,3 +31,8 @@ pub read_all : (begin : List Step) (links : List Link) (here : ℕ) (steps all :
     → begin ++ reverse steps ≡ all
 read_all begin links here steps all so_far at =
     ap (λ xs. xs ++ reverse steps) (sym (ap (λ n. get_or (schedules begin links) n []) at ∙ first-schedule begin links)) ∙ so_far
+
+pub same_link : (ls : List Link) (n : ℕ) (c d : Link) → n < length ls → get_or ls n c ≡ get_or ls n d
+same_link [] n c d below = absurd (omega arith)
+same_link (l ∷ ls) zero c d below = refl
+same_link (l ∷ ls) (suc n) c d below = same_link ls n c d (omega (arith, below))

@@ -101,10 +101,10 @@ left_more image live t v more asked left each all one a l seen = by_case (each a
 -- Marks.
 
 -- a stream that is not idle stands at its mark
-record IsAwakeAt (t : List (List ℕ)) (ss : List StreamValue) (s place : ℕ) : Type 0 where
-  awake : is_idle (stream_at ss s) ≡ false
-  there : s < length ss
-  is_place : place ≡ place_in t (stream_numbers (stream_at ss s))
+pub record IsAwakeAt (t : List (List ℕ)) (ss : List StreamValue) (s place : ℕ) : Type 0 where
+  pub awake : is_idle (stream_at ss s) ≡ false
+  pub there : s < length ss
+  pub is_place : place ≡ place_in t (stream_numbers (stream_at ss s))
 
 first_at : (t : List (List ℕ)) (n q place : ℕ) (u : StreamValue) (us : List StreamValue) (ms : List ℕ) (c s : ℕ)
     → is_idle u ≡ false → q ≡ place_in t (stream_numbers u)
@@ -141,7 +141,7 @@ next_at t u us s place is = record {
   is_place = is.is_place;
 }
 
-mark_at : (t : List (List ℕ)) (n : ℕ) (ss : List StreamValue) (c s place : ℕ)
+pub mark_at : (t : List (List ℕ)) (n : ℕ) (ss : List StreamValue) (c s place : ℕ)
     → slice_get (stream_marks t n ss) (2 * c) ≡ Some (n + s) → slice_get (stream_marks t n ss) (2 * c + 1) ≡ Some place
     → IsAwakeAt t ss s place
 unfolding stream_marks

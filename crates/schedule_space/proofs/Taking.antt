@@ -8,11 +8,11 @@ use Rattle.stream_core.specs.declared.steps.Outcome.{Outcome}
 use Rattle.machine.specs.MachineValue.{MachineValue}
 use Rattle.processor.specs.World.{World, world_step, after}
 use Rattle.processor.specs.declared.steps.Step.{Step}
-use Rattle.waiting.specs.Running.{runs_in, AreRunning}
+use Rattle.waiting.specs.Running.{runs_in}
 use Rattle.dead_registers.specs.Clearing.{AgreeBy}
 use Rattle.schedule_space.specs.declared.links.Edge.{Edge}
 use Rattle.schedule_space.specs.Spaces.{SpaceValue, count, schedule_of, world_of, machine_after, StandsFor, IsEdgeToStandIn}
-use Rattle.schedule_space.specs.Finding.{with_edge, IsGrown, IsTaken, IsTakenTo, IsExpanded, IsBreadthFirst}
+use Rattle.schedule_space.specs.Finding.{with_edge, IsGrown, IsTaken, IsTakenTo, IsExpanded, IsBreadthFirst, HasRunning}
 use Rattle.schedule_space.proofs.Agreeing.{agree_same}
 use Rattle.schedule_space.proofs.Growing.{world_grown, taken_grown, expanded_grown, grown_trans, with_edge_grown}
 use Rattle.schedule_space.proofs.Breadth.{breadth_stays}
@@ -93,14 +93,12 @@ pub taken_each : (v : SpaceValue) (from n : ℕ) (ts : List Step) → length ts 
 taken_each v from n ts many all t has = subst (IsTaken v from) has.2 (all has.0 t (omega (arith, has.1, many)))
 
 -- where the steps of all streams that run are taken, all steps are
-pub all_taken : (v : SpaceValue) (from : ℕ) (m : MachineValue) (ts : List Step) → from < count v
-    → m ≡ machine_after v.image (schedule_of v from) → AreRunning m.world ts → AreAllTaken v from ts → IsExpanded v from
-all_taken v from m ts below is running all t = by_runs (runs_in m.world t) refl where
-  by_runs : (b : Bool) → runs_in m.world t ≡ b → IsTaken v from t
-  by_runs true on = all t ((running t).1 on)
-  by_runs false off =
-      taken_stays v from t below
-      (subst (λ (x : MachineValue). after x.image x.world t ≡ x.world) is (rested m.image m.world t off))
+pub all_taken : (v : SpaceValue) (from : ℕ) (ts : List Step) → from < count v → HasRunning (world_of v from) ts
+    → AreAllTaken v from ts → IsExpanded v from
+all_taken v from ts below running all t = by_runs (runs_in (world_of v from) t) refl where
+  by_runs : (b : Bool) → runs_in (world_of v from) t ≡ b → IsTaken v from t
+  by_runs true on = all t (running t on)
+  by_runs false off = taken_stays v from t below (rested v.image (world_of v from) t off)
 
 -- Steps that are taken, or wait among others.
 

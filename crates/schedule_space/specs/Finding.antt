@@ -1,10 +1,10 @@
 -- A space in the making.
-use Rattle.std.specs.Prelude.{◌≡◌, ℕ, ◌+◌, ◌<◌, ◌≤◌, List, [], ◌∷◌, ◌++◌, length, map, drop, slice_index_or, Contains, ◌⊎◌}
+use Rattle.std.specs.Prelude.{◌≡◌, ℕ, ◌+◌, ◌<◌, ◌≤◌, List, [], ◌∷◌, ◌++◌, length, map, slice_index_or, Contains, ◌⊎◌}
 use Rattle.std.specs.Prelude.{IsTrue}
 use Rattle.image_file.specs.ImageValue.{ImageValue}
 use Rattle.processor.specs.World.{World, run}
 use Rattle.processor.specs.declared.steps.Step.{Step}
-use Rattle.machine.specs.MachineValue.{MachineValue}
+use Rattle.waiting.specs.Running.{runs_in}
 use Rattle.program_flow.specs.Tables.{is_named_by}
 use Rattle.dead_registers.specs.Clearing.{LiveValue, cleared, IsLive, AgreeBy}
 use Rattle.agreeing_ends.specs.Followed.{FoundWorlds}
@@ -14,7 +14,7 @@ use Rattle.schedule_space.specs.declared.links.Link.{Link}
 use Rattle.schedule_space.specs.declared.links.Edge.{Edge}
 use Rattle.schedule_space.specs.declared.fates.Fate.{Fate}
 use Rattle.schedule_space.specs.declared.fates.Fate.TheVariants as fate
-use Rattle.schedule_space.specs.Spaces.{schedules, SpaceValue, count, schedule_of, world_of, machine_after}
+use Rattle.schedule_space.specs.Spaces.{schedules, SpaceValue, count, schedule_of, world_of}
 use Rattle.schedule_space.specs.Spaces.{AreAllApart, IsEdgeToStandIn}
 use Rattle.schedule_space.specs.Fates.{IsFate}
 use Rattle.schedule_space.specs.declared.known_steps.StepsSeen.{StepsSeen}
@@ -72,9 +72,9 @@ pub record IsInTheMaking (v : SpaceValue) (fates : List Fate) (table keys : List
   pub found : IsFound v fates table keys
   pub left : AreAllLeft v.image v.live table steps
 
--- the machines are those of the worlds from this place on, in order
-abbrev pub IsFrontier : SpaceValue → List MachineValue → ℕ → Type 0
-IsFrontier v ms n = ms ≡ map (machine_after v.image) (drop n (schedules v.begin v.links))
+-- the list has the step of each stream that runs
+abbrev pub HasRunning : World → List Step → Type 0
+HasRunning w ts = (t : Step) → IsTrue (runs_in w t) → Contains ts t
 
 -- the later space has the same worlds at the same places, perhaps more behind them, and the same edges, perhaps more
 pub record IsGrown (old new : SpaceValue) : Type 0 where
@@ -104,9 +104,8 @@ pub record IsBreadthFirst (v : SpaceValue) (from : ℕ) : Type 0 where
   pub sorted : (j k : ℕ) → j ≤ k → k < count v → length (schedule_of v j) ≤ length (schedule_of v k)
   pub near : (k : ℕ) → k < count v → length (schedule_of v k) ≤ length (schedule_of v from) + 1
 
--- What holds while steps from the world at this place are taken, of the space and of the machines of the frontier.
-pub record IsExpanding (v : SpaceValue) (ms : List MachineValue) (from most : ℕ) : Type 0 where
+-- What holds of the space while steps from the world at this place are taken.
+pub record IsExpanding (v : SpaceValue) (from most : ℕ) : Type 0 where
   pub there : from < count v
   pub within : count v ≤ most
-  pub frontier : IsFrontier v ms (from + 1)
   pub breadth : IsBreadthFirst v from

@@ -47,6 +47,15 @@ world_of v k = run v.image (schedule_of v k)
 abbrev pub machine_after : ImageValue → List Step → MachineValue
 machine_after image ts = record { image = image; world = run image ts }
 
+-- the machine after the schedule that links give for a place
+abbrev pub machine_by : ImageValue → List Step → List Link → ℕ → MachineValue
+machine_by image begin links place = machine_after image (slice_index_or (schedules begin links) place [])
+
+-- each link names an earlier place, and the place is one of theirs
+pub record IsRoute (links : List Link) (place : ℕ) : Type 0 where
+  pub earlier : (k : ℕ) (l : Link) → k < length links → (slice_index_or links k l).from ≤ k
+  pub there : place ≤ length links
+
 -- each world but the first was found by a step from an earlier one
 abbrev pub HasEarlierLinks : SpaceValue → Type 0
 HasEarlierLinks v = (k : ℕ) (l : Link) → k < length v.links → (slice_index_or v.links k l).from ≤ k

@@ -1,21 +1,19 @@
 //! All steps from a world of a space in the making, or one that can be taken before all others.
 
-ghost use Rattle.std.specs.Prelude.{◌≡◌, ◌⊎◌, ◌≤◌, true, false, Some, Contains, IfOk, OnOk};
+ghost use Rattle.std.specs.Prelude.{◌≡◌, ◌⊎◌, true, false, Contains, IfOk, OnOk};
 ghost use Rattle.processor.specs.declared.steps.Step.{Step};
-ghost use Rattle.waiting.specs.Running.{AreRunning};
 ghost use Rattle.local_steps.specs.SettledEndings.{AreSettled};
-ghost use Rattle.schedule_space.specs.Spaces.{schedule_of, world_of, machine_after};
-ghost use Rattle.schedule_space.specs.Finding.{IsGrown, IsTaken, IsTakenTo, IsExpanded, IsExpanding};
+ghost use Rattle.schedule_space.specs.Spaces.{world_of};
+ghost use Rattle.schedule_space.specs.Kept.{AreKept, AreKeptAt};
+ghost use Rattle.schedule_space.specs.Finding.{IsGrown, IsTaken, IsTakenTo, IsExpanded, IsExpanding, HasRunning};
 ghost use Rattle.schedule_space.specs.Quiet.{IsTakenQuietly, IsFollowedQuietly};
 
 use crate::finding::{Found, Stop};
+use crate::kept_machines::KeptMachines;
 use crate::links::{Edge, Link};
 use crate::quiet::is_quiet_step;
 use local_steps::is_free_step;
-use machine::Machine;
 use processor::Step;
-use std::collections::VecDeque;
-use waiting::running_streams;
 
 /// What a search looks for.
 #[derive(Clone, Copy, Debug, PartialEq, Eq)]
@@ -27,35 +25,33 @@ pub(crate) enum Wanted {
 }
 
 impl<'i> Found<'i> {
-    /// Takes steps of the world at a place, on its machine, unless there would be more than `most` worlds: each one,
+    /// Takes steps of the world at a place, unless there would be more than `most` worlds: each one,
     /// or where ends are wanted and a step that can be taken before all others (`is_free_step`, by the `settled` places),
     /// and that nobody sees who looks at the places in `looked_at` alone (`is_quiet_step`), leads to a later place, that
-    /// one. New worlds are put behind the frontier.
+    /// one.
     pub(crate) fn expand<const S: usize>(
         &mut self,
-        frontier: &mut VecDeque<Machine<'i, S>>,
-        machine: Machine<'i, S>,
+        machines: &mut KeptMachines<'i, S>,
         from: u32,
         wanted: Wanted,
         looked_at: &[bool],
         settled: &[bool],
         most: u32,
     ) -> Result<(), Stop>
-        requires expanding { IsExpanding self.old frontier.old.items from most }
-        requires machine { machine ≡ machine_after self.old.image (schedule_of self.old from) }
+        requires expanding { IsExpanding self.old from most }
+        requires machines { AreKept self.old machines.old }
         requires settled { AreSettled self.old.image settled.now }
         ensures grown { IsGrown self.old self.new }
-        ensures expanding { IsExpanding self.new frontier.new.items from most }
+        ensures expanding { IsExpanding self.new from most }
+        ensures machines { OnOk result (AreKept self.new machines.new) }
         ensures quiet { OnOk result (IsFollowedQuietly looked_at.now self.new from) }
         ensures expanded { wanted ≡ Wanted.Worlds → OnOk result (IsExpanded self.new from) }
     {
-        let running = running_streams(self.alloc, &machine)?;
-        let mut here = Some(machine);
+        machines.go_to(from);
+        let running = self.running_at(from)?;
         match wanted {
-            Wanted::Worlds => self.take_all(frontier, &mut here, from, &running, most),
-            Wanted::Ends => self.take_enough(
-                frontier, &mut here, from, &running, looked_at, settled, most,
-            ),
+            Wanted::Worlds => self.take_all(machines, from, &running, most),
+            Wanted::Ends => { self.take_enough(machines, from, &running, looked_at, settled, most) }
         }
     }
 
@@ -64,87 +60,79 @@ impl<'i> Found<'i> {
     /// for ever.
     fn take_enough<const S: usize>(
         &mut self,
-        frontier: &mut VecDeque<Machine<'i, S>>,
-        machine: &mut Option<Machine<'i, S>>,
+        machines: &mut KeptMachines<'i, S>,
         from: u32,
         running: &[Step],
         looked_at: &[bool],
         settled: &[bool],
         most: u32,
     ) -> Result<(), Stop>
-        requires expanding { IsExpanding self.old frontier.old.items from most }
-        requires machine { machine.old ≡ Some (machine_after self.old.image (schedule_of self.old from)) }
-        requires running { AreRunning (world_of self.old from) running.now }
+        requires expanding { IsExpanding self.old from most }
+        requires machines { AreKeptAt self.old machines.old from }
+        requires running { HasRunning (world_of self.old from) running.now }
         requires settled { AreSettled self.old.image settled.now }
         ensures grown { IsGrown self.old self.new }
-        ensures expanding { IsExpanding self.new frontier.new.items from most }
+        ensures expanding { IsExpanding self.new from most }
+        ensures machines { OnOk result (AreKeptAt self.new machines.new from) }
         ensures quiet { OnOk result (IsFollowedQuietly looked_at.now self.new from) }
     {
         let mut others = Vec::new(self.alloc);
         for step in running {
             let link = Link { from, step: *step };
-            let is_later = self.take_free(
-                frontier,
-                machine,
-                link,
-                &mut others,
-                looked_at,
-                settled,
-                most,
-            )?;
+            let is_later = self.take_free(machines, link, &mut others, looked_at, settled, most)?;
             if is_later {
                 return Ok(());
             }
         }
-        self.take_all(frontier, machine, from, &others, most)
+        self.take_all(machines, from, &others, most)
     }
 
     /// Takes one step if it is quiet and can be taken before all others, and says whether it is so and leads to a later
     /// place; else puts it behind the others.
     fn take_free<const S: usize>(
         &mut self,
-        frontier: &mut VecDeque<Machine<'i, S>>,
-        machine: &mut Option<Machine<'i, S>>,
+        machines: &mut KeptMachines<'i, S>,
         link: Link,
         others: &mut Vec<Step>,
         looked_at: &[bool],
         settled: &[bool],
         most: u32,
     ) -> Result<bool, Stop>
-        requires expanding { IsExpanding self.old frontier.old.items link.from most }
-        requires machine { machine.old ≡ Some (machine_after self.old.image (schedule_of self.old link.from)) }
+        requires expanding { IsExpanding self.old link.from most }
+        requires machines { AreKeptAt self.old machines.old link.from }
         requires settled { AreSettled self.old.image settled.now }
         ensures grown { IsGrown self.old self.new }
-        ensures expanding { IsExpanding self.new frontier.new.items link.from most }
+        ensures expanding { IsExpanding self.new link.from most }
+        ensures machines { OnOk result (AreKeptAt self.new machines.new link.from) }
         ensures alone { IfOk result (λ b. b ≡ true → IsTakenQuietly looked_at.now self.new link.from) }
         ensures left { IfOk result (λ b. b ≡ false
             → IsTaken self.new link.from link.step ⊎ Contains others.new.items link.step) }
         ensures others { (t : Step) → Contains others.old.items t → Contains others.new.items t }
-        ensures still { IfOk result (λ b. b ≡ false → machine.new ≡ machine.old) }
     {
         let step = link.step;
-        let here = machine.as_ref().unwrap();
+        self.make_here(machines, link.from)?;
+        let here = machines.here().unwrap();
         if !is_free_step(here, step, settled) || !is_quiet_step(here, step, looked_at) {
             others.push(step)?;
             return Ok(false);
         }
-        let to = self.take(frontier, machine, link, true, most)?;
+        let to = self.take(machines, link, true, most)?;
         Ok(to > link.from)
     }
 
-    /// Takes each of these steps, the last one on the machine itself.
+    /// Takes each of these steps; the last one may take the machine of the place itself.
     fn take_all<const S: usize>(
         &mut self,
-        frontier: &mut VecDeque<Machine<'i, S>>,
-        machine: &mut Option<Machine<'i, S>>,
+        machines: &mut KeptMachines<'i, S>,
         from: u32,
         steps: &[Step],
         most: u32,
     ) -> Result<(), Stop>
-        requires expanding { IsExpanding self.old frontier.old.items from most }
-        requires machine { machine.old ≡ Some (machine_after self.old.image (schedule_of self.old from)) }
+        requires expanding { IsExpanding self.old from most }
+        requires machines { AreKeptAt self.old machines.old from }
         ensures grown { IsGrown self.old self.new }
-        ensures expanding { IsExpanding self.new frontier.new.items from most }
+        ensures expanding { IsExpanding self.new from most }
+        ensures machines { OnOk result (AreKeptAt self.new machines.new from) }
         ensures taken { OnOk result ((t : Step) → Contains steps.now t → IsTaken self.new from t) }
     {
         for place in 0..steps.len() {
@@ -153,7 +141,7 @@ impl<'i> Found<'i> {
                 step: steps[place],
             };
             let is_last = place + 1 == steps.len();
-            self.take(frontier, machine, link, is_last, most)?;
+            self.take(machines, link, is_last, most)?;
         }
         Ok(())
     }
@@ -162,22 +150,20 @@ impl<'i> Found<'i> {
     /// later place.
     fn take<const S: usize>(
         &mut self,
-        frontier: &mut VecDeque<Machine<'i, S>>,
-        machine: &mut Option<Machine<'i, S>>,
+        machines: &mut KeptMachines<'i, S>,
         link: Link,
         is_let_go: bool,
         most: u32,
     ) -> Result<u32, Stop>
-        requires expanding { IsExpanding self.old frontier.old.items link.from most }
-        requires machine { machine.old ≡ Some (machine_after self.old.image (schedule_of self.old link.from)) }
+        requires expanding { IsExpanding self.old link.from most }
+        requires machines { AreKeptAt self.old machines.old link.from }
         ensures grown { IsGrown self.old self.new }
-        ensures expanding { IsExpanding self.new frontier.new.items link.from most }
+        ensures expanding { IsExpanding self.new link.from most }
+        ensures machines { OnOk result (AreKeptAt self.new machines.new link.from) }
         ensures taken { OnOk result (IsTaken self.new link.from link.step) }
         ensures to { IfOk result (λ to. IsTakenTo self.new link.from link.step to) }
-        ensures kept { is_let_go ≡ false → machine.new ≡ machine.old }
-        ensures still { IfOk result (λ to. to ≤ link.from → machine.new ≡ machine.old) }
     {
-        let to = self.place(frontier, machine, link, is_let_go, most)?;
+        let to = self.place(machines, link, is_let_go, most)?;
         if to == link.from {
             return Ok(to);
         }

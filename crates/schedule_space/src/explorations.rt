@@ -12,6 +12,7 @@ ghost use Rattle.schedule_space.specs.Answers.{space_in, is_complete, bound_in};
 
 use crate::expanding::Wanted;
 use crate::finding::{Found, Stop};
+use crate::kept_machines::KeptMachines;
 use crate::spaces::Space;
 use crate::watches::{Bound, Watch};
 use dead_registers::LiveRegisters;
@@ -21,7 +22,6 @@ use machine::{LoadFault, Machine};
 use processor::{Processor, Step};
 use program_flow::Row;
 use std::alloc::Global;
-use std::collections::VecDeque;
 use std::mem::size_of;
 
 /// How many worlds a search goes through from one question to who looks on to the next.
@@ -152,27 +152,19 @@ fn search<'i, const S: usize, W: Watch>(
     first.run(begin);
     let live = LiveRegisters::of(alloc, image, names)?;
     let settled = settled_places(alloc, image)?;
-    let mut found = Found::begin(alloc, begin, &first, live)?;
-    let mut frontier = VecDeque::new(alloc);
-    frontier.push_back(first)?;
+    let mut found = Found::begin(alloc, begin, &first, live, wanted)?;
+    let mut machines = KeptMachines::new(alloc, first);
     let limit = world_limit(most);
     let machine_size = bytes_of_machine::<S>(image);
     for from in 0..limit {
-        let Some(machine) = frontier.pop_front() else {
+        if from as usize >= found.len() {
             return Ok(Exploration::Complete(found.into_space()));
-        };
-        if !is_to_go_on(watch, from, &found, &frontier, machine_size) {
+        }
+        if !is_to_go_on(watch, from, &found, &machines, machine_size) {
             return Ok(Exploration::Bounded(found.into_space(), Bound::Watch));
         }
-        if let Err(stop) = found.expand(
-            &mut frontier,
-            machine,
-            from,
-            wanted,
-            looked_at,
-            &settled,
-            limit,
-        ) {
+        let expanded = found.expand(&mut machines, from, wanted, looked_at, &settled, limit);
+        if let Err(stop) = expanded {
             return Ok(Exploration::Bounded(found.into_space(), bound_of(stop)));
         }
     }
@@ -193,7 +185,7 @@ fn is_to_go_on<const S: usize, W: Watch>(
     watch: &mut W,
     from: u32,
     found: &Found<'_>,
-    frontier: &VecDeque<Machine<'_, S>>,
+    machines: &KeptMachines<'_, S>,
     machine_size: usize,
 ) -> bool
     ensures { IsFalse result → W.HasEnded watch.new }
@@ -201,8 +193,9 @@ fn is_to_go_on<const S: usize, W: Watch>(
     if from % WORLDS_PER_LOOK != 0 {
         return true;
     }
-    let bytes = bytes_held(found, frontier, machine_size);
-    watch.goes_on(found.len(), frontier.len(), bytes)
+    let waiting = found.len().saturating_sub(from as usize + 1);
+    let bytes = bytes_held(found, machines, machine_size);
+    watch.goes_on(found.len(), waiting, bytes)
 }
 
 /// What ended a search whose worlds could not all be expanded.
@@ -218,14 +211,14 @@ fn bound_of(stop: Stop) -> Bound
 /// About how many bytes a search holds, whose machines have so many each behind them.
 fn bytes_held<const S: usize>(
     found: &Found<'_>,
-    frontier: &VecDeque<Machine<'_, S>>,
+    machines: &KeptMachines<'_, S>,
     machine_size: usize,
 ) -> usize {
-    let machines = frontier.len().saturating_mul(machine_size);
-    let room = frontier
-        .capacity()
-        .saturating_mul(size_of::<Machine<'_, S>>());
-    found.bytes().saturating_add(machines).saturating_add(room)
+    let behind = machines.len().saturating_mul(machine_size);
+    found
+        .bytes()
+        .saturating_add(machines.bytes())
+        .saturating_add(behind)
 }
 
 /// About how many bytes are behind a machine of an image: its processors, and its words with their tags.

@@ -1,7 +1,7 @@
 //! A space in the making: worlds are told apart by their keys, which are those of the worlds with 0 in each register that
 //! does not matter.
 
-ghost use Rattle.std.specs.Prelude.{◌≡◌, ◌<◌, ◌≤◌, ◌+◌, [], ◌∷◌, ◌++◌, length, true, false, Some, IfOk, OnOk, OnErr, Contains};
+ghost use Rattle.std.specs.Prelude.{◌≡◌, ◌<◌, ◌≤◌, ◌+◌, [], ◌∷◌, ◌++◌, length, Some, IfOk, IfSome, OnOk, OnErr, Contains};
 ghost use Rattle.image_file.specs.ImageValue.{ImageValue};
 ghost use Rattle.processor.specs.World.{after};
 ghost use Rattle.dead_registers.specs.Clearing.{IsLive};
@@ -9,21 +9,31 @@ ghost use Rattle.schedule_space.specs.Spaces.{count, schedule_of, world_of, mach
 ghost use Rattle.schedule_space.specs.Spaces.{StandsFor, AreAllApart, StandAlone, IsEdgeToStandIn};
 ghost use Rattle.schedule_space.specs.declared.links.Edge.{Edge};
 ghost use Rattle.world_keys.specs.Tables.{Has};
-ghost use Rattle.schedule_space.specs.Finding.{space_of, with_edge, IsGrown, IsExpanding, NamesAll};
+ghost use Rattle.machine.specs.MachineValue.{MachineValue};
+ghost use Rattle.schedule_space.specs.Spaces.{machine_by, IsRoute};
+ghost use Rattle.schedule_space.specs.Kept.{AreKeptAt, IsAtHand, IsSameButHere, machine_next, IsMachineMore};
+ghost use Rattle.dead_registers.specs.Clearing.{LiveValue};
+ghost use Rattle.schedule_space.specs.StreamSteps.{AreAllLeft};
+ghost use Rattle.schedule_space.specs.Before.{IsBefore};
+ghost use Rattle.world_keys.specs.Tables.{Extends};
+ghost use Rattle.schedule_space.specs.Fates.{IsFate};
+ghost use Rattle.schedule_space.specs.Finding.{space_of, with_edge, IsGrown, IsExpanding, NamesAll, HasRunning};
 ghost use Rattle.schedule_space.specs.declared.finding.Stop.TheVariants.{NoMemory};
 
+use crate::expanding::Wanted;
 use crate::fates::{Fate, fate_of};
-use crate::known_steps::StepsSeen;
+use crate::kept_machines::KeptMachines;
+use crate::key_streams::{fate_by_key, running_by};
+use crate::known_steps::{Seen, StepsSeen};
 use crate::links::{Edge, Link};
 use crate::next_worlds::key_after;
+use crate::routes::{Route, route_to};
 use crate::spaces::Space;
-use crate::stepping::moved_on;
 use dead_registers::LiveRegisters;
 use image_file::Image;
 use machine::Machine;
 use processor::Step;
 use std::alloc::{AllocError, AllocFailed, Global};
-use std::collections::VecDeque;
 use std::marker::Model;
 use std::mem::size_of;
 use world_keys::{Table, world_key};
@@ -38,9 +48,9 @@ pub(crate) struct Found<'i> {
     pub(crate) links: Vec<Link>,
     edges: Vec<Edge>,
     fates: Vec<Fate>,
-    contents: Table,
+    seen: Seen,
     keys: Table,
-    steps: StepsSeen,
+    wanted: Wanted,
 }
 
 impl<'i> Model for Found<'i> {
@@ -52,7 +62,7 @@ impl<'i> Model for Found<'i> {
     ghost view = { λ f. space_of f.image.now f.live f.begin.items f.links.items f.edges.items };
 
     ghost invariant = { λ f. IsInTheMaking (space_of f.image.now f.live f.begin.items f.links.items f.edges.items)
-        f.fates.items f.contents f.keys f.steps };
+        f.fates.items f.seen.contents f.keys f.seen.steps };
 }
 
 /// Why a search stopped before its end.
@@ -87,6 +97,7 @@ impl<'i> Found<'i> {
         begin: &[Step],
         first: &Machine<'i, S>,
         live: LiveRegisters,
+        wanted: Wanted,
     ) -> Result<Found<'i>, AllocError>
         requires machine { first.now ≡ machine_after first.now.image begin.now }
         requires live { IsLive first.now.image live }
@@ -107,14 +118,20 @@ impl<'i> Found<'i> {
             links: Vec::new(alloc),
             edges: Vec::new(alloc),
             fates,
-            contents,
+            seen: Seen {
+                alloc,
+                contents,
+                steps: StepsSeen::new(alloc),
+            },
             keys,
-            steps: StepsSeen::new(alloc),
+            wanted,
         })
     }
 
     /// How many worlds were found.
-    pub(crate) fn len(&self) -> usize {
+    pub(crate) fn len(&self) -> usize
+        ensures { result ≡ count self.now }
+    {
         self.fates.len()
     }
 
@@ -123,12 +140,11 @@ impl<'i> Found<'i> {
         let links = self.links.capacity().saturating_mul(size_of::<Link>());
         let edges = self.edges.capacity().saturating_mul(size_of::<Edge>());
         let fates = self.fates.capacity().saturating_mul(size_of::<Fate>());
-        let tables = self.contents.bytes().saturating_add(self.keys.bytes());
         links
             .saturating_add(edges)
             .saturating_add(fates)
-            .saturating_add(tables)
-            .saturating_add(self.steps.bytes())
+            .saturating_add(self.keys.bytes())
+            .saturating_add(self.seen.bytes())
     }
 
     /// The space.
@@ -154,36 +170,56 @@ impl<'i> Found<'i> {
         Ok(())
     }
 
-    /// The place of a world that stands for the one to which a step leads from the world at a place, the machine's. A new
-    /// world is put behind the others, and a machine at it behind the frontier: that of the place, where it is let go, else
-    /// a copy.
+    /// The streams that run in the world at a place: all of them.
+    pub(crate) fn running_at(&self, place: u32) -> Result<Vec<Step>, AllocError>
+        requires { place < count self.now }
+        ensures { IfOk result (λ v. HasRunning (world_of self.now place) v.items) }
+    {
+        let key = self.keys.list(place as usize).unwrap();
+        running_by(self.alloc, self.image, &self.seen.contents, key)
+    }
+
+    /// Has the machine at the world at a place at hand.
+    pub(crate) fn make_here<const S: usize>(
+        &self,
+        machines: &mut KeptMachines<'i, S>,
+        place: u32,
+    ) -> Result<(), AllocError>
+        requires there { place < count self.now }
+        requires machines { AreKeptAt self.now machines.old place }
+        ensures machines { OnOk result (AreKeptAt self.now machines.new place) }
+        ensures made { OnOk result (machines.new.here ≡ Some (machine_after self.now.image (schedule_of self.now place))) }
+    {
+        let route = route_to(&self.begin, &self.links, place as usize);
+        machines.make_here(self.alloc, route)
+    }
+
+    /// The place of a world that stands for the one to which a step leads from the world at a place. A new world is put
+    /// behind the others, and a machine at it behind those that are kept, unless it is known how it goes on from there.
     pub(crate) fn place<const S: usize>(
         &mut self,
-        frontier: &mut VecDeque<Machine<'i, S>>,
-        machine: &mut Option<Machine<'i, S>>,
+        machines: &mut KeptMachines<'i, S>,
         link: Link,
         is_let_go: bool,
         most: u32,
     ) -> Result<u32, Stop>
-        requires expanding { IsExpanding self.old frontier.old.items link.from most }
-        requires machine { machine.old ≡ Some (machine_after self.old.image (schedule_of self.old link.from)) }
+        requires expanding { IsExpanding self.old link.from most }
+        requires machines { AreKeptAt self.old machines.old link.from }
         ensures grown { IsGrown self.old self.new }
-        ensures expanding { IsExpanding self.new frontier.new.items link.from most }
+        ensures expanding { IsExpanding self.new link.from most }
+        ensures machines { OnOk result (AreKeptAt self.new machines.new link.from) }
         ensures there { IfOk result (λ k. k < count self.new) }
         ensures stands { IfOk result (λ k.
             StandsFor self.new k (after self.old.image (world_of self.old link.from) link.step)) }
-        ensures kept { is_let_go ≡ false → machine.new ≡ machine.old }
-        ensures still { IfOk result (λ k. k ≤ link.from → machine.new ≡ machine.old) }
     {
-        let here = machine.as_ref().unwrap();
         let before = self.keys.list(link.from as usize).unwrap();
+        let route = route_to(&self.begin, &self.links, link.from as usize);
         let key = key_after(
-            self.alloc,
+            &mut self.seen,
             &self.live,
-            &mut self.contents,
-            &mut self.steps,
             before,
-            here,
+            machines,
+            route,
             link.step,
         )?;
         let Some(key) = key else {
@@ -196,16 +232,16 @@ impl<'i> Found<'i> {
         if place >= most as usize {
             return Err(Stop::Full);
         }
-        let next = moved_on(machine, link.step, is_let_go)?;
-        let fate = fate_of(&next);
+        let known = known_fate(&mut self.seen, self.image, &key, self.wanted)?;
+        let next = next_world(self.alloc, machines, route, link.step, is_let_go, known)?;
         let world = NewWorld {
-            machine: next,
+            place: place as u32,
+            next,
             link,
-            fate,
             key,
         };
         push_world(
-            frontier,
+            machines,
             &mut self.links,
             &mut self.fates,
             &mut self.keys,
@@ -215,39 +251,124 @@ impl<'i> Found<'i> {
     }
 }
 
-/// A machine at a world that was not found before, with how it was found, how it goes on from there, and its key.
+/// How it goes on from a world, where its key tells; where ends are looked for, each world is to have its machine.
+fn known_fate(
+    seen: &mut Seen,
+    image: &Image,
+    key: &[u32],
+    wanted: Wanted,
+) -> Result<Option<Fate>, AllocError>
+    requires { length key.now ≡ length image.now.entries + 1 }
+    ensures fate { (live : LiveValue) (m : MachineValue) → m.image ≡ image.now
+        → IsBefore live seen.old.contents seen.old.steps m key.now
+        → IfOk result (λ o. IfSome o (IsFate m.image m.world)) }
+    ensures steps { (live : LiveValue) (m : MachineValue)
+        → IsBefore live seen.old.contents seen.old.steps m key.now
+        → AreAllLeft m.image live seen.new.contents seen.new.steps }
+    ensures grown { Extends seen.old.contents seen.new.contents }
+{
+    match wanted {
+        Wanted::Worlds => fate_by_key(seen, image, key),
+        Wanted::Ends => Ok(None),
+    }
+}
+
+/// How it goes on from a world, and a machine at it, where one is to be kept.
+#[derive(Drop)]
+struct NextWorld<'i, const S: usize> {
+    fate: Fate,
+    machine: Option<Machine<'i, S>>,
+}
+
+/// The world behind a step from the one at the end of a route: with a machine where it is not known how it goes on.
+fn next_world<'i, const S: usize>(
+    alloc: Global,
+    machines: &mut KeptMachines<'i, S>,
+    route: Route<'_>,
+    step: Step,
+    is_let_go: bool,
+    known: Option<Fate>,
+) -> Result<NextWorld<'i, S>, AllocError>
+    requires route { IsRoute route.links.now route.place }
+    requires first { machines.old.first ≡ machine_after machines.old.first.image route.begin.now }
+    requires here { IsAtHand (machine_by machines.old.first.image route.begin.now route.links.now route.place) machines.old.here }
+    requires known { let m = machine_by machines.old.first.image route.begin.now route.links.now route.place in
+        IfSome known (IsFate m.image (after m.image m.world step)) }
+    ensures fate { let m = machine_by machines.old.first.image route.entry.begin.now route.entry.links.now route.entry.place in
+        IfOk result (λ n. IsFate m.image (after m.image m.world step) n.fate) }
+    ensures machine { let m = machine_by machines.old.first.image route.entry.begin.now route.entry.links.now route.entry.place in
+        IfOk result (λ n. IsAtHand (machine_next m step) n.machine) }
+    ensures kept { IsSameButHere machines.old machines.new }
+    ensures here { IsAtHand (machine_by machines.old.first.image route.entry.begin.now route.entry.links.now route.entry.place) machines.new.here }
+{
+    if let Some(fate) = known {
+        return Ok(NextWorld {
+            fate,
+            machine: None,
+        });
+    }
+    machines.make_here(alloc, route)?;
+    let machine = machines.next(step, is_let_go)?;
+    Ok(NextWorld {
+        fate: fate_of(&machine),
+        machine: Some(machine),
+    })
+}
+
+/// A world that was not found before, with its place, how it was found, and its key.
 #[derive(Drop)]
 struct NewWorld<'i, const S: usize> {
-    machine: Machine<'i, S>,
+    place: u32,
+    next: NextWorld<'i, S>,
     link: Link,
-    fate: Fate,
     key: Vec<u32>,
 }
 
-/// Puts what belongs to a new world behind what belongs to the others: all of it, or nothing where memory is refused.
+/// Puts what belongs to a new world behind what belongs to the others: all of it, or nothing but its machine where memory
+/// is refused.
 fn push_world<'i, const S: usize>(
-    frontier: &mut VecDeque<Machine<'i, S>>,
+    machines: &mut KeptMachines<'i, S>,
     links: &mut Vec<Link>,
     fates: &mut Vec<Fate>,
     keys: &mut Table,
     world: NewWorld<'i, S>,
 ) -> Result<(), AllocError>
     requires new { ¬ (Has keys.old world.key.items) }
-    ensures machine { OnOk result (frontier.new.items ≡ frontier.old.items ++ world.entry.machine ∷ []) }
+    ensures machine { (m : MachineValue) → IsAtHand m world.entry.next.machine
+        → OnOk result (IsMachineMore machines.old machines.new world.entry.place m) }
     ensures link { OnOk result (links.new.items ≡ links.old.items ++ world.entry.link ∷ []) }
-    ensures fate { OnOk result (fates.new.items ≡ fates.old.items ++ world.entry.fate ∷ []) }
+    ensures fate { OnOk result (fates.new.items ≡ fates.old.items ++ world.entry.next.fate ∷ []) }
     ensures key { OnOk result (keys.new ≡ keys.old ++ world.entry.key.items ∷ []) }
-    ensures machines { OnErr result (frontier.new.items ≡ frontier.old.items) }
     ensures links { OnErr result (links.new.items ≡ links.old.items) }
     ensures fates { OnErr result (fates.new.items ≡ fates.old.items) }
     ensures keys { OnErr result (keys.new ≡ keys.old) }
 {
-    frontier.reserve(1)?;
+    let NewWorld {
+        place,
+        next,
+        link,
+        key,
+    } = world;
+    let NextWorld { fate, machine } = next;
     links.reserve(1)?;
     fates.reserve(1)?;
-    keys.push(&world.key)?;
-    links.push_reserved(world.link);
-    fates.push_reserved(world.fate);
-    frontier.push_back_reserved(world.machine);
+    keep_machine(machines, place, machine)?;
+    keys.push(&key)?;
+    links.push_reserved(link);
+    fates.push_reserved(fate);
     Ok(())
+}
+
+/// Keeps a machine for a place, if there is one.
+fn keep_machine<'i, const S: usize>(
+    machines: &mut KeptMachines<'i, S>,
+    place: u32,
+    machine: Option<Machine<'i, S>>,
+) -> Result<(), AllocError>
+    ensures { (m : MachineValue) → IsAtHand m machine.entry → OnOk result (IsMachineMore machines.old machines.new place m) }
+{
+    match machine {
+        Some(machine) => machines.push(place, machine),
+        None => Ok(()),
+    }
 }

@@ -105,3 +105,18 @@ impl StepsSeen {
             .saturating_add(self.by_stream.bytes())
     }
 }
+
+/// What a search has seen: what streams, processors and the memory held, and what steps left.
+#[derive(Drop)]
+pub(crate) struct Seen {
+    pub(crate) alloc: Global,
+    pub(crate) contents: Table,
+    pub(crate) steps: StepsSeen,
+}
+
+impl Seen {
+    /// How many bytes it takes.
+    pub(crate) fn bytes(&self) -> usize {
+        self.contents.bytes().saturating_add(self.steps.bytes())
+    }
+}

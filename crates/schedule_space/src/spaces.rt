@@ -1,6 +1,6 @@
 //! A space of worlds, and what can be read of it.
 
-ghost use Rattle.std.specs.Prelude.{◌≡◌, ◌<◌, ◌↔◌, ◌++◌, length, IfOk, reverse, Contains};
+ghost use Rattle.std.specs.Prelude.{◌≡◌, ◌<◌, ◌↔◌, length, IfOk, Contains};
 ghost use Rattle.dead_registers.specs.Clearing.{IsLive};
 ghost use Rattle.schedule_space.specs.declared.links.Edge.{Edge};
 ghost use Rattle.schedule_space.specs.Spaces.{count, schedule_of, world_of, machine_after, IsEdgeToStandIn, HasEarlierLinks};
@@ -9,6 +9,7 @@ ghost use Rattle.schedule_space.specs.Finding.{space_of, IsSpace};
 
 use crate::fates::Fate;
 use crate::links::{Edge, Link};
+use crate::routes::{route_to, schedule_by};
 use dead_registers::LiveRegisters;
 use image_file::Image;
 use machine::{LoadFault, Machine};
@@ -125,29 +126,7 @@ impl<'i> Space<'i> {
         requires { place < count self.now }
         ensures { IfOk result (λ v. v.items ≡ schedule_of self.now place) }
     {
-        let mut schedule = Vec::from_slice(alloc, &self.begin)?;
-        let mut steps = self.steps_back(alloc, place)?;
-        steps.reverse();
-        schedule.extend_from_slice(&steps)?;
-        Ok(schedule)
-    }
-
-    /// Its steps behind those of the beginning, the last first.
-    fn steps_back(&self, alloc: Global, place: usize) -> Result<Vec<Step>, AllocError>
-        requires { place < count self.now }
-        ensures { IfOk result (λ v. self.now.begin ++ reverse v.items ≡ schedule_of self.now place) }
-    {
-        let mut steps = Vec::new(alloc);
-        let mut here = place;
-        for taken in 0..place {
-            if here == 0 {
-                return Ok(steps);
-            }
-            let link = self.links[here - 1];
-            steps.push(link.step)?;
-            here = link.from as usize;
-        }
-        Ok(steps)
+        schedule_by(alloc, route_to(&self.begin, &self.links, place))
     }
 
     /// A machine at the world at a place.

@@ -1,10 +1,11 @@
 //! A step from a machine's world, and what it can change.
 
-ghost use Rattle.std.specs.Prelude.{◌≡◌, ◌≢◌, ◌<◌, ◌≤◌, length, true, false, Some, IsSome, IfOk};
+ghost use Rattle.std.specs.Prelude.{◌≡◌, ◌≢◌, ◌<◌, ◌≤◌, length, true, Some, IsSome, IfOk};
 ghost use Rattle.machine.specs.MachineValue.{MachineValue};
 ghost use Rattle.processor.specs.World.{after};
 ghost use Rattle.world_keys.specs.WorldKeys.{processor_in};
 ghost use Rattle.world_keys.specs.Changes.{HasOthersOf};
+ghost use Rattle.schedule_space.specs.Kept.{IsAtHand};
 
 use machine::Machine;
 use processor::{Next, Step};
@@ -68,7 +69,7 @@ pub(crate) fn moved_on<'i, const S: usize>(
     requires { IsSome machine.old }
     ensures next { (m : MachineValue) → machine.old ≡ Some m
         → IfOk result (λ n. n ≡ record { image = m.image; world = after m.image m.world step }) }
-    ensures kept { is_let_go ≡ false → machine.new ≡ machine.old }
+    ensures here { (m : MachineValue) → IsAtHand m machine.old → IsAtHand m machine.new }
 {
     if !is_let_go {
         return stepped(machine.as_ref().unwrap(), step);

@@ -1,7 +1,8 @@
--- the worlds so far are followed, or expanded, and the machines of the others are on the frontier
+-- the worlds so far are followed, or expanded, and the machines that are kept are those of their places
 use Rattle.std.proofs.Common.{◌≡◌, ℕ, ◌≤◌, ◌<◌}
 use Rattle.schedule_space.specs.Spaces.{count}
-use Rattle.schedule_space.specs.Finding.{IsExpanded, IsFrontier, IsBreadthFirst}
+use Rattle.schedule_space.specs.Finding.{IsExpanded, IsBreadthFirst}
+use Rattle.schedule_space.specs.Kept.{AreKept}
 use Rattle.schedule_space.specs.Quiet.{IsFollowedQuietly}
 use Rattle.schedule_space.specs.declared.expanding.Wanted.TheVariants as Wanted
 use Rattle.schedule_space.proofs.explorations.search.Given as goal
@@ -15,6 +16,6 @@ invariant-loop-from g l = record {
   quiet : (k : ℕ) → k < l.from → IsFollowedQuietly l.looked_at l.found k;
   inside : l.from ≤ count l.found;
   within : count l.found ≤ l.limit;
-  frontier : IsFrontier l.found l.frontier.items l.from;
+  kept : AreKept l.found l.machines;
   breadth : l.from < count l.found → IsBreadthFirst l.found l.from;
 }

@@ -18,7 +18,7 @@ pub returns-clause-alone : goal.returns-clause-alone
 returns-clause-alone c =
     subst (λ (v : SpaceValue). NamesAll v.live → StandAlone v) (sym c.from_parts.ensures)
     (λ named. stand_alone (space_of c.self.inside.image.now c.self.inside.live c.self.inside.begin.items c.self.inside.links.items c.self.inside.edges.items)
-    c.self.inside.contents c.self.inside.keys named c.self.invariant.found.space.live c.self.invariant.found.keyed)
+    c.self.inside.seen.contents c.self.inside.keys named c.self.invariant.found.space.live c.self.invariant.found.keyed)
 
 pub returns-clause-edges : goal.returns-clause-edges
 returns-clause-edges c =

@@ -6,6 +6,7 @@ use Rattle.schedule_space.specs.Finding.{IsGrown, IsTakenTo}
 use Rattle.schedule_space.proofs.Growing.{grown_trans, with_edge_grown}
 use Rattle.schedule_space.proofs.Placing.{edge_expanding, stays_expanding}
 use Rattle.schedule_space.proofs.Taking.{taken_there, taken_edge, edge_to}
+use Rattle.schedule_space.proofs.Kept.{at_hand_grown}
 use Rattle.schedule_space.proofs.finding.Found.take.Goals as goal
 
 pub add_edge-requires : goal.add_edge-requires
@@ -28,10 +29,9 @@ returns-then-to-link g c =
     record {
       grown = c.place.ensures.grown;
       expanding = c.place.ensures.expanding;
+      machines = c.in_ok-to.ensures.machines;
       taken = there.0;
       to = there;
-      kept = c.place.ensures.kept;
-      still = c.in_ok-to.ensures.still;
     }
 
 pub returns-in_err-add_edge-clause-grown : goal.returns-in_err-add_edge-clause-grown
@@ -41,8 +41,8 @@ returns-in_err-add_edge-clause-grown g c =
 
 pub returns-in_err-add_edge-clause-expanding : goal.returns-in_err-add_edge-clause-expanding
 returns-in_err-add_edge-clause-expanding g c =
-    stays_expanding c.place.new.self c.add_edge.new.self c.place.new.frontier.items c.place.new.frontier.items
-    c.args.link.from c.args.most c.in_err-add_edge.ensures.stays refl c.place.ensures.expanding
+    stays_expanding c.place.new.self c.add_edge.new.self c.args.link.from c.args.most c.in_err-add_edge.ensures.stays
+    c.place.ensures.expanding
 
 pub returns : goal.returns
 returns g c =
@@ -62,10 +62,11 @@ returns g c =
       grown =
           grown_trans v here new c.place.ensures.grown
           (subst (λ (x : SpaceValue). IsGrown here x) (sym is) (with_edge_grown here e));
-      expanding =
-          edge_expanding here new e c.place.new.frontier.items c.args.link.from c.args.most is c.place.ensures.expanding;
+      expanding = edge_expanding here new e c.args.link.from c.args.most is c.place.ensures.expanding;
+      machines =
+          at_hand_grown here new c.place.new.machines c.args.link.from
+          (subst (λ (x : SpaceValue). IsGrown here x) (sym is) (with_edge_grown here e))
+          c.place.ensures.expanding.there c.in_ok-to.ensures.machines;
       taken = there.0;
       to = there;
-      kept = c.place.ensures.kept;
-      still = c.in_ok-to.ensures.still;
     }

@@ -2,41 +2,20 @@ use Rattle.std.proofs.Common.{◌≡◌, ◌∙◌, sym, ap, refl, arith, rules,
 use Rattle.std.specs.Prelude.{OnOk, List}
 use Rattle.image_file.specs.ImageValue.{ImageValue}
 use Rattle.processor.specs.declared.steps.Step.{Step}
-use Rattle.machine.specs.MachineValue.{MachineValue}
 use Rattle.local_steps.specs.SettledEndings.{AreSettled}
-use Rattle.schedule_space.specs.Spaces.{schedule_of, machine_after}
+use Rattle.schedule_space.specs.Kept.{AreKeptAt}
 use Rattle.schedule_space.specs.Finding.{IsExpanding}
 use Rattle.schedule_space.proofs.Growing.{grown_refl, grown_trans}
-use Rattle.schedule_space.proofs.Taking.{AreAllTaken, IsTakenOrWaits, waits_next, machine_grown}
+use Rattle.schedule_space.proofs.Taking.{AreAllTaken, IsTakenOrWaits, waits_next}
 use Rattle.schedule_space.proofs.Alone.{expanded_if, followed_if, waiting_taken}
 use Rattle.schedule_space.proofs.finding.Found.take_enough.Goals as goal
 
 pub take_free-requires : goal.take_free-requires
 take_free-requires g c =
-    let expanding : IsExpanding c.loop-step.self c.loop-step.frontier.items c.args.from c.args.most =
-    c.loop-step.invariant.expanding in
-    let v = c.args.self.now in
-    let here = c.loop-step.self in
-    let machine : c.loop-step.machine ≡ Some (machine_after here.image (schedule_of here c.args.from)) =
-    c.loop-step.invariant.machine
-    ∙ ap (λ (m : MachineValue). Some m)
-    (machine_grown v here c.args.from (machine_after v.image (schedule_of v c.args.from)) c.loop-step.invariant.grown
-    c.requires.expanding.there refl) in
-    let settled : AreSettled here.image c.args.settled.now =
+    let expanding : IsExpanding c.loop-step.self c.args.from c.args.most = c.loop-step.invariant.expanding in
+    let machines : AreKeptAt c.loop-step.self c.loop-step.machines c.args.from = c.loop-step.invariant.machines in
+    let settled : AreSettled c.loop-step.self.image c.args.settled.now =
     subst (λ (i : ImageValue). AreSettled i c.args.settled.now) (sym c.loop-step.invariant.grown.image) c.requires.settled in
-    search rules
-
-pub take_all-requires : goal.take_all-requires
-take_all-requires g c =
-    let expanding : IsExpanding c.loop-step.self c.loop-step.frontier.items c.args.from c.args.most =
-    c.loop-step.invariant.expanding in
-    let v = c.args.self.now in
-    let here = c.loop-step.self in
-    let machine : c.loop-step.machine ≡ Some (machine_after here.image (schedule_of here c.args.from)) =
-    c.loop-step.invariant.machine
-    ∙ ap (λ (m : MachineValue). Some m)
-    (machine_grown v here c.args.from (machine_after v.image (schedule_of v c.args.from)) c.loop-step.invariant.grown
-    c.requires.expanding.there refl) in
     search rules
 
 pub loop-step-init : goal.loop-step-init
@@ -44,7 +23,7 @@ loop-step-init g c = record {
   grown = grown_refl c.args.self.now;
   expanding = c.requires.expanding;
   waits = λ k d below. absurd (omega arith);
-  machine = c.requires.machine;
+  machines = c.requires.machines;
 }
 
 pub returns-in_err-is_later-clause-grown : goal.returns-in_err-is_later-clause-grown
@@ -58,6 +37,7 @@ returns-then-is_later g c = record {
       grown_trans c.args.self.now c.loop-step.self c.take_free.new.self c.loop-step.invariant.grown
       c.take_free.ensures.grown;
   expanding = c.take_free.ensures.expanding;
+  machines = c.in_ok-is_later.ensures.machines;
   quiet = inr (c.in_ok-is_later.ensures.alone c.if-is_later.true);
 }
 
@@ -77,7 +57,7 @@ loop-step-preserved g c =
           waits_next here new c.args.from n c.loop-step.others.items c.take_free.new.others.items ts none
           c.take_free.ensures.grown c.loop-step.invariant.expanding.there (omega arith) c.take_free.ensures.others
           c.loop-step.invariant.waits last;
-      machine = c.in_ok-is_later.ensures.still c.if-is_later.false ∙ c.loop-step.invariant.machine;
+      machines = c.in_ok-is_later.ensures.machines;
     }
 
 pub returns : goal.returns
@@ -85,12 +65,13 @@ returns g c = record {
   grown =
       grown_trans c.args.self.now c.loop-step.self c.take_all.new.self c.loop-step.invariant.grown c.take_all.ensures.grown;
   expanding = c.take_all.ensures.expanding;
+  machines = c.take_all.ensures.machines;
   quiet =
       followed_if c.take_all.result c.args.looked_at.now c.take_all.new.self c.args.from
       (expanded_if c.take_all.result c.args.self.now c.take_all.new.self c.args.from
-      (machine_after c.args.self.now.image (schedule_of c.args.self.now c.args.from)) c.args.running.now
+      c.args.running.now
       (grown_trans c.args.self.now c.loop-step.self c.take_all.new.self c.loop-step.invariant.grown c.take_all.ensures.grown)
-      c.requires.expanding.there refl c.requires.running
+      c.requires.expanding.there c.requires.running
       (waiting_taken c.take_all.result c.loop-step.self c.take_all.new.self c.args.from c.loop-step.step-index
       c.loop-step.others.items c.args.running.now c.take_all.ensures.grown c.loop-step.invariant.expanding.there
       (omega arith) c.loop-step.invariant.waits

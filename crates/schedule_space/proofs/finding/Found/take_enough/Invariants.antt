@@ -1,14 +1,14 @@
--- the steps so far are taken, or wait among the others, the space has grown by them, and the machine is there
-use Rattle.std.proofs.Common.{◌≡◌, Some}
-use Rattle.schedule_space.specs.Spaces.{schedule_of, machine_after}
+-- the steps so far are taken, or wait among the others, the space has grown by them, and the machines are those of its
+-- places
 use Rattle.schedule_space.specs.Finding.{IsGrown, IsExpanding}
+use Rattle.schedule_space.specs.Kept.{AreKeptAt}
 use Rattle.schedule_space.proofs.Taking.{AreTakenOrWait}
 use Rattle.schedule_space.proofs.finding.Found.take_enough.Given as goal
 
 abbrev pub invariant-loop-step : goal.invariant-loop-step
 invariant-loop-step g l = record {
   grown : IsGrown l.fn.self l.self;
-  expanding : IsExpanding l.self l.frontier.items l.from l.most;
+  expanding : IsExpanding l.self l.from l.most;
   waits : AreTakenOrWait l.self l.from l.others.items l.running l.step-index;
-  machine : l.machine ≡ Some (machine_after l.fn.self.image (schedule_of l.fn.self l.from));
+  machines : AreKeptAt l.self l.machines l.from;
 }

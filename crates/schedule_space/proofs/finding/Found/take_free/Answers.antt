@@ -12,8 +12,8 @@ is_quiet_step-requires g c =
     let v = c.args.self.now in
     let from = c.args.link.from in
     let at =
-    lent_is c.as_ref.result c.unwrap-here.result c.args.machine.now (machine_after v.image (schedule_of v from))
-    c.as_ref.ensures.value c.unwrap-here.ensures c.requires.machine in
+    lent_is c.here.result c.unwrap-here.result c.make_here.new.machines.here (machine_after v.image (schedule_of v from))
+    c.here.ensures c.unwrap-here.ensures c.in_ok-make_here.ensures.made in
     let free : IsTrue c.is_free_step.result
     → IsFreeStep c.unwrap-here.result.now.image c.unwrap-here.result.now.world c.args.link.step =
     c.is_free_step.ensures.free
@@ -25,8 +25,8 @@ returns-clause-alone g c = λ later.
     let v = c.args.self.now in
     let from = c.args.link.from in
     let at =
-    lent_is c.as_ref.result c.unwrap-here.result c.args.machine.now (machine_after v.image (schedule_of v from))
-    c.as_ref.ensures.value c.unwrap-here.ensures c.requires.machine in
+    lent_is c.here.result c.unwrap-here.result c.make_here.new.machines.here (machine_after v.image (schedule_of v from))
+    c.here.ensures c.unwrap-here.ensures c.in_ok-make_here.ensures.made in
     let free =
     c.is_free_step.ensures.free
     (subst (λ (m : MachineValue). AreSettled m.image c.args.settled.now) (sym at) c.requires.settled) (search rules) in
