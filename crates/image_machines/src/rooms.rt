@@ -5,17 +5,13 @@
 #[macro_export]
 macro_rules! by_room {
     ($image:expr, $function:ident($($argument:expr),* $(,)?)) => {
-        if $image.slim() <= 8 {
-            $function::<8>($($argument),*)
-        } else {
-            $function::<128>($($argument),*)
-        }
+        $crate::by_room!($image, $function::<>($($argument),*))
     };
-    ($image:expr, $function:ident::<$($before:ty),+>($($argument:expr),* $(,)?)) => {
+    ($image:expr, $function:ident::<$($before:ty),*>($($argument:expr),* $(,)?)) => {
         if $image.slim() <= 8 {
-            $function::<$($before),+, 8>($($argument),*)
+            $function::<$($before,)* 8>($($argument),*)
         } else {
-            $function::<$($before),+, 128>($($argument),*)
+            $function::<$($before,)* 128>($($argument),*)
         }
     };
 }

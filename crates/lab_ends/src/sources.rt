@@ -40,15 +40,16 @@ fn marks_of(alloc: Global, space: &Space<'_>, ends: &[SpaceEnd]) -> Result<Vec<u
         bit = bit.rotate_left(1);
     }
     for _ in 0..space.len() {
-        if !mark_before(space.edges(), &mut marks) {
+        if !spread_once(space.edges(), &mut marks) {
             break;
         }
     }
     Ok(marks)
 }
 
-/// Gives the world that an edge leads from the marks of that to which it leads, and says whether there was one to give.
-fn mark_before(edges: &[Edge], marks: &mut [u64]) -> bool {
+/// Adds to the bits of the world that each edge leads from those of the world to which it leads, and says whether there was
+/// one to add.
+fn spread_once(edges: &[Edge], marks: &mut [u64]) -> bool {
     let mut is_more = false;
     for edge in edges.iter().rev() {
         let to = marks.get(edge.to as usize).copied().unwrap_or(0);

@@ -72,11 +72,11 @@ impl ExpectedLines<'_> {
         let place = texts
             .iter()
             .position(|text: &String| text.as_str() == words);
-        self.line_at(place)
+        self.claim_line(place)
     }
 
     /// The number, from 1, of the line of the claim at a place; 0 where there is none.
-    pub(crate) fn line_at(self, place: Option<usize>) -> usize {
+    pub(crate) fn claim_line(self, place: Option<usize>) -> usize {
         let line = place.and_then(|place| self.wishes.claim_lines.get(place));
         line.copied().unwrap_or(0)
     }

@@ -46,7 +46,7 @@ pub fn push_unkept(
         write!(out, "NOT as expected: {words} (line {line})\n")?;
     }
     if let Some(words) = unshown_words(wishes, unkept) {
-        let line = ExpectedLines { wishes }.line_at(unkept.unshown);
+        let line = ExpectedLines { wishes }.claim_line(unkept.unshown);
         let (head, who) = if is_of_every {
             ("NOT as expected", "schedule")
         } else {
@@ -78,7 +78,7 @@ pub fn push_unkept_objects(
         push_line_object(alloc, out, "rule", "broken", line)?;
     }
     if let Some(words) = unshown_words(wishes, unkept) {
-        let number = ExpectedLines { wishes }.line_at(unkept.unshown);
+        let number = ExpectedLines { wishes }.claim_line(unkept.unshown);
         let line = line_value(alloc, number, words);
         push_line_object(alloc, out, "unshown", "claim", line)?;
     }

@@ -4,9 +4,7 @@ use image_file::Image;
 use machine::Machine;
 use processor::Step;
 use std::alloc::Global;
-use step_views::{
-    Change, Content, Place, StepView, StreamPart, content_of, last_change, take_step,
-};
+use step_views::{Change, Content, Place, StepView, StreamPart, content_of, take_step};
 use stream_core::Status;
 
 /// A stream that reserves and starts another one, and stores 1 through a word that forwards to the word behind it.
@@ -117,19 +115,28 @@ fn views_of_starting(alloc: Global) -> Option<Vec<StepView>> {
     views(alloc, &mut machine, 5)
 }
 
-fn are_last_changes_right(views: &[StepView]) -> bool {
-    let current = Place::Current { p: 0 };
-    let reserved = Place::Reserved { p: 0 };
-    last_change(views, &Place::Tags { address: 8 }) == Some(4)
-        && last_change(views, &current) == Some(3)
-        && last_change(views, &reserved) == Some(1)
-        && last_change(views, &Place::Value { address: 0 }).is_none()
+/// The last step fills the word at byte address 8, which was empty; no other change fills or empties one.
+fn are_turns_right(views: &[StepView]) -> bool {
+    for (number, view) in views.iter().enumerate() {
+        for change in &view.changes {
+            let is_tags = change.place == Place::Tags { address: 8 };
+            let expected = if number == 4 && is_tags {
+                Some(8)
+            } else {
+                None
+            };
+            if change.word_filled_or_emptied() != expected {
+                return false;
+            }
+        }
+    }
+    true
 }
 
 #[test]
-fn a_view_has_each_change_and_the_last_of_a_place_is_found(rt: HostRuntime) {
+fn a_view_has_each_change_and_says_which_word_is_filled(rt: HostRuntime) {
     let right = match &views_of_starting(rt.alloc()) {
-        Some(views) => are_views_right(views) && are_last_changes_right(views),
+        Some(views) => are_views_right(views) && are_turns_right(views),
         None => false,
     };
     assert!(rt; right);

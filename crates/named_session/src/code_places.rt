@@ -1,15 +1,14 @@
 //! Where a stream stands in the program's text.
 
-ghost use Rattle.std.specs.Prelude.{◌≡◌, length, slice_get, IfSome, IfNone, nat_le};
+ghost use Rattle.std.specs.Prelude.{◌≡◌, slice_get};
 ghost use Rattle.std.specs.Option.{option_map};
 ghost use Rattle.processor.specs.World.{stream_of};
 ghost use Rattle.source_places.specs.SourcePlaces.{line_seen, lines_seen};
 ghost use Rattle.replay_debugger.specs.Sessions.{session_world};
-ghost use Rattle.replay_debugger.specs.Stops.{IsGreatestBelow, NoneBelow};
-ghost use Rattle.named_session.specs.CodePlaces.{pc_in, line_at, stands_before};
+ghost use Rattle.named_session.specs.CodePlaces.{pc_in, line_at};
 
 use crate::named_session::NamedSession;
-use source_places::{ProgramLine, SourceLabel};
+use source_places::ProgramLine;
 
 impl<'i, 't, const S: usize> NamedSession<'i, 't, S> {
     /// The pc of a stream at the session's position; None where there is no such stream.
@@ -40,24 +39,4 @@ impl<'i, 't, const S: usize> NamedSession<'i, 't, S> {
     {
         self.places.line(word as usize).copied()
     }
-}
-
-/// Which of these labels is the last that stands at or before a word; None where none does.
-pub fn label_before(labels: &[SourceLabel], word: usize) -> Option<usize>
-    ensures found { IfSome result (IsGreatestBelow (stands_before labels.now word) (length labels.now)) }
-    ensures none { IfNone result (NoneBelow (stands_before labels.now word) (length labels.now)) }
-{
-    for place in (0..labels.len()).rev() {
-        if is_before(&labels[place], word) {
-            return Some(place);
-        }
-    }
-    None
-}
-
-/// Whether a label stands at or before a word.
-fn is_before(label: &SourceLabel, word: usize) -> bool
-    ensures { result ≡ nat_le label.now.place.value word }
-{
-    label.place.value <= word
 }

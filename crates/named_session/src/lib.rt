@@ -8,7 +8,6 @@ mod named_words;
 mod reasons;
 mod user_names;
 
-pub use code_places::label_before;
 pub use last_steps::{LastStep, fault_words};
 pub use named_session::NamedSession;
 pub use user_names::{UserName, read_name};

@@ -1,13 +1,11 @@
 //! The waits of a run: from a stream's first try that was in vain to the step that was not.
 
-use bitflags::Flags;
 use image_file::Image;
 use machine::Machine;
 use processor::Step;
 use std::alloc::{AllocError, Global};
-use step_views::{Content, Place, StepView};
+use step_views::StepView;
 use stream_core::Outcome;
-use tag_memory::Tags;
 use waiting::{Wait, wait_of};
 
 /// A wait of a stream in a run. Steps count from 1.
@@ -120,7 +118,7 @@ impl WaitsSoFar {
             found.tries = found.tries.saturating_add(1);
             return true;
         }
-        let turned = last_turn(&self.turned, found.wait.address);
+        let turned = turned_at(&self.turned, found.wait.address);
         found.to = Some(number);
         if outcome == Outcome::Done && turned > found.from {
             found.met = turned;
@@ -143,7 +141,7 @@ impl WaitsSoFar {
             wait,
             from: number,
             tries: 1,
-            made: last_turn(&self.turned, wait.address),
+            made: turned_at(&self.turned, wait.address),
             to: None,
             met: 0,
         })?;
@@ -153,17 +151,15 @@ impl WaitsSoFar {
     /// Notes which words a step filled or emptied.
     fn note_turns(&mut self, number: usize, view: &StepView) {
         for change in &view.changes {
-            if let Place::Tags { address } = change.place
-                && is_full(change.before) != is_full(change.after)
-            {
+            if let Some(address) = change.word_filled_or_emptied() {
                 set_place(&mut self.turned, (address / 8) as usize, number);
             }
         }
     }
 }
 
-/// The last step that filled or emptied the word at a byte address; 0 where none did.
-fn last_turn(turned: &[usize], address: u64) -> usize {
+/// By what is noted of each word, the last step that filled or emptied the one at a byte address; 0 where none did.
+fn turned_at(turned: &[usize], address: u64) -> usize {
     turned.get((address / 8) as usize).copied().unwrap_or(0)
 }
 
@@ -171,13 +167,5 @@ fn last_turn(turned: &[usize], address: u64) -> usize {
 fn set_place<T: Copy + Drop>(values: &mut [T], place: usize, value: T) {
     if let Some(at) = values.get_mut(place) {
         *at = value;
-    }
-}
-
-/// Whether these are the tags of a full word.
-fn is_full(content: Content) -> bool {
-    match content {
-        Content::Tags(tags) => tags.contains(Tags::FULL),
-        _ => false,
     }
 }

@@ -4,6 +4,6 @@ pub mod Numbers
 pub mod Changes
 pub mod Laws
 pub mod StepViews
-pub mod LastChanges
+pub mod FullBits
 -- What the functions inside promise.
 pub mod Comparing

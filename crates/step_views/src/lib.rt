@@ -3,7 +3,7 @@
 #![tactic(auto)]
 
 mod differences;
-mod last_changes;
+mod full_bits;
 mod laws;
 mod numbers;
 mod places;
@@ -11,7 +11,6 @@ mod reading;
 mod seen;
 mod step_views;
 
-pub use last_changes::last_change;
 pub use laws::worlds_are_their_places;
 pub use places::{Change, Content, Place, StreamPart};
 pub use reading::content_of;

@@ -1,12 +1,11 @@
 //! Which step turned a word last.
 
 ghost use Rattle.std.specs.Prelude.{◌≡◌, ◌↔◌, IsTrue, MatchOption};
-ghost use Rattle.stream_waits.specs.Turns.{is_full_content, IsTurn, Turns, IsLastTurn, NoneTurns};
+ghost use Rattle.step_views.specs.FullBits.{FillsOrEmpties};
+ghost use Rattle.stream_waits.specs.Turns.{Turns, IsLastTurn, NoneTurns};
 
-use bitflags::Flags;
 use processor::Step;
-use step_views::{Change, Content, Place, StepView};
-use tag_memory::Tags;
+use step_views::{Change, StepView};
 
 /// The last step that filled or emptied a word.
 #[derive(Clone, Copy, Debug, PartialEq, Eq)]
@@ -47,17 +46,7 @@ fn turns(view: &StepView, address: u64) -> bool
 
 /// Whether a change filled or emptied the word at a byte address.
 fn is_turn(change: &Change, address: u64) -> bool
-    ensures { IsTrue result ↔ IsTurn address change.now }
+    ensures { IsTrue result ↔ FillsOrEmpties address change.now }
 {
-    change.place == Place::Tags { address } && is_full(change.before) != is_full(change.after)
-}
-
-/// Whether these are the tags of a full word.
-fn is_full(content: Content) -> bool
-    ensures { result ≡ is_full_content content }
-{
-    match content {
-        Content::Tags(tags) => tags.contains(Tags::FULL),
-        _ => false,
-    }
+    change.word_filled_or_emptied() == Some(address)
 }
