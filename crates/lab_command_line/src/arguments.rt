@@ -35,8 +35,6 @@ pub(crate) enum Form {
     Number(&'static str, u64, u64),
     /// The same, which says nothing without the option of the last name, and so goes only with it.
     NumberWith(&'static str, u64, u64, &'static str),
-    /// The same, which has to be there.
-    NeededNumber(&'static str, u64, u64),
 }
 
 /// An argument of a command: its name, what help says of it, and how it stands on a line.
@@ -70,9 +68,6 @@ pub(crate) fn parser_of<'a>(alloc: Global, argument: &Argument) -> Result<Arg<'a
         Form::Number(value, least, most) => Ok(number(alloc, name, value, about, least, most)),
         Form::NumberWith(value, least, most, needed) => {
             number(alloc, name, value, about, least, most).requires_arg(needed)
-        }
-        Form::NeededNumber(value, least, most) => {
-            Ok(number(alloc, name, value, about, least, most).required(true))
         }
     }
 }

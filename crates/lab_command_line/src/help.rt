@@ -226,6 +226,8 @@ pub(crate) const SCHEDULE_FILE: &str =
 pub(crate) const PAGE_SCHEDULE: &str =
     "its schedule: lines of processor, stream and number of steps, or * until it is blocked; with --seeds its seed";
 
+pub(crate) const SEEDS: &str = "how many random schedules, 1 to 100000000 [200]";
+
 pub(crate) const STEPS: &str =
     "the most steps of a schedule that mta_lab makes, 1 to 1000000 [10000]";
 

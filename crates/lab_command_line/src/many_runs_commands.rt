@@ -16,11 +16,7 @@ use std::alloc::{AllocError, Global};
 /// Of `survey`.
 pub(crate) const SURVEY_ARGUMENTS: [Argument; 11] = [
     Argument("PROGRAM", help::PROGRAM, Form::Needed),
-    Argument(
-        "seeds",
-        "how many random schedules",
-        Form::NeededNumber("N", 1, MOST_SEEDS),
-    ),
+    Argument("seeds", help::SEEDS, Form::Number("N", 1, MOST_SEEDS)),
     Argument(
         "from",
         "the first seed [0]",
@@ -97,11 +93,7 @@ pub(crate) const GRADE_ARGUMENTS: [Argument; 17] = [
         "the cells, as .data and .fill lines, in place of each submission's own",
         Form::OptionWithout("FILE", &["cases"]),
     ),
-    Argument(
-        "seeds",
-        "how many random schedules, 1 to 100000000 [200]",
-        Form::Number("N", 1, MOST_SEEDS),
-    ),
+    Argument("seeds", help::SEEDS, Form::Number("N", 1, MOST_SEEDS)),
     Argument("steps", help::STEPS, Form::Number("K", 1, MOST_STEPS)),
     Argument(
         "all",

@@ -31,7 +31,7 @@ pub(crate) const USUAL_MEGABYTES: usize = 200;
 /// The most submissions that `grade` may be asked to judge side by side.
 pub(crate) const MOST_JOBS: u64 = 256;
 
-/// How many seeds `grade` tries, where none are said.
+/// How many seeds `survey` and `grade` try, where none are said.
 pub(crate) const USUAL_SEEDS: usize = 200;
 
 /// The folder of the exercises, where none is said.
