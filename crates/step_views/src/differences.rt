@@ -1,6 +1,6 @@
 //! What is compared of streams, counts and words, and noted where it differs.
 
-ghost use Rattle.std.specs.Prelude.{◌≡◌, ◌≤◌, ◌<◌, ◌+◌, ◌↔◌, IsTrue, vec_len, vec_capacity};
+ghost use Rattle.std.specs.Prelude.{◌≤◌, ◌<◌, ◌+◌, vec_len, vec_capacity};
 ghost use Rattle.step_views.specs.declared.places.Place.{Place};
 ghost use Rattle.step_views.specs.Places.{part_content};
 ghost use Rattle.step_views.specs.Comparing.{entry, IsKept, AreKept, part_entry, part_entries};
@@ -9,8 +9,9 @@ ghost use Rattle.step_views.specs.Comparing.{stream_entries, count_entries, word
 
 use crate::places::{Change, Content, Place, StreamPart};
 use crate::reading::part_content;
-use stream_core::{Code, Codes, Status, StatusWord, Stream, TrapMask};
-use tag_memory::{Tags, Word};
+use crate::same_contents::is_same_content;
+use stream_core::Stream;
+use tag_memory::Word;
 
 /// Notes what differs of a stream.
 pub(crate) fn note_stream(changes: &mut Vec<Change>, p: u8, s: u8, before: &Stream, after: &Stream)
@@ -127,7 +128,7 @@ fn note(changes: &mut Vec<Change>, place: Place, before: Content, after: Content
     ensures few { vec_len changes.new ≤ vec_len changes.old + 1 }
     ensures capacity { vec_capacity changes.old ≤ vec_capacity changes.new }
 {
-    if is_same(&before, &after) {
+    if is_same_content(&before, &after) {
         return;
     }
     let change = Change {
@@ -139,61 +140,4 @@ fn note(changes: &mut Vec<Change>, place: Place, before: Content, after: Content
         Ok(()) => {}
         Err(_) => unreachable!(),
     }
-}
-
-fn is_same(a: &Content, b: &Content) -> bool
-    ensures { IsTrue result ↔ (a.now ≡ b.now) }
-{
-    match (a, b) {
-        (Content::Number(a), Content::Number(b)) => a == b,
-        (Content::Codes(a), Content::Codes(b)) => is_same_codes(a, b),
-        (Content::Mask(a), Content::Mask(b)) => is_same_mask(a, b),
-        (Content::InTrap(a), Content::InTrap(b)) => a == b,
-        (Content::Status(a), Content::Status(b)) => is_same_status(a, b),
-        (Content::Target(a), Content::Target(b)) => is_same_word(a, b),
-        (Content::Tags(a), Content::Tags(b)) => is_same_tags(a, b),
-        _ => false,
-    }
-}
-
-fn is_same_word(a: &StatusWord, b: &StatusWord) -> bool
-    ensures { IsTrue result ↔ (a.now ≡ b.now) }
-{
-    a.pc == b.pc
-        && is_same_codes(&a.codes, &b.codes)
-        && is_same_mask(&a.mask, &b.mask)
-        && a.in_trap == b.in_trap
-}
-
-fn is_same_codes(a: &Codes, b: &Codes) -> bool
-    ensures { IsTrue result ↔ (a.now ≡ b.now) }
-{
-    is_same_code(&a.newest, &b.newest)
-        && is_same_code(&a.second, &b.second)
-        && is_same_code(&a.third, &b.third)
-        && is_same_code(&a.oldest, &b.oldest)
-}
-
-fn is_same_code(a: &Code, b: &Code) -> bool
-    ensures { IsTrue result ↔ (a.now ≡ b.now) }
-{
-    a == b
-}
-
-fn is_same_mask(a: &TrapMask, b: &TrapMask) -> bool
-    ensures { IsTrue result ↔ (a.now ≡ b.now) }
-{
-    a == b
-}
-
-fn is_same_status(a: &Status, b: &Status) -> bool
-    ensures { IsTrue result ↔ (a.now ≡ b.now) }
-{
-    a == b
-}
-
-fn is_same_tags(a: &Tags, b: &Tags) -> bool
-    ensures { IsTrue result ↔ (a.now ≡ b.now) }
-{
-    a == b
 }

@@ -71,8 +71,8 @@ pub fn take_step<const S: usize>(
     })
 }
 
-/// What a step would ask of the memory, where it would end, and the reply.
-fn reference_of<const S: usize>(machine: &Machine<'_, S>, step: Step) -> Option<Reference>
+/// What a step would ask of the memory, where it would end, and the reply; None if it would ask nothing.
+pub fn reference_of<const S: usize>(machine: &Machine<'_, S>, step: Step) -> Option<Reference>
     ensures { result ≡ reference_of machine.now.image machine.now.world step }
 {
     match machine.next(step.p, step.s) {

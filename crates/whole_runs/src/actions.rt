@@ -3,16 +3,16 @@
 ghost use Rattle.std.specs.Prelude.{◌≡◌, IfOk, OnOk};
 ghost use Rattle.processor.specs.World.{steps, after};
 ghost use Rattle.step_views.specs.Places.{used_stream};
-ghost use Rattle.step_views.specs.StepViews.{pc_of, reference_of};
+ghost use Rattle.step_views.specs.StepViews.{pc_of};
 ghost use Rattle.whole_runs.specs.RunActions.{action_of, actions_of, deed_by, insn_at, word_met, access_by};
 
 use image_file::Image;
 use insn_word::{Insn, decode_as};
 use machine::Machine;
-use processor::{Next, Step};
+use processor::Step;
 use run_findings::{Access, Action, Deed};
 use std::alloc::{AllocError, Global};
-use step_views::{Content, Place, Reference, StreamPart, content_of};
+use step_views::{Content, Place, Reference, StreamPart, content_of, reference_of};
 use stream_core::Outcome;
 use tag_memory::{Reply, Word};
 
@@ -52,23 +52,6 @@ pub fn take_action<const S: usize>(machine: &mut Machine<'_, S>, step: Step) -> 
         stream: step,
         deed: deed_by(machine.image(), pc, outcome),
         access: access_by(&reference, before, after),
-    }
-}
-
-/// What a step would ask of the memory, where it would end, and the reply.
-fn reference_of<const S: usize>(machine: &Machine<'_, S>, step: Step) -> Option<Reference>
-    ensures { result ≡ reference_of machine.now.image machine.now.world step }
-{
-    match machine.next(step.p, step.s) {
-        Next::Skip | Next::Local => None,
-        Next::Ask(request) => {
-            let ending = machine.ending(&request);
-            Some(Reference {
-                request,
-                address: ending.address,
-                reply: ending.reply,
-            })
-        }
     }
 }
 

@@ -7,10 +7,9 @@ ghost use Rattle.whole_runs.specs.PlaceLists.{each, state_places, register_place
 ghost use Rattle.whole_runs.specs.PlaceLists.{processor_places, word_places, places_of, AreTold};
 ghost use Rattle.whole_runs.specs.Differences.{AreOfOneImage};
 
-use crate::same_contents::is_same;
 use machine::Machine;
 use std::alloc::{AllocError, Global};
-use step_views::{Change, Place, StreamPart, content_of};
+use step_views::{Change, Place, StreamPart, content_of, is_same_content};
 
 /// The places in which the worlds of two machines over one image differ, with what stands there in the one and in the
 /// other: each of them, each once, and each other place holds the same in both. Those of processors come first, in the
@@ -179,7 +178,7 @@ fn note<const S: usize>(
     let (Some(before), Some(after)) = (content_of(one, place), content_of(other, place)) else {
         return Ok(());
     };
-    if is_same(&before, &after) {
+    if is_same_content(&before, &after) {
         return Ok(());
     }
     found.push(Change {

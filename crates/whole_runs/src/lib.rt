@@ -5,7 +5,6 @@
 mod actions;
 mod differences;
 mod first_differences;
-mod same_contents;
 mod same_worlds;
 mod views;
 

@@ -5,8 +5,8 @@ ghost use Rattle.processor.specs.World.{counts_of};
 ghost use Rattle.whole_runs.specs.Differences.{AreOfOneImage};
 ghost use Rattle.whole_runs.specs.SameWorlds.{processor_in};
 
-use crate::same_contents::{is_same_status, is_same_word};
 use machine::Machine;
+use step_views::{is_same_status, is_same_status_word};
 use stream_core::Stream;
 use tag_memory::Word;
 
@@ -81,7 +81,7 @@ fn are_same_streams<const S: usize>(one: &Machine<'_, S>, other: &Machine<'_, S>
 fn is_same_stream(a: &Stream, b: &Stream) -> bool
     ensures { IsTrue result ↔ (a.now ≡ b.now) }
 {
-    is_same_word(&a.ssw(), &b.ssw())
+    is_same_status_word(&a.ssw(), &b.ssw())
         && a.xr() == b.xr()
         && a.retries() == b.retries()
         && is_same_status(&a.status(), &b.status())
@@ -114,7 +114,7 @@ fn are_same_targets(a: &Stream, b: &Stream) -> bool
     for number in 0..8u8 {
         let word = a.target(number).unwrap();
         let twin = b.target(number).unwrap();
-        if !is_same_word(&word, &twin) {
+        if !is_same_status_word(&word, &twin) {
             return false;
         }
     }

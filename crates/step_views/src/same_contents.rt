@@ -2,12 +2,12 @@
 
 ghost use Rattle.std.specs.Prelude.{◌≡◌, ◌↔◌, IsTrue};
 
-use step_views::Content;
+use crate::places::Content;
 use stream_core::{Code, Codes, Status, StatusWord, TrapMask};
 use tag_memory::Tags;
 
-/// Whether both are the same.
-pub(crate) fn is_same(a: &Content, b: &Content) -> bool
+/// Whether both contents are the same.
+pub fn is_same_content(a: &Content, b: &Content) -> bool
     ensures { IsTrue result ↔ (a.now ≡ b.now) }
 {
     match (a, b) {
@@ -16,14 +16,14 @@ pub(crate) fn is_same(a: &Content, b: &Content) -> bool
         (Content::Mask(a), Content::Mask(b)) => is_same_mask(a, b),
         (Content::InTrap(a), Content::InTrap(b)) => a == b,
         (Content::Status(a), Content::Status(b)) => is_same_status(a, b),
-        (Content::Target(a), Content::Target(b)) => is_same_word(a, b),
+        (Content::Target(a), Content::Target(b)) => is_same_status_word(a, b),
         (Content::Tags(a), Content::Tags(b)) => is_same_tags(a, b),
         _ => false,
     }
 }
 
-/// Whether both are the same.
-pub(crate) fn is_same_word(a: &StatusWord, b: &StatusWord) -> bool
+/// Whether both status words are the same.
+pub fn is_same_status_word(a: &StatusWord, b: &StatusWord) -> bool
     ensures { IsTrue result ↔ (a.now ≡ b.now) }
 {
     a.pc == b.pc
@@ -53,8 +53,8 @@ fn is_same_mask(a: &TrapMask, b: &TrapMask) -> bool
     a == b
 }
 
-/// Whether both are the same.
-pub(crate) fn is_same_status(a: &Status, b: &Status) -> bool
+/// Whether both statuses are the same.
+pub fn is_same_status(a: &Status, b: &Status) -> bool
     ensures { IsTrue result ↔ (a.now ≡ b.now) }
 {
     a == b
