@@ -1,7 +1,8 @@
 #!/usr/bin/env python3
 """embed.py [--check]: makes the constants of the pages' crates, below src/parts of each, of the files in this folder,
-since a program of the kit can't include a file's text. The hashes that a policy names are among them. With --check
-nothing is written, and each file of constants that is not up to date is named."""
+since a program of the kit can't include a file's text. The hashes that a policy names are among them. A file that pages
+of several crates have is a constant of the first one, which adds it by a public function. With --check nothing is written,
+and each file of constants that is not up to date is named."""
 
 import pathlib
 import re
@@ -63,9 +64,14 @@ def module(page, source, text, made):
     return name
 
 
-def section(kind, place, names):
-    """The function that adds the texts of a section of a page."""
-    adds = "?;\n".join(f"    page.push_str({name}::TEXT)" for name in names)
+def pusher(name):
+    """The name of the function that adds a text to pages of other crates too."""
+    return f"push_{name}"
+
+
+def section(kind, place, calls):
+    """The function that adds the texts of a section of a page, by these calls."""
+    adds = "?;\n".join(f"    {call}" for call in calls)
     which = f"{kind}_{place}" if kind == "pair" else place
     said = f"{SECTIONS[place]}, on a page of two runs" if kind == "pair" else SECTIONS[place]
     return (
@@ -74,24 +80,65 @@ def section(kind, place, names):
     )
 
 
-def files(pages):
-    """Each file of constants of a crate's pages with its text."""
-    made, functions = {}, ""
+def shared_function(name, source):
+    """The function that adds a text to pages of other crates too."""
+    return (
+        f"\n/// Adds the text of page/{source.name}, which other pages have too.\n"
+        + f"pub fn {pusher(name)}(page: &mut String) -> Result<(), AllocError> {{\n    page.push_str({name}::TEXT)\n}}\n"
+    )
+
+
+def crates_by_file():
+    """By the path of each style and part of a script the crates whose pages have it, in the order of the pages."""
+    found = {}
+    for page in PAGES.values():
+        for name in page.styles + page.order():
+            crates = found.setdefault((page.folder / name).resolve(), [])
+            if page.crate not in crates:
+                crates.append(page.crate)
+    return found
+
+
+def files(crate, pages, users):
+    """Each file of constants of a crate's pages with its text; `users` are the crates of each file."""
+    made, taken, functions, shared = {}, set(), "", {}
     for kind, page in pages.items():
         sections = [[]]
         for source, text in texts(page):
             if source is None:
                 sections.append([])
-            else:
-                sections[-1].append(module(page, source, text, made))
+                continue
+            path = (page.folder / source).resolve()
+            of = users.get(path, [crate])
+            name = module(page, source, text, made if of[0] == crate else {})
+            if of[0] != crate:
+                taken.add((of[0], pusher(name)))
+                sections[-1].append(f"{pusher(name)}(page)")
+                continue
+            sections[-1].append(f"page.push_str({name}::TEXT)")
+            if len(of) > 1:
+                shared[name] = shared_function(name, path)
         functions += "".join(section(kind, *both) for both in zip(SECTIONS, sections, strict=True))
     parts = (
         "//! The texts of a page. Made by page/embed.py of the files in page/.\n\n"
         + "".join(f"mod {name};\n" for name in sorted(made))
-        + "\nuse std::alloc::AllocError;\n"
+        + "\n"
+        + imports(taken)
+        + "use std::alloc::AllocError;\n"
+        + "".join(shared[name] for name in sorted(shared))
         + functions
     )
     return {"parts.rt": parts} | {f"parts/{name}.rt": text for name, text in made.items()}
+
+
+def imports(taken):
+    """The lines that import these functions of other crates, in the layout of rt fmt."""
+    lines = []
+    for crate in sorted({crate for crate, _ in taken}):
+        names = ", ".join(sorted(name for of, name in taken if of == crate))
+        line = f"use {crate}::{{{names}}};"
+        lines.append(line if len(line) <= LINE else f"use {crate}::{{\n    {names},\n}};")
+    return "".join(f"{line}\n" for line in lines)
 
 
 def stale_files(made, source):
@@ -105,11 +152,11 @@ def stale_files(made, source):
 
 
 def main(words):
-    crates = {}
+    crates, users = {}, crates_by_file()
     for kind, page in PAGES.items():
         crates.setdefault(page.crate, {})[kind] = page
     for crate, pages in crates.items():
-        made, source = files(pages), CRATES / crate / "src"
+        made, source = files(crate, pages, users), CRATES / crate / "src"
         for path in stale_files(made, source):
             if words == ["--check"]:
                 print(f"crates/{crate}/src/{path}: not what page/embed.py makes")

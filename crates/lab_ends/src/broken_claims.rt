@@ -4,11 +4,10 @@ ghost use Rattle.std.specs.Prelude.{◌≡◌, ◌++◌, IfOk, OnOk, length, map
 ghost use Rattle.lab_ends.specs.BrokenClaims.{broken_places, broken_before, broken_end, broken_end_of, broken_ends, value_of};
 
 use crate::every_end::{EndKey, SpaceEnd, SpaceEndKind, new_end};
-use crate::machines::machine_at;
 use crate::wishes::Wishes;
 use claims::Claim;
 use image_machines::loaded;
-use schedule_space::Space;
+use schedule_space::{Space, machine_at};
 use std::alloc::{AllocError, Global};
 
 /// Adds the worlds that break claims, those of each claim as one.

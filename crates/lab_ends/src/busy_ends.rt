@@ -2,11 +2,10 @@
 
 use crate::cycles::push_cycle;
 use crate::every_end::{EndKey, SpaceEnd, SpaceEndKind, new_end};
-use crate::machines::machine_at;
 use crate::wishes::NEVER_BUSY;
 use busy_streams::Busy;
 use lab_texts::ProgramNames;
-use schedule_space::Space;
+use schedule_space::{Space, machine_at};
 use std::alloc::{AllocError, Global};
 
 /// The world from which a stream loops alone, as an end that breaks the line `never busy`, which has this number, with the

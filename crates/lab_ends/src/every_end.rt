@@ -8,7 +8,6 @@ use crate::busy_ends::busy_end;
 use crate::end_texts::{EndText, end_text_of};
 use crate::expected_traps::is_expected_trap;
 use crate::findings::first_finding;
-use crate::machines::machine_at;
 use crate::sources::sources_of;
 use crate::spinning::add_spinning;
 use crate::wishes::Wishes;
@@ -17,7 +16,7 @@ use end_kinds::{EndKind, Status, end_kind_of, status_of};
 use expectations::{Expectation, first_missed};
 use lab_texts::Notation;
 use processor::Step;
-use schedule_space::{Fate, Space};
+use schedule_space::{Fate, Space, machine_at};
 use std::alloc::{AllocError, Global};
 
 /// What worlds of a space are.

@@ -13,7 +13,6 @@ mod every_end;
 mod expected_traps;
 mod findings;
 mod links;
-mod machines;
 mod named_lines;
 mod rule_lines;
 mod set_summaries;

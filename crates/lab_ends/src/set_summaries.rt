@@ -1,12 +1,11 @@
 //! What is said of a set of worlds: which streams run in it and which only wait, and the words that change.
 
-use crate::machines::machine_at;
 use lab_texts::{
     NumberStyle, ProgramNames, RunPieces, TextWriter, push_changed_words, put_part_of,
 };
 use machine::Machine;
 use processor::Step;
-use schedule_space::Space;
+use schedule_space::{Space, machine_at};
 use std::alloc::{AllocError, Global};
 use tag_memory::Word;
 use waiting::{is_stuck, running_streams, wait_of};

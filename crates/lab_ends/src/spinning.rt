@@ -3,11 +3,10 @@
 use crate::cycles::{cycle_of, push_cycle};
 use crate::every_end::{EndKey, SpaceEnd, SpaceEndKind, new_end};
 use crate::links::links_of;
-use crate::machines::machine_at;
 use crate::set_summaries::{SetSummary, set_summary};
 use end_kinds::EndKind;
 use lab_texts::{NumberStyle, ProgramNames};
-use schedule_space::Space;
+use schedule_space::{Space, machine_at};
 use std::alloc::{AllocError, Global};
 use terminal_components::terminal_roots;
 

@@ -35,6 +35,26 @@ mod world_script;
 
 use std::alloc::AllocError;
 
+/// Adds the text of page/base.css, which other pages have too.
+pub fn push_base_style(page: &mut String) -> Result<(), AllocError> {
+    page.push_str(base_style::TEXT)
+}
+
+/// Adds the text of page/elements.js, which other pages have too.
+pub fn push_elements_script(page: &mut String) -> Result<(), AllocError> {
+    page.push_str(elements_script::TEXT)
+}
+
+/// Adds the text of page/program.js, which other pages have too.
+pub fn push_program_script(page: &mut String) -> Result<(), AllocError> {
+    page.push_str(program_script::TEXT)
+}
+
+/// Adds the text of page/values.js, which other pages have too.
+pub fn push_values_script(page: &mut String) -> Result<(), AllocError> {
+    page.push_str(values_script::TEXT)
+}
+
 /// Adds what stands before the title.
 pub(crate) fn push_head(page: &mut String) -> Result<(), AllocError> {
     page.push_str(template_1::TEXT)

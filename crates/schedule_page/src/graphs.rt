@@ -9,10 +9,10 @@ use lab_ends::SpaceEnd;
 use lab_json::{List, Object, RunTitle, head_value, stream_value};
 use lab_texts::ProgramNames;
 use processor::Step;
-use schedule_space::Space;
+use schedule_space::{Space, machine_at};
 use serde_json::Value;
 use space_graphs::ends_ahead;
-use state_tables::{NumberSets, depths_of, machine_at, rows_of, sets_of, targets_of};
+use state_tables::{NumberSets, depths_of, rows_of, sets_of, targets_of};
 use std::alloc::{AllocError, Global};
 use text_parts::push_hexadecimal_16;
 

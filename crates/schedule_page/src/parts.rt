@@ -1,10 +1,8 @@
 //! The texts of a page. Made by page/embed.py of the files in page/.
 
 mod actions_script;
-mod base_style;
 mod choices_script;
 mod effects_script;
-mod elements_script;
 mod findings_script;
 mod goals_script;
 mod going_script;
@@ -17,16 +15,15 @@ mod naming_script;
 mod panes_script;
 mod picture_script;
 mod play_style;
-mod program_script;
 mod telling_script;
 mod template_1;
 mod template_2;
 mod template_3;
 mod template_4;
 mod template_5;
-mod values_script;
 mod way_script;
 
+use replay_page::{push_base_style, push_elements_script, push_program_script, push_values_script};
 use std::alloc::AllocError;
 
 /// Adds what stands before the title.
@@ -37,7 +34,7 @@ pub(crate) fn push_head(page: &mut String) -> Result<(), AllocError> {
 /// Adds what stands between the title and the data.
 pub(crate) fn push_middle(page: &mut String) -> Result<(), AllocError> {
     page.push_str(template_2::TEXT)?;
-    page.push_str(base_style::TEXT)?;
+    push_base_style(page)?;
     page.push_str(play_style::TEXT)?;
     page.push_str(template_3::TEXT)
 }
@@ -45,10 +42,10 @@ pub(crate) fn push_middle(page: &mut String) -> Result<(), AllocError> {
 /// Adds what stands after the data.
 pub(crate) fn push_tail(page: &mut String) -> Result<(), AllocError> {
     page.push_str(template_4::TEXT)?;
-    page.push_str(elements_script::TEXT)?;
+    push_elements_script(page)?;
     page.push_str(graph_script::TEXT)?;
-    page.push_str(values_script::TEXT)?;
-    page.push_str(program_script::TEXT)?;
+    push_values_script(page)?;
+    push_program_script(page)?;
     page.push_str(kinds_script::TEXT)?;
     page.push_str(way_script::TEXT)?;
     page.push_str(naming_script::TEXT)?;

@@ -5,7 +5,6 @@ use crate::surveys::Surveyed;
 use image_machines::loaded;
 use lab_ends::first_finding;
 use rayon::prelude::*;
-use schedule_makers::seeded;
 use std::alloc::{AllocError, Global};
 use std::thread::Threads;
 
@@ -41,13 +40,7 @@ fn finding_of<const S: usize>(
     seed: u64,
 ) -> Result<String, AllocError> {
     let mut machine = loaded::<S>(alloc, surveyed.image)?;
-    let made = seeded(
-        alloc,
-        &mut machine,
-        seed,
-        surveyed.fair_steps,
-        surveyed.most,
-    )?;
+    let made = surveyed.take_seed(alloc, &mut machine, seed)?;
     first_finding::<S>(
         alloc,
         surveyed.names,

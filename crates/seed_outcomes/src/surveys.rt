@@ -11,10 +11,10 @@ use image_file::Image;
 use image_machines::{by_room, loaded};
 use lab_ends::{Wishes, end_text_of, is_expected_trap};
 use lab_texts::{NumberStyle, ProgramNames};
-use machine::LoadFault;
+use machine::{LoadFault, Machine};
 use processor::Step;
 use rayon::prelude::*;
-use schedule_makers::{fair_length, seeded};
+use schedule_makers::{MadeSchedule, fair_length, seeded};
 use schedule_survey::SeedRange;
 use seed_verdicts::first_broken;
 use std::alloc::{AllocError, Global};
@@ -51,6 +51,18 @@ pub(crate) struct Surveyed<'a, 't> {
     pub most: usize,
     /// How the numbers of ends are told.
     pub style: NumberStyle,
+}
+
+impl Surveyed<'_, '_> {
+    /// Takes the steps of the schedule of a seed, which was made for this machine at its start.
+    pub(crate) fn take_seed<const S: usize>(
+        &self,
+        alloc: Global,
+        machine: &mut Machine<'_, S>,
+        seed: u64,
+    ) -> Result<MadeSchedule, AllocError> {
+        seeded(alloc, machine, seed, self.fair_steps, self.most)
+    }
 }
 
 /// The outcomes of the schedules of these seeds, in the order of their first seeds.
@@ -160,13 +172,7 @@ fn outcome_of<const S: usize>(
     runs: usize,
 ) -> Result<SeedOutcome, AllocError> {
     let mut machine = loaded::<S>(alloc, surveyed.image)?;
-    let made = seeded(
-        alloc,
-        &mut machine,
-        seed,
-        surveyed.fair_steps,
-        surveyed.most,
-    )?;
+    let made = surveyed.take_seed(alloc, &mut machine, seed)?;
     let words = end_text_of(alloc, &machine, surveyed.names, surveyed.style)?;
     let is_trapped = words
         .stopped

@@ -4,14 +4,12 @@
 
 mod depths;
 mod laws;
-mod machines;
 mod number_sets;
 mod rows;
 mod targets;
 
 pub use depths::depths_of;
 pub use laws::rows_and_targets_tell_the_space;
-pub use machines::machine_at;
 pub use number_sets::{NumberSets, sets_of};
 pub use rows::{StateRows, rows_of};
 pub use targets::targets_of;

@@ -6,8 +6,7 @@ ghost use Rattle.world_keys.specs.Tables.{Extends};
 ghost use Rattle.schedule_space.specs.Spaces.{count, world_of, StandAlone};
 ghost use Rattle.state_tables.specs.Rows.{IsRow, AreRows};
 
-use crate::machines::machine_at;
-use schedule_space::Space;
+use schedule_space::{Space, machine_at};
 use std::alloc::{AllocError, Global};
 use world_keys::{Table, world_key};
 

@@ -1,13 +1,14 @@
-//! Machines at the states of a space.
+//! Machines at the worlds of a space.
 
 ghost use Rattle.std.specs.Prelude.{◌≡◌, IfOk};
 ghost use Rattle.schedule_space.specs.Spaces.{schedule_of, machine_after};
 
+use crate::spaces::Space;
 use machine::{LoadFault, Machine};
-use schedule_space::Space;
 use std::alloc::{AllocError, Global};
 
-/// A machine at the state of a place of a space; an error if there is none at this place, or if memory is refused.
+/// A machine with room for the image's streams, at the world at a place of a space; an error if the space has no such
+/// place, the machine no such room, or memory is refused.
 pub fn machine_at<'i, const S: usize>(
     alloc: Global,
     space: &Space<'i>,
