@@ -48,5 +48,8 @@ fn turns(view: &StepView, address: u64) -> bool
 fn is_turn(change: &Change, address: u64) -> bool
     ensures { IsTrue result ↔ FillsOrEmpties address change.now }
 {
-    change.word_filled_or_emptied() == Some(address)
+    match change.word_filled_or_emptied() {
+        Some(word) => word == address,
+        None => false,
+    }
 }
