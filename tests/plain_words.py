@@ -5,8 +5,8 @@ reading ease by Flesch.
   plain_words.py            says what is not plain in the documents that are held to it
   plain_words.py FILE..     says it of these files, and their reading ease
 
-Of man pages, of the help texts of mta_lab, of advice on exercises and of the crates' README.md only the words are looked
-for, of tasks and hints all.
+Of man pages, of the help texts of mta_lab and of advice on exercises only the words are looked for; of the crates'
+README.md, of tasks and of hints all.
 
 A sentence is at most 30 words long, and a document's reading ease is at least 60: 206.835 - 1.015 * words a sentence
 - 84.6 * syllables a word. Code doesn't count, nor do tables and headings, but for their words; a name in backquotes
@@ -23,9 +23,9 @@ HELD = ("README.md", "CONTRIBUTING.md", "docs/TUTORIAL.md", "docs/CHEAT_SHEET.md
         "docs/PLAY.md", "docs/EDITORS.md", "docs/RATTLE.md", "docs/GLOSSARY.md", "docs/FINDINGS.md", "docs/MACHINE.md",
         "docs/FORMATS.md", "docs/PROMISES.md", "docs/ARCHITECTURE.md", "docs/DECISIONS.md", "docs/SPEED.md",
         "CHANGELOG.md", "page/README.md", "exercises/README.md")
-TASKS = ("exercises/*/task.md", "exercises/*/hints.md")
+HELD_TOO = ("crates/*/README.md", "exercises/*/task.md", "exercises/*/hints.md")
 WORDS_ALONE = ("share/man/man1/*.1", "crates/lab_command_line/src/help.rt", "crates/lab_command_line/src/*arguments.rt",
-               "exercises/*/advice", "crates/*/README.md")
+               "exercises/*/advice")
 EASE, LONGEST = 60, 30
 # a word that readers stumble over, and what to write
 PLAIN = (
@@ -128,7 +128,7 @@ def faults_of(path):
 
 
 def main():
-    for path in sys.argv[1:] or (*HELD, *(path for pattern in TASKS for path in named(pattern))):
+    for path in sys.argv[1:] or (*HELD, *(path for pattern in HELD_TOO for path in named(pattern))):
         for fault in faults_of(path):
             print(fault)
         if sys.argv[1:]:
