@@ -48,8 +48,9 @@ pub record IsUnshownIn (v : SpaceValue) (c : Claim) : Type 0 where
 abbrev pub TellsOfClaims : SpaceValue → List Claim → Type 0
 TellsOfClaims v claims = IsComplete v ⊎ IsFollowedForClaims v claims
 
--- none of its worlds shows the claim at this place, nor one on the way through its beginning
+-- None of its worlds shows the claim at this place, nor one on the way through its beginning; each earlier claim is shown.
 pub record IsUnshownAt (v : SpaceValue) (claims : List Claim) (k : ℕ) : Type 0 where
   pub claim : Claim
   pub there : slice_get claims k ≡ Some claim
   pub unshown : IsUnshownIn v claim
+  pub earlier : (j : ℕ) → j < k → (c : Claim) → slice_get claims j ≡ Some c → IsShown v.image v.begin c

@@ -45,15 +45,16 @@ pub record AreShownBySeeds (image : ImageValue) (claims : List Claim) (seeds : S
   pub is_fair : IsFairLength (loaded image) fair
   pub each : (k : ℕ) (c : Claim) → slice_get claims k ≡ Some c → IsShownBySeeds image fair seeds c
 
--- The claim at this place is shown by none.
+-- The claim at this place is shown by none, and each earlier one is shown.
 pub record IsUnshownBySeeds (image : ImageValue) (claims : List Claim) (seeds : Seeds) (place : ℕ) : Type 0 where
   pub fair : ℕ
   pub is_fair : IsFairLength (loaded image) fair
   pub claim : Claim
   pub there : slice_get claims place ≡ Some claim
   pub unshown : IsUnshownBefore image fair seeds claim seeds.count
+  pub earlier : (k : ℕ) → k < place → (c : Claim) → slice_get claims k ≡ Some c → IsShownBySeeds image fair seeds c
 
--- what is told of claims: the place of one that the run of no seed shows; nothing where each is shown
+-- what is told of claims: the place of the first one that the run of no seed shows; nothing where each is shown
 abbrev pub IsToldOfClaims : ImageValue → List Claim → Seeds → Option ℕ → Type 0
 IsToldOfClaims image claims seeds None = AreShownBySeeds image claims seeds
 IsToldOfClaims image claims seeds (Some place) = IsUnshownBySeeds image claims seeds place

@@ -16,6 +16,7 @@ returns-then-not-branch-clause-told g c =
       there =
           slice_get_read claims (length claims) c.loop-place.place claim refl (search rules) c.index-claims-place.is;
       unshown = c.in_ok-is_shown_by_seeds.ensures.unshown (search rules);
+      earlier = c.loop-place.invariant;
     }
 
 pub loop-place-preserved : goal.loop-place-preserved
