@@ -24,7 +24,7 @@ use crate::expanding::Wanted;
 use crate::fates::{Fate, fate_of};
 use crate::kept_machines::KeptMachines;
 use crate::key_streams::{fate_by_key, running_by};
-use crate::known_steps::{Seen, StepsSeen};
+use crate::known_steps::{SearchKnowledge, StepsSeen};
 use crate::links::{Edge, Link};
 use crate::next_worlds::key_after;
 use crate::routes::{Route, route_to};
@@ -48,7 +48,7 @@ pub(crate) struct Found<'i> {
     pub(crate) links: Vec<Link>,
     edges: Vec<Edge>,
     fates: Vec<Fate>,
-    seen: Seen,
+    seen: SearchKnowledge,
     keys: Table,
     wanted: Wanted,
 }
@@ -118,7 +118,7 @@ impl<'i> Found<'i> {
             links: Vec::new(alloc),
             edges: Vec::new(alloc),
             fates,
-            seen: Seen {
+            seen: SearchKnowledge {
                 alloc,
                 contents,
                 steps: StepsSeen::new(alloc),
@@ -253,7 +253,7 @@ impl<'i> Found<'i> {
 
 /// How it goes on from a world, where its key tells; where ends are looked for, each world is to have its machine.
 fn known_fate(
-    seen: &mut Seen,
+    seen: &mut SearchKnowledge,
     image: &Image,
     key: &[u32],
     wanted: Wanted,

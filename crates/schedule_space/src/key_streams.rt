@@ -18,7 +18,7 @@ ghost use Rattle.schedule_space.specs.StreamSteps.{AreAllLeft};
 ghost use Rattle.schedule_space.specs.Before.{IsBefore};
 
 use crate::fates::Fate;
-use crate::known_steps::Seen;
+use crate::known_steps::SearchKnowledge;
 use crate::next_worlds::{left_if_known, places_in};
 use image_file::Image;
 use processor::Step;
@@ -101,7 +101,7 @@ fn is_running_at(contents: &Table, place: u32) -> bool
 /// How it goes on from a world, where its key and the steps that are known tell: no stream runs, or it is known of each
 /// that runs what its step leaves, and one changes something.
 pub(crate) fn fate_by_key(
-    seen: &mut Seen,
+    seen: &mut SearchKnowledge,
     image: &Image,
     key: &[u32],
 ) -> Result<Option<Fate>, AllocError>
@@ -132,7 +132,11 @@ pub(crate) fn fate_by_key(
 }
 
 /// Whether a step changes something, where it is known what it leaves.
-fn is_moving(seen: &mut Seen, key: &[u32], step: Step) -> Result<Option<bool>, AllocError>
+fn is_moving(
+    seen: &mut SearchKnowledge,
+    key: &[u32],
+    step: Step,
+) -> Result<Option<bool>, AllocError>
     ensures moves { (live : LiveValue) (m : MachineValue)
         → IsBefore live seen.old.contents seen.old.steps m key.now
         → IfOk result (λ o. IfSome o (λ b. b ≡ true → after m.image m.world step ≢ m.world)) }
