@@ -116,16 +116,24 @@ runs_within (u ∷ us) (suc s) runs = let rest = runs_within us s runs in omega 
 pub busy_at : (ss : List StreamValue) (s : ℕ) → is_running (stream_at ss s) ≡ true → is_idle (stream_at ss s) ≡ false
 busy_at ss s runs = running_busy (stream_at ss s).status runs
 
--- one that runs is found among the marks of its processor
-pub never_unmarked : (t : List (List ℕ)) (proc : ProcessorValue) (marks : List ℕ) (s : ℕ) → marks ≡ processor_numbers t proc
-    → is_running (stream_at proc.streams s) ≡ true
-    → ((k : ℕ) → 2 * k + 2 < length marks → slice_get marks (2 * k + 1) ≡ Some s → ⊥) → ⊥
-never_unmarked t proc marks s read runs none =
+-- which mark of a processor is that of a stream
+pub record IsMarkOf (marks : List ℕ) (s : ℕ) : Type 0 where
+  pub number : ℕ
+  pub within : 2 * number + 2 < length marks
+  pub is : slice_get marks (2 * number + 1) ≡ Some s
+
+-- one that runs has one
+pub running_mark : (t : List (List ℕ)) (proc : ProcessorValue) (marks : List ℕ) (s : ℕ) → marks ≡ processor_numbers t proc
+    → is_running (stream_at proc.streams s) ≡ true → IsMarkOf marks s
+running_mark t proc marks s read runs =
     let is = has_mark t 0 proc.streams s (runs_within proc.streams s runs) (busy_at proc.streams s runs) in
     let one : 2 * is.number + 1 ≡ suc (2 * is.number) = omega arith in
     let number : 0 + s ≡ s = omega arith in
-    none is.number (omega (arith, is.within, ap length read))
-    ((λ i. slice_get (read i) (one i)) ∙ is.at ∙ ap (λ k. Some k) number)
+    record {
+      number = is.number;
+      within = omega (arith, is.within, ap length read);
+      is = (λ i. slice_get (read i) (one i)) ∙ is.at ∙ ap (λ k. Some k) number;
+    }
 
 -- its mark has the place of what it holds
 pub marked_place : (t : List (List ℕ)) (proc : ProcessorValue) (marks : List ℕ) (s k place : ℕ)
