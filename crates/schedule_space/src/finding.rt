@@ -195,7 +195,8 @@ impl<'i> Found<'i> {
     }
 
     /// The place of a world that stands for the one to which a step leads from the world at a place. A new world is put
-    /// behind the others, and a machine at it behind those that are kept, unless it is known how it goes on from there.
+    /// behind the others, and a machine at it behind those that are kept: where it is known how it goes on from there,
+    /// only one that needs no copy.
     pub(crate) fn place<const S: usize>(
         &mut self,
         machines: &mut KeptMachines<'i, S>,
@@ -280,7 +281,8 @@ struct NextWorld<'i, const S: usize> {
     machine: Option<Machine<'i, S>>,
 }
 
-/// The world behind a step from the one at the end of a route: with a machine where it is not known how it goes on.
+/// The world behind a step from the one at the end of a route: with a machine where it is not known how it goes on, or
+/// where one is at hand and let go, so that later worlds need not be made from the first.
 fn next_world<'i, const S: usize>(
     alloc: Global,
     machines: &mut KeptMachines<'i, S>,
@@ -302,10 +304,8 @@ fn next_world<'i, const S: usize>(
     ensures here { IsAtHand (machine_by machines.old.first.image route.entry.begin.now route.entry.links.now route.entry.place) machines.new.here }
 {
     if let Some(fate) = known {
-        return Ok(NextWorld {
-            fate,
-            machine: None,
-        });
+        let machine = machines.hand_on(step, is_let_go);
+        return Ok(NextWorld { fate, machine });
     }
     machines.make_here(alloc, route)?;
     let machine = machines.next(step, is_let_go)?;
