@@ -6,7 +6,6 @@ use Rattle.machine.specs.MachineValue.{MachineValue}
 use Rattle.processor.specs.World.{World, after}
 use Rattle.processor.specs.declared.steps.Step.{Step}
 use Rattle.waiting.specs.Running.{runs_in}
-use Rattle.waiting.specs.Stuck.{IsStandstill, SomeRuns}
 use Rattle.std.specs.Prelude.{IsTrue}
 use Rattle.same_futures.specs.Handlers.{may_have_handlers}
 use Rattle.same_futures.specs.Links.{TellsHandlers}

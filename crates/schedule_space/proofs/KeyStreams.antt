@@ -1,13 +1,13 @@
 -- The streams that run in a world, as its key tells them.
-use Rattle.std.proofs.Common.{◌≡◌, ℕ, zero, suc, ◌+◌, ◌*◌, ◌-◌, ◌<◌, ◌≤◌, ◌%◌, ◌/◌, ◌^◌, Bool, true, false, refl, sym, ap, ◌∙◌, subst, arith}
-use Rattle.std.proofs.Common.{List, [], ◌∷◌, ◌++◌, Option, Some, None, ◌⊎◌, inl, inr, length, map, get_or, slice_get, cond, option_copied, Bor}
+use Rattle.std.proofs.Common.{◌≡◌, ℕ, zero, suc, ◌+◌, ◌*◌, ◌<◌, ◌%◌, ◌^◌, true, false, refl, sym, ap, ◌∙◌, subst, arith}
+use Rattle.std.proofs.Common.{List, [], ◌∷◌, ◌++◌, Option, Some, None, inl, inr, length, map, get_or, slice_get, option_copied, Bor}
 use Rattle.std.specs.Prelude.{IsTrue}
-use Rattle.std.proofs.lemmas.Bool.{cases_Bool, cases_lt}
+use Rattle.std.proofs.lemmas.Bool.{cases_Bool}
 use Rattle.std.proofs.lemmas.List.{length-map, length-append, get_or-append_right, get_or-map}
 use Rattle.std.proofs.lemmas.Option.{slice_get_within, slice_get-get_or, get_or_from_slice_get}
 use Rattle.image_file.specs.ImageValue.{ImageValue}
 use Rattle.stream_core.specs.StatusWords.{status_number}
-use Rattle.stream_core.specs.Streams.{StreamValue, idle}
+use Rattle.stream_core.specs.Streams.{StreamValue}
 use Rattle.stream_core.specs.declared.steps.Status.{Status}
 use Rattle.stream_core.specs.declared.steps.Status.TheVariants.{Idle, Running, Stopped}
 use Rattle.processor.specs.Processors.{ProcessorValue, is_idle, is_idle_status, stream_at}
@@ -15,7 +15,7 @@ use Rattle.processor.specs.Records.{is_running, is_running_status}
 use Rattle.processor.specs.World.{World}
 use Rattle.processor.specs.declared.steps.Step.{Step}
 use Rattle.waiting.specs.Running.{streams_at, runs_at, runs_in}
-use Rattle.dead_registers.specs.Clearing.{LiveValue, cleared_stream, cleared_processor, cleared}
+use Rattle.dead_registers.specs.Clearing.{LiveValue, cleared}
 use Rattle.world_keys.specs.Tables.{place_in, Has}
 use Rattle.world_keys.specs.StreamNumbers.{all_halves, status_code, stream_words, stream_numbers, IsReadable}
 use Rattle.world_keys.specs.WorldKeys.{stream_marks, processor_numbers, processor_place, key_of, no_processor, processor_in}
@@ -23,7 +23,7 @@ use Rattle.world_keys.specs.WorldKeys.{IsKnownIf, IsKnownStream, IsKnownProcesso
 use Rattle.world_keys.proofs.Places.{place_get}
 use Rattle.world_keys.proofs.Replacing.{no_mark, one_mark}
 use Rattle.world_keys.proofs.Clearings.{stream_cleared, processor_cleared, as_many_cleared}
-use Rattle.schedule_space.proofs.StreamSteps.{IsAwakeAt, mark_at}
+use Rattle.schedule_space.proofs.StreamSteps.{mark_at}
 use Rattle.schedule_space.proofs.KnownSteps.{key_many}
 
 -- Numbers that are read.

@@ -1,4 +1,4 @@
-use Rattle.std.proofs.Common.{◌≡◌, ◌+◌, ◌*◌, ◌<◌, get_or, Some, arith}
+use Rattle.std.proofs.Common.{◌+◌, ◌*◌, get_or, arith}
 use Rattle.std.proofs.lemmas.Option.{slice_get-get_or, get_or_from_slice_get}
 use Rattle.processor.specs.Processors.{stream_at}
 use Rattle.schedule_space.proofs.KeyStreams.{busy_at, runs_within, marked_place, known_busy}

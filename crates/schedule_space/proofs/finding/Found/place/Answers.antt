@@ -17,7 +17,7 @@ use Rattle.schedule_space.proofs.Placing.{known_at, key_of_at, live_at, told_at,
 use Rattle.schedule_space.proofs.Making.{making_later, before_behind}
 use Rattle.schedule_space.proofs.Placing.{has_key, found_at, placed, placed_view, placed_grown, placed_there, placed_stands}
 use Rattle.schedule_space.proofs.Placing.{placed_expanding, kept, kept_view, stays_at, stays_expanding}
-use Rattle.schedule_space.proofs.Kept.{by_route, first_by, route_there, kept_same, at_hand_same, new_machine, placed_at_hand}
+use Rattle.schedule_space.proofs.Kept.{by_route, first_by, route_there, at_hand_same, new_machine, placed_at_hand}
 use Rattle.schedule_space.proofs.KeyStreams.{key_entries}
 use Rattle.world_keys.proofs.Places.{extends_trans}
 use Rattle.schedule_space.proofs.Before.{before_kept}
