@@ -6,7 +6,6 @@ use Rattle.machine.specs.MachineValue.{MachineValue}
 use Rattle.processor.specs.World.{World, after}
 use Rattle.processor.specs.declared.steps.Step.{Step}
 use Rattle.waiting.specs.Running.{runs_in}
-use Rattle.waiting.specs.Stuck.{IsStandstill, SomeRuns}
 use Rattle.std.specs.Prelude.{IsTrue}
 use Rattle.same_futures.specs.Handlers.{may_have_handlers}
 use Rattle.same_futures.specs.Links.{TellsHandlers}
@@ -55,6 +54,12 @@ pub there_by : (live : LiveValue) (t : List (List ℕ)) (seen : StepsSeen) (m : 
     → IsBefore live t seen m key → p + 1 < length key → p < length m.world.processors
 there_by live t seen m key p is below =
     omega (arith, below, key_many m.image live t m.world key is.is_key)
+
+-- and the key has a number of each that is there
+pub below_key : (live : LiveValue) (t : List (List ℕ)) (seen : StepsSeen) (m : MachineValue) (key : List ℕ) (p : ℕ)
+    → IsBefore live t seen m key → p < length m.world.processors → p + 1 < length key
+below_key live t seen m key p is there =
+    omega (arith, there, key_many m.image live t m.world key is.is_key)
 
 -- what the processor of a step holds before it
 pub at_before : (live : LiveValue) (t : List (List ℕ)) (seen : StepsSeen) (m : MachineValue) (key : List ℕ) (p : ℕ) (l : Places)
@@ -134,6 +139,22 @@ module _ (live : LiveValue) (t : List (List ℕ)) (seen : StepsSeen) (m : Machin
 
   pub streams_behind : (new : List (List ℕ)) → Extends t new → AreStreamsLeft m.image live new seen.by_stream
   streams_behind new grown = streams_kept m.image live t new seen.by_stream grown is.left.by_stream
+
+-- where what a step left is kept, and perhaps what its stream left, it is known what all steps left
+pub all_behind : (live : LiveValue) (t new : List (List ℕ)) (seen : StepsSeen) (m : MachineValue) (key : List ℕ) (u : Step)
+    (here l : Places) (v streams : StepList) (s : ℕ) → IsBefore live t seen m key → u.p + 1 < length key
+    → here.content ≡ get_or key (u.p + 1) 0 → here.memory ≡ get_or key 0 0 → Extends t new → s ≡ u.s
+    → ((a : List ℕ) (k : Places) → IsSeen v a k
+    → IsSeen seen.by_processor a k ⊎ ((a ≡ here.content ∷ s ∷ here.memory ∷ []) × (k ≡ l)))
+    → IsBehind live new m u l
+    → (AreStreamsLeft m.image live new seen.by_stream → AreStreamsLeft m.image live new streams)
+    → AreAllLeft m.image live new (record { by_processor = v; by_stream = streams })
+all_behind live t new seen m key u here l v streams s is below content memory grown same each behind more = record {
+  by_processor =
+      kept_behind live t seen m key u here is below content memory new v (here.content ∷ s ∷ here.memory ∷ []) l grown
+      (λ i. here.content ∷ same i ∷ here.memory ∷ []) each behind;
+  by_stream = more (streams_behind live t seen m key u here is below content memory new grown);
+}
 
 -- what is known of the world behind a step of the machine at a place
 pub next_before : (v : SpaceValue) (live : LiveValue) (t : List (List ℕ)) (seen : StepsSeen) (from : ℕ) (u : Step) (m : MachineValue)

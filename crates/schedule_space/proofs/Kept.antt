@@ -1,17 +1,16 @@
 -- The machines that a search keeps, while its space grows.
-use Rattle.std.proofs.Common.{◌≡◌, ℕ, ◌<◌, ◌≤◌, refl, sym, ap, ◌∙◌, subst, arith, List, [], ◌∷◌, ◌++◌, Option, Some, None}
-use Rattle.std.proofs.Common.{◌⊎◌, inl, inr, length, map, get_or, reverse}
+use Rattle.std.proofs.Common.{◌≡◌, ℕ, ◌<◌, ◌≤◌, refl, sym, ap, ◌∙◌, subst, arith, List, [], ◌∷◌, ◌++◌, Some}
+use Rattle.std.proofs.Common.{inl, inr, length, map, get_or}
 use Rattle.std.specs.List.{All}
 use Rattle.std.specs.Prelude.{Result, Ok, Err, OnOk}
 use Rattle.std.proofs.lemmas.List.{map-append}
 use Rattle.std.proofs.lemmas.List.Elements.{All-head, All-tail, All-weaker, All-push}
-use Rattle.image_file.specs.ImageValue.{ImageValue}
 use Rattle.machine.specs.MachineValue.{MachineValue}
 use Rattle.processor.specs.World.{World, start, steps, run}
 use Rattle.processor.specs.declared.steps.Step.{Step}
 use Rattle.processor.proofs.Histories.{steps-append}
 use Rattle.schedule_space.specs.declared.links.Link.{Link}
-use Rattle.schedule_space.specs.Spaces.{schedules, SpaceValue, count, schedule_of, machine_after, machine_by, IsRoute}
+use Rattle.schedule_space.specs.Spaces.{schedules, SpaceValue, count, machine_after, machine_by, IsRoute}
 use Rattle.schedule_space.specs.Finding.{with_link, IsGrown}
 use Rattle.schedule_space.proofs.Growing.{last_world}
 use Rattle.schedule_space.specs.Kept.{KeptValue, IsAtHand, machine_at, machine_next, AreKept, AreKeptAt, IsSameButHere, IsMachineMore}

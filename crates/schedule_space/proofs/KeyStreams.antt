@@ -1,13 +1,13 @@
 -- The streams that run in a world, as its key tells them.
-use Rattle.std.proofs.Common.{◌≡◌, ℕ, zero, suc, ◌+◌, ◌*◌, ◌-◌, ◌<◌, ◌≤◌, ◌%◌, ◌/◌, ◌^◌, Bool, true, false, refl, sym, ap, ◌∙◌, subst, arith}
-use Rattle.std.proofs.Common.{List, [], ◌∷◌, ◌++◌, Option, Some, None, ◌⊎◌, inl, inr, length, map, get_or, slice_get, cond, option_copied, Bor}
+use Rattle.std.proofs.Common.{◌≡◌, ℕ, zero, suc, ◌+◌, ◌*◌, ◌<◌, ◌%◌, ◌^◌, true, false, refl, sym, ap, ◌∙◌, subst, arith}
+use Rattle.std.proofs.Common.{List, [], ◌∷◌, ◌++◌, Option, Some, None, inl, inr, length, map, get_or, slice_get, option_copied, Bor}
 use Rattle.std.specs.Prelude.{IsTrue}
-use Rattle.std.proofs.lemmas.Bool.{cases_Bool, cases_lt}
+use Rattle.std.proofs.lemmas.Bool.{cases_Bool}
 use Rattle.std.proofs.lemmas.List.{length-map, length-append, get_or-append_right, get_or-map}
 use Rattle.std.proofs.lemmas.Option.{slice_get_within, slice_get-get_or, get_or_from_slice_get}
 use Rattle.image_file.specs.ImageValue.{ImageValue}
 use Rattle.stream_core.specs.StatusWords.{status_number}
-use Rattle.stream_core.specs.Streams.{StreamValue, idle}
+use Rattle.stream_core.specs.Streams.{StreamValue}
 use Rattle.stream_core.specs.declared.steps.Status.{Status}
 use Rattle.stream_core.specs.declared.steps.Status.TheVariants.{Idle, Running, Stopped}
 use Rattle.processor.specs.Processors.{ProcessorValue, is_idle, is_idle_status, stream_at}
@@ -15,7 +15,7 @@ use Rattle.processor.specs.Records.{is_running, is_running_status}
 use Rattle.processor.specs.World.{World}
 use Rattle.processor.specs.declared.steps.Step.{Step}
 use Rattle.waiting.specs.Running.{streams_at, runs_at, runs_in}
-use Rattle.dead_registers.specs.Clearing.{LiveValue, cleared_stream, cleared_processor, cleared}
+use Rattle.dead_registers.specs.Clearing.{LiveValue, cleared}
 use Rattle.world_keys.specs.Tables.{place_in, Has}
 use Rattle.world_keys.specs.StreamNumbers.{all_halves, status_code, stream_words, stream_numbers, IsReadable}
 use Rattle.world_keys.specs.WorldKeys.{stream_marks, processor_numbers, processor_place, key_of, no_processor, processor_in}
@@ -23,7 +23,7 @@ use Rattle.world_keys.specs.WorldKeys.{IsKnownIf, IsKnownStream, IsKnownProcesso
 use Rattle.world_keys.proofs.Places.{place_get}
 use Rattle.world_keys.proofs.Replacing.{no_mark, one_mark}
 use Rattle.world_keys.proofs.Clearings.{stream_cleared, processor_cleared, as_many_cleared}
-use Rattle.schedule_space.proofs.StreamSteps.{IsAwakeAt, mark_at}
+use Rattle.schedule_space.proofs.StreamSteps.{mark_at}
 use Rattle.schedule_space.proofs.KnownSteps.{key_many}
 
 -- Numbers that are read.
@@ -116,16 +116,24 @@ runs_within (u ∷ us) (suc s) runs = let rest = runs_within us s runs in omega 
 pub busy_at : (ss : List StreamValue) (s : ℕ) → is_running (stream_at ss s) ≡ true → is_idle (stream_at ss s) ≡ false
 busy_at ss s runs = running_busy (stream_at ss s).status runs
 
--- one that runs is found among the marks of its processor
-pub never_unmarked : (t : List (List ℕ)) (proc : ProcessorValue) (marks : List ℕ) (s : ℕ) → marks ≡ processor_numbers t proc
-    → is_running (stream_at proc.streams s) ≡ true
-    → ((k : ℕ) → 2 * k + 2 < length marks → slice_get marks (2 * k + 1) ≡ Some s → ⊥) → ⊥
-never_unmarked t proc marks s read runs none =
+-- which mark of a processor is that of a stream
+pub record IsMarkOf (marks : List ℕ) (s : ℕ) : Type 0 where
+  pub number : ℕ
+  pub within : 2 * number + 2 < length marks
+  pub is : slice_get marks (2 * number + 1) ≡ Some s
+
+-- one that runs has one
+pub running_mark : (t : List (List ℕ)) (proc : ProcessorValue) (marks : List ℕ) (s : ℕ) → marks ≡ processor_numbers t proc
+    → is_running (stream_at proc.streams s) ≡ true → IsMarkOf marks s
+running_mark t proc marks s read runs =
     let is = has_mark t 0 proc.streams s (runs_within proc.streams s runs) (busy_at proc.streams s runs) in
     let one : 2 * is.number + 1 ≡ suc (2 * is.number) = omega arith in
     let number : 0 + s ≡ s = omega arith in
-    none is.number (omega (arith, is.within, ap length read))
-    ((λ i. slice_get (read i) (one i)) ∙ is.at ∙ ap (λ k. Some k) number)
+    record {
+      number = is.number;
+      within = omega (arith, is.within, ap length read);
+      is = (λ i. slice_get (read i) (one i)) ∙ is.at ∙ ap (λ k. Some k) number;
+    }
 
 -- its mark has the place of what it holds
 pub marked_place : (t : List (List ℕ)) (proc : ProcessorValue) (marks : List ℕ) (s k place : ℕ)

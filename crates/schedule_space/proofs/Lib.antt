@@ -16,6 +16,7 @@ pub mod Parts
 pub mod Keys
 pub mod Breadth
 pub mod Placing
+pub mod Making
 pub mod Taking
 pub mod Plain
 pub mod Exploring

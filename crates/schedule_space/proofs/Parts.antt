@@ -1,15 +1,14 @@
 -- Keys, fates and frontiers of a space that gets one world more.
-use Rattle.std.proofs.Common.{◌≡◌, ℕ, zero, suc, ◌+◌, ◌<◌, ◌≤◌, refl, sym, ap, ◌∙◌, subst, arith, List, [], ◌∷◌, ◌++◌}
-use Rattle.std.proofs.Common.{◌⊎◌, inl, inr, length, get_or, map, drop, length-append, length-drop}
+use Rattle.std.proofs.Common.{◌≡◌, ℕ, zero, suc, ◌<◌, ◌≤◌, refl, sym, ap, ◌∙◌, subst, arith, List, [], ◌∷◌, ◌++◌}
+use Rattle.std.proofs.Common.{◌⊎◌, inl, inr, length, get_or, map, length-append}
 use Rattle.std.specs.List.{Contains}
 use Rattle.std.proofs.lemmas.Bool.{cases_lt}
-use Rattle.std.proofs.lemmas.List.{map-append, get_or_append_left, get_or-map, length-map, drop-append-le, get_or_read}
+use Rattle.std.proofs.lemmas.List.{get_or_append_left, get_or-map, length-map, get_or_read}
 use Rattle.std.proofs.lemmas.List.Elements.{Contains-push_cases}
 use Rattle.std.proofs.Math.Seq.{get_or-append_seam}
 use Rattle.image_file.specs.ImageValue.{ImageValue}
 use Rattle.processor.specs.World.{World, after}
 use Rattle.processor.specs.declared.steps.Step.{Step}
-use Rattle.machine.specs.MachineValue.{MachineValue}
 use Rattle.dead_registers.specs.Clearing.{LiveValue, IsLive}
 use Rattle.world_keys.specs.Tables.{Extends}
 use Rattle.world_keys.specs.WorldKeys.{key_of, IsKnown}
@@ -18,10 +17,10 @@ use Rattle.schedule_space.specs.declared.links.Link.{Link}
 use Rattle.schedule_space.specs.declared.links.Edge.{Edge}
 use Rattle.schedule_space.specs.declared.fates.Fate.{Fate}
 use Rattle.schedule_space.specs.declared.fates.Fate.TheVariants as fate
-use Rattle.schedule_space.specs.Spaces.{schedules, SpaceValue, count, schedule_of, world_of, machine_after, IsEdgeToStandIn}
+use Rattle.schedule_space.specs.Spaces.{schedules, SpaceValue, count, schedule_of, world_of, IsEdgeToStandIn}
 use Rattle.schedule_space.specs.Fates.{IsFate}
 use Rattle.schedule_space.specs.Finding.{space_of, with_link, with_edge, IsSpace, IsKeyed, cleared_after}
-use Rattle.schedule_space.proofs.Schedules.{one_more, schedules-push, length-schedules, run-push, one_schedule}
+use Rattle.schedule_space.proofs.Schedules.{length-schedules, one_schedule}
 use Rattle.schedule_space.proofs.Growing.{world_grown, count-link}
 use Rattle.schedule_space.proofs.Growing.{last_world, with_link_grown, with_edge_grown, edge_grown}
 

@@ -24,7 +24,7 @@ use crate::expanding::Wanted;
 use crate::fates::{Fate, fate_of};
 use crate::kept_machines::KeptMachines;
 use crate::key_streams::{fate_by_key, running_by};
-use crate::known_steps::{Seen, StepsSeen};
+use crate::known_steps::{SearchKnowledge, StepsSeen};
 use crate::links::{Edge, Link};
 use crate::next_worlds::key_after;
 use crate::routes::{Route, route_to};
@@ -48,7 +48,7 @@ pub(crate) struct Found<'i> {
     pub(crate) links: Vec<Link>,
     edges: Vec<Edge>,
     fates: Vec<Fate>,
-    seen: Seen,
+    seen: SearchKnowledge,
     keys: Table,
     wanted: Wanted,
 }
@@ -118,7 +118,7 @@ impl<'i> Found<'i> {
             links: Vec::new(alloc),
             edges: Vec::new(alloc),
             fates,
-            seen: Seen {
+            seen: SearchKnowledge {
                 alloc,
                 contents,
                 steps: StepsSeen::new(alloc),
@@ -195,7 +195,8 @@ impl<'i> Found<'i> {
     }
 
     /// The place of a world that stands for the one to which a step leads from the world at a place. A new world is put
-    /// behind the others, and a machine at it behind those that are kept, unless it is known how it goes on from there.
+    /// behind the others, and a machine at it behind those that are kept: where it is known how it goes on from there,
+    /// only one that needs no copy.
     pub(crate) fn place<const S: usize>(
         &mut self,
         machines: &mut KeptMachines<'i, S>,
@@ -253,7 +254,7 @@ impl<'i> Found<'i> {
 
 /// How it goes on from a world, where its key tells; where ends are looked for, each world is to have its machine.
 fn known_fate(
-    seen: &mut Seen,
+    seen: &mut SearchKnowledge,
     image: &Image,
     key: &[u32],
     wanted: Wanted,
@@ -280,7 +281,8 @@ struct NextWorld<'i, const S: usize> {
     machine: Option<Machine<'i, S>>,
 }
 
-/// The world behind a step from the one at the end of a route: with a machine where it is not known how it goes on.
+/// The world behind a step from the one at the end of a route: with a machine where it is not known how it goes on, or
+/// where one is at hand and let go, so that later worlds need not be made from the first.
 fn next_world<'i, const S: usize>(
     alloc: Global,
     machines: &mut KeptMachines<'i, S>,
@@ -302,10 +304,8 @@ fn next_world<'i, const S: usize>(
     ensures here { IsAtHand (machine_by machines.old.first.image route.entry.begin.now route.entry.links.now route.entry.place) machines.new.here }
 {
     if let Some(fate) = known {
-        return Ok(NextWorld {
-            fate,
-            machine: None,
-        });
+        let machine = machines.hand_on(step, is_let_go);
+        return Ok(NextWorld { fate, machine });
     }
     machines.make_here(alloc, route)?;
     let machine = machines.next(step, is_let_go)?;

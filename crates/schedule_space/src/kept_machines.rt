@@ -5,10 +5,10 @@ ghost use Rattle.std.specs.Option.{option_copied};
 ghost use Rattle.machine.specs.MachineValue.{MachineValue};
 ghost use Rattle.processor.specs.World.{after};
 ghost use Rattle.schedule_space.specs.Spaces.{machine_after, IsRoute, machine_by};
-ghost use Rattle.schedule_space.specs.Kept.{IsAtHand};
+ghost use Rattle.schedule_space.specs.Kept.{IsAtHand, machine_next};
 
 use crate::routes::{Route, steps_back};
-use crate::stepping::moved_on;
+use crate::stepping::{moved_if_let_go, moved_on};
 use machine::Machine;
 use processor::Step;
 use std::alloc::{AllocError, Global};
@@ -124,6 +124,15 @@ impl<'i, const S: usize> KeptMachines<'i, S> {
         ensures here { (m : MachineValue) → IsAtHand m self.old.here → IsAtHand m self.new.here }
     {
         moved_on(&mut self.here, step, is_let_go)
+    }
+
+    /// The machine at hand, moved on by a step, where it is let go; else none, since that would cost a copy.
+    pub(crate) fn hand_on(&mut self, step: Step, is_let_go: bool) -> Option<Machine<'i, S>>
+        ensures next { (m : MachineValue) → IsAtHand m self.old.here → IsAtHand (machine_next m step) result }
+        ensures kept { self.new ≡ record self.old { here = self.new.here } }
+        ensures here { (m : MachineValue) → IsAtHand m self.old.here → IsAtHand m self.new.here }
+    {
+        moved_if_let_go(&mut self.here, step, is_let_go)
     }
 
     /// Keeps a machine for a later place, behind the others.

@@ -1,6 +1,7 @@
 //! What the key of a world tells of its streams: which of them run, and how it goes on from the world.
 
-ghost use Rattle.std.specs.Prelude.{◌≡◌, ◌≢◌, ◌<◌, ◌+◌, ℕ, true, length, IsTrue, IfSome, IfOk, OnOk, Contains, slice_index_or};
+ghost use Rattle.std.specs.Prelude.{◌≡◌, ◌≢◌, ◌<◌, ◌+◌, ◌*◌, ℕ, true, length, Some, IsTrue, IfSome, IfOk, OnOk, Contains};
+ghost use Rattle.std.specs.Prelude.{slice_get};
 ghost use Rattle.stream_core.specs.Streams.{StreamValue};
 ghost use Rattle.processor.specs.declared.steps.Step.{Step};
 ghost use Rattle.processor.specs.Processors.{ProcessorValue, stream_at};
@@ -12,18 +13,18 @@ ghost use Rattle.dead_registers.specs.Clearing.{LiveValue, cleared};
 ghost use Rattle.world_keys.specs.Tables.{place_in, Has, Extends};
 ghost use Rattle.world_keys.specs.StreamNumbers.{stream_numbers, IsReadable};
 ghost use Rattle.world_keys.specs.WorldKeys.{processor_numbers, processor_place, key_of};
-ghost use Rattle.world_keys.specs.WorldKeys.{IsKnownStream, IsKnownProcessor, IsKnown};
+ghost use Rattle.world_keys.specs.WorldKeys.{IsHeld, IsKnownProcessor, IsKnown};
 ghost use Rattle.schedule_space.specs.Fates.{IsFate};
 ghost use Rattle.schedule_space.specs.StreamSteps.{AreAllLeft};
 ghost use Rattle.schedule_space.specs.Before.{IsBefore};
 
 use crate::fates::Fate;
-use crate::known_steps::Seen;
+use crate::known_steps::SearchKnowledge;
 use crate::next_worlds::{left_if_known, places_in};
 use image_file::Image;
 use processor::Step;
 use std::alloc::{AllocError, Global};
-use world_keys::{Table, mark_of};
+use world_keys::Table;
 
 /// Where the numbers of a stream have its status.
 const STATUS_AT: usize = 86;
@@ -50,7 +51,8 @@ pub(crate) fn running_by(
     Ok(running)
 }
 
-/// Adds those of a processor, by the place of what it holds.
+/// Adds those of a processor, by the place of what it holds: there each stream that is not idle has a mark, in the order of
+/// the streams.
 fn push_running(
     image: &Image,
     contents: &Table,
@@ -67,24 +69,26 @@ fn push_running(
     let Some(marks) = contents.list(content as usize) else {
         return Ok(());
     };
-    for s in 0..image.slim() {
-        if is_marked_running(contents, marks, s as u8) {
-            running.push(Step { p, s: s as u8 })?;
+    for mark in 0..marks.len().saturating_sub(1) / 2 {
+        if let Some(s) = running_by_mark(image, contents, marks, mark) {
+            running.push(Step { p, s })?;
         }
     }
     Ok(())
 }
 
-/// Whether a stream runs, by the marks of its processor.
-fn is_marked_running(contents: &Table, marks: &[u32], s: u8) -> bool
-    ensures { (proc : ProcessorValue) → marks.now ≡ processor_numbers contents.now proc
-        → IsKnownStream contents.now (stream_at proc.streams s)
-        → is_running (stream_at proc.streams s) ≡ true → result ≡ true }
+/// The stream of a mark, where it runs.
+fn running_by_mark(image: &Image, contents: &Table, marks: &[u32], mark: usize) -> Option<u8>
+    requires { 2 * mark + 2 < length marks.now }
+    ensures { (proc : ProcessorValue) → IsHeld contents.now image.now proc
+        → marks.now ≡ processor_numbers contents.now proc → (s : ℕ) → slice_get marks.now (2 * mark + 1) ≡ Some s
+        → is_running (stream_at proc.streams s) ≡ true → result ≡ Some s }
 {
-    match mark_of(marks, s) {
-        Some(mark) => is_running_at(contents, marks[2 * mark + 2]),
-        None => false,
+    let s = marks[2 * mark + 1];
+    if s < u32::from(image.slim()) && is_running_at(contents, marks[2 * mark + 2]) {
+        return Some(s as u8);
     }
+    None
 }
 
 /// Whether what stands at a place is what a stream holds that runs.
@@ -101,7 +105,7 @@ fn is_running_at(contents: &Table, place: u32) -> bool
 /// How it goes on from a world, where its key and the steps that are known tell: no stream runs, or it is known of each
 /// that runs what its step leaves, and one changes something.
 pub(crate) fn fate_by_key(
-    seen: &mut Seen,
+    seen: &mut SearchKnowledge,
     image: &Image,
     key: &[u32],
 ) -> Result<Option<Fate>, AllocError>
@@ -132,7 +136,11 @@ pub(crate) fn fate_by_key(
 }
 
 /// Whether a step changes something, where it is known what it leaves.
-fn is_moving(seen: &mut Seen, key: &[u32], step: Step) -> Result<Option<bool>, AllocError>
+fn is_moving(
+    seen: &mut SearchKnowledge,
+    key: &[u32],
+    step: Step,
+) -> Result<Option<bool>, AllocError>
     ensures moves { (live : LiveValue) (m : MachineValue)
         → IsBefore live seen.old.contents seen.old.steps m key.now
         → IfOk result (λ o. IfSome o (λ b. b ≡ true → after m.image m.world step ≢ m.world)) }

@@ -108,13 +108,13 @@ impl StepsSeen {
 
 /// What a search has seen: what streams, processors and the memory held, and what steps left.
 #[derive(Drop)]
-pub(crate) struct Seen {
+pub(crate) struct SearchKnowledge {
     pub(crate) alloc: Global,
     pub(crate) contents: Table,
     pub(crate) steps: StepsSeen,
 }
 
-impl Seen {
+impl SearchKnowledge {
     /// How many bytes it takes.
     pub(crate) fn bytes(&self) -> usize {
         self.contents.bytes().saturating_add(self.steps.bytes())

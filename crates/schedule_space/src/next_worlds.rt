@@ -15,7 +15,7 @@ ghost use Rattle.schedule_space.specs.StreamSteps.{AreStreamsLeft, AreAllLeft, I
 ghost use Rattle.schedule_space.specs.Before.{IsBefore, IsBehind};
 
 use crate::kept_machines::KeptMachines;
-use crate::known_steps::{KnownSteps, Places, Seen};
+use crate::known_steps::{KnownSteps, Places, SearchKnowledge};
 use crate::marks::{is_plain, mark_in, place_with};
 use crate::routes::Route;
 use crate::stepping::{Reach, change_of, reach_of, stepped};
@@ -29,7 +29,7 @@ use world_keys::{Table, next_key};
 /// where it is the same. Both are of the worlds with 0 in each register that does not matter. Only a step of which it is
 /// not known what it leaves is taken, on a copy of the machine, which is made where it is not at hand.
 pub(crate) fn key_after<const S: usize>(
-    seen: &mut Seen,
+    seen: &mut SearchKnowledge,
     live: &LiveRegisters,
     before: &[u32],
     machines: &mut KeptMachines<'_, S>,
@@ -70,7 +70,7 @@ pub(crate) fn key_after<const S: usize>(
 
 /// What a step leaves of its processor and of the memory.
 fn left_by<const S: usize>(
-    seen: &mut Seen,
+    seen: &mut SearchKnowledge,
     live: &LiveRegisters,
     before: &[u32],
     machines: &mut KeptMachines<'_, S>,
@@ -100,7 +100,7 @@ fn left_by<const S: usize>(
 /// The same, where it is known by what a step from the same numbers left, or that of a stream that held the same; else
 /// None.
 pub(crate) fn left_if_known(
-    seen: &mut Seen,
+    seen: &mut SearchKnowledge,
     before: &[u32],
     step: Step,
 ) -> Result<Option<Places>, AllocError>
@@ -140,7 +140,7 @@ pub(crate) fn left_if_known(
 
 /// The same, by taking the step: what it left is known from then on.
 fn left_anew<const S: usize>(
-    seen: &mut Seen,
+    seen: &mut SearchKnowledge,
     live: &LiveRegisters,
     before: &[u32],
     machine: &Machine<'_, S>,

@@ -5,7 +5,7 @@ ghost use Rattle.machine.specs.MachineValue.{MachineValue};
 ghost use Rattle.processor.specs.World.{after};
 ghost use Rattle.world_keys.specs.WorldKeys.{processor_in};
 ghost use Rattle.world_keys.specs.Changes.{HasOthersOf};
-ghost use Rattle.schedule_space.specs.Kept.{IsAtHand};
+ghost use Rattle.schedule_space.specs.Kept.{IsAtHand, machine_next};
 
 use machine::Machine;
 use processor::{Next, Step};
@@ -77,6 +77,24 @@ pub(crate) fn moved_on<'i, const S: usize>(
     let mut next = machine.take().unwrap();
     next.step(step.p, step.s);
     Ok(next)
+}
+
+/// The machine itself, moved on by a step, where it is let go; else none, since that would cost a copy.
+#[inline(never)]
+pub(crate) fn moved_if_let_go<'i, const S: usize>(
+    machine: &mut Option<Machine<'i, S>>,
+    step: Step,
+    is_let_go: bool,
+) -> Option<Machine<'i, S>>
+    ensures next { (m : MachineValue) → IsAtHand m machine.old → IsAtHand (machine_next m step) result }
+    ensures here { (m : MachineValue) → IsAtHand m machine.old → IsAtHand m machine.new }
+{
+    if !is_let_go {
+        return None;
+    }
+    let mut next = machine.take()?;
+    next.step(step.p, step.s);
+    Some(next)
 }
 
 /// What the step changed that led from one machine to the next: the other streams of its processor are as they were

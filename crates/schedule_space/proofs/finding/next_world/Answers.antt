@@ -21,3 +21,8 @@ returns-clause-machine g c = λ n is_some.
     let is = c.in_ok-machine.ensures.next m some in
     let same : c.in_ok-machine.machine ≡ n = cc in
     sym same ∙ is
+
+pub returns-in-Some-clause-machine : goal.returns-in-Some-clause-machine
+returns-in-Some-clause-machine g c =
+    let r = c.args.route in
+    c.hand_on-machine.ensures.next (machine_by c.args.machines.now.first.image r.begin.now r.links.now r.place) c.requires.here

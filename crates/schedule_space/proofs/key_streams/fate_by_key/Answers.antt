@@ -1,12 +1,5 @@
-use Rattle.std.proofs.Common.{◌≡◌, ◌≢◌, Option, Bool, true, false, ◌⊎◌, inl, inr, subst, rules, sym}
-use Rattle.std.specs.Prelude.{IfSome}
-use Rattle.std.proofs.lemmas.Bool.{cases_Bool}
-use Rattle.machine.specs.MachineValue.{MachineValue}
-use Rattle.processor.specs.World.{after}
-use Rattle.processor.specs.declared.steps.Step.{Step}
-use Rattle.dead_registers.specs.Clearing.{LiveValue}
+use Rattle.std.proofs.Common.{rules}
 use Rattle.world_keys.proofs.Places.{extends_trans}
-use Rattle.schedule_space.specs.Before.{IsBefore}
 use Rattle.schedule_space.proofs.Before.{before_kept, goes_on}
 use Rattle.schedule_space.proofs.key_streams.fate_by_key.Goals as goal
 use Rattle.schedule_space.proofs.key_streams.fate_by_key.Goals.{then-goes_on, else-goes_on}

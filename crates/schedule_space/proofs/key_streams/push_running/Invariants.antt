@@ -1,5 +1,5 @@
--- the steps of the streams so far are there, where these run, and those of others stay
-use Rattle.std.proofs.Common.{◌≡◌, ◌<◌, ℕ, true}
+-- the steps of the streams of the marks so far are there, where these run, and those of others stay
+use Rattle.std.proofs.Common.{◌≡◌, ◌<◌, ◌+◌, ◌*◌, ℕ, true, Some, slice_get}
 use Rattle.std.specs.List.{Contains}
 use Rattle.processor.specs.Processors.{ProcessorValue, stream_at}
 use Rattle.processor.specs.Records.{is_running}
@@ -7,11 +7,12 @@ use Rattle.processor.specs.declared.steps.Step.{Step}
 use Rattle.world_keys.specs.WorldKeys.{processor_place, IsKnownProcessor}
 use Rattle.schedule_space.proofs.key_streams.push_running.Given as goal
 
-abbrev pub invariant-loop-s : goal.invariant-loop-s
-invariant-loop-s l = record {
+abbrev pub invariant-loop-mark : goal.invariant-loop-mark
+invariant-loop-mark l = record {
   each :
       (proc : ProcessorValue) → IsKnownProcessor l.contents l.image proc → l.content ≡ processor_place l.contents proc
-      → (k : ℕ) → k < l.s → is_running (stream_at proc.streams k) ≡ true
-      → Contains l.running.items (record { p = l.p; s = k });
+      → (s : ℕ) → is_running (stream_at proc.streams s) ≡ true
+      → (k : ℕ) → k < l.mark → slice_get l.marks (2 * k + 1) ≡ Some s
+      → Contains l.running.items (record { p = l.p; s = s });
   others : (t : Step) → Contains l.fn.running.items t → Contains l.running.items t;
 }

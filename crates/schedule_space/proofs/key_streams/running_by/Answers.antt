@@ -1,7 +1,6 @@
-use Rattle.std.proofs.Common.{◌≡◌, ◌+◌, ◌<◌, ◌≤◌, ◌⊎◌, inl, inr, ℕ, sym, ap, subst, arith, get_or}
+use Rattle.std.proofs.Common.{◌≡◌, ◌+◌, inl, inr, ℕ, ap, subst, arith, get_or}
 use Rattle.std.specs.List.{Contains}
 use Rattle.std.proofs.lemmas.Bool.{cases_lt}
-use Rattle.processor.specs.declared.steps.Step.{Step}
 use Rattle.dead_registers.specs.Clearing.{cleared}
 use Rattle.world_keys.specs.WorldKeys.{processor_in}
 use Rattle.schedule_space.proofs.KeyStreams.{runs_cleared, processor_known, place_by_key, as_many_entries}

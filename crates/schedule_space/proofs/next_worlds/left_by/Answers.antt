@@ -1,8 +1,6 @@
-use Rattle.std.proofs.Common.{◌≡◌, ◌∙◌, ◌+◌, ◌<◌, sym, ap, subst, arith, rules, Some, length, List, ℕ}
+use Rattle.std.proofs.Common.{◌≡◌, ◌<◌, sym, ap, subst, arith, rules, length}
 use Rattle.std.specs.Prelude.{IfOk}
 use Rattle.machine.specs.MachineValue.{MachineValue}
-use Rattle.schedule_space.specs.declared.known_steps.Places.{Places}
-use Rattle.schedule_space.specs.declared.known_steps.StepsSeen.{StepsSeen}
 use Rattle.schedule_space.specs.Spaces.{machine_by}
 use Rattle.schedule_space.specs.Kept.{KeptValue}
 use Rattle.schedule_space.specs.Before.{IsBefore, IsBehind}

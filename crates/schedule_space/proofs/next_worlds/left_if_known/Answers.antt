@@ -1,7 +1,7 @@
 use Rattle.std.proofs.Common.{◌∷◌, [], List, ℕ, rules, refl}
 use Rattle.schedule_space.specs.declared.known_steps.Places.{Places}
 use Rattle.schedule_space.specs.KnownSteps.{IsSeen}
-use Rattle.schedule_space.proofs.Before.{all_kept, known_behind, stream_behind, kept_behind, streams_behind}
+use Rattle.schedule_space.proofs.Before.{all_kept, known_behind, stream_behind, all_behind}
 use Rattle.schedule_space.proofs.next_worlds.left_if_known.Goals as goal
 
 pub returns-in-Some-clause-left : goal.returns-in-Some-clause-left
@@ -35,16 +35,9 @@ returns-in_err-keep-clause-steps c = λ live m before.
     stream_behind live seen.contents seen.steps m key c.args.step here before c.requires.there at.content at.memory new l
     more mark c.place_with.ensures.grown marked there (c.in_ok-content.ensures.is marked.numbers marked.there)
     (c.in_ok-content.ensures.has marked.numbers marked.there) refl in
-    let asked : List ℕ = here.content ∷ c.from.result ∷ here.memory ∷ [] in
-    record {
-      by_processor =
-          kept_behind live seen.contents seen.steps m key c.args.step here before c.requires.there at.content at.memory new
-          c.keep.new.self asked more c.place_with.ensures.grown (λ i. here.content ∷ c.from.ensures i ∷ here.memory ∷ [])
-          c.keep.ensures behind;
-      by_stream =
-          streams_behind live seen.contents seen.steps m key c.args.step here before c.requires.there at.content at.memory new
-          c.place_with.ensures.grown;
-    }
+    all_behind live seen.contents new seen.steps m key c.args.step here more c.keep.new.self seen.steps.by_stream
+    c.from.result before c.requires.there at.content at.memory c.place_with.ensures.grown c.from.ensures c.keep.ensures behind
+    (λ is. is)
 
 pub returns-clause-left : goal.returns-clause-left
 returns-clause-left c = λ live m before.
@@ -76,13 +69,6 @@ returns-clause-steps c = λ live m before.
     stream_behind live seen.contents seen.steps m key c.args.step here before c.requires.there at.content at.memory new l
     more mark c.place_with.ensures.grown marked there (c.in_ok-content.ensures.is marked.numbers marked.there)
     (c.in_ok-content.ensures.has marked.numbers marked.there) refl in
-    let asked : List ℕ = here.content ∷ c.from.result ∷ here.memory ∷ [] in
-    record {
-      by_processor =
-          kept_behind live seen.contents seen.steps m key c.args.step here before c.requires.there at.content at.memory new
-          c.keep.new.self asked more c.place_with.ensures.grown (λ i. here.content ∷ c.from.ensures i ∷ here.memory ∷ [])
-          c.keep.ensures behind;
-      by_stream =
-          streams_behind live seen.contents seen.steps m key c.args.step here before c.requires.there at.content at.memory new
-          c.place_with.ensures.grown;
-    }
+    all_behind live seen.contents new seen.steps m key c.args.step here more c.keep.new.self seen.steps.by_stream
+    c.from.result before c.requires.there at.content at.memory c.place_with.ensures.grown c.from.ensures c.keep.ensures behind
+    (λ is. is)

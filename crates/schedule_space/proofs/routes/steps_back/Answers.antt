@@ -1,4 +1,4 @@
-use Rattle.std.proofs.Common.{◌≡◌, ◌-◌, ◌≤◌, ◌<◌, arith, rules, sym, subst, length, get_or, []}
+use Rattle.std.proofs.Common.{◌-◌, ◌≤◌, ◌<◌, arith, rules, length, get_or, []}
 use Rattle.schedule_space.specs.declared.links.Link.{Link}
 use Rattle.schedule_space.specs.Spaces.{schedules}
 use Rattle.schedule_space.proofs.Reading.{read_more, read_all, same_link}

@@ -1,7 +1,7 @@
-use Rattle.std.proofs.Common.{◌≡◌, sym, subst, rules}
+use Rattle.std.proofs.Common.{sym, subst, rules}
 use Rattle.schedule_space.specs.Spaces.{world_of}
 use Rattle.schedule_space.specs.Finding.{HasRunning}
-use Rattle.schedule_space.specs.Kept.{machine_at, AreKeptAt}
+use Rattle.schedule_space.specs.Kept.{AreKeptAt}
 use Rattle.schedule_space.proofs.Alone.{expanded_if, followed_if}
 use Rattle.schedule_space.proofs.Kept.{gone_to}
 use Rattle.schedule_space.proofs.finding.Found.expand.Goals as goal

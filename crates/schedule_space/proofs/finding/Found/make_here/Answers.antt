@@ -1,8 +1,8 @@
-use Rattle.std.proofs.Common.{◌≡◌, ◌∙◌, ◌≤◌, ◌<◌, sym, ap, subst, arith, rules, Some, length}
+use Rattle.std.proofs.Common.{◌∙◌, sym, ap, subst, arith}
 use Rattle.machine.specs.MachineValue.{MachineValue}
-use Rattle.schedule_space.specs.Spaces.{SpaceValue, count, machine_by, IsRoute}
+use Rattle.schedule_space.specs.Spaces.{SpaceValue, machine_by}
 use Rattle.schedule_space.specs.Finding.{space_of}
-use Rattle.schedule_space.specs.Kept.{KeptValue, IsAtHand, machine_at, AreKeptAt}
+use Rattle.schedule_space.specs.Kept.{IsAtHand}
 use Rattle.schedule_space.proofs.Kept.{by_route, first_by, route_there, made_at, made_here}
 use Rattle.schedule_space.proofs.finding.Found.make_here.Goals as goal
 

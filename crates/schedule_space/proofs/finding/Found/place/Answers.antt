@@ -13,14 +13,14 @@ use Rattle.schedule_space.specs.Kept.{machine_at, machine_next, IsAtHand, AreKep
 use Rattle.schedule_space.specs.Before.{IsBefore}
 use Rattle.schedule_space.specs.Finding.{space_of}
 use Rattle.schedule_space.proofs.Growing.{grown_to, count-link}
-use Rattle.schedule_space.proofs.Keys.{found_later}
 use Rattle.schedule_space.proofs.Placing.{known_at, key_of_at, live_at, told_at, steps_at, steps_back, next_image, next_world}
+use Rattle.schedule_space.proofs.Making.{making_later, before_behind}
 use Rattle.schedule_space.proofs.Placing.{has_key, found_at, placed, placed_view, placed_grown, placed_there, placed_stands}
 use Rattle.schedule_space.proofs.Placing.{placed_expanding, kept, kept_view, stays_at, stays_expanding}
-use Rattle.schedule_space.proofs.Kept.{by_route, first_by, route_there, kept_same, at_hand_same, new_machine, placed_at_hand}
+use Rattle.schedule_space.proofs.Kept.{by_route, first_by, route_there, at_hand_same, new_machine, placed_at_hand}
 use Rattle.schedule_space.proofs.KeyStreams.{key_entries}
 use Rattle.world_keys.proofs.Places.{extends_trans}
-use Rattle.schedule_space.proofs.Before.{next_before, before_kept}
+use Rattle.schedule_space.proofs.Before.{before_kept}
 use Rattle.schedule_space.proofs.finding.Found.place.Goals as goal
 
 pub unwrap-before-requires : goal.unwrap-before-requires
@@ -75,72 +75,44 @@ invariant_of-self g c =
     let v = c.args.self.now in
     let w = space_of c.self.inside.image.now c.self.inside.live c.self.inside.begin.items c.self.inside.links.items c.self.inside.edges.items in
     let r = c.route_to-route.result in
-    let m = machine_by c.args.machines.now.first.image r.begin.now r.links.now r.place in
-    let at_m : m ≡ machine_after v.image (schedule_of v c.args.link.from) =
-    by_route v w c.args.machines.now c.args.link.from r.begin.now r.links.now r.place c.self.view_is c.requires.machines.kept
-    c.route_to-route.ensures.begin c.route_to-route.ensures.links c.route_to-route.ensures.place in
-    record {
-      found =
-          found_later w c.self.inside.fates.items c.self.inside.seen.contents c.key_after.new.seen.contents c.self.inside.keys
-          c.key_after.ensures.grown c.self.invariant.found;
-      left =
-          steps_back w v c.key_after.new.seen.contents c.key_after.new.seen.steps c.args.link.from m
-          c.key_after.ensures.steps c.self.view_is at_m;
-    }
+    let at = c.route_to-route.ensures in
+    making_later v w c.self.inside.fates.items c.self.inside.seen.contents c.key_after.new.seen.contents c.self.inside.keys
+    c.self.inside.seen.steps c.key_after.new.seen.steps c.args.machines.now c.args.link.from r.place r.begin.now r.links.now
+    c.self.view_is c.requires.machines.kept at.begin at.links at.place c.self.invariant c.key_after.ensures.grown
+    c.key_after.ensures.steps
 
 pub invariant_of-self-in_default : goal.invariant_of-self-in_default
 invariant_of-self-in_default g c =
     let v = c.args.self.now in
     let w = space_of c.self.inside.image.now c.self.inside.live c.self.inside.begin.items c.self.inside.links.items c.self.inside.edges.items in
     let r = c.route_to-route.result in
-    let m = machine_by c.args.machines.now.first.image r.begin.now r.links.now r.place in
-    let at_m : m ≡ machine_after v.image (schedule_of v c.args.link.from) =
-    by_route v w c.args.machines.now c.args.link.from r.begin.now r.links.now r.place c.self.view_is c.requires.machines.kept
-    c.route_to-route.ensures.begin c.route_to-route.ensures.links c.route_to-route.ensures.place in
-    record {
-      found =
-          found_later w c.self.inside.fates.items c.self.inside.seen.contents c.key_after.new.seen.contents c.self.inside.keys
-          c.key_after.ensures.grown c.self.invariant.found;
-      left =
-          steps_back w v c.key_after.new.seen.contents c.key_after.new.seen.steps c.args.link.from m
-          c.key_after.ensures.steps c.self.view_is at_m;
-    }
+    let at = c.route_to-route.ensures in
+    making_later v w c.self.inside.fates.items c.self.inside.seen.contents c.key_after.new.seen.contents c.self.inside.keys
+    c.self.inside.seen.steps c.key_after.new.seen.steps c.args.machines.now c.args.link.from r.place r.begin.now r.links.now
+    c.self.view_is c.requires.machines.kept at.begin at.links at.place c.self.invariant c.key_after.ensures.grown
+    c.key_after.ensures.steps
 
 pub invariant_of-self-in-Some-find : goal.invariant_of-self-in-Some-find
 invariant_of-self-in-Some-find g c =
     let v = c.args.self.now in
     let w = space_of c.self.inside.image.now c.self.inside.live c.self.inside.begin.items c.self.inside.links.items c.self.inside.edges.items in
     let r = c.route_to-route.result in
-    let m = machine_by c.args.machines.now.first.image r.begin.now r.links.now r.place in
-    let at_m : m ≡ machine_after v.image (schedule_of v c.args.link.from) =
-    by_route v w c.args.machines.now c.args.link.from r.begin.now r.links.now r.place c.self.view_is c.requires.machines.kept
-    c.route_to-route.ensures.begin c.route_to-route.ensures.links c.route_to-route.ensures.place in
-    record {
-      found =
-          found_later w c.self.inside.fates.items c.self.inside.seen.contents c.key_after.new.seen.contents c.self.inside.keys
-          c.key_after.ensures.grown c.self.invariant.found;
-      left =
-          steps_back w v c.key_after.new.seen.contents c.key_after.new.seen.steps c.args.link.from m
-          c.key_after.ensures.steps c.self.view_is at_m;
-    }
+    let at = c.route_to-route.ensures in
+    making_later v w c.self.inside.fates.items c.self.inside.seen.contents c.key_after.new.seen.contents c.self.inside.keys
+    c.self.inside.seen.steps c.key_after.new.seen.steps c.args.machines.now c.args.link.from r.place r.begin.now r.links.now
+    c.self.view_is c.requires.machines.kept at.begin at.links at.place c.self.invariant c.key_after.ensures.grown
+    c.key_after.ensures.steps
 
 pub invariant_of-self-then-place-most : goal.invariant_of-self-then-place-most
 invariant_of-self-then-place-most g c =
     let v = c.args.self.now in
     let w = space_of c.self.inside.image.now c.self.inside.live c.self.inside.begin.items c.self.inside.links.items c.self.inside.edges.items in
     let r = c.route_to-route.result in
-    let m = machine_by c.args.machines.now.first.image r.begin.now r.links.now r.place in
-    let at_m : m ≡ machine_after v.image (schedule_of v c.args.link.from) =
-    by_route v w c.args.machines.now c.args.link.from r.begin.now r.links.now r.place c.self.view_is c.requires.machines.kept
-    c.route_to-route.ensures.begin c.route_to-route.ensures.links c.route_to-route.ensures.place in
-    record {
-      found =
-          found_later w c.self.inside.fates.items c.self.inside.seen.contents c.key_after.new.seen.contents c.self.inside.keys
-          c.key_after.ensures.grown c.self.invariant.found;
-      left =
-          steps_back w v c.key_after.new.seen.contents c.key_after.new.seen.steps c.args.link.from m
-          c.key_after.ensures.steps c.self.view_is at_m;
-    }
+    let at = c.route_to-route.ensures in
+    making_later v w c.self.inside.fates.items c.self.inside.seen.contents c.key_after.new.seen.contents c.self.inside.keys
+    c.self.inside.seen.steps c.key_after.new.seen.steps c.args.machines.now c.args.link.from r.place r.begin.now r.links.now
+    c.self.view_is c.requires.machines.kept at.begin at.links at.place c.self.invariant c.key_after.ensures.grown
+    c.key_after.ensures.steps
 
 pub invariant_of-self-in_err-known : goal.invariant_of-self-in_err-known
 invariant_of-self-in_err-known g c =
@@ -152,22 +124,21 @@ invariant_of-self-in_err-known g c =
     by_route v w c.args.machines.now c.args.link.from r.begin.now r.links.now r.place c.self.view_is c.requires.machines.kept
     c.route_to-route.ensures.begin c.route_to-route.ensures.links c.route_to-route.ensures.place in
     let n = machine_next m c.args.link.step in
+    let at = c.route_to-route.ensures in
     let known : IsKnown c.key_after.new.seen.contents n.image (cleared c.self.inside.live n.world) = search rules in
     let key_is : c.in-Some.key.items ≡ key_of c.key_after.new.seen.contents n.image (cleared c.self.inside.live n.world) =
     search rules in
     let before : IsBefore c.self.inside.live c.key_after.new.seen.contents c.key_after.new.seen.steps n c.deref-2.result.now =
-    next_before v c.self.inside.live c.key_after.new.seen.contents c.key_after.new.seen.steps c.args.link.from c.args.link.step m
-    c.deref-2.result.now at_m
-    (live_at w v c.self.inside.fates.items c.self.inside.seen.contents c.self.inside.keys c.args.link.from m
-    c.self.invariant.found c.self.view_is at_m) known (c.deref-2.ensures.value ∙ key_is) c.key_after.ensures.steps in
-    record {
-      found =
-          found_later w c.self.inside.fates.items c.self.inside.seen.contents c.known_fate.new.seen.contents c.self.inside.keys
-          (extends_trans c.self.inside.seen.contents c.key_after.new.seen.contents c.known_fate.new.seen.contents c.key_after.ensures.grown c.known_fate.ensures.grown) c.self.invariant.found;
-      left =
-          steps_back w v c.known_fate.new.seen.contents c.known_fate.new.seen.steps c.args.link.from m
-          (c.known_fate.ensures.steps c.self.inside.live n before) c.self.view_is at_m;
-    }
+    before_behind v w c.self.inside.fates.items c.self.inside.seen.contents c.key_after.new.seen.contents c.self.inside.keys
+    c.self.inside.seen.steps c.key_after.new.seen.steps c.args.machines.now c.args.link.from r.place r.begin.now r.links.now
+    c.self.view_is c.requires.machines.kept at.begin at.links at.place c.self.invariant c.args.link.step
+    c.deref-2.result.now known (c.deref-2.ensures.value ∙ key_is) c.key_after.ensures.steps in
+    making_later v w c.self.inside.fates.items c.self.inside.seen.contents c.known_fate.new.seen.contents c.self.inside.keys
+    c.self.inside.seen.steps c.known_fate.new.seen.steps c.args.machines.now c.args.link.from r.place r.begin.now r.links.now
+    c.self.view_is c.requires.machines.kept at.begin at.links at.place c.self.invariant
+    (extends_trans c.self.inside.seen.contents c.key_after.new.seen.contents c.known_fate.new.seen.contents
+    c.key_after.ensures.grown c.known_fate.ensures.grown)
+    (c.known_fate.ensures.steps c.self.inside.live n before)
 
 pub invariant_of-self-in_err-next : goal.invariant_of-self-in_err-next
 invariant_of-self-in_err-next g c =
@@ -179,22 +150,21 @@ invariant_of-self-in_err-next g c =
     by_route v w c.args.machines.now c.args.link.from r.begin.now r.links.now r.place c.self.view_is c.requires.machines.kept
     c.route_to-route.ensures.begin c.route_to-route.ensures.links c.route_to-route.ensures.place in
     let n = machine_next m c.args.link.step in
+    let at = c.route_to-route.ensures in
     let known : IsKnown c.key_after.new.seen.contents n.image (cleared c.self.inside.live n.world) = search rules in
     let key_is : c.in-Some.key.items ≡ key_of c.key_after.new.seen.contents n.image (cleared c.self.inside.live n.world) =
     search rules in
     let before : IsBefore c.self.inside.live c.key_after.new.seen.contents c.key_after.new.seen.steps n c.deref-2.result.now =
-    next_before v c.self.inside.live c.key_after.new.seen.contents c.key_after.new.seen.steps c.args.link.from c.args.link.step m
-    c.deref-2.result.now at_m
-    (live_at w v c.self.inside.fates.items c.self.inside.seen.contents c.self.inside.keys c.args.link.from m
-    c.self.invariant.found c.self.view_is at_m) known (c.deref-2.ensures.value ∙ key_is) c.key_after.ensures.steps in
-    record {
-      found =
-          found_later w c.self.inside.fates.items c.self.inside.seen.contents c.known_fate.new.seen.contents c.self.inside.keys
-          (extends_trans c.self.inside.seen.contents c.key_after.new.seen.contents c.known_fate.new.seen.contents c.key_after.ensures.grown c.known_fate.ensures.grown) c.self.invariant.found;
-      left =
-          steps_back w v c.known_fate.new.seen.contents c.known_fate.new.seen.steps c.args.link.from m
-          (c.known_fate.ensures.steps c.self.inside.live n before) c.self.view_is at_m;
-    }
+    before_behind v w c.self.inside.fates.items c.self.inside.seen.contents c.key_after.new.seen.contents c.self.inside.keys
+    c.self.inside.seen.steps c.key_after.new.seen.steps c.args.machines.now c.args.link.from r.place r.begin.now r.links.now
+    c.self.view_is c.requires.machines.kept at.begin at.links at.place c.self.invariant c.args.link.step
+    c.deref-2.result.now known (c.deref-2.ensures.value ∙ key_is) c.key_after.ensures.steps in
+    making_later v w c.self.inside.fates.items c.self.inside.seen.contents c.known_fate.new.seen.contents c.self.inside.keys
+    c.self.inside.seen.steps c.known_fate.new.seen.steps c.args.machines.now c.args.link.from r.place r.begin.now r.links.now
+    c.self.view_is c.requires.machines.kept at.begin at.links at.place c.self.invariant
+    (extends_trans c.self.inside.seen.contents c.key_after.new.seen.contents c.known_fate.new.seen.contents
+    c.key_after.ensures.grown c.known_fate.ensures.grown)
+    (c.known_fate.ensures.steps c.self.inside.live n before)
 
 pub invariant_of-self-in_err-push_world : goal.invariant_of-self-in_err-push_world
 invariant_of-self-in_err-push_world g c =
@@ -206,14 +176,15 @@ invariant_of-self-in_err-push_world g c =
     by_route v w c.args.machines.now c.args.link.from r.begin.now r.links.now r.place c.self.view_is c.requires.machines.kept
     c.route_to-route.ensures.begin c.route_to-route.ensures.links c.route_to-route.ensures.place in
     let n = machine_next m c.args.link.step in
+    let at = c.route_to-route.ensures in
     let known : IsKnown c.key_after.new.seen.contents n.image (cleared c.self.inside.live n.world) = search rules in
     let key_is : c.in-Some.key.items ≡ key_of c.key_after.new.seen.contents n.image (cleared c.self.inside.live n.world) =
     search rules in
     let before : IsBefore c.self.inside.live c.key_after.new.seen.contents c.key_after.new.seen.steps n c.deref-2.result.now =
-    next_before v c.self.inside.live c.key_after.new.seen.contents c.key_after.new.seen.steps c.args.link.from c.args.link.step m
-    c.deref-2.result.now at_m
-    (live_at w v c.self.inside.fates.items c.self.inside.seen.contents c.self.inside.keys c.args.link.from m
-    c.self.invariant.found c.self.view_is at_m) known (c.deref-2.ensures.value ∙ key_is) c.key_after.ensures.steps in
+    before_behind v w c.self.inside.fates.items c.self.inside.seen.contents c.key_after.new.seen.contents c.self.inside.keys
+    c.self.inside.seen.steps c.key_after.new.seen.steps c.args.machines.now c.args.link.from r.place r.begin.now r.links.now
+    c.self.view_is c.requires.machines.kept at.begin at.links at.place c.self.invariant c.args.link.step
+    c.deref-2.result.now known (c.deref-2.ensures.value ∙ key_is) c.key_after.ensures.steps in
     record {
       found =
           kept c.self.inside.image.now c.self.inside.live c.self.inside.begin.items c.self.inside.links.items c.push_world.new.links.items c.self.inside.edges.items
@@ -235,14 +206,15 @@ invariant_of-self-2 g c =
     by_route v w c.args.machines.now c.args.link.from r.begin.now r.links.now r.place c.self.view_is c.requires.machines.kept
     c.route_to-route.ensures.begin c.route_to-route.ensures.links c.route_to-route.ensures.place in
     let n = machine_next m c.args.link.step in
+    let at = c.route_to-route.ensures in
     let known : IsKnown c.key_after.new.seen.contents n.image (cleared c.self.inside.live n.world) = search rules in
     let key_is : c.in-Some.key.items ≡ key_of c.key_after.new.seen.contents n.image (cleared c.self.inside.live n.world) =
     search rules in
     let before : IsBefore c.self.inside.live c.key_after.new.seen.contents c.key_after.new.seen.steps n c.deref-2.result.now =
-    next_before v c.self.inside.live c.key_after.new.seen.contents c.key_after.new.seen.steps c.args.link.from c.args.link.step m
-    c.deref-2.result.now at_m
-    (live_at w v c.self.inside.fates.items c.self.inside.seen.contents c.self.inside.keys c.args.link.from m
-    c.self.invariant.found c.self.view_is at_m) known (c.deref-2.ensures.value ∙ key_is) c.key_after.ensures.steps in
+    before_behind v w c.self.inside.fates.items c.self.inside.seen.contents c.key_after.new.seen.contents c.self.inside.keys
+    c.self.inside.seen.steps c.key_after.new.seen.steps c.args.machines.now c.args.link.from r.place r.begin.now r.links.now
+    c.self.view_is c.requires.machines.kept at.begin at.links at.place c.self.invariant c.args.link.step
+    c.deref-2.result.now known (c.deref-2.ensures.value ∙ key_is) c.key_after.ensures.steps in
     let later =
     before_kept c.self.inside.live c.key_after.new.seen.contents c.known_fate.new.seen.contents c.key_after.new.seen.steps
     c.known_fate.new.seen.steps n c.deref-2.result.now c.known_fate.ensures.grown
@@ -283,14 +255,15 @@ known_fate-requires g c =
     by_route v w c.args.machines.now c.args.link.from r.begin.now r.links.now r.place c.self.view_is c.requires.machines.kept
     c.route_to-route.ensures.begin c.route_to-route.ensures.links c.route_to-route.ensures.place in
     let n = machine_next m c.args.link.step in
+    let at = c.route_to-route.ensures in
     let known : IsKnown c.key_after.new.seen.contents n.image (cleared c.self.inside.live n.world) = search rules in
     let key_is : c.in-Some.key.items ≡ key_of c.key_after.new.seen.contents n.image (cleared c.self.inside.live n.world) =
     search rules in
     let before : IsBefore c.self.inside.live c.key_after.new.seen.contents c.key_after.new.seen.steps n c.deref-2.result.now =
-    next_before v c.self.inside.live c.key_after.new.seen.contents c.key_after.new.seen.steps c.args.link.from c.args.link.step m
-    c.deref-2.result.now at_m
-    (live_at w v c.self.inside.fates.items c.self.inside.seen.contents c.self.inside.keys c.args.link.from m
-    c.self.invariant.found c.self.view_is at_m) known (c.deref-2.ensures.value ∙ key_is) c.key_after.ensures.steps in
+    before_behind v w c.self.inside.fates.items c.self.inside.seen.contents c.key_after.new.seen.contents c.self.inside.keys
+    c.self.inside.seen.steps c.key_after.new.seen.steps c.args.machines.now c.args.link.from r.place r.begin.now r.links.now
+    c.self.view_is c.requires.machines.kept at.begin at.links at.place c.self.invariant c.args.link.step
+    c.deref-2.result.now known (c.deref-2.ensures.value ∙ key_is) c.key_after.ensures.steps in
     let many : length c.in-Some.key.items ≡ length n.image.entries + 1 =
     key_entries n.image c.self.inside.live c.key_after.new.seen.contents n.world c.in-Some.key.items known key_is in
     let image : n.image ≡ c.self.inside.image.now =
@@ -307,14 +280,15 @@ next_world-requires g c =
     by_route v w c.args.machines.now c.args.link.from r.begin.now r.links.now r.place c.self.view_is c.requires.machines.kept
     c.route_to-route.ensures.begin c.route_to-route.ensures.links c.route_to-route.ensures.place in
     let n = machine_next m c.args.link.step in
+    let at = c.route_to-route.ensures in
     let known : IsKnown c.key_after.new.seen.contents n.image (cleared c.self.inside.live n.world) = search rules in
     let key_is : c.in-Some.key.items ≡ key_of c.key_after.new.seen.contents n.image (cleared c.self.inside.live n.world) =
     search rules in
     let before : IsBefore c.self.inside.live c.key_after.new.seen.contents c.key_after.new.seen.steps n c.deref-2.result.now =
-    next_before v c.self.inside.live c.key_after.new.seen.contents c.key_after.new.seen.steps c.args.link.from c.args.link.step m
-    c.deref-2.result.now at_m
-    (live_at w v c.self.inside.fates.items c.self.inside.seen.contents c.self.inside.keys c.args.link.from m
-    c.self.invariant.found c.self.view_is at_m) known (c.deref-2.ensures.value ∙ key_is) c.key_after.ensures.steps in
+    before_behind v w c.self.inside.fates.items c.self.inside.seen.contents c.key_after.new.seen.contents c.self.inside.keys
+    c.self.inside.seen.steps c.key_after.new.seen.steps c.args.machines.now c.args.link.from r.place r.begin.now r.links.now
+    c.self.view_is c.requires.machines.kept at.begin at.links at.place c.self.invariant c.args.link.step
+    c.deref-2.result.now known (c.deref-2.ensures.value ∙ key_is) c.key_after.ensures.steps in
     let one : AreKeptAt v c.key_after.new.machines c.args.link.from =
     at_hand_same v c.args.machines.now c.key_after.new.machines c.args.link.from c.key_after.ensures.kept
     (subst (λ (x : MachineValue). IsAtHand x c.key_after.new.machines.here) at_m c.key_after.ensures.here) c.requires.machines.kept in

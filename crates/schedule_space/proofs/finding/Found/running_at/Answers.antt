@@ -1,8 +1,8 @@
-use Rattle.std.proofs.Common.{◌≡◌, ◌+◌, ◌∙◌, sym, ap, subst, arith, refl, Some, slice_get, length, option_copied}
+use Rattle.std.proofs.Common.{◌≡◌, ◌+◌, ◌∙◌, sym, ap, subst, refl, Some, slice_get, length, option_copied}
 use Rattle.image_file.specs.ImageValue.{ImageValue}
 use Rattle.dead_registers.specs.Clearing.{cleared}
 use Rattle.world_keys.specs.WorldKeys.{key_of, IsKnown}
-use Rattle.schedule_space.specs.Spaces.{SpaceValue, world_of}
+use Rattle.schedule_space.specs.Spaces.{SpaceValue}
 use Rattle.schedule_space.specs.Finding.{space_of}
 use Rattle.schedule_space.specs.Kept.{machine_at}
 use Rattle.schedule_space.proofs.Placing.{has_key, known_at, key_of_at}

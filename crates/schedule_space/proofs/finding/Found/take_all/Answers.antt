@@ -1,4 +1,4 @@
-use Rattle.std.proofs.Common.{◌≡◌, arith, rules, get_or}
+use Rattle.std.proofs.Common.{arith, rules, get_or}
 use Rattle.processor.specs.declared.steps.Step.{Step}
 use Rattle.schedule_space.specs.Finding.{IsTaken}
 use Rattle.schedule_space.proofs.Growing.{grown_refl, grown_trans}

@@ -1,4 +1,4 @@
-use Rattle.std.proofs.Common.{◌≡◌, ◌∙◌, sym, ap, refl, arith, rules, inr, subst, get_or, Some}
+use Rattle.std.proofs.Common.{sym, arith, rules, inr, subst, get_or}
 use Rattle.std.specs.Prelude.{OnOk, List}
 use Rattle.image_file.specs.ImageValue.{ImageValue}
 use Rattle.processor.specs.declared.steps.Step.{Step}

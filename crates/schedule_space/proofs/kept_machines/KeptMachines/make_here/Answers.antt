@@ -1,6 +1,5 @@
-use Rattle.std.proofs.Common.{◌≡◌, ◌∙◌, ◌++◌, ap, sym, subst, rules, get_or, [], Some, reverse}
-use Rattle.machine.specs.MachineValue.{MachineValue}
-use Rattle.schedule_space.specs.Spaces.{schedules, machine_after, machine_by}
+use Rattle.std.proofs.Common.{◌≡◌, ◌∙◌, ap, rules, Some, reverse}
+use Rattle.schedule_space.specs.Spaces.{machine_by}
 use Rattle.schedule_space.specs.Kept.{KeptValue}
 use Rattle.schedule_space.proofs.Kept.{made_by}
 use Rattle.schedule_space.proofs.kept_machines.KeptMachines.make_here.Goals as goal

@@ -1,8 +1,3 @@
-use Rattle.std.proofs.Common.{◌≡◌, ◌∙◌, sym, ap, subst, arith, List, get_or, []}
-use Rattle.std.specs.Prelude.{IfOk}
-use Rattle.processor.specs.declared.steps.Step.{Step}
-use Rattle.schedule_space.specs.declared.links.Link.{Link}
-use Rattle.schedule_space.specs.Spaces.{SpaceValue, schedules}
 use Rattle.schedule_space.specs.Finding.{space_of}
 use Rattle.schedule_space.proofs.Kept.{route_there}
 use Rattle.schedule_space.proofs.spaces.Space.schedule.Goals as goal
