@@ -16,6 +16,13 @@ use std::str;
 /// The most cases that a folder has.
 const MOST_CASES: usize = 10_000;
 
+/// Which lines a file of cells has.
+const LINES_OF_CELLS: &str =
+    "a line of cells is .data VALUE[, TAGS] or .fill COUNT, VALUE, TAGS, without a label";
+
+/// What is said of a file of cells that gives none.
+const NO_CELL: &str = "no cell is given here, so nothing replaces the submission's own";
+
 /// What submissions are judged by: cells, and what the end of a run with them has to be.
 #[derive(Drop)]
 pub(crate) struct Case {
@@ -33,6 +40,38 @@ pub(crate) struct Case {
     pub given: Vec<u8>,
 }
 
+impl Case {
+    /// The case of a file of expectations, as the only one, without cells.
+    fn of_file<F: Files, R: Read>(
+        alloc: Global,
+        inputs: &mut Inputs<'_, F, R>,
+        path: String,
+    ) -> Result<Case, LabFault> {
+        let wishes = inputs.read(alloc, &path)?;
+        let lines = WishLines::of(alloc, &wishes)?;
+        Ok(Case {
+            name: None,
+            path,
+            wishes,
+            lines,
+            cells: None,
+            given: Vec::new(alloc),
+        })
+    }
+
+    /// Takes the cells of a file.
+    fn take_cells<F: Files, R: Read>(
+        &mut self,
+        alloc: Global,
+        inputs: &mut Inputs<'_, F, R>,
+        path: &str,
+    ) -> Result<(), LabFault> {
+        self.given = inputs.read(alloc, path)?;
+        self.cells = Some(cells_of(alloc, path, &self.given)?);
+        Ok(())
+    }
+}
+
 /// The cases that are asked for, in the order of their names, one at least.
 pub(crate) fn read_cases<F: Files, R: Read>(
     alloc: Global,
@@ -42,8 +81,9 @@ pub(crate) fn read_cases<F: Files, R: Read>(
     match cases {
         GradeCases::Folder(folder) => cases_of_folder(alloc, inputs, folder),
         GradeCases::One { expected, given } => {
+            let case = case_given(alloc, inputs, expected, given)?;
             let mut cases = Vec::new(alloc);
-            cases.push(case_given(alloc, inputs, expected, given)?)?;
+            cases.push(case)?;
             Ok(cases)
         }
     }
@@ -56,23 +96,11 @@ fn case_given<F: Files, R: Read>(
     expected: &str,
     given: Option<&str>,
 ) -> Result<Case, LabFault> {
-    let wishes = inputs.read(alloc, expected)?;
-    let path = String::from_str(alloc, expected)?;
-    let (cells, given) = match given {
-        Some(path) => {
-            let text = inputs.read(alloc, path)?;
-            (Some(cells_of(alloc, path, &text)?), text)
-        }
-        None => (None, Vec::new(alloc)),
-    };
-    Ok(Case {
-        name: None,
-        path,
-        lines: WishLines::of(alloc, &wishes)?,
-        wishes,
-        cells,
-        given,
-    })
+    let mut case = Case::of_file(alloc, inputs, String::from_str(alloc, expected)?)?;
+    if let Some(path) = given {
+        case.take_cells(alloc, inputs, path)?;
+    }
+    Ok(case)
 }
 
 /// The cases of a folder.
@@ -81,8 +109,7 @@ fn cases_of_folder<F: Files, R: Read>(
     inputs: &mut Inputs<'_, F, R>,
     folder: &str,
 ) -> Result<Vec<Case>, LabFault> {
-    let bytes = folder_names(alloc, inputs.files, folder, "")?;
-    let names = names_of_cases(alloc, folder, &bytes)?;
+    let names = names_in_folder(alloc, inputs.files, folder)?;
     let mut cases = Vec::new(alloc);
     for name in &names {
         cases.push(case_of(alloc, inputs, folder, name)?)?;
@@ -98,43 +125,65 @@ fn case_of<F: Files, R: Read>(
     name: &str,
 ) -> Result<Case, LabFault> {
     let slash = slash_after(folder);
-    let path = format!(in alloc; "{folder}{slash}{name}.expect")?;
+    let expected = format!(in alloc; "{folder}{slash}{name}.expect")?;
+    let mut case = Case::of_file(alloc, inputs, expected)?;
     let data = format!(in alloc; "{folder}{slash}{name}.data")?;
-    let wishes = inputs.read(alloc, &path)?;
-    let given = inputs.read(alloc, &data)?;
-    Ok(Case {
-        name: Some(String::from_str(alloc, name)?),
-        path,
-        lines: WishLines::of(alloc, &wishes)?,
-        wishes,
-        cells: Some(cells_of(alloc, &data, &given)?),
-        given,
-    })
+    case.take_cells(alloc, inputs, &data)?;
+    case.name = Some(String::from_str(alloc, name)?);
+    Ok(case)
 }
 
-/// The names of a folder's cases, in their order: of each file NAME.data or NAME.expect the part before the point. These
-/// are the names of its files, each with a zero after it.
+/// The names of a folder's cases, in their order, one at least.
+fn names_in_folder<F: Files>(
+    alloc: Global,
+    files: &F,
+    folder: &str,
+) -> Result<Vec<String>, LabFault> {
+    let bytes = folder_names(alloc, files, folder, "")?;
+    names_of_cases(alloc, folder, &bytes)
+}
+
+/// The same by the names of the folder's files, each with a zero after it.
 fn names_of_cases(alloc: Global, folder: &str, bytes: &[u8]) -> Result<Vec<String>, LabFault> {
-    let mut names: Vec<String> = Vec::new(alloc);
+    let mut names = Vec::new(alloc);
+    add_names(alloc, &mut names, folder, bytes)?;
+    if names.is_empty() {
+        return Err(no_case_in(alloc, folder)?);
+    }
+    names.sort()?;
+    Ok(names)
+}
+
+/// Adds each name once: of each file NAME.data or NAME.expect the part before the point.
+fn add_names(
+    alloc: Global,
+    names: &mut Vec<String>,
+    folder: &str,
+    bytes: &[u8],
+) -> Result<(), LabFault> {
     for entry in bytes.split(|byte| *byte == 0) {
         if let Some(name) = name_of_case(entry)
             && !names.iter().any(|known: &String| known.as_str() == name)
         {
             if names.len() >= MOST_CASES {
-                return Err(LabFault::Words(format!(in alloc;
-                    "{folder}: more than {MOST_CASES} cases"
-                )?));
+                return Err(too_many_cases(alloc, folder)?);
             }
             names.push(String::from_str(alloc, name)?)?;
         }
     }
-    if names.is_empty() {
-        return Err(LabFault::Words(format!(in alloc;
-            "{folder}: no case is here, as NAME.data and NAME.expect"
-        )?));
-    }
-    names.sort()?;
-    Ok(names)
+    Ok(())
+}
+
+/// What is said of a folder that has more cases than are taken.
+fn too_many_cases(alloc: Global, folder: &str) -> Result<LabFault, AllocError> {
+    Ok(LabFault::Words(format!(in alloc; "{folder}: more than {MOST_CASES} cases")?))
+}
+
+/// What is said of a folder that has no case.
+fn no_case_in(alloc: Global, folder: &str) -> Result<LabFault, AllocError> {
+    Ok(LabFault::Words(format!(in alloc;
+        "{folder}: no case is here, as NAME.data and NAME.expect"
+    )?))
 }
 
 /// The name of the case that a file of this name is of.
@@ -162,37 +211,33 @@ fn cells_fault(
     text: &[u8],
     fault: CellsFault,
 ) -> Result<LabFault, AllocError> {
-    let (line, words) = match fault {
-        CellsFault::NoMemory => return Ok(LabFault::NoMemory),
-        CellsFault::Line(line) => (line, line_words(alloc)?),
-        CellsFault::Source(AsmFault { line: 0, .. }) => (
-            1,
-            String::from_str(
-                alloc,
-                "no cell is given here, so nothing replaces the submission's own",
-            )?,
-        ),
-        CellsFault::Source(fault) => (fault.line, source_words(alloc, text, fault.line)?),
-    };
-    let path = plain(alloc, path)?;
-    Ok(LabFault::Lines(format!(in alloc; "{path}:{line}:1: error: {words}\n")?))
+    match fault {
+        CellsFault::NoMemory => Ok(LabFault::NoMemory),
+        CellsFault::Line(line) => fault_at(alloc, path, line, LINES_OF_CELLS),
+        CellsFault::Source(AsmFault { line: 0, .. }) => fault_at(alloc, path, 1, NO_CELL),
+        CellsFault::Source(fault) => source_fault(alloc, path, text, fault.line),
+    }
 }
 
-/// Which lines a file of cells has.
-fn line_words(alloc: Global) -> Result<String, AllocError> {
-    String::from_str(
-        alloc,
-        "a line of cells is .data VALUE[, TAGS] or .fill COUNT, VALUE, TAGS, without a label",
-    )
-}
-
-/// What is wrong with a line of `.data` or `.fill`.
-fn source_words(alloc: Global, text: &[u8], line: usize) -> Result<String, AllocError> {
+/// What is said of a line of `.data` or `.fill` that says no cells.
+fn source_fault(
+    alloc: Global,
+    path: &str,
+    text: &[u8],
+    line: usize,
+) -> Result<LabFault, AllocError> {
     let whole = program_of_cells(alloc, text)?;
-    for message in &check_source(alloc, &whole)? {
+    let messages = check_source(alloc, &whole)?;
+    for message in &messages {
         if message.line == line {
-            return String::from_str(alloc, &message.words);
+            return fault_at(alloc, path, line, &message.words);
         }
     }
-    line_words(alloc)
+    fault_at(alloc, path, line, LINES_OF_CELLS)
+}
+
+/// What is said of a file: that this is wrong with its line of this number.
+fn fault_at(alloc: Global, path: &str, line: usize, words: &str) -> Result<LabFault, AllocError> {
+    let path = plain(alloc, path)?;
+    Ok(LabFault::Lines(format!(in alloc; "{path}:{line}:1: error: {words}\n")?))
 }

@@ -3,10 +3,10 @@
 ghost use Rattle.std.specs.Prelude.{◌≡◌, [], is_some, IsTrue, IfOk};
 ghost use Rattle.schedule_verdicts.specs.ShownClaims.{IsRightThroughout};
 
-use crate::judged::{Grading, Judged};
+use crate::end_flaws::{EndFlaw, first_end_flaw};
+use crate::judged::{Grading, Judged, verdict_by_line};
 use crate::seed_grades::sampled_verdict;
 use command_parts::LabFault;
-use end_kinds::EndKind;
 use grade_reports::{CountedEnd, Known, Verdict, VerdictKind, WishLine, Witness};
 use lab_ends::{SpaceEnd, SpaceEndKind};
 use lab_explorer::{Console, Explored, SpaceSearch, Watcher, explore_program};
@@ -17,8 +17,9 @@ use std::thread::Threads;
 use std::time::Clock;
 
 /// What every schedule says of a submission: the first that holds of any of its ends of a trap, a deadlock, a wrong end, a
-/// broken claim, a set of worlds that spin; else that no schedule shows a claim that has to hold of one world at least. Where it has none of them and the search did not have all of them, what random
-/// schedules say of it, and that all is not decided if they say that it is right. The status is the worst over all.
+/// broken claim, a set of worlds that spin. Where none does, it is whether some schedule shows each claim that has to hold
+/// of one world at least. If the search has none of them and did not find all worlds, random schedules are tried: what they
+/// say, and where they say right, that it is not decided. The status is the worst over all.
 pub(crate) fn explored_verdict<X: Threads + Sync, C: Clock, E: Write>(
     rt: &X,
     alloc: Global,
@@ -28,6 +29,27 @@ pub(crate) fn explored_verdict<X: Threads + Sync, C: Clock, E: Write>(
     console: &mut Console<'_, C, E>,
 ) -> Result<Verdict, LabFault>
     ensures right { let j = judged.now in IfOk result (λ v. v.kind ≡ VerdictKind.Right
+        → IsRightThroughout j.program.now.image [] j.wishes.now.ends.items j.wishes.now.claims.items
+        (is_some j.wishes.now.never_busy)) }
+{
+    let found = searched(alloc, grading, judged, bounds, console)?;
+    let verdict = verdict_of_ends(alloc, grading, judged, &found)?;
+    if verdict.kind != VerdictKind::NotDecided {
+        return Ok(verdict);
+    }
+    let is_shown = found.unshown.is_none();
+    Ok(undecided_verdict(rt, alloc, grading, judged, verdict, is_shown)?)
+}
+
+/// What a search among all schedules of a submission comes to.
+fn searched<C: Clock, E: Write>(
+    alloc: Global,
+    grading: &Grading<'_, '_>,
+    judged: &Judged<'_, '_>,
+    bounds: Bounds,
+    console: &mut Console<'_, C, E>,
+) -> Result<Explored, LabFault>
+    ensures right { let j = judged.now in IfOk result (λ e. IsTrue e.is_right
         → IsRightThroughout j.program.now.image [] j.wishes.now.ends.items j.wishes.now.claims.items
         (is_some j.wishes.now.never_busy)) }
 {
@@ -43,13 +65,7 @@ pub(crate) fn explored_verdict<X: Threads + Sync, C: Clock, E: Write>(
     let mut watcher = Watcher::new(alloc, console, bounds)?;
     let found = explore_program(alloc, judged.program, judged.names, &asked, &mut watcher);
     watcher.finish();
-    let found = found?;
-    let verdict = verdict_of_ends(alloc, grading, judged, &found)?;
-    if verdict.kind != VerdictKind::NotDecided {
-        return Ok(verdict);
-    }
-    let is_shown = found.unshown.is_none();
-    Ok(undecided_verdict(rt, alloc, grading, judged, verdict, is_shown)?)
+    Ok(found?)
 }
 
 /// What is said of a submission that a search said nothing of, for which this stands: what random schedules say. Where
@@ -114,16 +130,8 @@ fn first_verdict(
     ensures right { IfOk result (λ v. v.kind ≡ VerdictKind.Right → IsTrue found.now.is_right) }
 {
     let known = known_of(found);
-    for flaw in [
-        EndFlaw::Trap,
-        EndFlaw::Deadlock,
-        EndFlaw::Wrong,
-        EndFlaw::Broken,
-        EndFlaw::Spinning,
-    ] {
-        if let Some(end) = found.ends.iter().find(|end| flaw.is_of(end)) {
-            return verdict_of_end(alloc, judged, flaw.kind(), known, end);
-        }
+    if let Some((flaw, end)) = first_end_flaw(&EndFlaw::ALL, &found.ends) {
+        return verdict_of_end(alloc, judged, flaw.kind(), known, end);
     }
     if let Some(place) = found.unkept().unshown {
         return verdict_of_unshown(alloc, judged, known, place);
@@ -145,10 +153,9 @@ fn verdict_of_unshown(
 ) -> Result<Verdict, AllocError>
     ensures { IfOk result (λ v. ¬ (v.kind ≡ VerdictKind.Right)) }
 {
-    let mut verdict = Verdict::plain(alloc, VerdictKind::Wrong, known);
-    verdict.missed = judged.lines.claim_at(alloc, Some(place))?;
-    verdict.words = String::from_str(alloc, "no schedule has such a state")?;
-    Ok(verdict)
+    let line = judged.lines.claim_at(alloc, Some(place))?;
+    let kind = VerdictKind::Wrong;
+    verdict_by_line(alloc, kind, known, line, "no schedule has such a state")
 }
 
 /// What a search found.
@@ -164,46 +171,6 @@ fn known_of(found: &Explored) -> Known {
     }
 }
 
-/// What an end of a submission can show against it.
-#[derive(Clone, Copy)]
-enum EndFlaw {
-    /// A trap that nobody expected stopped a stream.
-    Trap,
-    /// Nobody can go on.
-    Deadlock,
-    /// The end is not as expected.
-    Wrong,
-    /// A claim does not hold of some world on the way.
-    Broken,
-    /// It can go on for ever.
-    Spinning,
-}
-
-impl EndFlaw {
-    /// What a submission is that shows it.
-    fn kind(self) -> VerdictKind
-        ensures { ¬ (result ≡ VerdictKind.Right) }
-    {
-        match self {
-            EndFlaw::Trap => VerdictKind::Trap,
-            EndFlaw::Deadlock => VerdictKind::Deadlock,
-            EndFlaw::Wrong | EndFlaw::Broken => VerdictKind::Wrong,
-            EndFlaw::Spinning => VerdictKind::Spins,
-        }
-    }
-
-    /// Whether an end shows it.
-    fn is_of(self, end: &SpaceEnd) -> bool {
-        match self {
-            EndFlaw::Trap => end.is_trapped,
-            EndFlaw::Deadlock => end.kind == SpaceEndKind::End(EndKind::Deadlock),
-            EndFlaw::Wrong => end.missed.is_some(),
-            EndFlaw::Broken => end.kind == SpaceEndKind::Broken,
-            EndFlaw::Spinning => end.kind == SpaceEndKind::End(EndKind::Spinning),
-        }
-    }
-}
-
 /// What is said of a submission with this end.
 fn verdict_of_end(
     alloc: Global,
@@ -216,13 +183,26 @@ fn verdict_of_end(
     ensures { IfOk result (λ v. ¬ (v.kind ≡ VerdictKind.Right)) }
 {
     let mut verdict = Verdict::plain(alloc, kind, known);
+    show_end(alloc, judged, end, &mut verdict)?;
+    Ok(verdict)
+}
+
+/// Takes into a verdict what this end shows.
+fn show_end(
+    alloc: Global,
+    judged: &Judged<'_, '_>,
+    end: &SpaceEnd,
+    verdict: &mut Verdict,
+) -> Result<(), AllocError>
+    ensures { verdict.new.kind ≡ verdict.old.kind }
+{
     verdict.witness = Witness::Schedule(Vec::from_slice(alloc, &end.schedule)?);
     verdict.missed = missed_by(alloc, judged, end)?;
     if end.kind != SpaceEndKind::Broken {
         verdict.words = String::from_str(alloc, &end.text)?;
     }
     verdict.finding = String::from_str(alloc, &end.finding)?;
-    Ok(verdict)
+    Ok(())
 }
 
 /// The line that an end misses, or that its worlds break.
@@ -245,16 +225,27 @@ fn counted_ends(
 ) -> Result<Vec<CountedEnd>, AllocError> {
     let mut ends = Vec::new(alloc);
     for end in found.ends.iter() {
-        ends.push(CountedEnd {
-            kind: match end.kind {
-                SpaceEndKind::End(kind) => Some(kind),
-                SpaceEndKind::Broken => None,
-            },
-            count: end.worlds(),
-            witness: Witness::Schedule(Vec::from_slice(alloc, &end.schedule)?),
-            text: String::from_str(alloc, &end.text)?,
-            missed: missed_by(alloc, judged, end)?,
-        })?;
+        ends.push(counted_end(alloc, judged, end)?)?;
     }
     Ok(ends)
+}
+
+/// An end, as one that is counted by its worlds.
+fn counted_end(
+    alloc: Global,
+    judged: &Judged<'_, '_>,
+    end: &SpaceEnd,
+) -> Result<CountedEnd, AllocError> {
+    let schedule = Vec::from_slice(alloc, &end.schedule)?;
+    let missed = missed_by(alloc, judged, end)?;
+    Ok(CountedEnd {
+        kind: match end.kind {
+            SpaceEndKind::End(kind) => Some(kind),
+            SpaceEndKind::Broken => None,
+        },
+        count: end.worlds(),
+        witness: Witness::Schedule(schedule),
+        text: String::from_str(alloc, &end.text)?,
+        missed,
+    })
 }

@@ -3,7 +3,7 @@
 use crate::cases::read_cases;
 use crate::judged::Grading;
 use crate::page_folder::PageFolder;
-use crate::side_by_side::{jobs_of, judge_all};
+use crate::side_by_side::{Graded, jobs_of, judge_all};
 use crate::submissions::read_submission;
 use command_parts::{CommandAnswer, Inputs, LabFault, Program, Status};
 use grade_reports::{Verdict, report_of};
@@ -98,20 +98,33 @@ fn verdicts_on<X: Threads + Sync + Clock, F: Files, R: Read, E: Write>(
     pages: &mut PageFolder<'_>,
     console: &mut Console<'_, X, E>,
 ) -> Result<Vec<Verdict>, LabFault> {
-    let request = grading.request;
     let mut verdicts = Vec::new(alloc);
-    let mut place: usize = 0;
-    for _ in 0..request.submissions.len() {
-        let read = read_some(alloc, inputs, request, place)?;
-        if read.is_empty() {
+    for _ in 0..grading.request.submissions.len() {
+        let judged = judge_some(rt, alloc, inputs, grading, verdicts.len(), console)?;
+        if judged.is_empty() {
             return Ok(verdicts);
         }
-        for graded in judge_all(rt, alloc, grading, read, console)? {
+        for graded in judged {
             verdicts.push(pages.next_verdict(alloc, inputs, grading, graded, console)?)?;
-            place = place.saturating_add(1);
         }
     }
     Ok(verdicts)
+}
+
+/// Some of the submissions, from a place on, read and judged; none if there are no more.
+fn judge_some<X: Threads + Sync + Clock, F: Files, R: Read, E: Write>(
+    rt: &X,
+    alloc: Global,
+    inputs: &mut Inputs<'_, F, R>,
+    grading: &Grading<'_, '_>,
+    place: usize,
+    console: &mut Console<'_, X, E>,
+) -> Result<Vec<Graded>, LabFault> {
+    let read = read_some(alloc, inputs, grading.request, place)?;
+    if read.is_empty() {
+        return Ok(Vec::new(alloc));
+    }
+    judge_all(rt, alloc, grading, read, console)
 }
 
 /// Some of the submissions, from a place on, as many as are read at once: the program of each, or what is said of it.

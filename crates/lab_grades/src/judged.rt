@@ -1,10 +1,12 @@
 //! What a submission is judged by, and how.
 
+ghost use Rattle.std.specs.Prelude.{◌≡◌, IfOk};
+
 use crate::cases::Case;
 use crate::wish_lines::WishLines;
 use command_parts::{LabFault, Program};
-use grade_reports::{Verdict, VerdictKind};
-use lab_ends::{ClaimFault, NamedText, WishFault, Wishes, with_addresses};
+use grade_reports::{Known, Verdict, VerdictKind, WishLine};
+use lab_ends::{AddressedText, ClaimFault, NamedText, WishFault, Wishes, with_addresses};
 use lab_explorer::{claim_words, wish_fault};
 use lab_requests::GradeRequest;
 use lab_texts::{NumberStyle, ProgramNames};
@@ -51,19 +53,37 @@ pub(crate) fn wishes_for(
     program: &Program,
     names: &ProgramNames<'_>,
 ) -> Result<Result<Wishes, Verdict>, LabFault> {
-    let given = ProgramNames::of(alloc, &case.given)?;
-    let addressed = if names_words(&given) {
-        with_addresses(alloc, &given, &case.wishes)?
-    } else {
-        with_addresses(alloc, names, &case.wishes)?
-    };
-    let text = match addressed {
-        NamedText::Plain(text) => text,
+    match addressed(alloc, case, names)? {
+        NamedText::Plain(text) => wishes_of(alloc, case, program, names, &text),
         NamedText::Unknown(name) => {
-            return Ok(Err(verdict_without(alloc, case, name.line, &name.words)?));
+            Ok(Err(verdict_without(alloc, case, name.line, &name.words)?))
         }
-    };
-    match Wishes::of(alloc, &text, names, &program.image) {
+    }
+}
+
+/// The text of what a case wants, with addresses in place of the names of data words.
+fn addressed(
+    alloc: Global,
+    case: &Case,
+    names: &ProgramNames<'_>,
+) -> Result<NamedText, AllocError> {
+    let given = ProgramNames::of(alloc, &case.given)?;
+    if names_words(&given) {
+        with_addresses(alloc, &given, &case.wishes)
+    } else {
+        with_addresses(alloc, names, &case.wishes)
+    }
+}
+
+/// What is wanted by a text with addresses, or what is said of a submission that has not all that a claim speaks of.
+fn wishes_of(
+    alloc: Global,
+    case: &Case,
+    program: &Program,
+    names: &ProgramNames<'_>,
+    text: &AddressedText,
+) -> Result<Result<Wishes, Verdict>, LabFault> {
+    match Wishes::of(alloc, text, names, &program.image) {
         Ok(wishes) => Ok(Ok(wishes)),
         Err(WishFault::Claim { line, fault }) if fault.is_of_program() => Ok(Err(
             verdict_without_parts(alloc, case, program, line, fault)?,
@@ -97,8 +117,26 @@ fn verdict_without(
     reason: &str,
 ) -> Result<Verdict, AllocError> {
     let path = case.path.as_str();
+    let missed = case.lines.line_of(alloc, line)?;
     let words = format!(in alloc; "{path}:{line}: {reason}")?;
     let mut verdict = Verdict::of_no_program(alloc, VerdictKind::Wrong, words);
-    verdict.missed = case.lines.line_of(alloc, line)?;
+    verdict.missed = missed;
+    Ok(verdict)
+}
+
+/// The verdict of this kind on a submission by a line of what is wanted, for this reason.
+pub(crate) fn verdict_by_line(
+    alloc: Global,
+    kind: VerdictKind,
+    known: Known,
+    line: Option<WishLine>,
+    reason: &str,
+) -> Result<Verdict, AllocError>
+    ensures { IfOk result (λ v. v.kind ≡ kind) }
+{
+    let words = String::from_str(alloc, reason)?;
+    let mut verdict = Verdict::plain(alloc, kind, known);
+    verdict.missed = line;
+    verdict.words = words;
     Ok(verdict)
 }

@@ -7,11 +7,12 @@ use crate::seed_grades::sampled_verdict;
 use case_cells::with_cells_of;
 use command_parts::{LabFault, Program};
 use grade_reports::{Known, Verdict, VerdictKind, WishLine};
-use lab_ends::{Wishes, first_broken_rule};
+use lab_ends::{RuleLine, first_broken_rule};
 use lab_explorer::Console;
 use lab_texts::ProgramNames;
 use std::alloc::{AllocError, Global};
 use std::io::Write;
+use std::mem;
 use std::thread::Threads;
 use std::time::Clock;
 
@@ -25,29 +26,43 @@ pub(crate) fn verdict_on<X: Threads + Sync, C: Clock, E: Write>(
     console: &mut Console<'_, C, E>,
 ) -> Result<Verdict, LabFault> {
     let mut right = Verdict::plain(alloc, VerdictKind::Right, Known::NOTHING);
+    match first_not_right(rt, alloc, grading, program, console, &mut right)? {
+        Some(verdict) => Ok(verdict),
+        None => Ok(right),
+    }
+}
+
+/// The verdict by the first case by which a submission is not right; None if it is right by each. What was looked at of
+/// the cases before it is added to what is said of one that is right.
+fn first_not_right<X: Threads + Sync, C: Clock, E: Write>(
+    rt: &X,
+    alloc: Global,
+    grading: &Grading<'_, '_>,
+    program: &Program,
+    console: &mut Console<'_, C, E>,
+    right: &mut Verdict,
+) -> Result<Option<Verdict>, LabFault> {
     for case in grading.cases.iter() {
-        let given = given_by(alloc, case, program)?;
-        let program = given.as_ref().unwrap_or(program);
-        let verdict = verdict_of(rt, alloc, grading, case, program, console)?;
+        let mut verdict = verdict_by_case(rt, alloc, grading, case, program, console)?;
         if verdict.kind != VerdictKind::Right {
-            return Ok(with_name(alloc, verdict, case)?);
+            verdict.case = name_of(alloc, case)?;
+            return Ok(Some(verdict));
         }
-        add_right(&mut right, verdict)?;
+        add_right(alloc, right, &mut verdict)?;
     }
-    Ok(right)
+    Ok(None)
 }
 
-/// The verdict with the name of its case.
-fn with_name(alloc: Global, verdict: Verdict, case: &Case) -> Result<Verdict, AllocError> {
-    let mut verdict = verdict;
-    if let Some(name) = &case.name {
-        verdict.case = Some(String::from_str(alloc, name)?);
+/// A copy of a case's name; None where it is the only one.
+fn name_of(alloc: Global, case: &Case) -> Result<Option<String>, AllocError> {
+    match &case.name {
+        Some(name) => Ok(Some(String::from_str(alloc, name)?)),
+        None => Ok(None),
     }
-    Ok(verdict)
 }
 
-/// Adds to what is said of a submission that it is right by one case more.
-fn add_right(right: &mut Verdict, verdict: Verdict) -> Result<(), AllocError> {
+/// Adds to what is said of a submission that it is right by one case more, whose verdict keeps no ends.
+fn add_right(alloc: Global, right: &mut Verdict, verdict: &mut Verdict) -> Result<(), AllocError> {
     let known = verdict.known;
     right.known = Known {
         worlds: sum_of(right.known.worlds, known.worlds),
@@ -56,10 +71,24 @@ fn add_right(right: &mut Verdict, verdict: Verdict) -> Result<(), AllocError> {
         seeds: known.seeds,
     };
     right.status = right.status.worse(verdict.status);
-    for end in verdict.ends {
+    for end in mem::replace(&mut verdict.ends, Vec::new(alloc)) {
         right.ends.push(end)?;
     }
     Ok(())
+}
+
+/// The verdict on a submission by one case.
+fn verdict_by_case<X: Threads + Sync, C: Clock, E: Write>(
+    rt: &X,
+    alloc: Global,
+    grading: &Grading<'_, '_>,
+    case: &Case,
+    program: &Program,
+    console: &mut Console<'_, C, E>,
+) -> Result<Verdict, LabFault> {
+    let given = given_by(alloc, case, program)?;
+    let program = given.as_ref().unwrap_or(program);
+    verdict_of(rt, alloc, grading, case, program, console)
 }
 
 /// The sum of two numbers, which may be missing.
@@ -85,29 +114,6 @@ pub(crate) fn given_by(
     }
 }
 
-/// What is said of a program that breaks a rule of programs; None where it keeps all.
-fn broken_rule(
-    alloc: Global,
-    case: &Case,
-    wishes: &Wishes,
-    program: &Program,
-) -> Result<Option<Verdict>, AllocError> {
-    let broken = first_broken_rule(&program.image, &wishes.rules);
-    let Some(said) = broken.and_then(|place| wishes.rules.get(place)) else {
-        return Ok(None);
-    };
-    let path = case.path.as_str();
-    let line = said.line;
-    let text = said.text.as_str();
-    let words = format!(in alloc; "{path}:{line}: not {text}")?;
-    let mut verdict = Verdict::of_no_program(alloc, VerdictKind::Wrong, words);
-    verdict.missed = Some(WishLine {
-        number: line,
-        text: String::from_str(alloc, text)?,
-    });
-    Ok(Some(verdict))
-}
-
 /// What is said of a program that has a case's cells already.
 fn verdict_of<X: Threads + Sync, C: Clock, E: Write>(
     rt: &X,
@@ -118,20 +124,55 @@ fn verdict_of<X: Threads + Sync, C: Clock, E: Write>(
     console: &mut Console<'_, C, E>,
 ) -> Result<Verdict, LabFault> {
     let names = ProgramNames::of(alloc, &program.text)?;
-    let wishes = match wishes_for(alloc, case, program, &names)? {
-        Ok(wishes) => wishes,
-        Err(verdict) => return Ok(verdict),
-    };
-    if let Some(verdict) = broken_rule(alloc, case, &wishes, program)? {
-        return Ok(verdict);
+    match wishes_for(alloc, case, program, &names)? {
+        Ok(wishes) => {
+            let judged = Judged {
+                program,
+                names: &names,
+                wishes: &wishes,
+                lines: &case.lines,
+            };
+            verdict_of_judged(rt, alloc, grading, case, &judged, console)
+        }
+        Err(verdict) => Ok(verdict),
     }
-    let judged = Judged {
-        program,
-        names: &names,
-        wishes: &wishes,
-        lines: &case.lines,
+}
+
+/// What is said of a program of which it is known what is wanted.
+fn verdict_of_judged<X: Threads + Sync, C: Clock, E: Write>(
+    rt: &X,
+    alloc: Global,
+    grading: &Grading<'_, '_>,
+    case: &Case,
+    judged: &Judged<'_, '_>,
+    console: &mut Console<'_, C, E>,
+) -> Result<Verdict, LabFault> {
+    match broken_rule(judged) {
+        Some(rule) => Ok(verdict_of_rule(alloc, case, rule)?),
+        None => verdict_by_schedules(rt, alloc, grading, judged, console),
+    }
+}
+
+/// The first rule of programs that a program breaks; None where it keeps all.
+fn broken_rule<'a>(judged: &Judged<'a, '_>) -> Option<&'a RuleLine> {
+    let rules: &'a [RuleLine] = &judged.wishes.rules;
+    let place = first_broken_rule(&judged.program.image, rules)?;
+    rules.get(place)
+}
+
+/// What is said of a program that breaks a rule of programs.
+fn verdict_of_rule(alloc: Global, case: &Case, rule: &RuleLine) -> Result<Verdict, AllocError> {
+    let path = case.path.as_str();
+    let line = rule.line;
+    let text = rule.text.as_str();
+    let missed = WishLine {
+        number: line,
+        text: String::from_str(alloc, text)?,
     };
-    verdict_by_schedules(rt, alloc, grading, &judged, console)
+    let words = format!(in alloc; "{path}:{line}: not {text}")?;
+    let mut verdict = Verdict::of_no_program(alloc, VerdictKind::Wrong, words);
+    verdict.missed = Some(missed);
+    Ok(verdict)
 }
 
 /// What is said of a program: by every schedule, if that is asked, else by random ones.

@@ -2,6 +2,7 @@
 #![tactic(auto)]
 
 mod cases;
+mod end_flaws;
 mod explored_grades;
 mod grading;
 mod judged;

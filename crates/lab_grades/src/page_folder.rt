@@ -9,7 +9,7 @@ use grade_reports::Verdict;
 use lab_explorer::Console;
 use lab_requests::GradeRequest;
 use plain_text::stem_of;
-use std::alloc::Global;
+use std::alloc::{AllocError, Global};
 use std::io::{Read, Write};
 use std::rt::Files;
 use std::time::Clock;
@@ -42,9 +42,7 @@ impl<'a> PageFolder<'a> {
         };
         if let Some(folder) = request.pages {
             pages.names = page_names(alloc, &request.submissions)?;
-            for path in request.submissions.iter() {
-                inputs.reserve(alloc, path)?;
-            }
+            reserve_all(alloc, inputs, &request.submissions)?;
             pages.take(inputs.make_folder(alloc, folder));
         }
         Ok(pages)
@@ -67,21 +65,33 @@ impl<'a> PageFolder<'a> {
         graded: Graded,
         console: &mut Console<'_, C, E>,
     ) -> Result<Verdict, LabFault> {
+        let mut graded = graded;
+        self.add_page(alloc, inputs, grading, &mut graded, console)?;
+        Ok(graded.verdict)
+    }
+
+    /// Writes the page of the next submission, if it has one, and takes its path into the verdict.
+    fn add_page<F: Files, R: Read, C: Clock, E: Write>(
+        &mut self,
+        alloc: Global,
+        inputs: &Inputs<'_, F, R>,
+        grading: &Grading<'_, '_>,
+        graded: &mut Graded,
+        console: &mut Console<'_, C, E>,
+    ) -> Result<(), LabFault> {
         let place = self.next;
         self.next = place.saturating_add(1);
-        let Graded { program, verdict } = graded;
-        let mut verdict = verdict;
         if let Some(folder) = self.folder
-            && let Some(program) = &program
+            && let Some(program) = &graded.program
         {
             let path = grading.request.submissions.get(place).copied();
             let called = stem_of(path.unwrap_or(""));
-            let page = page_of_verdict(alloc, grading, called, program, &verdict, console)?;
+            let page = page_of_verdict(alloc, grading, called, program, &graded.verdict, console)?;
             if let Some(page) = page {
-                verdict.page = self.written(alloc, inputs, folder, place, page)?;
+                graded.verdict.page = self.written(alloc, inputs, folder, place, page)?;
             }
         }
-        Ok(verdict)
+        Ok(())
     }
 
     /// The path of a page that is written for the submission of this place; None where it can't be.
@@ -102,4 +112,16 @@ impl<'a> PageFolder<'a> {
         }
         Ok(Some(path))
     }
+}
+
+/// Notes that nothing is written over what these paths lead to.
+fn reserve_all<F: Files, R: Read>(
+    alloc: Global,
+    inputs: &mut Inputs<'_, F, R>,
+    paths: &[&str],
+) -> Result<(), AllocError> {
+    for path in paths {
+        inputs.reserve(alloc, path)?;
+    }
+    Ok(())
 }

@@ -1,6 +1,6 @@
 //! What the pages of submissions are called.
 
-use plain_text::stem_of;
+use plain_text::{TextWriter, stem_of};
 use std::alloc::{AllocError, Global};
 
 /// The names of the pages of submissions, in their order, no two alike: that of the file without its ending. What a link
@@ -9,16 +9,27 @@ pub(crate) fn page_names(alloc: Global, paths: &[&str]) -> Result<Vec<String>, A
     let mut stems = Vec::new(alloc);
     let mut names = Vec::new(alloc);
     for path in paths {
-        let stem = plain_stem(alloc, path)?;
-        let before = stems
-            .iter()
-            .filter(|known: &&String| **known == stem)
-            .count();
-        let name = free_name(alloc, &names, &stem, before)?;
-        stems.push(stem)?;
-        names.push(name)?;
+        add_name(alloc, &mut stems, &mut names, path)?;
     }
     Ok(names)
+}
+
+/// Adds the stem and the name of the page of one submission more.
+fn add_name(
+    alloc: Global,
+    stems: &mut Vec<String>,
+    names: &mut Vec<String>,
+    path: &str,
+) -> Result<(), AllocError> {
+    let stem = plain_stem(alloc, path)?;
+    let before = stems
+        .iter()
+        .filter(|known: &&String| **known == stem)
+        .count();
+    let name = free_name(alloc, names, &stem, before)?;
+    stems.push(stem)?;
+    names.push(name)?;
+    Ok(())
 }
 
 /// A name that none of these is, for the page of a submission before which so many have its stem.
@@ -46,13 +57,18 @@ fn free_name(
 
 /// The name of a path's file without its ending, and with `_` for each letter that a link or a system does not take.
 fn plain_stem(alloc: Global, path: &str) -> Result<String, AllocError> {
-    let mut out = String::new(alloc);
+    let mut out = TextWriter::new(alloc);
     for letter in stem_of(path).chars() {
-        match letter {
-            '\u{0}'..=' ' | '\u{7f}'..='\u{9f}' => out.push('_')?,
-            '"' | '#' | '%' | '&' | '*' | ':' | '<' | '>' | '?' | '\\' | '|' => out.push('_')?,
-            _ => out.push(letter)?,
-        }
+        out.put_letter(plain_letter(letter));
     }
-    Ok(out)
+    out.take_text()
+}
+
+/// A letter as it stands in the name of a page.
+fn plain_letter(letter: char) -> char {
+    match letter {
+        '\u{0}'..=' ' | '\u{7f}'..='\u{9f}' => '_',
+        '"' | '#' | '%' | '&' | '*' | ':' | '<' | '>' | '?' | '\\' | '|' => '_',
+        _ => letter,
+    }
 }

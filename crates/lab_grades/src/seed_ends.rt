@@ -2,7 +2,7 @@
 
 use crate::judged::{Grading, Judged};
 use end_kinds::Status;
-use grade_reports::{CountedEnd, Witness};
+use grade_reports::{CountedEnd, WishLine, Witness};
 use seed_outcomes::{SeedOutcome, SurveySeeds, outcomes_of, worst_status};
 use std::alloc::{AllocError, Global};
 use std::thread::Threads;
@@ -24,11 +24,20 @@ pub(crate) fn counted_ends<X: Threads + Sync>(
     let wishes = judged.wishes;
     let mut outcomes = outcomes_of(rt, alloc, image, judged.names, wishes, seeds)?;
     outcomes.sort_by_key(|outcome: &SeedOutcome| usize::MAX - outcome.runs)?;
+    Ok((ends_of(alloc, judged, &outcomes)?, worst_status(&outcomes)))
+}
+
+/// The ends that these outcomes are.
+fn ends_of(
+    alloc: Global,
+    judged: &Judged<'_, '_>,
+    outcomes: &[SeedOutcome],
+) -> Result<Vec<CountedEnd>, AllocError> {
     let mut ends = Vec::new(alloc);
-    for outcome in outcomes.iter() {
+    for outcome in outcomes {
         ends.push(end_of(alloc, judged, outcome)?)?;
     }
-    Ok((ends, worst_status(&outcomes)))
+    Ok(ends)
 }
 
 /// The end that an outcome is.
@@ -37,14 +46,24 @@ fn end_of(
     judged: &Judged<'_, '_>,
     outcome: &SeedOutcome,
 ) -> Result<CountedEnd, AllocError> {
+    let missed = missed_by(alloc, judged, outcome)?;
     Ok(CountedEnd {
         kind: Some(outcome.kind),
         count: outcome.runs,
         witness: Witness::Seed(outcome.seed),
         text: String::from_str(alloc, &outcome.text)?,
-        missed: match (outcome.missed, outcome.broken) {
-            (None, Some(claim)) => judged.lines.claim_at(alloc, Some(claim))?,
-            (missed, _) => judged.lines.end_at(alloc, missed)?,
-        },
+        missed,
     })
+}
+
+/// The line that an outcome misses, or that its runs break.
+fn missed_by(
+    alloc: Global,
+    judged: &Judged<'_, '_>,
+    outcome: &SeedOutcome,
+) -> Result<Option<WishLine>, AllocError> {
+    match (outcome.missed, outcome.broken) {
+        (None, Some(claim)) => judged.lines.claim_at(alloc, Some(claim)),
+        (missed, _) => judged.lines.end_at(alloc, missed),
+    }
 }

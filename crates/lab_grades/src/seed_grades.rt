@@ -4,14 +4,14 @@ ghost use Rattle.std.specs.Prelude.{◌≡◌, None, IsNone, IfOk};
 ghost use Rattle.seed_verdicts.specs.Seeds.{AreJudged};
 ghost use Rattle.seed_verdicts.specs.ShownBySeeds.{AreShownBySeeds};
 
-use crate::judged::{Grading, Judged};
+use crate::judged::{Grading, Judged, verdict_by_line};
 use crate::seed_ends::counted_ends;
-use end_kinds::{EndKind, end_kind_of, status_of};
+use end_kinds::{EndKind, Status, end_kind_of, status_of};
 use expectations::first_missed;
-use grade_reports::{Known, Verdict, VerdictKind, Witness};
+use grade_reports::{Known, Verdict, VerdictKind, WishLine, Witness};
 use image_machines::{by_room, loaded};
 use lab_ends::{end_text_of, first_finding};
-use machine::LoadFault;
+use machine::{LoadFault, Machine};
 use schedule_makers::{fair_length, seeded};
 use seed_outcomes::unshown_by_seeds;
 use seed_verdicts::{RunFlaw, SeedFlaw, Seeds, first_flaw, first_flaw_alone};
@@ -65,10 +65,9 @@ fn verdict_of_right(
     let Some(place) = unshown_by_seeds(alloc, &judged.program.image, claims, seeds)? else {
         return verdict_of_shown(alloc, judged, known);
     };
-    let mut verdict = Verdict::plain(alloc, VerdictKind::NotDecided, known);
-    verdict.missed = judged.lines.claim_at(alloc, Some(place))?;
-    verdict.words = String::from_str(alloc, "no run has such a state")?;
-    Ok(verdict)
+    let line = judged.lines.claim_at(alloc, Some(place))?;
+    let kind = VerdictKind::NotDecided;
+    verdict_by_line(alloc, kind, known, line, "no run has such a state")
 }
 
 /// The same where each claim is shown that has to hold of one world at least: right, unless no stream is wished to loop
@@ -83,10 +82,15 @@ fn verdict_of_shown(
     if judged.wishes.never_busy.is_none() {
         return Ok(Verdict::plain(alloc, VerdictKind::Right, known));
     }
-    let mut verdict = Verdict::plain(alloc, VerdictKind::NotDecided, known);
-    verdict.missed = judged.lines.busy_line(alloc)?;
-    verdict.words = String::from_str(alloc, "a run cannot show it; use --explore")?;
-    Ok(verdict)
+    let line = judged.lines.busy_line(alloc)?;
+    let kind = VerdictKind::NotDecided;
+    verdict_by_line(
+        alloc,
+        kind,
+        known,
+        line,
+        "a run cannot show it; use --explore",
+    )
 }
 
 /// The same verdict with the ends of all seeds.
@@ -178,24 +182,31 @@ fn verdict_of_flaw(
 {
     let image = &judged.program.image;
     let shown = by_room!(image, shown_by(alloc, grading, judged, found.seed))?;
-    let missed = match found.flaw {
-        RunFlaw::Broken { claim, .. } => judged.lines.claim_at(alloc, Some(claim))?,
-        RunFlaw::Trap | RunFlaw::Deadlock | RunFlaw::Missed { .. } | RunFlaw::OutOfSteps => {
-            judged.lines.end_at(alloc, shown.missed)?
-        }
-    };
-    let kind = kind_of(found.flaw);
+    let line = missed_by(alloc, judged, found.flaw, shown.missed)?;
     // (the seeds begin with 0)
     let tried = (found.seed as usize).saturating_add(1);
-    let mut verdict = Verdict::plain(alloc, kind, known_of(tried));
-    let is_trapped = found.flaw == RunFlaw::Trap;
-    let status = status_of(shown.kind, shown.missed.is_some(), is_trapped);
-    verdict.status = verdict.status.worse(status);
+    let mut verdict = Verdict::plain(alloc, kind_of(found.flaw), known_of(tried));
+    verdict.status = verdict.status.worse(shown.status(found.flaw));
     verdict.witness = Witness::Seed(found.seed);
-    verdict.missed = missed;
+    verdict.missed = line;
     verdict.words = shown.words;
     verdict.finding = shown.finding;
     Ok(verdict)
+}
+
+/// The line that a run with this flaw breaks, or that its end misses, which is that of the expectation at this place.
+fn missed_by(
+    alloc: Global,
+    judged: &Judged<'_, '_>,
+    flaw: RunFlaw,
+    missed: Option<usize>,
+) -> Result<Option<WishLine>, AllocError> {
+    match flaw {
+        RunFlaw::Broken { claim, .. } => judged.lines.claim_at(alloc, Some(claim)),
+        RunFlaw::Trap | RunFlaw::Deadlock | RunFlaw::Missed { .. } | RunFlaw::OutOfSteps => {
+            judged.lines.end_at(alloc, missed)
+        }
+    }
 }
 
 /// What the run of a seed shows.
@@ -211,6 +222,13 @@ struct ShownRun {
     finding: String,
 }
 
+impl ShownRun {
+    /// What its end means for the exit status, where the run has this flaw.
+    fn status(&self, flaw: RunFlaw) -> Status {
+        status_of(self.kind, self.missed.is_some(), flaw == RunFlaw::Trap)
+    }
+}
+
 /// What the run of a seed shows.
 fn shown_by<const S: usize>(
     alloc: Global,
@@ -218,14 +236,38 @@ fn shown_by<const S: usize>(
     judged: &Judged<'_, '_>,
     seed: u64,
 ) -> Result<ShownRun, AllocError> {
+    let mut machine = loaded::<S>(alloc, &judged.program.image)?;
+    let finding = finding_of_seed(alloc, grading, judged, seed, &mut machine)?;
+    shown_at_end(alloc, grading, judged, &machine, finding)
+}
+
+/// Runs a machine that has taken no step by the schedule of a seed, and gives the first finding of the run.
+fn finding_of_seed<const S: usize>(
+    alloc: Global,
+    grading: &Grading<'_, '_>,
+    judged: &Judged<'_, '_>,
+    seed: u64,
+    machine: &mut Machine<'_, S>,
+) -> Result<String, AllocError> {
+    let fair_steps = fair_length(alloc, machine)?;
+    let made = seeded(alloc, machine, seed, fair_steps, grading.request.most)?;
     let image = &judged.program.image;
-    let mut machine = loaded::<S>(alloc, image)?;
-    let fair_steps = fair_length(alloc, &machine)?;
-    let made = seeded(alloc, &mut machine, seed, fair_steps, grading.request.most)?;
+    first_finding::<S>(alloc, judged.names, grading.style, image, &made.steps)
+}
+
+/// What a run shows that has this first finding, and that has ended on a machine.
+fn shown_at_end<const S: usize>(
+    alloc: Global,
+    grading: &Grading<'_, '_>,
+    judged: &Judged<'_, '_>,
+    machine: &Machine<'_, S>,
+    finding: String,
+) -> Result<ShownRun, AllocError> {
+    let said = end_text_of(alloc, machine, judged.names, grading.style)?;
     Ok(ShownRun {
-        kind: end_kind_of(&machine),
-        words: end_text_of(alloc, &machine, judged.names, grading.style)?.text,
-        missed: first_missed(&machine, &judged.wishes.ends),
-        finding: first_finding::<S>(alloc, judged.names, grading.style, image, &made.steps)?,
+        kind: end_kind_of(machine),
+        words: said.text,
+        missed: first_missed(machine, &judged.wishes.ends),
+        finding,
     })
 }

@@ -147,20 +147,30 @@ fn in_order(
     judged.reverse();
     let mut all = Vec::new(alloc);
     for submission in submissions {
-        match submission {
-            Err(verdict) => all.push(Graded {
-                program: None,
-                verdict,
-            })?,
-            Ok(program) => {
-                if let Some(verdict) = judged.pop() {
-                    all.push(Graded {
-                        program: Some(program),
-                        verdict: verdict?,
-                    })?;
-                }
-            }
+        if let Some(graded) = graded_as(submission, &mut judged)? {
+            all.push(graded)?;
         }
     }
     Ok(all)
+}
+
+/// A submission with its verdict: of a program the last of these, which is taken out of them; None if there is none left.
+fn graded_as(
+    submission: Result<Program, Verdict>,
+    judged: &mut Judgements,
+) -> Result<Option<Graded>, LabFault> {
+    match submission {
+        Err(verdict) => Ok(Some(Graded {
+            program: None,
+            verdict,
+        })),
+        Ok(program) => match judged.pop() {
+            Some(Ok(verdict)) => Ok(Some(Graded {
+                program: Some(program),
+                verdict,
+            })),
+            Some(Err(fault)) => Err(fault),
+            None => Ok(None),
+        },
+    }
 }

@@ -40,14 +40,19 @@ fn refusal_of<F: Files>(
         return Ok(None);
     }
     if refuses_links && is_link(files, path) {
-        return Ok(Some(String::from_str(alloc, "it is a symbolic link")?));
+        return reason(alloc, "it is a symbolic link");
     }
     match files.metadata(path) {
         Ok(found) if found.is_file() => Ok(None),
-        Ok(found) if found.is_dir() => Ok(Some(String::from_str(alloc, "it is a folder")?)),
-        Ok(_) => Ok(Some(String::from_str(alloc, "it is no regular file")?)),
+        Ok(found) if found.is_dir() => reason(alloc, "it is a folder"),
+        Ok(_) => reason(alloc, "it is no regular file"),
         Err(error) => Ok(Some(format!(in alloc; "read failed: {error}")?)),
     }
+}
+
+/// These words, as why a path is not read.
+fn reason(alloc: Global, words: &str) -> Result<Option<String>, AllocError> {
+    Ok(Some(String::from_str(alloc, words)?))
 }
 
 /// Whether a path is a symbolic link.

@@ -11,9 +11,12 @@ use lab_requests::Maker;
 use lab_texts::ProgramNames;
 use processor::Step;
 use replay_page::{RunNames, RunVerdict};
-use std::alloc::Global;
+use std::alloc::{AllocError, Global};
 use std::io::Write;
 use std::time::Clock;
+
+/// What the page of a run by a schedule of a search calls it.
+const THAT_DECIDES: &str = "the schedule that decides";
 
 /// The page of the run that shows a verdict on a program that is called so; None if no run does, or if it has more steps than
 /// a page. Of a schedule it is the page of all schedules, which opens at its end, if they have no more states than a page.
@@ -65,38 +68,45 @@ fn page_by_case<C: Clock, E: Write>(
     verdict: &Verdict,
     console: &mut Console<'_, C, E>,
 ) -> Result<Option<String>, LabFault> {
-    let ShownProgram {
-        called,
-        program,
-        ..
-    } = shown;
-    let judged = judgement_of(verdict);
     match &verdict.witness {
         Witness::None => Ok(None),
         Witness::Seed(seed) => {
-            let maker = Maker::Random { seed: *seed };
-            let made = made_by(alloc, &program.image, maker, grading.request.most)?;
-            let schedule = format!(in alloc; "the random schedule of seed {seed}")?;
-            let names = RunNames {
-                program: called,
-                schedule: &schedule,
-            };
-            Ok(replay_page(alloc, names, judged, program, &made.steps)?)
+            Ok(page_of_seed(alloc, grading.request.most, shown, verdict, *seed)?)
         }
-        Witness::Schedule(steps) => {
-            let played = page_of_all(alloc, shown, steps, console)?;
-            match played {
-                Some(page) => Ok(Some(page)),
-                None => {
-                    let names = RunNames {
-                        program: called,
-                        schedule: "the schedule that decides",
-                    };
-                    Ok(replay_page(alloc, names, judged, program, steps)?)
-                }
-            }
-        }
+        Witness::Schedule(steps) => match page_of_all(alloc, shown, steps, console)? {
+            Some(page) => Ok(Some(page)),
+            None => Ok(page_of_steps(alloc, shown, verdict, THAT_DECIDES, steps)?),
+        },
     }
+}
+
+/// The page of the run of a seed, which has no more steps than these; None if it has more than a page.
+fn page_of_seed(
+    alloc: Global,
+    most: usize,
+    shown: ShownProgram<'_>,
+    verdict: &Verdict,
+    seed: u64,
+) -> Result<Option<String>, AllocError> {
+    let maker = Maker::Random { seed };
+    let made = made_by(alloc, &shown.program.image, maker, most)?;
+    let schedule = format!(in alloc; "the random schedule of seed {seed}")?;
+    page_of_steps(alloc, shown, verdict, &schedule, &made.steps)
+}
+
+/// The page of the run by a schedule that is called so; None if it has more steps than a page.
+fn page_of_steps(
+    alloc: Global,
+    shown: ShownProgram<'_>,
+    verdict: &Verdict,
+    schedule: &str,
+    steps: &[Step],
+) -> Result<Option<String>, AllocError> {
+    let names = RunNames {
+        program: shown.called,
+        schedule,
+    };
+    replay_page(alloc, names, judgement_of(verdict), shown.program, steps)
 }
 
 /// How a page says that the run is not right: by the line that it misses, where one says it.

@@ -2,6 +2,7 @@
 
 use grade_reports::WishLine;
 use lab_ends::{NEVER_BUSY, is_claim_word, is_rule_word};
+use plain_text::TextWriter;
 use std::alloc::{AllocError, Global};
 use std::str;
 
@@ -33,18 +34,17 @@ impl WishLines {
     /// Adds the line of this number, if it says something.
     fn add(&mut self, alloc: Global, number: usize, line: &[u8]) -> Result<(), AllocError> {
         let text = words_of(alloc, line)?;
-        if text.is_empty() {
+        let first = text.split(' ').next().unwrap_or("");
+        if text.is_empty() || is_rule_word(first) {
             return Ok(());
         }
-        let first = text.split(' ').next().unwrap_or("");
         if text.as_str() == NEVER_BUSY {
-            self.busy.push(WishLine { number, text })?;
+            add_to(&mut self.busy, number, text)
         } else if is_claim_word(first) {
-            self.claims.push(WishLine { number, text })?;
-        } else if !is_rule_word(first) {
-            self.ends.push(WishLine { number, text })?;
+            add_to(&mut self.claims, number, text)
+        } else {
+            add_to(&mut self.ends, number, text)
         }
-        Ok(())
     }
 
     /// The line of the expectation at a place.
@@ -95,6 +95,12 @@ impl WishLines {
     }
 }
 
+/// Adds the line of this number and these words to some.
+fn add_to(lines: &mut Vec<WishLine>, number: usize, text: String) -> Result<(), AllocError> {
+    lines.push(WishLine { number, text })?;
+    Ok(())
+}
+
 /// A copy of the line at a place.
 fn copy_at(
     alloc: Global,
@@ -124,12 +130,12 @@ fn words_of(alloc: Global, line: &[u8]) -> Result<String, AllocError> {
         Some((before, _)) => before,
         None => text,
     };
-    let mut words = String::new(alloc);
+    let mut words = TextWriter::new(alloc);
     for word in said.split_whitespace() {
-        if !words.is_empty() {
-            words.push_str(" ")?;
+        if words.len() > 0 {
+            words.put(" ");
         }
-        words.push_str(word)?;
+        words.put(word);
     }
-    Ok(words)
+    words.take_text()
 }
