@@ -51,6 +51,8 @@ pub(crate) struct Found<'i> {
     seen: SearchKnowledge,
     keys: Table,
     wanted: Wanted,
+    /// For the streams that run in a new world.
+    running: Vec<Step>,
 }
 
 impl<'i> Model for Found<'i> {
@@ -125,6 +127,7 @@ impl<'i> Found<'i> {
             },
             keys,
             wanted,
+            running: Vec::new(alloc),
         })
     }
 
@@ -233,7 +236,13 @@ impl<'i> Found<'i> {
         if place >= most as usize {
             return Err(Stop::Full);
         }
-        let known = known_fate(&mut self.seen, self.image, &key, self.wanted)?;
+        let known = known_fate(
+            &mut self.seen,
+            &mut self.running,
+            self.image,
+            &key,
+            self.wanted,
+        )?;
         let next = next_world(self.alloc, machines, route, link.step, is_let_go, known)?;
         let world = NewWorld {
             place: place as u32,
@@ -255,6 +264,7 @@ impl<'i> Found<'i> {
 /// How it goes on from a world, where its key tells; where ends are looked for, each world is to have its machine.
 fn known_fate(
     seen: &mut SearchKnowledge,
+    running: &mut Vec<Step>,
     image: &Image,
     key: &[u32],
     wanted: Wanted,
@@ -269,7 +279,7 @@ fn known_fate(
     ensures grown { Extends seen.old.contents seen.new.contents }
 {
     match wanted {
-        Wanted::Worlds => fate_by_key(seen, image, key),
+        Wanted::Worlds => fate_by_key(seen, running, image, key),
         Wanted::Ends => Ok(None),
     }
 }

@@ -45,10 +45,26 @@ pub(crate) fn running_by(
         → (t : Step) → IsTrue (runs_in w t) → Contains v.items t) }
 {
     let mut running = Vec::new(alloc);
-    for p in 0..image.processors() {
-        push_running(image, contents, key[p + 1], p as u8, &mut running)?;
-    }
+    push_running_by(image, contents, key, &mut running)?;
     Ok(running)
+}
+
+/// Adds these.
+fn push_running_by(
+    image: &Image,
+    contents: &Table,
+    key: &[u32],
+    running: &mut Vec<Step>,
+) -> Result<(), AllocError>
+    requires { length key.now ≡ length image.now.entries + 1 }
+    ensures { OnOk result ((live : LiveValue) (w : World) → IsKnown contents.now image.now (cleared live w)
+        → key.now ≡ key_of contents.now image.now (cleared live w)
+        → (t : Step) → IsTrue (runs_in w t) → Contains running.new.items t) }
+{
+    for p in 0..image.processors() {
+        push_running(image, contents, key[p + 1], p as u8, running)?;
+    }
+    Ok(())
 }
 
 /// Adds those of a processor, by the place of what it holds: there each stream that is not idle has a mark, in the order of
@@ -103,9 +119,10 @@ fn is_running_at(contents: &Table, place: u32) -> bool
 }
 
 /// How it goes on from a world, where its key and the steps that are known tell: no stream runs, or it is known of each
-/// that runs what its step leaves, and one changes something.
+/// that runs what its step leaves, and one changes something. The list is for the streams that run: no other is made.
 pub(crate) fn fate_by_key(
     seen: &mut SearchKnowledge,
+    running: &mut Vec<Step>,
     image: &Image,
     key: &[u32],
 ) -> Result<Option<Fate>, AllocError>
@@ -118,12 +135,13 @@ pub(crate) fn fate_by_key(
         → AreAllLeft m.image live seen.new.contents seen.new.steps }
     ensures grown { Extends seen.old.contents seen.new.contents }
 {
-    let running = running_by(seen.alloc, image, &seen.contents, key)?;
+    running.clear();
+    push_running_by(image, &seen.contents, key, running)?;
     if running.is_empty() {
         return Ok(Some(Fate::Finished));
     }
     let mut goes_on = false;
-    for step in &running {
+    for step in running.iter() {
         match is_moving(seen, key, *step)? {
             Some(is_moving) => goes_on = goes_on || is_moving,
             None => return Ok(None),

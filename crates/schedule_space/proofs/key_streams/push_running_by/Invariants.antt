@@ -7,7 +7,7 @@ use Rattle.processor.specs.declared.steps.Step.{Step}
 use Rattle.waiting.specs.Running.{runs_in}
 use Rattle.dead_registers.specs.Clearing.{LiveValue, cleared}
 use Rattle.world_keys.specs.WorldKeys.{key_of, IsKnown}
-use Rattle.schedule_space.proofs.key_streams.running_by.Given as goal
+use Rattle.schedule_space.proofs.key_streams.push_running_by.Given as goal
 
 abbrev pub invariant-loop-p : goal.invariant-loop-p
 invariant-loop-p l = record {
