@@ -25,32 +25,44 @@ pub(crate) fn verdict_on<X: Threads + Sync, C: Clock, E: Write>(
     program: &Program,
     console: &mut Console<'_, C, E>,
 ) -> Result<Verdict, LabFault> {
-    let mut right = Verdict::plain(alloc, VerdictKind::Right, Known::NOTHING);
-    match first_not_right(rt, alloc, grading, program, console, &mut right)? {
-        Some(verdict) => Ok(verdict),
-        None => Ok(right),
-    }
+    let mut said = Verdict::plain(alloc, VerdictKind::Right, Known::NOTHING);
+    judge_by_cases(rt, alloc, grading, program, console, &mut said)?;
+    Ok(said)
 }
 
-/// The verdict by the first case by which a submission is not right; None if it is right by each. What was looked at of
-/// the cases before it is added to what is said of one that is right.
-fn first_not_right<X: Threads + Sync, C: Clock, E: Write>(
+/// Takes the verdicts by the cases into what is said of a submission, up to the first by which it is not right.
+fn judge_by_cases<X: Threads + Sync, C: Clock, E: Write>(
     rt: &X,
     alloc: Global,
     grading: &Grading<'_, '_>,
     program: &Program,
     console: &mut Console<'_, C, E>,
-    right: &mut Verdict,
-) -> Result<Option<Verdict>, LabFault> {
+    said: &mut Verdict,
+) -> Result<(), LabFault> {
     for case in grading.cases.iter() {
-        let mut verdict = verdict_by_case(rt, alloc, grading, case, program, console)?;
-        if verdict.kind != VerdictKind::Right {
-            verdict.case = name_of(alloc, case)?;
-            return Ok(Some(verdict));
+        let verdict = verdict_by_case(rt, alloc, grading, case, program, console)?;
+        take_verdict(alloc, case, verdict, said)?;
+        if said.kind != VerdictKind::Right {
+            return Ok(());
         }
-        add_right(alloc, right, &mut verdict)?;
     }
-    Ok(None)
+    Ok(())
+}
+
+/// Takes the verdict by one case more into what is said of a submission that is right so far.
+fn take_verdict(
+    alloc: Global,
+    case: &Case,
+    verdict: Verdict,
+    said: &mut Verdict,
+) -> Result<(), AllocError> {
+    let mut verdict = verdict;
+    if verdict.kind == VerdictKind::Right {
+        return add_right(alloc, said, &mut verdict);
+    }
+    verdict.case = name_of(alloc, case)?;
+    *said = verdict;
+    Ok(())
 }
 
 /// A copy of a case's name; None where it is the only one.
