@@ -19,9 +19,9 @@ JOBS ?= $(shell nproc)
 # the targets, each with what it does and how long it takes
 help:
 	@echo "make try        runs a SOURCE by a SCHEDULE with both programs, unproved (two minutes); examples/lock.asm if none is named"
-	@echo "make run        proves and builds mta_sim, and shows a first run (34 processor minutes)"
-	@echo "make run-lab    the same of mta_lab (159 processor minutes)"
-	@echo "make test       proves everything, tries the edits in must-fail/, runs all tests (192 processor minutes from nothing; ANEW=1: nothing that is kept counts)"
+	@echo "make run        proves and builds mta_sim, and shows a first run (37 processor minutes)"
+	@echo "make run-lab    the same of mta_lab (165 processor minutes)"
+	@echo "make test       proves everything, tries the edits in must-fail/, runs all tests (200 processor minutes from nothing; ANEW=1: nothing that is kept counts)"
 	@echo "make prove      proves the CRATES and those that they stand on, as make test does (docs/ARCHITECTURE.md has the minutes of each)"
 	@echo "make checks     what make test tests before any proof (seconds)"
 	@echo "make trust      writes out/TRUST.md, the definitions that a reader has to trust (seconds)"

@@ -240,7 +240,7 @@ def fits(processors):
     work = sum(seconds for jobs in (first, second) for seconds, _ in jobs.values())
     print(f"on {processors} processor{'s' if processors > 1 else ''} alone: {minutes(proofs + edits)} minutes, "
           f"{minutes(proofs)} for proofs and tests in Rattle, then {minutes(edits)} for edits\n"
-          f'Reckoned, not measured: from the {minutes(work)} processor minutes of "What a check costs" and the crates that '
+          f'Computed, not measured: from the {minutes(work)} processor minutes of "What a check costs" and the crates that '
           "each\ncrate stands on, where each processor that is free takes what has the longest chain of crates behind it.\n"
           "What LLVM takes for the programs, the cases and the documents, some minutes, are not in it.")
     if missing := [it for it in crates() if it not in cost]:
