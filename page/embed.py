@@ -1,8 +1,8 @@
 #!/usr/bin/env python3
 """embed.py [--check]: makes the constants of the pages' crates, below src/parts of each, of the files in this folder,
 since a program of the kit can't include a file's text. The hashes that a policy names are among them. A file that pages
-of several crates have is a constant of the first one, which adds it by a public function. With --check nothing is written,
-and each file of constants that is not up to date is named."""
+of several crates have is a constant of the first one, which adds it by a public function. With --check nothing is
+written, and each file of constants that is not up to date is named."""
 
 import pathlib
 import re
@@ -84,7 +84,8 @@ def shared_function(name, source):
     """The function that adds a text to pages of other crates too."""
     return (
         f"\n/// Adds the text of page/{source.name}, which other pages have too.\n"
-        + f"pub fn {pusher(name)}(page: &mut String) -> Result<(), AllocError> {{\n    page.push_str({name}::TEXT)\n}}\n"
+        + f"pub fn {pusher(name)}(page: &mut String) -> Result<(), AllocError> {{\n"
+        + f"    page.push_str({name}::TEXT)\n}}\n"
     )
 
 
