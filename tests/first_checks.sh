@@ -20,7 +20,7 @@ verdict() {
 }
 
 sources() { find crates -path '*/out' -prune -o \( -name '*.rt' -o -name '*.antt' \) -print; }
-texts() { git ls-files -co --exclude-standard | grep -E '\.(rt|antt|edit|md|sh|py|tsv|asm|yml)$|^Makefile$' | grep -v '^tests/first_checks.sh$'; }
+texts() { git ls-files -co --exclude-standard | grep -E '\.(rt|antt|edit|md|sh|py|tsv|case|asm|yml)$|^Makefile$' | grep -v '^tests/first_checks.sh$'; }
 documents() { ls README.md CONTRIBUTING.md CHANGELOG.md docs/*.md page/README.md crates/*/README.md; }
 
 # the program rattle of the kit whose rt is called
@@ -49,12 +49,14 @@ named() {
 
 edits() { find crates -path "*/$1/*.edit" | wc -l; }
 crates() { grep -cE '^[a-z]' crates.txt; }
-cases() { find tests/cases -name '*.tsv' -print0 | xargs -0 cat | grep -cvE '^(#|$)'; }
+rows() { find tests/cases -name '*.tsv' -print0 | xargs -0 cat | grep -cvE '^(#|$)'; }
+transcripts() { find tests/cases -name '*.case' | wc -l; }
 counts() {
   named "crates" "$(crates)"
   named "in \`must-fail/\`" "$(edits must-fail)"
   named "in \`edits/\`" "$(edits edits)"
-  named "rows of tables" "$(cases)"
+  named "rows of tables" "$(rows)"
+  named "transcripts" "$(transcripts)"
 }
 
 # kit: the logic in which all is proved; kits of other names have the same

@@ -11,7 +11,7 @@ import re
 import subprocess
 
 ROOT = os.path.dirname(os.path.dirname(os.path.abspath(__file__)))
-ENDINGS = (".md", ".rt", ".antt", ".py", ".sh", ".js", ".json", ".tsv", ".1", ".slurm")
+ENDINGS = (".md", ".rt", ".antt", ".py", ".sh", ".js", ".json", ".tsv", ".case", ".1", ".slurm")
 NAME, HEADING, OTHERS = r"([A-Z_]+\.md)", r'"([A-Z][^"]{2,60})"', r'((?:(?:,| and|, and) "[A-Z][^"]{2,60}")*)'
 BEFORE = re.compile(rf"{HEADING},? (?:of )?(?:docs/)?{NAME}")
 AFTER = re.compile(rf"{NAME},? \(?{HEADING}{OTHERS}")

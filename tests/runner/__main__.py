@@ -15,9 +15,12 @@ import time
 import checks
 import table
 import tool
+import transcripts
 
 # how much is printed of what was wanted and got, and of how many cases of a table
 SHOWN, MOST = 300, 10
+# the endings of the files that modules read which are no tables: transcripts, and what cases of other kinds have
+READ = (transcripts.ENDING, ".asm", ".schedule", ".trace", ".end", ".txt")
 
 
 def shown(value):
@@ -48,7 +51,8 @@ def guarded(check, *given):
 def done(case):
     """A case that is no row, with what was wanted and got."""
     name, *given = case
-    return (name, *(guarded(given[0]) if callable(given[0]) else given))
+    found = guarded(given[0]) if callable(given[0]) else given
+    return found if len(found) == 3 else (name, *found)
 
 
 def pairs_of(pool, file):
@@ -69,10 +73,10 @@ def pairs_of(pool, file):
 
 
 def unread():
-    """The tables below tests/cases of which no module knows what to do with them."""
+    """The files below tests/cases that no module reads: tables without a check, and files of an ending that none has."""
     found = []
     for at, _, files in os.walk(table.CASES):
-        found += [os.path.relpath(os.path.join(at, name), table.CASES) for name in files if name.endswith(".tsv")]
+        found += [os.path.relpath(os.path.join(at, name), table.CASES) for name in files if not name.endswith(READ)]
     return sorted(set(found) - {*checks.EACH, *checks.WHOLE})
 
 
@@ -85,7 +89,7 @@ def main(names):
             importlib.import_module(module.removesuffix(".py"))
     passed = failed = 0
     for file in unread():
-        print(f"tests/cases/{file}: no module of tests/runner reads this table")
+        print(f"tests/cases/{file}: no module of tests/runner reads this file")
         failed += 1
     files = sorted({*checks.EACH, *checks.WHOLE, *checks.OTHERS})
     files = [file for file in files if not names or file.startswith(tuple(names))]

@@ -4,7 +4,8 @@ each a function:
 - by `@each(FILE)` one that takes the fields of a row and gives (wanted, got);
 - by `@whole(FILE)` one that takes the list of all rows' fields, and gives such a pair for each row, in order;
 - by `@others(NAME)` one for cases that are no table: it takes nothing and gives for each (name of the case, wanted,
-  got), or (name of the case, a function that takes nothing and gives (wanted, got)); these are called side by side.
+  got), or (name of the case, a function that takes nothing and gives (wanted, got)); these are called side by side. The
+  function may give (a better name, wanted, got), such as the line that shows the difference.
 
 A case holds where what it wants is what it got."""
 

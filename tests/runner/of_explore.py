@@ -1,4 +1,5 @@
-"""Every schedule: programs whose worlds are counted by hand, and others beside a search that runs mta_sim for each step."""
+"""Every schedule: programs beside a search that runs mta_sim for each step. Those whose worlds are counted by hand are
+transcripts of tests/cases/lab_explore."""
 
 import collections
 import itertools
@@ -12,20 +13,11 @@ import checks
 import tool
 import worlds
 from of_lab import EXAMPLES, lab
-from table import unescaped
 
 # how many random programs are searched, and the most worlds of one
 PROGRAMS, MOST = 24, 150
 RUNNING = re.compile(rb"^stream (\d+) (\d+)\nRunning ", re.MULTILINE)
 STOPPED = re.compile(rb"^Stopped ", re.MULTILINE)
-
-
-@checks.each("lab_explore/worlds.tsv")
-def counted(fields):
-    """What is told of a program that was counted by hand."""
-    _, source, told = fields
-    with tool.made_files(source=unescaped(source)) as paths:
-        return unescaped(told), lab("explore", "--plain", paths["source"]).out
 
 
 class Searched:

@@ -11,7 +11,6 @@ import tempfile
 import checks
 import tool
 from of_lab import EXAMPLES, lab
-from table import unescaped
 
 WORLD = re.compile(r'  w(\d+) \[label="\1((?:\\n[a-z]+ \d+)*)\\nto ([a-z0-9 ]+)", tooltip="to \3", fillcolor="(#[0-9a-f]{6})"'
                    r'(, shape=box)?(, peripheries=2)?\];')
@@ -26,20 +25,6 @@ DRAWN = (("mailbox.asm",), ("producer_consumer.asm",), ("silent_wait.asm",), ("t
 # a program that spins, and one whose words and claims have what DOT reads otherwise
 ROUND = b".entry give\n.entry take\n.data 0\ngive: STORE.S r0, r0, 0\nSKIP ALWAYS, 0, give\ntake: LOAD.S r1, r0, 0\nSKIP ALWAYS, 0, take\n"
 QUOTED = b'.entry go\n.entry go\n.data 0 ; a "word" \\N of \x1b <b>&amp; {}\ngo: LIT r1, 1\nSTORE.N r1, r0, 0\nQUIT\n'
-
-
-@checks.each("lab_explore/graphs.tsv")
-def written(fields):
-    """A command line in a folder with some files: its status, what is said, and the graph that it writes."""
-    line, files, status, err, graph = fields
-    with tempfile.TemporaryDirectory(prefix="mta-case-") as folder:
-        for file in files.split("|"):
-            name, _, text = file.partition("=")
-            tool.write(os.path.join(folder, name), unescaped(text))
-        ended = lab(*line.split(), folder=folder)
-        path = os.path.join(folder, line.split()[-1])
-        found = tool.read(path) if os.path.exists(path) else b""
-    return (int(status), unescaped(err), unescaped(graph)), (ended.status, ended.err, found)
 
 
 class Graph:

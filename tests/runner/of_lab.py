@@ -12,6 +12,7 @@ import lab_worlds
 import seed_rules
 import table
 import tool
+import transcripts
 from table import unescaped
 
 EXAMPLES = os.path.join(table.ROOT, "examples")
@@ -205,8 +206,9 @@ def counts():
     names = [row.fields[0] for row in table.rows("lab_check/sentences.tsv")]
     for name in ("wrong.asm", "wrong.schedule"):
         yield name, True, names.count(name) >= 10
-    statuses = {row.fields[2] for row in table.rows("lab/commands.tsv")}
-    yield "statuses", set("012345"), statuses
+    statuses = {int(row.fields[2]) for row in table.rows("lab/commands.tsv")}
+    statuses |= {transcripts.Transcript(file).status for file in transcripts.files() if file.startswith("lab/")}
+    yield "statuses", set(range(6)), statuses
 
 
 # a comment and names that would write over their line, or make rows of a table
