@@ -9,7 +9,7 @@ import table
 import tool
 import transcripts
 
-PROGRAMS = {"mta_sim": tool.PROGRAM, "mta_lab": tool.LAB}
+PROGRAMS = dict(zip(transcripts.PROGRAMS, (tool.PROGRAM, tool.LAB)))
 
 
 def call_of(case, folder):

@@ -20,6 +20,7 @@ import shlex
 import table
 
 ENDING = ".case"
+PROGRAMS = ("mta_sim", "mta_lab")
 # the parts of a transcript, in order; and the first line of each
 ORDER = ("= example", "= file", "$", "= standard error", "= leaves", "= status")
 FIRST = re.compile(r"(= example|= file|\$|= leaves|= status) (\S(?:.*\S)?)|(= standard error)")
@@ -80,6 +81,8 @@ class Transcript:
         if kinds != sorted(kinds, key=ORDER.index) or [kinds.count(kind) for kind in ("$", "= status")] != [1, 1]:
             raise ValueError("its parts are in another order, or it has not one command and one status")
         self.words = shlex.split(self.of("$")[0].name)
+        if self.words[0] not in PROGRAMS:
+            raise ValueError(f"line {self.of('$')[0].number}: a command line begins with one of {PROGRAMS}")
         self.status = int(self.of("= status")[0].name)
 
     def of(self, kind):
