@@ -1,5 +1,5 @@
-"""Where the programs lie that are tested. tests/built.sh knows it, and whether they were built of the files that are here:
-with PROGRAM=draft in the environment the drafts are meant."""
+"""Where the programs lie that are tested. tests/built.sh knows it, and whether they were built of the files that are
+here. With PROGRAM=draft in the environment the drafts are meant."""
 
 import functools
 import os
@@ -11,7 +11,8 @@ ROOT = os.path.dirname(os.path.dirname(os.path.abspath(__file__)))
 
 def asked(*words):
     """What tests/built.sh answers; where it has a complaint, which it prints, all ends."""
-    ended = subprocess.run([os.path.join(ROOT, "tests/built.sh"), *words], stdout=subprocess.PIPE, text=True, check=False)
+    script = os.path.join(ROOT, "tests/built.sh")
+    ended = subprocess.run([script, *words], stdout=subprocess.PIPE, text=True, check=False)
     if ended.returncode != 0:
         sys.exit(ended.returncode)
     return ended.stdout.strip()

@@ -81,7 +81,7 @@ ask() {
   for name in "$@"; do
     is_built "$name" && continue
     missing+=("$name")
-    if [ -x "$(path "$name")" ]; then what="is not known to be of the sources here"; else what="is not there"; fi
+    if [ -x "$(path "$name")" ]; then what="is not known to be built of the sources here"; else what="is not there"; fi
     why+="${why:+, }$(path "$name") $what"
   done
   [ ${#missing[@]} -gt 0 ] || return 0

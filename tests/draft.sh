@@ -1,8 +1,8 @@
 #!/usr/bin/env bash
 # draft.sh [PROGRAM..]: builds programs UNPROVED, as native files out/draft/PROGRAM, side by side; both where none is
-# named. A draft shows in some minutes what a change does, where its proof takes an hour, and it promises nothing. It stops
-# at an overflow and at an index out of bounds, as what rt try runs, and is slower than the proved program. Where drafts
-# were built of the very same files before nothing is done.
+# named. A draft shows in some minutes what a change does, where its proof takes an hour, and it promises nothing. It
+# stops at an overflow and at an index out of bounds, as what rt try runs, and is slower than the proved program. Where
+# drafts were built of the very same files before nothing is done.
 # The kit's command rt try makes code of all sources, and leaves none. So it runs in a folder of links to the kit's own
 # files, with another clang, which keeps that code and then ends the try. Here the code is compiled and linked.
 set -euo pipefail
@@ -31,7 +31,7 @@ mirror() {
   ln -s clang "$1/kit/toolchain/bin/llvm-ar"
 }
 
-# keeper FOLDER: the script. The try compiles small helpers as they are, and last the program, with a check of addresses.
+# keeper FOLDER: the script. The try compiles small helpers as they are, then the program, with a check of addresses.
 keeper() {
   cat <<SCRIPT
 #!/usr/bin/env bash
@@ -49,8 +49,9 @@ compile() {
   local code
   for code in "$1"/kept/*.bc; do
     "$kit/toolchain/bin/clang" --target=x86_64-unknown-linux-gnu --sysroot="$kit/toolchain" -march=x86-64 \
-      -mllvm -no-trap-after-noreturn -mllvm -trap-unreachable -ffunction-sections -fdata-sections --no-default-config \
-      -no-canonical-prefixes -fintegrated-cc1 -fno-crash-diagnostics -Werror -O1 -fPIE -c -x ir "$code" -o "${code%.bc}.o"
+      -mllvm -no-trap-after-noreturn -mllvm -trap-unreachable -ffunction-sections -fdata-sections \
+      --no-default-config -no-canonical-prefixes -fintegrated-cc1 -fno-crash-diagnostics -Werror -O1 -fPIE \
+      -c -x ir "$code" -o "${code%.bc}.o"
   done
 }
 
@@ -58,8 +59,8 @@ compile() {
 link() {
   local lib=$kit/toolchain/lib
   "$kit/toolchain/bin/ld.lld" -m elf_x86_64 -pie --dynamic-linker /lib64/ld-linux-x86-64.so.2 --as-needed -z relro \
-    -z now -z noexecstack --eh-frame-hdr --gc-sections --no-dependent-libraries -o "$1/$2" "$lib"/{Scrt1,crti,crtbeginS}.o \
-    "$1"/kept/*.o "$kit"/c/{libos_c,liblibc_c}.a "$lib"/{libm.so.6,libc.so.6,libc_nonshared.a,ld-linux-x86-64.so.2} \
+    -z now -z noexecstack --eh-frame-hdr --gc-sections --no-dependent-libraries -o "$1/$2" \
+    "$lib"/{Scrt1,crti,crtbeginS}.o "$1"/kept/*.o "$kit"/c/{libos_c,liblibc_c}.a "$lib"/{libm.so.6,libc.so.6,libc_nonshared.a,ld-linux-x86-64.so.2} \
     "$lib"/{libgcc.a,libgcc_s.so.1,crtendS.o,crtn.o}
   install -D -m 755 "$1/$2" "out/draft/$2"
 }

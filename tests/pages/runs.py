@@ -28,7 +28,7 @@ import built  # noqa: E402
 def program(name):
     """Where a program lies: one that is built here has to be built of the files that are here."""
     other = os.environ.get(name.upper())
-    if other is None and os.path.exists(built.place(name)):
+    if other is None and (os.environ.get("PROGRAM") or os.path.exists(built.place(name))):
         built.ask(name)
     return pathlib.Path(other or built.place(name))
 
