@@ -60,8 +60,8 @@ link() {
   local lib=$kit/toolchain/lib
   "$kit/toolchain/bin/ld.lld" -m elf_x86_64 -pie --dynamic-linker /lib64/ld-linux-x86-64.so.2 --as-needed -z relro \
     -z now -z noexecstack --eh-frame-hdr --gc-sections --no-dependent-libraries -o "$1/$2" \
-    "$lib"/{Scrt1,crti,crtbeginS}.o "$1"/kept/*.o "$kit"/c/{libos_c,liblibc_c}.a "$lib"/{libm.so.6,libc.so.6,libc_nonshared.a,ld-linux-x86-64.so.2} \
-    "$lib"/{libgcc.a,libgcc_s.so.1,crtendS.o,crtn.o}
+    "$lib"/{Scrt1,crti,crtbeginS}.o "$1"/kept/*.o "$kit"/c/{libos_c,liblibc_c}.a \
+    "$lib"/{libm.so.6,libc.so.6,libc_nonshared.a,ld-linux-x86-64.so.2,libgcc.a,libgcc_s.so.1,crtendS.o,crtn.o}
   install -D -m 755 "$1/$2" "out/draft/$2"
 }
 
