@@ -1,9 +1,15 @@
 # The simulator of Tera MTA streams. All targets but install, uninstall and clean need the command rt of the Rattle kit.
 PREFIX ?= /usr/local
 SHARE = $(DESTDIR)$(PREFIX)/share
-PROGRAM = crates/mta_sim/out/mta_sim
+SIM = crates/mta_sim/out/mta_sim
 LAB = crates/mta_lab/out/mta_lab
-CALLS = crates/library_calls/out/library_calls
+# draft: the tests run on the drafts in out/draft, not on the programs that were proved and built
+PROGRAM ?=
+export PROGRAM
+# which programs make draft and make build build, both without any
+PROGRAMS ?=
+# the beginnings of the names of the tables that make cases runs, all without any
+CASES ?=
 # what make try shows: a source text, and a schedule of it
 SOURCE ?= examples/lock.asm
 SCHEDULE ?= examples/lock.lost_update.schedule
@@ -14,18 +20,28 @@ PROCESSORS ?= 2
 # how many crates' edits are tried side by side
 JOBS ?= $(shell nproc)
 
-.PHONY: help run run-lab try test prove cases checks trust minutes crates affected fits edits refuse hostile spaces pages editors documents bench build dist check-dist install uninstall clean
+# the targets that can be asked of drafts
+OF_DRAFTS = cases documents spaces hostile refuse bench pages editors draft
+ifneq ($(PROGRAM),)
+ifneq ($(filter-out $(OF_DRAFTS),$(or $(MAKECMDGOALS),help)),)
+$(error PROGRAM=$(PROGRAM) goes with $(OF_DRAFTS); all other targets take what is proved)
+endif
+endif
+
+.PHONY: help draft run run-lab try test prove cases checks trust minutes crates affected fits edits refuse hostile spaces pages editors documents bench build built built-calls dist check-dist install uninstall clean
 
 # the targets, each with what it does and how long it takes
 help:
 	@echo "make try        runs a SOURCE by a SCHEDULE with both programs, unproved (two minutes); examples/lock.asm if none is named"
+	@echo "make draft      builds both programs UNPROVED in out/draft, or the PROGRAMS that are named (some five minutes)"
+	@echo "                cases, documents, spaces, hostile, refuse, pages, editors and bench run on them with PROGRAM=draft"
 	@echo "make run        proves and builds mta_sim, and shows a first run (37 processor minutes)"
 	@echo "make run-lab    the same of mta_lab (165 processor minutes)"
 	@echo "make test       proves everything, tries the edits in must-fail/, runs all tests (200 processor minutes from nothing; ANEW=1: nothing that is kept counts)"
 	@echo "make prove      proves the CRATES and those that they stand on, as make test does (docs/ARCHITECTURE.md has the minutes of each)"
 	@echo "make checks     what make test tests before any proof (seconds)"
 	@echo "make trust      writes out/TRUST.md, the definitions that a reader has to trust (seconds)"
-	@echo "make cases      runs the cases below tests/cases on the built program (seconds)"
+	@echo "make cases      runs the cases below tests/cases on the built program (seconds); CASES=\"debug/ run/lists\": those of these tables"
 	@echo "make documents  runs the commands of the documents and compares what they print (seconds)"
 	@echo "make minutes    writes the table of what a check costs into docs/ARCHITECTURE.md, of what make test left in out/ (a second)"
 	@echo "make crates     writes the table of crates into docs/ARCHITECTURE.md, of crates.txt and the crates' README.md (a second)"
@@ -44,13 +60,17 @@ help:
 	@echo "make uninstall  takes away what make install has put there (a second)"
 	@echo "make clean      removes all that was built, and what checks keep of it in the crates (a second)"
 
+# builds the programs unproved, side by side
+draft:
+	@tests/draft.sh $(PROGRAMS)
+
 # proves and builds mta_sim, and shows a first run
 run:
 	@tests/build.sh mta_sim
 	@echo "== first run: mta_sim words, on these program words (LIT r1, 5 and ADD r2, r1, 3)"
 	@cat crates/mta_sim/stdin
 	@echo "== the stream after two steps"
-	@$(PROGRAM) words < crates/mta_sim/stdin
+	@$(SIM) words < crates/mta_sim/stdin
 
 # proves and builds mta_lab, and shows the run of an example in words
 run-lab:
@@ -95,20 +115,27 @@ affected:
 fits:
 	@python3 tests/minutes.py fits $(PROCESSORS)
 
-# proves and builds the programs, if one is not built yet
+# proves and builds the PROGRAMS that were not built of the files that are here
 build:
-	@test -x $(PROGRAM) && test -x $(LAB) || tests/build.sh
+	@tests/build.sh $(PROGRAMS)
+
+# what the targets below begin with: where no program lies here, both are built now. One that lies here is never built anew
+# unasked: each of them stops with a sentence if it was not built of the files that are here.
+built:
+	@! tests/built.sh none || tests/$(or $(PROGRAM),build).sh
+built-calls: built
+	@! tests/built.sh none library_calls || tests/$(or $(PROGRAM),build).sh library_calls
 
 # the cases below tests/cases, on the built program
-cases: build
-	@python3 tests/runner
+cases: built
+	@python3 tests/runner $(CASES)
 
 # tries the edits of must-fail/ and edits/, JOBS crates at a time
 edits:
 	@python3 tests/edits.py --jobs $(JOBS) $(CRATES)
 
 # packs the built programs; takes git, binutils and the kit, and dpkg-deb for the Debian package
-dist: build
+dist: built
 	@packaging/package.sh
 
 # tries the packages; takes root's rights, or a namespace of users
@@ -116,24 +143,21 @@ check-dist:
 	@tests/package.sh
 
 # wall time and peak memory of the commands on their longest inputs, and machine steps a second
-bench: build
-	@test -x $(CALLS) || (cd crates/library_calls && rt run -- calls < /dev/null > /dev/null)
+bench: built-calls
 	@bench/run.sh
 
 # refuses each allocation of the commands in turn, on the examples and the programs of tests/cases, and of most calls
 # of the libraries that take memory
-refuse: build
-	@test -x $(CALLS) || (cd crates/library_calls && rt run -- calls < /dev/null > /dev/null)
+refuse: built-calls
 	@python3 tests/hostile allocations calls
 
 # that, and damaged images, random texts, inputs at their limits and beyond, threads that are not started, the lines of
 # the debugger, inputs and outputs that fail
-hostile: build
-	@test -x $(CALLS) || (cd crates/library_calls && rt run -- calls < /dev/null > /dev/null)
+hostile: built-calls
 	@python3 tests/hostile
 
 # random programs: a search of all states by a machine of the tests' own is compared with what explore and grade say
-spaces: build
+spaces: built
 	@python3 tests/spaces
 
 # tries mta_lab dap by a client of the Debug Adapter Protocol on a library that others wrote
@@ -145,13 +169,13 @@ pages:
 	@python3 tests/pages
 
 # the commands that stand in README.md and docs, run on the examples; what they print is compared with what stands there
-documents: build
+documents: built
 	@tests/documents.sh README.md CONTRIBUTING.md CHANGELOG.md docs/*.md
 
 # puts the built programs, their examples and documents in place
 install:
-	@test -x $(PROGRAM) && test -x $(LAB) || { echo "install needs both programs: make run and make run-lab prove and build them"; exit 1; }
-	install -D -m 755 $(PROGRAM) $(DESTDIR)$(PREFIX)/bin/mta_sim
+	@tests/built.sh ask
+	install -D -m 755 $(SIM) $(DESTDIR)$(PREFIX)/bin/mta_sim
 	install -D -m 755 $(LAB) $(DESTDIR)$(PREFIX)/bin/mta_lab
 	install -D -m 644 share/man/man1/mta_sim.1 $(SHARE)/man/man1/mta_sim.1
 	install -D -m 644 share/man/man1/mta_lab.1 $(SHARE)/man/man1/mta_lab.1

@@ -1,11 +1,14 @@
 #!/usr/bin/env bash
 # Wall time (the best of some runs), instructions and peak memory of the tool on its longest inputs, and of the machine's
 # steps. Instructions are counted by valgrind's callgrind, where it is installed: they do not depend on the machine's load.
+# With PROGRAM=draft in the environment the drafts are measured.
 set -eu
 cd "$(dirname "$0")/.."
-tool=$PWD/crates/mta_sim/out/mta_sim
-lab=$PWD/crates/mta_lab/out/mta_lab
-parts=$PWD/crates/library_calls/out/library_calls
+tests/built.sh ask mta_sim mta_lab library_calls
+tool=$PWD/$(tests/built.sh path mta_sim)
+lab=$PWD/$(tests/built.sh path mta_lab)
+parts=$PWD/$(tests/built.sh path library_calls)
+[ -z "${PROGRAM:-}" ] || echo "these are drafts, which are slower than what is proved and built"
 work=$(mktemp -d)
 trap 'rm -rf "$work"' EXIT
 

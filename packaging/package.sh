@@ -5,6 +5,9 @@
 # shellcheck disable=SC2046,SC2086 # names of libraries and programs have no blanks
 set -euo pipefail
 cd "$(dirname "$0")/.."
+# (no draft is packed)
+unset PROGRAM
+tests/built.sh ask
 programs=$(tests/built.sh programs)
 kit=$(dirname "$(rt doc)")
 version=$(sed -n 's/^pub const VERSION: &str = "\(.*\)";$/\1/p' crates/command_line/src/lib.rt)
@@ -16,7 +19,7 @@ room=$(mktemp -d)
 trap 'rm -rf "$room"' EXIT
 
 # where a program lies that was built
-built() { echo "crates/$1/out/$1"; }
+built() { tests/built.sh path "$1"; }
 
 # the libraries of the kit that the programs' crates use; in crates.txt a crate stands behind those that it uses
 used_libraries() {
@@ -145,9 +148,6 @@ control() {
     packaging/control
 }
 
-for name in $programs; do
-  test -x "$(built "$name")" || { echo "no $name is built yet: make run proves and builds the programs"; exit 1; }
-done
 mkdir -p out/dist
 rm -f out/dist/mta[-_]sim[-_]*
 lay_out_archive "$room/$package"

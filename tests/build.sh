@@ -6,26 +6,24 @@
 set -eu
 cd "$(dirname "$0")/.."
 root=$PWD
-programs=${*:-$(tests/built.sh programs)}
+# (no draft is meant here)
+unset PROGRAM
+names=$(tests/built.sh names "$@")
+mapfile -t programs <<<"$names"
 
-# (a program's name has no space)
-# shellcheck disable=SC2086
-if tests/built.sh check $programs; then
-  echo "== built of these files before: $(echo $programs)"
+if tests/built.sh check "${programs[@]}"; then
+  echo "== built of these files before: ${programs[*]}"
   exit 0
 fi
-# shellcheck disable=SC2086
-needed=$(tests/built.sh needed $programs)
-# shellcheck disable=SC2086
+mapfile -t needed < <(tests/built.sh needed "${programs[@]}")
 mkdir -p out
-echo "== proving the $(echo "$needed" | wc -l) crates that these programs need: $(echo $programs)"
-for name in $programs; do tests/built.sh stamp "$name" >"out/stamp.$name"; done
+echo "== proving the ${#needed[@]} crates that these programs need: ${programs[*]}"
+for name in "${programs[@]}"; do tests/built.sh stamp "$name" >"out/stamp.$name"; done
 work=$(mktemp -d)
 trap 'rm -rf "$work"' EXIT
-# shellcheck disable=SC2086
-tests/lay_out.sh "$work" $needed
+tests/lay_out.sh "$work" "${needed[@]}"
 (cd "$work" && "$root/tests/progress.sh" "$root/out/build.log" rt ci)
-for name in $programs; do
+for name in "${programs[@]}"; do
   install -D -m 755 "$work/crates/$name/out/$name" "crates/$name/out/$name"
   tests/built.sh keep "$name" "$(cat "out/stamp.$name")"
   rm "out/stamp.$name"

@@ -3,14 +3,16 @@
 # of three backquotes a line that begins with "$ " is a command, lines behind it that begin with "> " are typed, and the
 # others, up to the next command, are what it prints. A block whose first line says more than the backquotes is left out.
 # The commands of a document are run by one shell in a copy of the examples, one after the other, with the exercises beside
-# them. The last line counts the commands; where a document's print something else, one of them has failed.
+# them. The last line counts the commands; where a document's print something else, one of them has failed. With
+# PROGRAM=draft in the environment the drafts are called.
 set -u
 cd "$(dirname "$0")/.." || exit 1
 root=$PWD
+tests/built.sh ask || exit 1
 work=$(mktemp -d)
 trap 'rm -rf "$work"' EXIT
 mkdir "$work/bin"
-ln -s "$root/crates/mta_sim/out/mta_sim" "$root/crates/mta_lab/out/mta_lab" "$work/bin"
+for name in $(tests/built.sh programs); do ln -s "$root/$(tests/built.sh path "$name")" "$work/bin"; done
 export PATH="$work/bin:$PATH"
 passed=0
 failed=0
@@ -58,7 +60,7 @@ for file in "$@"; do
   fi
 done
 
-printed=$("$root/crates/mta_sim/out/mta_sim" --version 2>&1)
+printed=$(mta_sim --version 2>&1)
 newest=$(sed -n 's/^## /mta_sim /p' "$root/CHANGELOG.md" | head -n 1)
 if [ "$printed" = "$newest" ]; then
   passed=$((passed + 1))

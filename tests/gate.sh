@@ -4,6 +4,8 @@
 # others are not begun. The last line counts all of it, and out/verdict keeps that line, the commit and the kit.
 set -u
 cd "$(dirname "$0")/.." || exit 1
+# (no draft is meant here)
+unset PROGRAM
 mkdir -p out
 rm -f out/verdict
 begin=$SECONDS

@@ -1,9 +1,13 @@
 #!/usr/bin/env bash
 # package.sh: tries what make dist has left in out/dist. It unpacks the archive and the Debian package, each in an empty
 # folder that gets the C library and nothing else, and runs the commands there on the examples. Changing the root takes
-# root's rights, or those that a namespace of users gives; where neither is to be had, it says so and fails.
+# root's rights, or those that a namespace of users gives; where neither is to be had, it says so and fails. What is
+# packed has to be what is built here, of the files that are here.
 set -u
 cd "$(dirname "$0")/.." || exit 1
+# (no draft is packed)
+unset PROGRAM
+tests/built.sh ask || exit 1
 work=$(mktemp -d)
 trap 'rm -rf "$work"' EXIT
 passed=0
@@ -83,7 +87,8 @@ try_play_pages() {
   done
 }
 
-# LIT r1, 5 and ADD r2, r1, 3; of each program the version that the package's name has; and those that BUILD is of
+# LIT r1, 5 and ADD r2, r1, 3; of each program the version that the package's name has; that BUILD is of those that are
+# packed, and of those that are built here
 try_the_rest() {
   local name
   printf '8010000000000005\n0000000A208C0000\n' | inside words | grep '^r' >"$work/got"
@@ -96,6 +101,9 @@ try_the_rest() {
     sha256sum <"$root$folder/$name" | sed "s/ .*//; s/^/$name    sha256 /" >"$work/wanted"
     find "$root" -name BUILD -exec grep "^$name .*sha256" {} + >"$work/got"
     is "$name in BUILD" "$work/wanted" "$work/got"
+    sha256sum <"$(tests/built.sh path "$name")" | cut -d ' ' -f 1 >"$work/wanted"
+    find "$root" -name BUILD -exec grep -A 1 "^$name .*sha256" {} + | sed -n 's/.*were taken out: sha256 //p' >"$work/got"
+    is "$name in BUILD, with its symbols" "$work/wanted" "$work/got"
   done
 }
 

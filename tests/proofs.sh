@@ -9,15 +9,21 @@
 set -u
 cd "$(dirname "$0")/.." || exit 1
 root=$PWD
+# (no draft is meant here)
+unset PROGRAM
 
 if [ $# -gt 0 ]; then
   mapfile -t crates < <(tests/built.sh needed "$@")
 else
   mapfile -t crates < <(grep -oE '^[a-z][a-z0-9_]*' crates.txt)
 fi
-mapfile -t programs < <(tests/built.sh programs | grep -xF -f <(printf '%s\n' "${crates[@]}"))
+programs=()
 stamps=()
-for name in "${programs[@]}"; do stamps+=("$(tests/built.sh stamp "$name")"); done
+for name in "${crates[@]}"; do
+  [ -f "crates/$name/src/main.rt" ] || continue
+  programs+=("$name")
+  stamps+=("$(tests/built.sh stamp "$name")")
+done
 work=$(mktemp -d)
 trap 'rm -rf "$work"' EXIT
 tests/lay_out.sh "$work" "${crates[@]}"

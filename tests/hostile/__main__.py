@@ -4,7 +4,7 @@ the command threads with and without its threads, the debugger's lines, files th
 refused memory, in the commands and in single calls of the libraries. Each run has to end with the answer that the documents give, or, where only
 that much is known beforehand, done, or refused with one line on standard error and nothing printed; each refusal within a
 second of processor time, and within ten times its input and 40 MB. Arguments name the parts to be run; without any all of
-them are. Needs Python 3 and a C compiler."""
+them are. With PROGRAM=draft in the environment they are run on the drafts. Needs Python 3 and a C compiler."""
 
 import sys
 
@@ -44,11 +44,10 @@ SHOWN = 20
 
 
 def main(names):
-    if not os.access(program.TOOL, os.X_OK):
-        sys.exit("nothing is built yet: make run proves and builds the program")
     unknown = [name for name in names if name not in PARTS]
     if unknown:
         sys.exit(f"no part is named {unknown[0]}; the parts: {', '.join(PARTS)}")
+    program.built.ask("mta_sim", "mta_lab", *["library_calls"] * ("calls" in (names or PARTS)))
     wrong = 0
     for name in names or PARTS:
         begin = time.monotonic()

@@ -10,10 +10,9 @@ import resource
 import subprocess
 from functools import partial
 
-from program import EXAMPLES, ROOT, Tally, read, run, write
+from program import EXAMPLES, LAB, Tally, read, run, write
 from refusing import interposer, refused_allocation, refused_threads
 
-LAB = os.path.join(ROOT, "crates/mta_lab/out/mta_lab")
 GRADED = os.path.join(EXAMPLES, "grading/submissions")
 STATUSES = {0, 1, 3, 4, 5}
 NO_MEMORY = b"mta_lab: no memory\n"

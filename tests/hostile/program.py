@@ -6,11 +6,14 @@ import re
 import resource
 import signal
 import subprocess
+import sys
 import tempfile
 
 ROOT = os.path.dirname(os.path.dirname(os.path.dirname(os.path.abspath(__file__))))
-TOOL = os.path.join(ROOT, "crates/mta_sim/out/mta_sim")
-CALLS = os.path.join(ROOT, "crates/library_calls/out/library_calls")
+sys.path.append(os.path.join(ROOT, "tests"))
+import built
+
+TOOL, LAB, CALLS = map(built.place, ("mta_sim", "mta_lab", "library_calls"))
 EXAMPLES = os.path.join(ROOT, "examples")
 CASES = os.path.join(ROOT, "tests/cases")
 MOST_INPUT = 33_554_432

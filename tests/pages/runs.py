@@ -1,5 +1,6 @@
 """Where the pages come from: `mta_lab page`, where that is built; else page/build.py and the runs in samples, which a
-plain simulator has made of the examples. MTA_LAB and MTA_SIM name other programs than those that are built here."""
+plain simulator has made of the examples. With PROGRAM=draft in the environment the drafts are meant; MTA_LAB and MTA_SIM
+name other programs than those that are built here."""
 
 import functools
 import json
@@ -14,14 +15,25 @@ import tally
 ROOT = pathlib.Path(__file__).resolve().parent.parent.parent
 EXAMPLES = ROOT / "examples"
 SAMPLES = pathlib.Path(__file__).resolve().parent / "samples"
-LAB = pathlib.Path(os.environ.get("MTA_LAB", ROOT / "crates/mta_lab/out/mta_lab"))
-SIM = pathlib.Path(os.environ.get("MTA_SIM", ROOT / "crates/mta_sim/out/mta_sim"))
 # after so many seconds a program has failed
 PATIENCE = 120
 RUN = re.compile(r'<script type="application/json" id="run">(.*?)</script>', re.DOTALL)
 
 sys.path.insert(0, str(ROOT / "page"))
+sys.path.append(str(ROOT / "tests"))
 import build  # noqa: E402
+import built  # noqa: E402
+
+
+def program(name):
+    """Where a program lies: one that is built here has to be built of the files that are here."""
+    other = os.environ.get(name.upper())
+    if other is None and (os.environ.get("PROGRAM") or os.path.exists(built.place(name))):
+        built.ask(name)
+    return pathlib.Path(other or built.place(name))
+
+
+LAB, SIM = program("mta_lab"), program("mta_sim")
 
 
 @functools.cache

@@ -3,13 +3,16 @@
 import contextlib
 import os
 import subprocess
+import sys
 import tempfile
 
 import schemas
 import table
 
-PROGRAM = os.path.join(table.ROOT, "crates/mta_sim/out/mta_sim")
-LAB = os.path.join(table.ROOT, "crates/mta_lab/out/mta_lab")
+sys.path.append(os.path.join(table.ROOT, "tests"))
+import built
+
+PROGRAM, LAB = built.place("mta_sim"), built.place("mta_lab")
 # after so many seconds a call has failed
 PATIENCE = 60
 

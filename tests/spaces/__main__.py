@@ -4,7 +4,9 @@ the kinds of ends, how many worlds each has, the steps of shortest schedules, wh
 which claims are broken, the verdict of `grade --explore`, each status, and how many worlds the search for ends alone looks
 at, that of the examples too. A difference is told with its seed and its program. Needs Python 3.
 
-  spaces [--programs N] [--first SEED] [--program PATH]     500 programs from seed 0 on, by the program that is built here"""
+  spaces [--programs N] [--first SEED] [--program PATH]     500 programs from seed 0 on, by the program that is built here
+
+With PROGRAM=draft in the environment that is the draft."""
 
 import sys
 
@@ -21,7 +23,9 @@ import examples
 from cases import Case
 
 ROOT = os.path.dirname(os.path.dirname(os.path.dirname(os.path.abspath(__file__))))
-LAB = os.path.join(ROOT, "crates/mta_lab/out/mta_lab")
+sys.path.append(os.path.join(ROOT, "tests"))
+import built
+
 # after so many seconds a call has failed, and how many differences are printed
 PATIENCE, SHOWN = 60, 20
 
@@ -48,10 +52,9 @@ def main():
     asked = argparse.ArgumentParser(description=__doc__.partition("\n\n")[0])
     asked.add_argument("--programs", type=int, default=500, help="how many (500)")
     asked.add_argument("--first", type=int, default=0, help="the first seed (0)")
-    asked.add_argument("--program", default=LAB, help="the mta_lab that is tried")
+    asked.add_argument("--program", help="the mta_lab that is tried")
     asked = asked.parse_args()
-    if not os.access(asked.program, os.X_OK):
-        sys.exit("nothing is built yet: make run-lab proves and builds the program")
+    asked.program = asked.program or built.path("mta_lab")
     seeds = range(asked.first, asked.first + asked.programs)
     wrong, worlds, kinds = 0, 0, collections.Counter()
     with concurrent.futures.ProcessPoolExecutor(os.cpu_count()) as pool:
