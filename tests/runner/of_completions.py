@@ -1,6 +1,7 @@
 """The completions of mta_lab: in each shell the commands and options that its help names, and no others; and what is
 offered for a value. fish is asked if it is installed; of zsh the text is read."""
 
+import json
 import os
 import re
 import shutil
@@ -12,6 +13,8 @@ import table
 from of_lab import lab
 
 FOLDER = os.path.join(table.ROOT, "share/completions")
+# the object of an end in JSON, whose kinds are goals of play
+END_SCHEMA = os.path.join(table.ROOT, "share/schema/search_end.schema.json")
 
 
 def read(name):
@@ -85,6 +88,9 @@ def completions():
             yield f"{command}, {shell}", wanted, options(command)
         for option, words in values_of_help(command).items():
             yield f"{command} --{option}", words, by_bash(command, f"--{option}", "")
+    with open(END_SCHEMA, encoding="utf-8") as file:
+        kinds = json.load(file)["properties"]["end"]["enum"]
+    yield "play --goal", {"right", "wrong", *kinds} - {"finished"}, by_bash("play", "--goal", "")
 
 
 @checks.others("lab/explained_words")
