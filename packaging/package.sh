@@ -92,7 +92,7 @@ play_pages() {
 lay_out_archive() {
   local name
   mkdir -p "$1/bin"
-  git archive HEAD README.md CONTRIBUTING.md CHANGELOG.md docs examples exercises editors share | tar -x -C "$1"
+  git archive HEAD README.md CONTRIBUTING.md CHANGELOG.md docs examples exercises editors share ':(exclude)share/make' | tar -x -C "$1"
   python3 tests/trust "$1/docs/TRUST.md"
   for name in $programs; do
     strip_symbols "$(built "$name")" "$1/bin/$name"

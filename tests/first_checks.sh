@@ -145,6 +145,7 @@ verdict "words and sentences that are not plain" < <(python3 tests/plain_words.p
 verdict "names that editors don't know" < <(tests/editors.sh | grep -v '^the syntax files')
 verdict "constants of the page" < <(python3 page/embed.py --check 2>&1)
 verdict "the cheat sheet and the pages of explain" < <(python3 docs/words/make.py --check 2>&1)
+verdict "completions and the man page of mta_lab" < <(python3 share/make --check 2>&1)
 verdict "edits that can't be applied" < <(python3 tests/edits.py --apply 2>&1)
 echo "$passed passed, $failed failed"
 [ "$failed" -eq 0 ]

@@ -1,40 +1,40 @@
 //! The arguments and options of commands, as data, and the parser's form of them.
 
+use crate::values::ValueKind;
 use clap::builder::ValueParser;
 use clap::{Arg, ArgAction};
 use std::alloc::{AllocError, Global};
 
-/// How an argument stands on a line.
+/// How an argument stands on a line, and what its value is.
 #[derive(Clone, Copy)]
 pub(crate) enum Form {
     /// A word that has to be there.
-    Needed,
-    /// One of these words, which has to be there.
-    OneOf(&'static [&'static str]),
+    Needed(ValueKind),
     /// A word that may be left out, and does not go with the options of these names.
-    Optional(&'static [&'static str]),
-    /// One or more files.
-    Files,
-    /// Files, which may be left out.
-    AnyFiles,
+    Optional(ValueKind, &'static [&'static str]),
+    /// One or more words.
+    Several(ValueKind),
+    /// Words, which may be left out.
+    AnyNumber(ValueKind),
     /// `--name`, which does not go with the options of these names.
     Flag(&'static [&'static str]),
-    /// `--name VALUE`.
-    Option(&'static str),
-    /// `--name VALUE`, which has to be there.
-    NeededOption(&'static str),
-    /// The same, unless the option of the last name is.
-    NeededWithout(&'static str, &'static str),
-    /// `--name VALUE`, which does not go with the options of these names.
-    OptionWithout(&'static str, &'static [&'static str]),
-    /// `--name VALUE`, one of these words.
-    OptionOf(&'static str, &'static [&'static str]),
-    /// The same, which does not go with the option of the last name.
-    OptionOfWithout(&'static str, &'static [&'static str], &'static str),
-    /// `--name VALUE`, a number in a range.
-    Number(&'static str, u64, u64),
-    /// The same, which says nothing without the option of the last name, and so goes only with it.
-    NumberWith(&'static str, u64, u64, &'static str),
+    /// `--name VALUE`: what help calls the value, what it is, and when the option stands on a line.
+    Option(&'static str, ValueKind, Presence),
+}
+
+/// When an option stands on a line.
+#[derive(Clone, Copy)]
+pub(crate) enum Presence {
+    /// It may be left out.
+    Free,
+    /// It has to be there.
+    Needed,
+    /// It has to be there, unless the option of this name is.
+    NeededWithout(&'static str),
+    /// It does not go with the options of these names.
+    Without(&'static [&'static str]),
+    /// It says nothing without the argument of this name, and so goes only with it.
+    With(&'static str),
 }
 
 /// An argument of a command: its name, what help says of it, and how it stands on a line.
@@ -44,72 +44,53 @@ pub(crate) struct Argument(pub &'static str, pub &'static str, pub Form);
 /// The parser of an argument.
 pub(crate) fn parser_of<'a>(alloc: Global, argument: &Argument) -> Result<Arg<'a>, AllocError> {
     let Argument(name, about, form) = *argument;
+    let parser = Arg::new(alloc, name).help(about);
     match form {
-        Form::Needed => Ok(word(alloc, name, about).required(true)),
-        Form::OneOf(words) => Ok(word(alloc, name, about).required(true).value_parser(words)),
-        Form::Optional(excluded) => word(alloc, name, about).conflicts_with_all(excluded),
-        Form::Files => Ok(files(alloc, name, about).required(true)),
-        Form::AnyFiles => Ok(files(alloc, name, about)),
-        Form::Flag(excluded) => flag(alloc, name, about).conflicts_with_all(excluded),
-        Form::Option(value) => Ok(option(alloc, name, value, about)),
-        Form::NeededOption(value) => Ok(option(alloc, name, value, about).required(true)),
-        Form::NeededWithout(value, other) => {
-            option(alloc, name, value, about).required_unless_present(other)
-        }
-        Form::OptionWithout(value, excluded) => {
-            option(alloc, name, value, about).conflicts_with_all(excluded)
-        }
-        Form::OptionOfWithout(value, words, excluded) => option(alloc, name, value, about)
-            .value_parser(words)
-            .conflicts_with_all(&[excluded]),
-        Form::OptionOf(value, words) => {
-            Ok(option(alloc, name, value, about).value_parser(words))
-        }
-        Form::Number(value, least, most) => Ok(number(alloc, name, value, about, least, most)),
-        Form::NumberWith(value, least, most, needed) => {
-            number(alloc, name, value, about, least, most).requires_arg(needed)
+        Form::Needed(kind) => Ok(taking(parser, kind).required(true)),
+        Form::Optional(kind, excluded) => taking(parser, kind).conflicts_with_all(excluded),
+        Form::Several(kind) => Ok(taking_several(parser, kind).required(true)),
+        Form::AnyNumber(kind) => Ok(taking_several(parser, kind)),
+        Form::Flag(excluded) => parser
+            .long(name)
+            .action(ArgAction::SetTrue)
+            .conflicts_with_all(excluded),
+        Form::Option(value, kind, presence) => {
+            with_presence(taking(parser.long(name).value_name(value), kind), presence)
         }
     }
 }
 
-/// A word.
-fn word<'a>(alloc: Global, name: &'a str, about: &'a str) -> Arg<'a> {
-    Arg::new(alloc, name).help(about).action(ArgAction::Set)
+/// The parser of an argument that takes a value of a kind.
+fn taking<'a>(parser: Arg<'a>, kind: ValueKind) -> Arg<'a> {
+    checking(parser.action(ArgAction::Set), kind)
 }
 
-/// Files.
-fn files<'a>(alloc: Global, name: &'a str, about: &'a str) -> Arg<'a> {
-    Arg::new(alloc, name)
-        .help(about)
-        .num_args(1..)
-        .action(ArgAction::Append)
+/// The parser of an argument that takes several such values.
+fn taking_several<'a>(parser: Arg<'a>, kind: ValueKind) -> Arg<'a> {
+    checking(parser.num_args(1..).action(ArgAction::Append), kind)
 }
 
-/// An option with a value.
-fn option<'a>(alloc: Global, name: &'a str, value: &'a str, about: &'a str) -> Arg<'a> {
-    Arg::new(alloc, name)
-        .long(name)
-        .value_name(value)
-        .help(about)
-        .action(ArgAction::Set)
+/// The parser of an argument whose values have to be of a kind, as far as that can be seen before they are used.
+fn checking<'a>(parser: Arg<'a>, kind: ValueKind) -> Arg<'a> {
+    match kind {
+        ValueKind::OneOf(words) => parser.value_parser(words),
+        ValueKind::Number(least, most) => parser.value_parser(ValueParser::unsigned(least, most)),
+        ValueKind::File(_)
+        | ValueKind::Folder
+        | ValueKind::OneOfOrOther(_)
+        | ValueKind::Explained
+        | ValueKind::Exercise
+        | ValueKind::Text => parser,
+    }
 }
 
-/// An option with a number in a range.
-fn number<'a>(
-    alloc: Global,
-    name: &'a str,
-    value: &'a str,
-    about: &'a str,
-    least: u64,
-    most: u64,
-) -> Arg<'a> {
-    option(alloc, name, value, about).value_parser(ValueParser::unsigned(least, most))
-}
-
-/// An option without a value.
-fn flag<'a>(alloc: Global, name: &'a str, about: &'a str) -> Arg<'a> {
-    Arg::new(alloc, name)
-        .long(name)
-        .help(about)
-        .action(ArgAction::SetTrue)
+/// The parser of an option that stands on a line only so.
+fn with_presence<'a>(parser: Arg<'a>, presence: Presence) -> Result<Arg<'a>, AllocError> {
+    match presence {
+        Presence::Free => Ok(parser),
+        Presence::Needed => Ok(parser.required(true)),
+        Presence::NeededWithout(other) => parser.required_unless_present(other),
+        Presence::Without(excluded) => parser.conflicts_with_all(excluded),
+        Presence::With(needed) => parser.requires_arg(needed),
+    }
 }

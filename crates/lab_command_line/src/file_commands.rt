@@ -1,32 +1,42 @@
 //! The commands over files alone: their arguments, in the order of the help, and what they ask.
 
-use crate::arguments::{Argument, Form};
-use crate::help;
-use crate::options::{EXERCISES, MOST_HINTS, text, words};
+use crate::arguments::{Argument, Form, Presence};
+use crate::choices::{KIND_WORDS, KINDS};
+use crate::options::{EXERCISES, MOST_HINTS, chosen, text, word, words};
+use crate::shared_arguments::JSON;
+use crate::values::{PROGRAM_FILE, SOURCE_FILE, ValueKind};
 use clap::ArgMatches;
-use lab_requests::{CheckRequest, ExerciseRequest, FileKind};
+use lab_requests::{CheckRequest, ExerciseRequest, LabCommand, LayoutRequest};
 use std::alloc::{AllocError, Global};
 
 /// Of `check`.
 pub(crate) const CHECK_ARGUMENTS: [Argument; 5] = [
-    Argument("FILE", "source texts, images or schedules", Form::Files),
+    Argument(
+        "FILE",
+        "source texts, images or schedules",
+        Form::Several(ValueKind::File(&[".asm", ".image", ".schedule"])),
+    ),
     Argument(
         "as",
         "all are of this kind: source, image or schedule",
-        Form::OptionOf("KIND", &["source", "image", "schedule"]),
+        Form::Option("KIND", ValueKind::OneOf(&KIND_WORDS), Presence::Free),
     ),
     Argument(
         "program",
         "the schedules are of this program",
-        Form::Option("PROGRAM"),
+        Form::Option("PROGRAM", PROGRAM_FILE, Presence::Free),
     ),
     Argument("strict", "warnings count as errors", Form::Flag(&[])),
-    Argument("json", help::JSON, Form::Flag(&[])),
+    JSON,
 ];
 
 /// Of `fmt`.
 pub(crate) const FMT_ARGUMENTS: [Argument; 2] = [
-    Argument("FILE", "the source texts [standard input]", Form::AnyFiles),
+    Argument(
+        "FILE",
+        "the source texts [standard input]",
+        Form::AnyNumber(SOURCE_FILE),
+    ),
     Argument(
         "check",
         "writes nothing, and says which files would change",
@@ -38,30 +48,30 @@ pub(crate) const FMT_ARGUMENTS: [Argument; 2] = [
 pub(crate) const EXPLAIN_ARGUMENTS: [Argument; 1] = [Argument(
     "WORD",
     "the word [all words are listed]",
-    Form::Optional(&[]),
+    Form::Optional(ValueKind::Explained, &[]),
 )];
 
 /// Of `word`.
 pub(crate) const WORD_ARGUMENTS: [Argument; 1] = [Argument(
     "WORD",
     "hexadecimal digits, as 0x28000, or an instruction, as ADD r1, r1, 1",
-    Form::Files,
+    Form::Several(ValueKind::Text),
 )];
 
 /// Of `new`.
 pub(crate) const NEW_ARGUMENTS: [Argument; 1] = [Argument(
     "NAME",
     "the program's name: NAME.asm and NAME.expect are written",
-    Form::Needed,
+    Form::Needed(ValueKind::Text),
 )];
 
 /// Of `asm`.
 pub(crate) const ASM_ARGUMENTS: [Argument; 2] = [
-    Argument("SOURCE", "the source text", Form::Needed),
+    Argument("SOURCE", "the source text", Form::Needed(SOURCE_FILE)),
     Argument(
         "out",
         "the image file [the source's name, with .image]",
-        Form::Option("IMAGE"),
+        Form::Option("IMAGE", ValueKind::File(&[".image"]), Presence::Free),
     ),
 ];
 
@@ -70,17 +80,21 @@ pub(crate) const EXERCISE_ARGUMENTS: [Argument; 3] = [
     Argument(
         "NUMBER",
         "the exercise, by its number [lists all]",
-        Form::Optional(&[]),
+        Form::Optional(ValueKind::Exercise, &[]),
     ),
     Argument(
         "hint",
         "shows this hint, from 1",
-        Form::NumberWith("K", 1, MOST_HINTS, "NUMBER"),
+        Form::Option(
+            "K",
+            ValueKind::Number(1, MOST_HINTS),
+            Presence::With("NUMBER"),
+        ),
     ),
     Argument(
         "folder",
         "where the exercises are [exercises]",
-        Form::Option("FOLDER"),
+        Form::Option("FOLDER", ValueKind::Folder, Presence::Free),
     ),
 ];
 
@@ -91,20 +105,53 @@ pub(crate) fn check_of<'a>(
 ) -> Result<CheckRequest<'a>, AllocError> {
     Ok(CheckRequest {
         files: words(alloc, found, "FILE")?,
-        kind: kind_of(text(found, "as")),
+        kind: chosen(found, "as", &KIND_WORDS, &KINDS),
         program: text(found, "program"),
         strict: found.get_flag("strict"),
         json: found.get_flag("json"),
     })
 }
 
-/// The kind of files of this name.
-fn kind_of(name: Option<&str>) -> Option<FileKind> {
-    match name? {
-        "source" => Some(FileKind::Source),
-        "image" => Some(FileKind::Image),
-        "schedule" => Some(FileKind::Schedule),
-        _ => None,
+/// What `fmt` is asked.
+pub(crate) fn layout_of<'a>(
+    alloc: Global,
+    found: &ArgMatches<'a>,
+) -> Result<LayoutRequest<'a>, AllocError> {
+    Ok(LayoutRequest {
+        files: words(alloc, found, "FILE")?,
+        checks: found.get_flag("check"),
+    })
+}
+
+/// What `word` is asked.
+pub(crate) fn word_of<'a>(
+    alloc: Global,
+    found: &ArgMatches<'a>,
+) -> Result<LabCommand<'a>, AllocError> {
+    Ok(LabCommand::Word {
+        words: words(alloc, found, "WORD")?,
+    })
+}
+
+/// What `explain` is asked.
+pub(crate) fn explain_of<'a>(found: &ArgMatches<'a>) -> LabCommand<'a> {
+    LabCommand::Explain {
+        word: text(found, "WORD"),
+    }
+}
+
+/// What `new` is asked.
+pub(crate) fn new_of<'a>(found: &ArgMatches<'a>) -> LabCommand<'a> {
+    LabCommand::New {
+        name: word(found, "NAME"),
+    }
+}
+
+/// What `asm` is asked.
+pub(crate) fn asm_of<'a>(found: &ArgMatches<'a>) -> LabCommand<'a> {
+    LabCommand::Assemble {
+        source: word(found, "SOURCE"),
+        image: text(found, "out"),
     }
 }
 

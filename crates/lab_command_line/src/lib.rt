@@ -5,6 +5,7 @@
 pub const VERSION: &str = "0.3.0";
 
 mod arguments;
+mod choices;
 mod commands;
 mod file_commands;
 mod help;
@@ -13,5 +14,7 @@ mod options;
 mod parsers;
 mod reading;
 mod run_commands;
+mod shared_arguments;
+mod values;
 
 pub use reading::read_lab_command;

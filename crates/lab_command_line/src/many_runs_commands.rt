@@ -1,11 +1,16 @@
 //! The commands over many runs or every schedule: their arguments, in the order of the help, and what they ask.
 
-use crate::arguments::{Argument, Form};
+use crate::arguments::{Argument, Form, Presence};
+use crate::choices::{FORMAT_WORDS, FORMATS, GOALS};
 use crate::help;
 use crate::options::{
-    MOST_JOBS, MOST_MEGABYTES, MOST_SECONDS, MOST_SEEDS, MOST_STEPS, MOST_WORLDS, USUAL_MEGABYTES,
-    USUAL_SEEDS, USUAL_STEPS, USUAL_WORLDS, count, number, shown_of, text, word, words,
+    MOST_JOBS, MOST_MEGABYTES, MOST_SECONDS, MOST_WORLDS, USUAL_MEGABYTES, USUAL_SEEDS,
+    USUAL_STEPS, USUAL_WORLDS, chosen, count, number, shown_of, text, word, words,
 };
+use crate::shared_arguments::{
+    BEGINNING, EXPECT, HEX, JSON, PROGRAM, SECONDS, SEEDS, STATES, STEPS, TITLE,
+};
+use crate::values::{EXPECT_FILE, PAGE_FILE, PROGRAM_FILE, ValueKind};
 use clap::ArgMatches;
 use lab_requests::{
     Bounds, ExploreRequest, GradeCases, GradeFormat, GradeRequest, MOST_PLAYED, PlayRequest,
@@ -15,86 +20,102 @@ use std::alloc::{AllocError, Global};
 
 /// Of `survey`.
 pub(crate) const SURVEY_ARGUMENTS: [Argument; 11] = [
-    Argument("PROGRAM", help::PROGRAM, Form::Needed),
-    Argument("seeds", help::SEEDS, Form::Number("N", 1, MOST_SEEDS)),
+    PROGRAM,
+    SEEDS,
     Argument(
         "from",
         "the first seed [0]",
-        Form::Number("SEED", 0, u64::MAX),
+        Form::Option("SEED", ValueKind::Number(0, u64::MAX), Presence::Free),
     ),
-    Argument("steps", help::STEPS, Form::Number("K", 1, MOST_STEPS)),
-    Argument("expect", help::EXPECT, Form::Option("FILE")),
+    STEPS,
+    EXPECT,
     Argument(
         "explore",
         "says how many of the ends of every schedule were reached",
         Form::Flag(&[]),
     ),
-    Argument(
-        "states",
-        help::STATES,
-        Form::NumberWith("N", 1, MOST_WORLDS, "explore"),
-    ),
-    Argument(
-        "seconds",
-        help::SECONDS,
-        Form::NumberWith("N", 0, MOST_SECONDS, "explore"),
-    ),
+    STATES,
+    SECONDS,
     Argument(
         "memory",
         help::MEMORY,
-        Form::NumberWith("MB", 1, MOST_MEGABYTES, "explore"),
+        Form::Option(
+            "MB",
+            ValueKind::Number(1, MOST_MEGABYTES),
+            Presence::With("explore"),
+        ),
     ),
-    Argument("hex", help::HEX, Form::Flag(&[])),
-    Argument("json", help::JSON, Form::Flag(&[])),
+    HEX,
+    JSON,
 ];
 
 /// Of `explore`.
 pub(crate) const EXPLORE_ARGUMENTS: [Argument; 12] = [
-    Argument("PROGRAM", help::PROGRAM, Form::Needed),
-    Argument("expect", help::EXPECT, Form::Option("FILE")),
-    Argument("from", help::BEGIN, Form::Option("SCHEDULE")),
-    Argument("states", help::STATES, Form::Number("N", 1, MOST_WORLDS)),
-    Argument("seconds", help::SECONDS, Form::Number("N", 0, MOST_SECONDS)),
+    PROGRAM,
+    EXPECT,
+    BEGINNING,
+    Argument(
+        "states",
+        help::STATES,
+        Form::Option("N", ValueKind::Number(1, MOST_WORLDS), Presence::Free),
+    ),
+    Argument(
+        "seconds",
+        help::SECONDS,
+        Form::Option("N", ValueKind::Number(0, MOST_SECONDS), Presence::Free),
+    ),
     Argument(
         "memory",
         help::MEMORY,
-        Form::Number("MB", 1, MOST_MEGABYTES),
+        Form::Option("MB", ValueKind::Number(1, MOST_MEGABYTES), Presence::Free),
     ),
     Argument("plain", help::PLAIN, Form::Flag(&[])),
     Argument(
         "keep",
         "writes the schedule to each end into this folder",
-        Form::Option("FOLDER"),
+        Form::Option("FOLDER", ValueKind::Folder, Presence::Free),
     ),
     Argument(
         "pages",
         "writes the page of the run to each end into this folder",
-        Form::Option("FOLDER"),
+        Form::Option("FOLDER", ValueKind::Folder, Presence::Free),
     ),
     Argument(
         "dot",
         "writes the states as a graph for Graphviz, FILE.dot",
-        Form::Option("FILE"),
+        Form::Option("FILE", ValueKind::File(&[".dot"]), Presence::Free),
     ),
-    Argument("hex", help::HEX, Form::Flag(&[])),
-    Argument("json", help::JSON, Form::Flag(&[])),
+    HEX,
+    JSON,
 ];
 
 /// Of `grade`.
 pub(crate) const GRADE_ARGUMENTS: [Argument; 17] = [
-    Argument("expect", help::EXPECT, Form::NeededWithout("FILE", "cases")),
+    Argument(
+        "expect",
+        help::EXPECT,
+        Form::Option("FILE", EXPECT_FILE, Presence::NeededWithout("cases")),
+    ),
     Argument(
         "cases",
         "a folder of cases, each NAME.data and NAME.expect",
-        Form::OptionWithout("FOLDER", &["expect", "given"]),
+        Form::Option(
+            "FOLDER",
+            ValueKind::Folder,
+            Presence::Without(&["expect", "given"]),
+        ),
     ),
     Argument(
         "given",
         "the cells, as .data and .fill lines, in place of each submission's own",
-        Form::OptionWithout("FILE", &["cases"]),
+        Form::Option(
+            "FILE",
+            ValueKind::File(&[".data"]),
+            Presence::Without(&["cases"]),
+        ),
     ),
-    Argument("seeds", help::SEEDS, Form::Number("N", 1, MOST_SEEDS)),
-    Argument("steps", help::STEPS, Form::Number("K", 1, MOST_STEPS)),
+    SEEDS,
+    STEPS,
     Argument(
         "all",
         "counts the ends of all seeds, and of all schedules",
@@ -105,25 +126,21 @@ pub(crate) const GRADE_ARGUMENTS: [Argument; 17] = [
         "every schedule; if that decides nothing, random ones too",
         Form::Flag(&[]),
     ),
-    Argument(
-        "states",
-        help::STATES,
-        Form::NumberWith("N", 1, MOST_WORLDS, "explore"),
-    ),
-    Argument(
-        "seconds",
-        help::SECONDS,
-        Form::NumberWith("N", 0, MOST_SECONDS, "explore"),
-    ),
+    STATES,
+    SECONDS,
     Argument(
         "memory",
         help::GRADE_MEMORY,
-        Form::NumberWith("MB", 1, MOST_MEGABYTES, "explore"),
+        Form::Option(
+            "MB",
+            ValueKind::Number(1, MOST_MEGABYTES),
+            Presence::With("explore"),
+        ),
     ),
     Argument(
         "jobs",
         "how many submissions at a time, 1 to 256 [as many as processors]",
-        Form::Number("N", 1, MOST_JOBS),
+        Form::Option("N", ValueKind::Number(1, MOST_JOBS), Presence::Free),
     ),
     Argument(
         "no-links",
@@ -133,43 +150,51 @@ pub(crate) const GRADE_ARGUMENTS: [Argument; 17] = [
     Argument(
         "pages",
         "writes the page of each submission that is not right into this folder",
-        Form::Option("FOLDER"),
+        Form::Option("FOLDER", ValueKind::Folder, Presence::Free),
     ),
     Argument(
         "format",
         "how it is written: text, tsv, json, junit or gradescope [text]",
-        Form::OptionOfWithout(
+        Form::Option(
             "FORMAT",
-            &["text", "tsv", "json", "junit", "gradescope"],
-            "json",
+            ValueKind::OneOf(&FORMAT_WORDS),
+            Presence::Without(&["json"]),
         ),
     ),
-    Argument("hex", help::HEX, Form::Flag(&[])),
+    HEX,
     Argument("json", "the same as --format json", Form::Flag(&[])),
     Argument(
         "SUBMISSION",
         "the submissions: source texts or images",
-        Form::Files,
+        Form::Several(PROGRAM_FILE),
     ),
 ];
 
 /// Of `play`.
 pub(crate) const PLAY_ARGUMENTS: [Argument; 7] = [
-    Argument("PROGRAM", help::PROGRAM, Form::Needed),
-    Argument("expect", help::EXPECT, Form::Option("FILE")),
-    Argument("from", help::BEGIN, Form::Option("SCHEDULE")),
+    PROGRAM,
+    EXPECT,
+    BEGINNING,
     Argument(
         "states",
         "the most states of the page, 1 to 100000 [100000]",
-        Form::Number("N", 1, MOST_PLAYED as u64),
+        Form::Option(
+            "N",
+            ValueKind::Number(1, MOST_PLAYED as u64),
+            Presence::Free,
+        ),
     ),
-    Argument("title", help::TITLE, Form::Option("TEXT")),
+    TITLE,
     Argument(
         "goal",
         "the first goal: right, wrong, deadlock, stopped, spinning, broken, or the number of an end [none]",
-        Form::Option("TEXT"),
+        Form::Option("TEXT", ValueKind::OneOfOrOther(&GOALS), Presence::Free),
     ),
-    Argument("out", "the page, FILE.html", Form::NeededOption("FILE")),
+    Argument(
+        "out",
+        "the page, FILE.html",
+        Form::Option("FILE", PAGE_FILE, Presence::Needed),
+    ),
 ];
 
 /// What `survey` is asked.
@@ -249,13 +274,7 @@ fn format_of(found: &ArgMatches) -> GradeFormat {
     if found.get_flag("json") {
         return GradeFormat::Json;
     }
-    match text(found, "format") {
-        Some("tsv") => GradeFormat::Tsv,
-        Some("json") => GradeFormat::Json,
-        Some("junit") => GradeFormat::Junit,
-        Some("gradescope") => GradeFormat::Gradescope,
-        _ => GradeFormat::Text,
-    }
+    chosen(found, "format", &FORMAT_WORDS, &FORMATS).unwrap_or(GradeFormat::Text)
 }
 
 /// Where all schedules are asked for, how far they are looked for.

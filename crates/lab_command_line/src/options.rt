@@ -1,5 +1,6 @@
 //! The values of arguments: how they are read, their bounds, and what stands for those that are left out.
 
+use crate::choices::meaning;
 use clap::ArgMatches;
 use lab_requests::Shown;
 use std::alloc::{AllocError, Global};
@@ -48,6 +49,16 @@ pub(crate) fn text<'a>(matches: &ArgMatches<'a>, name: &str) -> Option<&'a str> 
 /// The text of an argument that has to be there.
 pub(crate) fn word<'a>(matches: &ArgMatches<'a>, name: &str) -> &'a str {
     matches.get_str(name).unwrap_or("")
+}
+
+/// What the word of an argument means, of these words with these meanings; None where it is left out.
+pub(crate) fn chosen<T: Copy>(
+    matches: &ArgMatches,
+    name: &str,
+    words: &[&str],
+    meanings: &[T],
+) -> Option<T> {
+    meaning(matches.get_str(name)?, words, meanings)
 }
 
 /// The texts that an argument has.

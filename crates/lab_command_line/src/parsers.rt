@@ -1,7 +1,9 @@
 //! The parser of the command lines.
 
-use crate::arguments::{Argument, Form, parser_of};
+use crate::arguments::{Argument, Form, Presence, parser_of};
+use crate::choices::COLOUR_WORDS;
 use crate::commands::{COMMANDS, CommandWords};
+use crate::values::ValueKind;
 use crate::{VERSION, help};
 use clap::Command;
 use std::alloc::{AllocError, Global};
@@ -10,7 +12,7 @@ use std::alloc::{AllocError, Global};
 const COLOUR: Argument = Argument(
     "color",
     help::COLOUR,
-    Form::OptionOf("WHEN", &["auto", "always", "never"]),
+    Form::Option("WHEN", ValueKind::OneOf(&COLOUR_WORDS), Presence::Free),
 );
 
 /// The parser of the command lines, with the texts that it prints.

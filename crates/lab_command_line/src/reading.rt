@@ -1,13 +1,17 @@
 //! The command line, read.
 
-use crate::file_commands::{check_of, exercise_of};
+use crate::choices::{COLOUR_WORDS, COLOURS};
+use crate::commands::{CommandName, command_called};
+use crate::file_commands::{asm_of, check_of, exercise_of, explain_of, layout_of, new_of, word_of};
 use crate::many_runs_commands::{explore_of, grade_of, play_of, survey_of};
-use crate::options::{USUAL_STEPS, count, shown_of, text, word, words};
+use crate::options::chosen;
 use crate::parsers::lab_parser;
-use crate::run_commands::{compared_of, maker_of, misfit_of, page_of, picture_of, run_of, view_of};
+use crate::run_commands::{
+    compare_of, debug_of, misfit_of, page_of, picture_of, schedule_of, view_of,
+};
 use clap::error::ErrorKind;
 use clap::{ArgMatches, Error};
-use lab_requests::{Colours, LabCall, LabCommand, LayoutRequest};
+use lab_requests::{Colours, LabCall, LabCommand};
 use std::alloc::{AllocError, Global};
 use std::convert::AsStr;
 
@@ -20,26 +24,24 @@ pub fn read_lab_command<'a, S: AsStr>(alloc: Global, line: &'a [S]) -> Result<La
         return Err(refused(alloc, words.as_str())?);
     }
     let matches = lab_parser(alloc)?.try_get_matches_from(line)?;
-    match misfit_of(&matches) {
+    let Some((name, found)) = matches.subcommand() else {
+        return Err(refused(alloc, "there is no command")?);
+    };
+    let Some(command) = command_called(name) else {
+        return Err(refused(alloc, "there is no such command")?);
+    };
+    match misfit_of(command, found) {
         Some(words) => Err(refused(alloc, words)?),
         None => Ok(LabCall {
-            command: command_of(alloc, &matches)?,
-            colours: colours_of(&matches),
+            command: asked_of(alloc, command, found)?,
+            colours: colours_of(found),
         }),
     }
 }
 
 /// When the lines of the command have colours.
-fn colours_of(matches: &ArgMatches) -> Colours {
-    let said = match matches.subcommand() {
-        Some((_, found)) => text(found, "color"),
-        None => None,
-    };
-    match said {
-        Some("always") => Colours::Always,
-        Some("never") => Colours::Never,
-        _ => Colours::Auto,
-    }
+fn colours_of(found: &ArgMatches) -> Colours {
+    chosen(found, "color", &COLOUR_WORDS, &COLOURS).unwrap_or(Colours::Auto)
 }
 
 /// The program of a line that names one where its command stands, or that runs one as `mta_sim` does.
@@ -64,58 +66,30 @@ fn refused(alloc: Global, words: &str) -> Result<Error, AllocError> {
     parser.error(ErrorKind::ArgumentConflict, words)
 }
 
-/// The command that stood on the line, with all its arguments.
-fn command_of<'a>(alloc: Global, matches: &ArgMatches<'a>) -> Result<LabCommand<'a>, AllocError> {
-    match matches.subcommand() {
-        Some(("check", found)) => Ok(LabCommand::Check(check_of(alloc, found)?)),
-        Some(("grade", found)) => Ok(LabCommand::Grade(grade_of(alloc, found)?)),
-        Some(("survey", found)) => Ok(LabCommand::Survey(survey_of(found))),
-        Some(("explore", found)) => Ok(LabCommand::Explore(explore_of(found))),
-        Some(("word", found)) => Ok(LabCommand::Word {
-            words: words(alloc, found, "WORD")?,
-        }),
-        Some(("fmt", found)) => Ok(LabCommand::LayOut(LayoutRequest {
-            files: words(alloc, found, "FILE")?,
-            checks: found.get_flag("check"),
-        })),
-        Some(("exercise", found)) => Ok(LabCommand::Exercise(exercise_of(found))),
-        Some((name, found)) => Ok(command_of_runs(name, found)),
-        None => Ok(LabCommand::Adapt),
-    }
-}
-
-/// A command of one program and one or two runs of it.
-fn command_of_runs<'a>(name: &str, found: &ArgMatches<'a>) -> LabCommand<'a> {
-    match name {
-        "schedule" => LabCommand::Schedule {
-            program: word(found, "PROGRAM"),
-            maker: maker_of(found),
-            most: count(found, "steps", USUAL_STEPS),
-        },
-        "view" => LabCommand::View(view_of(found)),
-        "debug" => LabCommand::Debug {
-            program: word(found, "PROGRAM"),
-            run: run_of(found),
-        },
-        "compare" => LabCommand::Compare {
-            program: word(found, "PROGRAM"),
-            one: compared_of(found, "ONE"),
-            other: compared_of(found, "OTHER"),
-            shown: shown_of(found),
-        },
-        "page" => LabCommand::Page(page_of(found)),
-        "picture" => LabCommand::Picture(picture_of(found)),
-        "play" => LabCommand::Play(play_of(found)),
-        "explain" => LabCommand::Explain {
-            word: text(found, "WORD"),
-        },
-        "new" => LabCommand::New {
-            name: word(found, "NAME"),
-        },
-        "asm" => LabCommand::Assemble {
-            source: word(found, "SOURCE"),
-            image: text(found, "out"),
-        },
-        _ => LabCommand::Adapt,
+/// What a command is asked.
+fn asked_of<'a>(
+    alloc: Global,
+    command: CommandName,
+    found: &ArgMatches<'a>,
+) -> Result<LabCommand<'a>, AllocError> {
+    match command {
+        CommandName::Check => Ok(LabCommand::Check(check_of(alloc, found)?)),
+        CommandName::Fmt => Ok(LabCommand::LayOut(layout_of(alloc, found)?)),
+        CommandName::Schedule => Ok(schedule_of(found)),
+        CommandName::View => Ok(LabCommand::View(view_of(found))),
+        CommandName::Debug => Ok(debug_of(found)),
+        CommandName::Dap => Ok(LabCommand::Adapt),
+        CommandName::Compare => Ok(compare_of(found)),
+        CommandName::Survey => Ok(LabCommand::Survey(survey_of(found))),
+        CommandName::Explore => Ok(LabCommand::Explore(explore_of(found))),
+        CommandName::Grade => Ok(LabCommand::Grade(grade_of(alloc, found)?)),
+        CommandName::Exercise => Ok(LabCommand::Exercise(exercise_of(found))),
+        CommandName::Page => Ok(LabCommand::Page(page_of(found))),
+        CommandName::Picture => Ok(LabCommand::Picture(picture_of(found))),
+        CommandName::Play => Ok(LabCommand::Play(play_of(found))),
+        CommandName::Asm => Ok(asm_of(found)),
+        CommandName::Explain => Ok(explain_of(found)),
+        CommandName::Word => word_of(alloc, found),
+        CommandName::New => Ok(new_of(found)),
     }
 }

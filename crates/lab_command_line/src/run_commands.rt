@@ -1,53 +1,53 @@
 //! The commands that show or make one run, or two: their arguments, in the order of the help, and what they ask.
 
-use crate::arguments::{Argument, Form};
+use crate::arguments::{Argument, Form, Presence};
+use crate::choices::{RULE_WORDS, RULES, RuleName};
+use crate::commands::CommandName;
 use crate::help;
-use crate::options::{MOST_STEPS, USUAL_STEPS, count, number, shown_of, text, word};
+use crate::options::{MOST_STEPS, USUAL_STEPS, chosen, count, number, shown_of, text, word};
+use crate::shared_arguments::{HEX_IN_TEXT, JSON, PROGRAM, SCHEDULE, SEED, STEPS, TITLE};
+use crate::values::{PAGE_FILE, SCHEDULE_FILE, ValueKind};
 use clap::ArgMatches;
-use lab_requests::{Maker, PageRequest, RunChoice, ViewRequest};
+use lab_requests::{LabCommand, Maker, PageRequest, RunChoice, ViewRequest};
 
 /// Of `schedule`.
 pub(crate) const SCHEDULE_ARGUMENTS: [Argument; 4] = [
     Argument(
         "RULE",
         "rounds, fair or random",
-        Form::OneOf(&["rounds", "fair", "random"]),
+        Form::Needed(ValueKind::OneOf(&RULE_WORDS)),
     ),
-    Argument("PROGRAM", help::PROGRAM, Form::Needed),
-    Argument("seed", help::SEED, Form::Number("N", 0, u64::MAX)),
-    Argument("steps", help::STEPS, Form::Number("K", 1, MOST_STEPS)),
+    PROGRAM,
+    SEED,
+    STEPS,
 ];
 
 /// Of `view`.
 pub(crate) const VIEW_ARGUMENTS: [Argument; 13] = [
-    Argument("PROGRAM", help::PROGRAM, Form::Needed),
-    Argument(
-        "SCHEDULE",
-        help::SCHEDULE_FILE,
-        Form::Optional(&["fair", "seed", "steps"]),
-    ),
+    PROGRAM,
+    SCHEDULE,
     Argument("fair", help::FAIR, Form::Flag(&["seed"])),
-    Argument("seed", help::SEED, Form::Number("N", 0, u64::MAX)),
-    Argument("steps", help::STEPS, Form::Number("K", 1, MOST_STEPS)),
+    SEED,
+    STEPS,
     Argument(
         "from",
         "the first step that is shown",
-        Form::Number("K", 1, u64::MAX / 2),
+        Form::Option("K", ValueKind::Number(1, u64::MAX / 2), Presence::Free),
     ),
     Argument(
         "to",
         "the last step that is shown",
-        Form::Number("K", 1, u64::MAX / 2),
+        Form::Option("K", ValueKind::Number(1, u64::MAX / 2), Presence::Free),
     ),
     Argument(
         "only",
         "shows only the steps of this stream",
-        Form::Option("P.S"),
+        Form::Option("P.S", ValueKind::Text, Presence::Free),
     ),
     Argument(
         "word",
         "shows the steps that use the word at this byte address, or of this name",
-        Form::Option("A"),
+        Form::Option("A", ValueKind::Text, Presence::Free),
     ),
     Argument("columns", "a column a stream", Form::Flag(&["json"])),
     Argument(
@@ -55,28 +55,28 @@ pub(crate) const VIEW_ARGUMENTS: [Argument; 13] = [
         "a line for each step, also where a loop repeats",
         Form::Flag(&["json"]),
     ),
-    Argument("hex", help::HEX, Form::Flag(&["json"])),
-    Argument("json", help::JSON, Form::Flag(&[])),
+    HEX_IN_TEXT,
+    JSON,
 ];
 
 /// Of `debug`.
 pub(crate) const DEBUG_ARGUMENTS: [Argument; 5] = [
-    Argument("PROGRAM", help::PROGRAM, Form::Needed),
-    Argument(
-        "SCHEDULE",
-        help::SCHEDULE_FILE,
-        Form::Optional(&["fair", "seed", "steps"]),
-    ),
+    PROGRAM,
+    SCHEDULE,
     Argument("fair", help::FAIR, Form::Flag(&["seed"])),
-    Argument("seed", help::SEED, Form::Number("N", 0, u64::MAX)),
-    Argument("steps", help::STEPS, Form::Number("K", 1, MOST_STEPS)),
+    SEED,
+    STEPS,
 ];
 
 /// Of `compare`.
 pub(crate) const COMPARE_ARGUMENTS: [Argument; 7] = [
-    Argument("PROGRAM", help::PROGRAM, Form::Needed),
-    Argument("ONE", "a schedule, or with --seeds its seed", Form::Needed),
-    Argument("OTHER", "another one", Form::Needed),
+    PROGRAM,
+    Argument(
+        "ONE",
+        "a schedule, or with --seeds its seed",
+        Form::Needed(SCHEDULE_FILE),
+    ),
+    Argument("OTHER", "another one", Form::Needed(SCHEDULE_FILE)),
     Argument(
         "seeds",
         "ONE and OTHER are seeds of random schedules",
@@ -85,24 +85,28 @@ pub(crate) const COMPARE_ARGUMENTS: [Argument; 7] = [
     Argument(
         "steps",
         help::STEPS,
-        Form::NumberWith("K", 1, MOST_STEPS, "seeds"),
+        Form::Option(
+            "K",
+            ValueKind::Number(1, MOST_STEPS),
+            Presence::With("seeds"),
+        ),
     ),
-    Argument("hex", help::HEX, Form::Flag(&["json"])),
-    Argument("json", help::JSON, Form::Flag(&[])),
+    HEX_IN_TEXT,
+    JSON,
 ];
 
 /// Of `page`.
 pub(crate) const PAGE_ARGUMENTS: [Argument; 10] = [
-    Argument("PROGRAM", help::PROGRAM, Form::Needed),
+    PROGRAM,
     Argument(
         "SCHEDULE",
         help::PAGE_SCHEDULE,
-        Form::Optional(&["fair", "seed", "rounds"]),
+        Form::Optional(SCHEDULE_FILE, &["fair", "seed", "rounds"]),
     ),
     Argument(
         "OTHER",
         "another one, whose run is shown next to the first",
-        Form::Optional(&[]),
+        Form::Optional(SCHEDULE_FILE, &[]),
     ),
     Argument(
         "seeds",
@@ -115,19 +119,23 @@ pub(crate) const PAGE_ARGUMENTS: [Argument; 10] = [
         "the running streams step in the order of processor and stream",
         Form::Flag(&["seed"]),
     ),
-    Argument("seed", help::SEED, Form::Number("N", 0, u64::MAX)),
-    Argument("steps", help::STEPS, Form::Number("K", 1, MOST_STEPS)),
-    Argument("title", help::TITLE, Form::Option("TEXT")),
-    Argument("out", "the page, FILE.html", Form::NeededOption("FILE")),
+    SEED,
+    STEPS,
+    TITLE,
+    Argument(
+        "out",
+        "the page, FILE.html",
+        Form::Option("FILE", PAGE_FILE, Presence::Needed),
+    ),
 ];
 
 /// Of `picture`.
 pub(crate) const PICTURE_ARGUMENTS: [Argument; 10] = [
-    Argument("PROGRAM", help::PROGRAM, Form::Needed),
+    PROGRAM,
     Argument(
         "SCHEDULE",
         help::SCHEDULE_FILE,
-        Form::Optional(&["fair", "seed", "rounds", "steps"]),
+        Form::Optional(SCHEDULE_FILE, &["fair", "seed", "rounds", "steps"]),
     ),
     Argument("fair", help::FAIR, Form::Flag(&["seed", "rounds"])),
     Argument(
@@ -135,44 +143,78 @@ pub(crate) const PICTURE_ARGUMENTS: [Argument; 10] = [
         "the running streams step in the order of processor and stream",
         Form::Flag(&["seed"]),
     ),
-    Argument("seed", help::SEED, Form::Number("N", 0, u64::MAX)),
-    Argument("steps", help::STEPS, Form::Number("K", 1, MOST_STEPS)),
+    SEED,
+    STEPS,
     Argument(
         "from",
         "the first step that is drawn",
-        Form::Number("K", 1, u64::MAX / 2),
+        Form::Option("K", ValueKind::Number(1, u64::MAX / 2), Presence::Free),
     ),
     Argument(
         "to",
         "the last step that is drawn",
-        Form::Number("K", 1, u64::MAX / 2),
+        Form::Option("K", ValueKind::Number(1, u64::MAX / 2), Presence::Free),
     ),
-    Argument("title", help::TITLE, Form::Option("TEXT")),
-    Argument("out", "the picture, FILE.svg", Form::NeededOption("FILE")),
+    TITLE,
+    Argument(
+        "out",
+        "the picture, FILE.svg",
+        Form::Option("FILE", ValueKind::File(&[".svg"]), Presence::Needed),
+    ),
 ];
 
-/// What is said of words that do not go together; None where they do.
-pub(crate) fn misfit_of(matches: &ArgMatches) -> Option<&'static str> {
-    match matches.subcommand() {
-        Some(("schedule", found)) if has_idle_seed(found) => {
-            Some("--seed goes with the rule random alone")
-        }
-        Some(("compare", found)) if lacks_seeds(found, "ONE") => {
-            Some("with --seeds ONE and OTHER are numbers from 0 to 18446744073709551615")
-        }
-        Some(("page", found)) if lacks_seeds(found, "SCHEDULE") => {
-            Some("with --seeds SCHEDULE and OTHER are numbers from 0 to 18446744073709551615")
-        }
-        Some(("page", found)) if has_idle_steps(found) => {
-            Some("--steps is of schedules that are made, and SCHEDULE is a file")
-        }
-        _ => None,
+/// What is said of a command's words that do not go together; None where they do.
+pub(crate) fn misfit_of(command: CommandName, found: &ArgMatches) -> Option<&'static str> {
+    match command {
+        CommandName::Schedule => seed_misfit(found),
+        CommandName::Compare => compare_misfit(found),
+        CommandName::Page => page_misfit(found),
+        CommandName::Check
+        | CommandName::Fmt
+        | CommandName::View
+        | CommandName::Debug
+        | CommandName::Dap
+        | CommandName::Survey
+        | CommandName::Explore
+        | CommandName::Grade
+        | CommandName::Exercise
+        | CommandName::Picture
+        | CommandName::Play
+        | CommandName::Asm
+        | CommandName::Explain
+        | CommandName::Word
+        | CommandName::New => None,
     }
 }
 
-/// Whether `schedule` has a seed that says nothing: its rule is not `random`.
-fn has_idle_seed(found: &ArgMatches) -> bool {
-    word(found, "RULE") != "random" && found.contains_id("seed")
+/// What is said of a seed of `schedule` that says nothing: its rule is not `random`.
+fn seed_misfit(found: &ArgMatches) -> Option<&'static str> {
+    if rule_of(found) != RuleName::Random && found.contains_id("seed") {
+        Some("--seed goes with the rule random alone")
+    } else {
+        None
+    }
+}
+
+/// What is said of words of `compare` that do not go together.
+fn compare_misfit(found: &ArgMatches) -> Option<&'static str> {
+    if lacks_seeds(found, "ONE") {
+        Some("with --seeds ONE and OTHER are numbers from 0 to 18446744073709551615")
+    } else {
+        None
+    }
+}
+
+/// What is said of words of `page` that do not go together.
+fn page_misfit(found: &ArgMatches) -> Option<&'static str> {
+    if lacks_seeds(found, "SCHEDULE") {
+        return Some("with --seeds SCHEDULE and OTHER are numbers from 0 to 18446744073709551615");
+    }
+    if has_idle_steps(found) {
+        Some("--steps is of schedules that are made, and SCHEDULE is a file")
+    } else {
+        None
+    }
 }
 
 /// Whether two seeds are to be taken, and a word is none.
@@ -197,7 +239,7 @@ fn seed_in(found: &ArgMatches, name: &str) -> Option<u64> {
 }
 
 /// One of two schedules that are compared.
-pub(crate) fn compared_of<'a>(found: &ArgMatches<'a>, name: &str) -> RunChoice<'a> {
+fn compared_of<'a>(found: &ArgMatches<'a>, name: &str) -> RunChoice<'a> {
     if !found.get_flag("seeds") {
         return RunChoice::File(word(found, name));
     }
@@ -209,14 +251,46 @@ pub(crate) fn compared_of<'a>(found: &ArgMatches<'a>, name: &str) -> RunChoice<'
     }
 }
 
+/// The name of the rule of `schedule`.
+fn rule_of(found: &ArgMatches) -> RuleName {
+    chosen(found, "RULE", &RULE_WORDS, &RULES).unwrap_or(RuleName::Fair)
+}
+
 /// The rule that `schedule` names.
-pub(crate) fn maker_of(found: &ArgMatches) -> Maker {
-    match word(found, "RULE") {
-        "rounds" => Maker::Rounds,
-        "random" => Maker::Random {
+fn maker_of(found: &ArgMatches) -> Maker {
+    match rule_of(found) {
+        RuleName::Rounds => Maker::Rounds,
+        RuleName::Fair => Maker::Fair,
+        RuleName::Random => Maker::Random {
             seed: number(found, "seed", 0),
         },
-        _ => Maker::Fair,
+    }
+}
+
+/// What `schedule` is asked.
+pub(crate) fn schedule_of<'a>(found: &ArgMatches<'a>) -> LabCommand<'a> {
+    LabCommand::Schedule {
+        program: word(found, "PROGRAM"),
+        maker: maker_of(found),
+        most: count(found, "steps", USUAL_STEPS),
+    }
+}
+
+/// What `debug` is asked.
+pub(crate) fn debug_of<'a>(found: &ArgMatches<'a>) -> LabCommand<'a> {
+    LabCommand::Debug {
+        program: word(found, "PROGRAM"),
+        run: run_of(found),
+    }
+}
+
+/// What `compare` is asked.
+pub(crate) fn compare_of<'a>(found: &ArgMatches<'a>) -> LabCommand<'a> {
+    LabCommand::Compare {
+        program: word(found, "PROGRAM"),
+        one: compared_of(found, "ONE"),
+        other: compared_of(found, "OTHER"),
+        shown: shown_of(found),
     }
 }
 
@@ -236,7 +310,7 @@ pub(crate) fn view_of<'a>(found: &ArgMatches<'a>) -> ViewRequest<'a> {
 }
 
 /// By which schedule a program runs: a file's, a random one where a seed is given, else a fair one.
-pub(crate) fn run_of<'a>(found: &ArgMatches<'a>) -> RunChoice<'a> {
+fn run_of<'a>(found: &ArgMatches<'a>) -> RunChoice<'a> {
     if let Some(path) = text(found, "SCHEDULE") {
         return RunChoice::File(path);
     }
