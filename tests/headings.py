@@ -1,8 +1,8 @@
 #!/usr/bin/env python3
 """Headings that texts cite, and that the document has not which they name: a line each.
 
-A citation is the name of a document with a heading in quotation marks next to it: NAME.md, "Heading", or NAME.md
-("Heading"), or "Heading", NAME.md. Documents cite so, and so do comments of code, definitions, tests and scripts. In a
+A citation is the name of a document, also of a crate's, with a heading in quotation marks next to it: NAME.md, "Heading",
+or NAME.md ("Heading"), or "Heading", NAME.md. Documents cite so, and so do comments of code, definitions, tests and scripts. In a
 document a heading in quotation marks that stands alone in brackets is one of its own, or of a document named shortly
 before. A heading may be cited by its beginning, up to a bracket or a colon."""
 
@@ -12,7 +12,7 @@ import subprocess
 
 ROOT = os.path.dirname(os.path.dirname(os.path.abspath(__file__)))
 ENDINGS = (".md", ".rt", ".antt", ".py", ".sh", ".js", ".json", ".tsv", ".case", ".1", ".slurm")
-NAME, HEADING, OTHERS = r"([A-Z_]+\.md)", r'"([A-Z][^"]{2,60})"', r'((?:(?:,| and|, and) "[A-Z][^"]{2,60}")*)'
+NAME, HEADING, OTHERS = r"((?:crates/\w+/)?[A-Z_]+\.md)", r'"([A-Z][^"]{2,60})"', r'((?:(?:,| and|, and) "[A-Z][^"]{2,60}")*)'
 BEFORE = re.compile(rf"{HEADING},? (?:of )?(?:docs/)?{NAME}")
 AFTER = re.compile(rf"{NAME},? \(?{HEADING}{OTHERS}")
 OWN = re.compile(rf"\({HEADING}{OTHERS}(?:, (?:above|below))?\)")

@@ -1,5 +1,6 @@
 -- What a search has found, by what it was asked for.
-use Rattle.std.proofs.Common.{◌≡◌, ℕ, ◌<◌, true, false, refl, sym, subst, List, Bool, replicate}
+use Rattle.std.proofs.Common.{◌≡◌, ℕ, ◌<◌, true, false, refl, sym, subst, List, ◌++◌, Bool, Some, replicate}
+use Rattle.processor.specs.World.{run}
 use Rattle.std.proofs.lemmas.List.{get_or-replicate}
 use Rattle.std.specs.Prelude.{Result, Ok, Err, IfOk, IsTrue}
 use Rattle.std.specs.List.{Contains}
@@ -8,7 +9,8 @@ use Rattle.dead_registers.specs.Clearing.{IsLive}
 use Rattle.schedule_space.specs.declared.explorations.Exploration.{Exploration}
 use Rattle.schedule_space.specs.declared.expanding.Wanted.{Wanted}
 use Rattle.schedule_space.specs.declared.links.Edge.{Edge}
-use Rattle.schedule_space.specs.Answers.{space_in, is_complete}
+use Rattle.schedule_space.specs.declared.watches.Bound.TheVariants as bound
+use Rattle.schedule_space.specs.Answers.{space_in, is_complete, bound_in, IsFull}
 use Rattle.schedule_space.specs.Spaces.{count, world_of, IsComplete, IsDistinct, HasAllEdges}
 use Rattle.schedule_space.specs.Spaces.{AreAllApart, StandAlone, IsEdgeToStandIn}
 use Rattle.schedule_space.specs.Finding.{IsExpanded, NamesAll}
@@ -70,6 +72,20 @@ module _ {E : Type 0} where
   distinct_if (Ok e) apart = λ k j kb jb same.
       apart k j kb jb (agree_same (space_in e).live (world_of (space_in e) k) (world_of (space_in e) j) same)
   distinct_if (Err f) apart = apart
+
+  pub missing_if : (most : ℕ) (r : Result Exploration E)
+      → IfOk r (λ e. bound_in e ≡ Some bound.Worlds → IsFull (space_in e) most)
+      → IfOk r (λ e. bound_in e ≡ Some bound.Worlds → ¬ (IsComplete (space_in e)))
+  missing_if most (Ok e) full = λ ended all.
+      let more = (full ended).more in
+      let has = all more.0 in
+      more.1 (
+        has.0,
+        has.1,
+        agree_same (space_in e).live (world_of (space_in e) has.0)
+            (run (space_in e).image ((space_in e).begin ++ more.0)) has.2,
+      )
+  missing_if most (Err f) full = full
 
   pub followed_if : (looked_at : List Bool) (r : Result Exploration E) → IfOk r (AreAllQuiet looked_at)
       → IfOk r AreAllFollowed

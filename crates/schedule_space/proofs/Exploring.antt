@@ -1,16 +1,19 @@
 -- The search from its first world on, and what is known where it ends.
-use Rattle.std.proofs.Common.{◌≡◌, ℕ, ◌<◌, refl, sym, ap, ◌∙◌, subst, arith, List, [], None, false}
+use Rattle.std.proofs.Common.{◌≡◌, ℕ, ◌<◌, refl, sym, ap, ◌∙◌, subst, arith, List, [], ◌∷◌, ◌++◌, append_assoc, None, false}
 use Rattle.std.specs.Prelude.{Result, Ok, Err, OnOk}
 use Rattle.std.specs.Result.{is_err}
 use Rattle.image_file.specs.ImageValue.{ImageValue}
 use Rattle.machine.specs.MachineValue.{MachineValue}
-use Rattle.processor.specs.World.{start, steps}
+use Rattle.processor.specs.World.{start, after, run, steps}
 use Rattle.processor.specs.declared.steps.Step.{Step}
 use Rattle.dead_registers.specs.Clearing.{LiveValue, IsLive}
-use Rattle.schedule_space.specs.Spaces.{SpaceValue, count, machine_after, AreAllApart, IsShortest}
-use Rattle.schedule_space.specs.Finding.{space_of, IsGrown, IsExpanded, IsBreadthFirst}
+use Rattle.schedule_space.specs.Spaces.{SpaceValue, count, schedule_of, world_of, machine_after, AreAllApart, IsShortest}
+use Rattle.schedule_space.specs.Spaces.{HasStandIn, LacksStandIn, HasEarlierLinks}
+use Rattle.schedule_space.specs.Answers.{most_places, IsFull}
+use Rattle.schedule_space.specs.Finding.{space_of, IsGrown, IsExpanded, IsBreadthFirst, IsFullAt}
 use Rattle.schedule_space.specs.Kept.{KeptValue, AreKept}
 use Rattle.std.proofs.lemmas.List.Elements.{All-nil}
+use Rattle.schedule_space.proofs.Schedules.{goes_on, run-push}
 use Rattle.schedule_space.proofs.Growing.{expanded_grown}
 use Rattle.schedule_space.proofs.Breadth.{shortest_below}
 
@@ -52,6 +55,24 @@ same_shortest v w u n is g inside all breadth live apart =
     subst IsShortest (sym is)
     (shortest_stopped v w n g inside all breadth (subst (λ (x : SpaceValue). IsLive x.image x.live) is live)
     (subst AreAllApart is apart))
+
+-- a space that is full at a place lacks a world that a schedule leads to
+lacks_at : (v : SpaceValue) (from most : ℕ) → HasEarlierLinks v → from < count v → IsFullAt v from most → LacksStandIn v
+lacks_at v from most earlier below full =
+    let on = goes_on v.begin v.links from from earlier (omega arith) (omega (arith, below)) in
+    let t = full.step in
+    let leads : run v.image (v.begin ++ (on.0 ++ t ∷ [])) ≡ after v.image (world_of v from) t =
+    ap (run v.image) (sym (append_assoc v.begin on.0 (t ∷ [])) ∙ ap (λ ts. ts ++ t ∷ []) (sym on.1))
+    ∙ run-push v.image (schedule_of v from) t in
+    (on.0 ++ t ∷ [], λ h. full.missing (subst (HasStandIn v) leads h))
+
+pub full_when : (v w : SpaceValue) (from limit most : ℕ) → w ≡ v → limit ≡ most_places most → HasEarlierLinks w
+    → from < count v → IsFullAt v from limit → IsFull w most
+full_when v w from limit most is at earlier below full =
+    subst (λ (x : SpaceValue). IsFull x most) (sym is) (record {
+      many = full.many ∙ at;
+      more = lacks_at v from limit (subst HasEarlierLinks is earlier) below full;
+    })
 
 -- what holds where a call ended well, where it did
 pub ended_well : {A E : Type 0} (r : Result A E) (P : Type 0) → is_err r ≡ false → OnOk r P → P

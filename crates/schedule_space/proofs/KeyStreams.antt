@@ -1,7 +1,9 @@
 -- The streams that run in a world, as its key tells them.
-use Rattle.std.proofs.Common.{◌≡◌, ℕ, zero, suc, ◌+◌, ◌*◌, ◌<◌, ◌%◌, ◌^◌, true, false, refl, sym, ap, ◌∙◌, subst, arith}
-use Rattle.std.proofs.Common.{List, [], ◌∷◌, ◌++◌, Option, Some, None, inl, inr, length, map, get_or, slice_get, option_copied, Bor}
+use Rattle.std.proofs.Common.{◌≡◌, ℕ, zero, suc, ◌+◌, ◌*◌, ◌<◌, ◌≤◌, ◌%◌, ◌^◌, true, false, refl, sym, ap, ◌∙◌, subst, arith}
+use Rattle.std.proofs.Common.{List, [], ◌∷◌, ◌++◌, Option, Some, None, ◌⊎◌, inl, inr, length, map, get_or, slice_get, option_copied, Bor}
 use Rattle.std.specs.Prelude.{IsTrue}
+use Rattle.std.specs.List.{Contains}
+use Rattle.std.proofs.lemmas.List.Elements.{Contains-push_cases}
 use Rattle.std.proofs.lemmas.Bool.{cases_Bool}
 use Rattle.std.proofs.lemmas.List.{length-map, length-append, get_or-append_right, get_or-map}
 use Rattle.std.proofs.lemmas.Option.{slice_get_within, slice_get-get_or, get_or_from_slice_get}
@@ -21,7 +23,7 @@ use Rattle.world_keys.specs.StreamNumbers.{all_halves, status_code, stream_words
 use Rattle.world_keys.specs.WorldKeys.{stream_marks, processor_numbers, processor_place, key_of, no_processor, processor_in}
 use Rattle.world_keys.specs.WorldKeys.{IsKnownIf, IsKnownStream, IsKnownProcessor, IsKnown}
 use Rattle.world_keys.proofs.Places.{place_get}
-use Rattle.world_keys.proofs.Replacing.{no_mark, one_mark}
+use Rattle.world_keys.proofs.Replacing.{from_first, no_mark, one_mark}
 use Rattle.world_keys.proofs.Clearings.{stream_cleared, processor_cleared, as_many_cleared}
 use Rattle.schedule_space.proofs.StreamSteps.{mark_at}
 use Rattle.schedule_space.proofs.KnownSteps.{key_many}
@@ -149,6 +151,99 @@ marked_place t proc marks s k place read is at =
 pub known_busy : (t : List (List ℕ)) (s : StreamValue) → is_idle s ≡ false → IsKnownStream t s
     → Has t (stream_numbers s) × IsReadable s
 known_busy t s busy known = subst (IsKnownIf t s) busy known
+
+-- Marks are in the order of the streams, so each stream has one.
+
+-- so it is with one mark more in front, whose stream comes before theirs
+first_rise : (n q j k a b : ℕ) (ms : List ℕ) → ((i c : ℕ) → slice_get ms (2 * i) ≡ Some c → n + 1 ≤ c)
+    → ((i l : ℕ) → i < l → slice_get ms (2 * i) ≡ Some a → slice_get ms (2 * l) ≡ Some b → a < b) → j < k
+    → slice_get (n ∷ q ∷ ms) (2 * j) ≡ Some a → slice_get (n ∷ q ∷ ms) (2 * k) ≡ Some b → a < b
+first_rise n q j zero a b ms bound rest less one other = absurd (omega (arith, less))
+first_rise n q zero (suc k) a b ms bound rest less one other =
+    let first : n ≡ a = cc in
+    let at : 2 * suc k ≡ suc (suc (2 * k)) = omega arith in
+    let more = bound k b (ap (slice_get (n ∷ q ∷ ms)) (sym at) ∙ other) in
+    omega (arith, first, more)
+first_rise n q (suc j) (suc k) a b ms bound rest less one other =
+    let at : 2 * suc j ≡ suc (suc (2 * j)) = omega arith in
+    let to : 2 * suc k ≡ suc (suc (2 * k)) = omega arith in
+    rest j k (omega (arith, less)) (ap (slice_get (n ∷ q ∷ ms)) (sym at) ∙ one) (ap (slice_get (n ∷ q ∷ ms)) (sym to) ∙ other)
+
+marks_rise : (t : List (List ℕ)) (n : ℕ) (ss : List StreamValue) (j k a b : ℕ) → j < k
+    → slice_get (stream_marks t n ss) (2 * j) ≡ Some a → slice_get (stream_marks t n ss) (2 * k) ≡ Some b → a < b
+unfolding stream_marks
+marks_rise t n [] j k a b less one other = absurd cc
+marks_rise t n (u ∷ us) j k a b less one other =
+    let q = place_in t (stream_numbers u) in
+    let ms = stream_marks t (n + 1) us in
+    let rest : (i l : ℕ) → i < l → slice_get ms (2 * i) ≡ Some a → slice_get ms (2 * l) ≡ Some b → a < b =
+    λ i l low at to. marks_rise t (n + 1) us i l a b low at to in
+    elim (cases_Bool (is_idle u)) [
+      | inl e ↦
+          let same = no_mark n q ms (is_idle u) e in
+          rest j k less (ap (λ xs. slice_get xs (2 * j)) (sym same) ∙ one) (ap (λ xs. slice_get xs (2 * k)) (sym same) ∙ other)
+      | inr e ↦
+          let same = one_mark n q ms (is_idle u) e in
+          first_rise n q j k a b ms (λ i c there. from_first t (n + 1) us i c there) rest less
+          (ap (λ xs. slice_get xs (2 * j)) (sym same) ∙ one) (ap (λ xs. slice_get xs (2 * k)) (sym same) ∙ other)
+    ]
+
+-- an earlier mark is that of another stream
+pub marks_differ : (t : List (List ℕ)) (proc : ProcessorValue) (marks : List ℕ) (j k s : ℕ) → marks ≡ processor_numbers t proc
+    → j < k → slice_get marks (2 * j + 1) ≡ Some s → slice_get marks (2 * k + 1) ≡ Some s → ⊥
+marks_differ t proc marks j k s read less one other =
+    let at : 2 * j + 1 ≡ suc (2 * j) = omega arith in
+    let to : 2 * k + 1 ≡ suc (2 * k) = omega arith in
+    let more =
+    marks_rise t 0 proc.streams j k s s less ((λ i. slice_get (sym read i) (sym at i)) ∙ one)
+    ((λ i. slice_get (sym read i) (sym to i)) ∙ other) in
+    absurd (omega (arith, more))
+
+-- the step is one of processor p, of the stream of a mark before this one
+pub record IsMarkedBefore (marks : List ℕ) (p mark : ℕ) (t : Step) : Type 0 where
+  pub processor : t.p ≡ p
+  pub number : ℕ
+  pub before : number < mark
+  pub is : slice_get marks (2 * number + 1) ≡ Some t.s
+
+-- where each step of a list is one of an earlier one, or of a mark before this, so it is with one mark more
+
+pub own_later : (first : List Step) (marks : List ℕ) (p n : ℕ) (u : Step)
+    → Contains first u ⊎ IsMarkedBefore marks p n u → Contains first u ⊎ IsMarkedBefore marks p (n + 1) u
+own_later first marks p n u (inl has) = inl has
+own_later first marks p n u (inr is) = inr (record {
+  processor = is.processor;
+  number = is.number;
+  before = omega (arith, is.before);
+  is = is.is;
+})
+
+pub own_more : (first old new : List Step) (marks : List ℕ) (p n : ℕ) (here u : Step) → new ≡ old ++ here ∷ [] → here.p ≡ p
+    → slice_get marks (2 * n + 1) ≡ Some here.s
+    → ((t : Step) → Contains old t → Contains first t ⊎ IsMarkedBefore marks p n t) → Contains new u
+    → Contains first u ⊎ IsMarkedBefore marks p (n + 1) u
+own_more first old new marks p n here u pushed at is all has =
+    by_case (Contains-push_cases old here u (subst (λ (xs : List Step). Contains xs u) pushed has)) where
+      by_case : Contains old u ⊎ (here ≡ u) → Contains first u ⊎ IsMarkedBefore marks p (n + 1) u
+      by_case (inl before) = own_later first marks p n u (all u before)
+      by_case (inr last) =
+          subst (λ (t : Step). Contains first t ⊎ IsMarkedBefore marks p (n + 1) t) last
+          (inr (record { processor = at; number = n; before = omega arith; is = is }))
+
+pub own_of : (first : List Step) (marks : List ℕ) (p n : ℕ) (u : Step) → Contains first u ⊎ IsMarkedBefore marks p n u
+    → Contains first u ⊎ (u.p ≡ p)
+own_of first marks p n u (inl has) = inl has
+own_of first marks p n u (inr is) = inr is.processor
+
+-- the step of a mark is not there before
+pub mark_new : (t : List (List ℕ)) (proc : ProcessorValue) (first old : List Step) (marks : List ℕ) (p n : ℕ) (here : Step)
+    → marks ≡ processor_numbers t proc → here.p ≡ p → slice_get marks (2 * n + 1) ≡ Some here.s
+    → ((u : Step) → Contains first u → u.p ≡ p → ⊥)
+    → ((u : Step) → Contains old u → Contains first u ⊎ IsMarkedBefore marks p n u) → Contains old here → ⊥
+mark_new t proc first old marks p n here read at is others all has = by_case (all here has) where
+  by_case : Contains first here ⊎ IsMarkedBefore marks p n here → ⊥
+  by_case (inl earlier) = others here earlier at
+  by_case (inr before) = marks_differ t proc marks before.number n here.s read before.before before.is is
 
 -- What is read at a place of a table.
 

@@ -1,6 +1,7 @@
 -- A world that stands for another one has been found before exactly where the key of both is there.
 use Rattle.std.proofs.Common.{◌≡◌, ℕ, zero, suc, ◌<◌, refl, sym, ap, ◌∙◌, subst, arith, List, [], ◌∷◌, ◌++◌}
 use Rattle.std.proofs.Common.{◌⊎◌, inl, inr, length, get_or, map, Bool, true, false, cond, bytes_eq}
+use Rattle.std.specs.List.{Contains}
 use Rattle.std.proofs.lemmas.List.{map-append}
 use Rattle.std.proofs.lemmas.Slice.Eq.{bytes_eq-Decides}
 use Rattle.image_file.specs.ImageValue.{ImageValue}
@@ -17,6 +18,7 @@ use Rattle.schedule_space.specs.declared.links.Link.{Link}
 use Rattle.schedule_space.specs.declared.links.Edge.{Edge}
 use Rattle.schedule_space.specs.declared.fates.Fate.{Fate}
 use Rattle.schedule_space.specs.Spaces.{schedules, SpaceValue, count, schedule_of, world_of, machine_after, StandsFor, IsEdgeToStandIn}
+use Rattle.schedule_space.specs.Spaces.{ShortestFirst}
 use Rattle.schedule_space.specs.Fates.{IsFate}
 use Rattle.schedule_space.specs.Finding.{space_of, with_link, with_edge, IsKeyed, IsFound}
 use Rattle.schedule_space.proofs.Schedules.{one_more, schedules-push, run-push, one_schedule}
@@ -66,7 +68,7 @@ kept_world v table keys key w k is known key_is below at =
     (sym (key_at v table keys k is below) ∙ at ∙ key_is))
 
 -- a key that is not there is of a world for which none stands
-new_world : (v : SpaceValue) (table keys : List (List ℕ)) (key : List ℕ) (w : World) (k : ℕ) → IsKeyed v table keys
+pub new_world : (v : SpaceValue) (table keys : List (List ℕ)) (key : List ℕ) (w : World) (k : ℕ) → IsKeyed v table keys
     → key ≡ key_of table v.image (cleared v.live w) → (Has keys key → ⊥) → k < count v → StandsFor v k w → ⊥
 new_world v table keys key w k is key_is none below g =
     none (has_at keys k key [] (omega (arith, below, keys_many v table keys is))
@@ -127,13 +129,13 @@ found_later v fates old new keys grown is = record {
 }
 
 pub found_more : (v : SpaceValue) (fates more : List Fate) (table keys new : List (List ℕ)) (key : List ℕ) (l : Link)
-    (f : Fate) (m : MachineValue) → IsFound v fates table keys → l.from < count v → m.image ≡ v.image
-    → m.world ≡ after v.image (world_of v l.from) l.step → IsFate m.image m.world f → more ≡ fates ++ f ∷ []
+    (f : Fate) (m : MachineValue) → IsFound v fates table keys → l.from < count v → ShortestFirst (with_link v l)
+    → m.image ≡ v.image → m.world ≡ after v.image (world_of v l.from) l.step → IsFate m.image m.world f → more ≡ fates ++ f ∷ []
     → IsKnown table m.image (cleared v.live m.world) → key ≡ key_of table m.image (cleared v.live m.world)
     → (Has keys key → ⊥) → new ≡ keys ++ key ∷ [] → IsFound (with_link v l) more table new
-found_more v fates more table keys new key l f m is from image world fate one known key_is none pushed = record {
+found_more v fates more table keys new key l f m is from in_order image world fate one known key_is none pushed = record {
   space =
-      linked v fates more l f is.space from
+      linked v fates more l f is.space from in_order
       (subst (λ (w : World). IsFate v.image w f) world
       (subst (λ (i : ImageValue). IsFate i m.world f) image fate)) one;
   keyed =
@@ -144,9 +146,9 @@ found_more v fates more table keys new key l f m is from image world fate one kn
 }
 
 pub found_edge : (v : SpaceValue) (fates : List Fate) (table keys : List (List ℕ)) (e : Edge)
-    → IsFound v fates table keys → IsEdgeToStandIn v e → IsFound (with_edge v e) fates table keys
-found_edge v fates table keys e is edge =
-    record { space = edged v fates e is.space edge; keyed = keyed_edge v e table keys is.keyed }
+    → IsFound v fates table keys → IsEdgeToStandIn v e → (Contains v.edges e → ⊥) → IsFound (with_edge v e) fates table keys
+found_edge v fates table keys e is edge new =
+    record { space = edged v fates e is.space edge new; keyed = keyed_edge v e table keys is.keyed }
 
 pub found_first : (image : ImageValue) (live : LiveValue) (begin : List Step) (f : Fate) (fates : List Fate)
     (table keys : List (List ℕ)) (key : List ℕ) (m : MachineValue) → m ≡ machine_after image begin → IsLive image live

@@ -8,6 +8,7 @@ pub mod AlikeSteps
 pub mod KnownSteps
 pub mod StreamSteps
 pub mod Agreeing
+pub mod Different
 pub mod Growing
 pub mod Kept
 pub mod Before

@@ -17,10 +17,11 @@ use Rattle.schedule_space.specs.declared.links.Link.{Link}
 use Rattle.schedule_space.specs.declared.links.Edge.{Edge}
 use Rattle.schedule_space.specs.declared.fates.Fate.{Fate}
 use Rattle.schedule_space.specs.declared.fates.Fate.TheVariants as fate
-use Rattle.schedule_space.specs.Spaces.{schedules, SpaceValue, count, schedule_of, world_of, IsEdgeToStandIn}
+use Rattle.schedule_space.specs.Spaces.{schedules, SpaceValue, count, schedule_of, world_of, ShortestFirst, IsEdgeToStandIn}
 use Rattle.schedule_space.specs.Fates.{IsFate}
 use Rattle.schedule_space.specs.Finding.{space_of, with_link, with_edge, IsSpace, IsKeyed, cleared_after}
 use Rattle.schedule_space.proofs.Schedules.{length-schedules, one_schedule}
+use Rattle.schedule_space.proofs.Different.{different_none, different_push}
 use Rattle.schedule_space.proofs.Growing.{world_grown, count-link}
 use Rattle.schedule_space.proofs.Growing.{last_world, with_link_grown, with_edge_grown, edge_grown}
 
@@ -39,10 +40,17 @@ pub begun : (image : ImageValue) (live : LiveValue) (begin : List Step) (f : Fat
 begun image live begin f fates closed one is = record {
   live = closed;
   earlier = λ k l below. absurd (omega (arith, below));
+  in_order = λ j k le below.
+      let at : k ≡ j = omega (arith, le, below) in
+      subst (λ (n : ℕ). length (schedule_of v j) ≤ length (schedule_of v n)) (sym at) (omega arith);
   edges = λ e has. absurd (omega (arith, has.1));
+  once = different_none [] refl;
   each = omega (arith, ap length one);
   fates = λ k below. by_place k below;
 } where
+  v : SpaceValue
+  v = space_of image live begin [] []
+
   by_place : (k : ℕ) → k < count (space_of image live begin [] []) → IsFate image (world_of (space_of image live begin [] []) k) (get_or fates k fate.GoesOn)
   by_place zero below =
       subst (λ (xs : List Fate). IsFate image (world_of (space_of image live begin [] []) 0) (get_or xs 0 fate.GoesOn)) (sym one)
@@ -50,12 +58,14 @@ begun image live begin f fates closed one is = record {
   by_place (suc k) below = absurd (omega (arith, below))
 
 pub linked : (v : SpaceValue) (fates more : List Fate) (l : Link) (f : Fate) → IsSpace v fates → l.from < count v
-    → IsFate v.image (after v.image (world_of v l.from) l.step) f → more ≡ fates ++ f ∷ []
+    → ShortestFirst (with_link v l) → IsFate v.image (after v.image (world_of v l.from) l.step) f → more ≡ fates ++ f ∷ []
     → IsSpace (with_link v l) more
-linked v fates more l f is from has one = record {
+linked v fates more l f is from in_order has one = record {
   live = is.live;
   earlier = earlier;
+  in_order = in_order;
   edges = λ e edge. edge_grown v (with_link v l) e (with_link_grown v l) (is.edges e edge);
+  once = is.once;
   each = omega (arith, ap length one, length-append fates (f ∷ []), is.each, count-link v l);
   fates = λ k below. by_place k (below_next v l k below);
 } where
@@ -90,11 +100,13 @@ linked v fates more l f is from has one = record {
       (subst (λ (w : World). IsFate v.image w f) (sym (last_world v l)) has))
 
 pub edged : (v : SpaceValue) (fates : List Fate) (e : Edge) → IsSpace v fates → IsEdgeToStandIn v e
-    → IsSpace (with_edge v e) fates
-edged v fates e is edge = record {
+    → (Contains v.edges e → ⊥) → IsSpace (with_edge v e) fates
+edged v fates e is edge new = record {
   live = is.live;
   earlier = is.earlier;
+  in_order = is.in_order;
   edges = λ d has. by_case d (Contains-push_cases v.edges e d has);
+  once = different_push v.edges e is.once new;
   each = is.each;
   fates = is.fates;
 } where

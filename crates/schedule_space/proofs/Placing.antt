@@ -1,6 +1,8 @@
 -- What is known of a space in the making that gets the world of a machine, or has it.
 use Rattle.std.proofs.Common.{◌≡◌, ℕ, ◌<◌, ◌≤◌, refl, sym, ap, ◌∙◌, subst, arith, List, [], ◌∷◌, ◌++◌}
-use Rattle.std.proofs.Common.{Option, Some, None, IsSome, get_or, slice_get, option_copied, Bor}
+use Rattle.std.proofs.Common.{Option, Some, None, ◌⊎◌, inl, inr, IsSome, get_or, slice_get, option_copied, Bor}
+use Rattle.std.specs.List.{Contains}
+use Rattle.std.proofs.lemmas.List.Elements.{Contains-push_cases}
 use Rattle.std.proofs.lemmas.Option.{get_or_from_slice_get, slice_get-get_or}
 use Rattle.image_file.specs.ImageValue.{ImageValue}
 use Rattle.machine.specs.MachineValue.{MachineValue}
@@ -16,16 +18,16 @@ use Rattle.world_keys.specs.WorldKeys.{key_of, IsKnown}
 use Rattle.schedule_space.specs.declared.links.Link.{Link}
 use Rattle.schedule_space.specs.declared.links.Edge.{Edge}
 use Rattle.schedule_space.specs.declared.fates.Fate.{Fate}
-use Rattle.schedule_space.specs.Spaces.{SpaceValue, count, schedule_of, world_of, machine_after, StandsFor, IsEdgeToStandIn}
+use Rattle.schedule_space.specs.Spaces.{SpaceValue, count, schedule_of, world_of, machine_after, StandsFor, HasStandIn, IsEdgeToStandIn}
 use Rattle.schedule_space.specs.Fates.{IsFate}
 use Rattle.schedule_space.specs.declared.known_steps.StepsSeen.{StepsSeen}
 use Rattle.schedule_space.specs.StreamSteps.{AreAllLeft}
-use Rattle.schedule_space.specs.Finding.{space_of, with_link, with_edge, IsKeyed, IsFound, IsGrown, IsBreadthFirst, IsExpanding}
+use Rattle.schedule_space.specs.Finding.{space_of, with_link, with_edge, IsKeyed, IsFound, IsGrown, IsBreadthFirst, IsExpanding, IsFullAt}
 use Rattle.schedule_space.specs.Kept.{machine_next}
 use Rattle.schedule_space.proofs.Agreeing.{agree_same}
 use Rattle.schedule_space.proofs.Growing.{last_world, with_link_grown, count-link}
 use Rattle.schedule_space.proofs.Parts.{key_at, keys_many, keyed_later}
-use Rattle.schedule_space.proofs.Keys.{found_world, kept_world, found_later, found_more, found_edge}
+use Rattle.schedule_space.proofs.Keys.{found_world, kept_world, new_world, found_later, found_more, found_edge}
 use Rattle.schedule_space.proofs.Breadth.{breadth_more, breadth_stays}
 
 -- The machine at a place.
@@ -136,16 +138,39 @@ stays_at v w fates old table keys key m k is view grown known key_is image below
     (subst (λ (x : SpaceValue). k < count x) (sym view) below)
     (get_or_from_slice_get keys k key [] (sym there)))
 
+-- none stands for the world of the machine where its key is not there
+none_at : (v w : SpaceValue) (fates : List Fate) (old table keys : List (List ℕ)) (key : List ℕ) (m : MachineValue)
+    → IsFound v fates old keys → v ≡ w → Extends old table → key ≡ key_of table m.image (cleared v.live m.world)
+    → m.image ≡ w.image → (Has keys key → ⊥) → HasStandIn v m.world → ⊥
+none_at v w fates old table keys key m is view grown key_is image none h =
+    let same : m.image ≡ v.image = image ∙ ap (λ (x : SpaceValue). x.image) (sym view) in
+    new_world v table keys key m.world h.0 (keyed_later v old table keys grown is.keyed)
+    (key_is ∙ ap (λ (i : ImageValue). key_of table i (cleared v.live m.world)) same) none h.1 h.2
+
+-- so the space is full, where it has as many worlds as it may
+pub full_at : (v w : SpaceValue) (fates : List Fate) (old table keys : List (List ℕ)) (key : List ℕ) (m : MachineValue)
+    (from most : ℕ) (t : Step) → IsFound v fates old keys → v ≡ w → Extends old table
+    → key ≡ key_of table m.image (cleared v.live m.world) → m.image ≡ w.image
+    → m.world ≡ after w.image (world_of w from) t → (Has keys key → ⊥) → count w ≡ most → IsFullAt v from most
+full_at v w fates old table keys key m from most t is view grown key_is image world none many = record {
+  many = ap count view ∙ many;
+  step = t;
+  missing = λ h.
+      none_at v w fates old table keys key m is view grown key_is image none
+      (subst (HasStandIn v) (sym (world ∙ ap (λ (x : SpaceValue). after x.image (world_of x from) t) (sym view))) h);
+}
+
 -- the parts with one world more
 pub placed : (image : ImageValue) (live : LiveValue) (begin : List Step) (links more : List Link) (edges : List Edge)
     (v : SpaceValue) (fates fates_more : List Fate) (old table keys keys_more : List (List ℕ)) (key : List ℕ) (l : Link)
     (f : Fate) (m : MachineValue) → IsFound (space_of image live begin links edges) fates old keys
-    → space_of image live begin links edges ≡ v → Extends old table → l.from < count v → m.image ≡ v.image
+    → space_of image live begin links edges ≡ v → Extends old table → l.from < count v → IsBreadthFirst v l.from
+    → m.image ≡ v.image
     → m.world ≡ after v.image (world_of v l.from) l.step → IsFate m.image m.world f
     → IsKnown table m.image (cleared live m.world) → key ≡ key_of table m.image (cleared live m.world)
     → (Has keys key → ⊥) → more ≡ links ++ l ∷ [] → fates_more ≡ fates ++ f ∷ [] → keys_more ≡ keys ++ key ∷ []
     → IsFound (space_of image live begin more edges) fates_more table keys_more
-placed image live begin links more edges v fates fates_more old table keys keys_more key l f m is view grown from same world fate
+placed image live begin links more edges v fates fates_more old table keys keys_more key l f m is view grown from breadth same world fate
     known key_is none linked fated keyed =
     let w : SpaceValue = space_of image live begin links edges in
     let from_here : l.from < count w = subst (λ (x : SpaceValue). l.from < count x) (sym view) from in
@@ -154,7 +179,8 @@ placed image live begin links more edges v fates fates_more old table keys keys_
     world ∙ ap (λ (x : SpaceValue). after x.image (world_of x l.from) l.step) (sym view) in
     subst (λ (ls : List Link). IsFound (space_of image live begin ls edges) fates_more table keys_more) (sym linked)
     (found_more w fates fates_more table keys keys_more key l f m (found_later w fates old table keys grown is)
-    from_here image_is world_is fate fated known key_is none keyed)
+    from_here (breadth_more w l from_here (subst (λ (x : SpaceValue). IsBreadthFirst x l.from) (sym view) breadth)).sorted
+    image_is world_is fate fated known key_is none keyed)
 
 -- what contracts see of them
 pub placed_view : (image : ImageValue) (live : LiveValue) (begin : List Step) (links more : List Link) (edges : List Edge) (v : SpaceValue) (l : Link)
@@ -181,6 +207,7 @@ pub placed_expanding : (v w : SpaceValue) (l : Link) (most : ℕ) → w ≡ with
 placed_expanding v w l most is few e = record {
   there = omega (arith, e.there, ap count is, count-link v l);
   within = few;
+  edges = subst (λ (x : SpaceValue). (d : Edge) → Contains x.edges d → d.from ≤ l.from) (sym is) e.edges;
   breadth = subst (λ (x : SpaceValue). IsBreadthFirst x l.from) (sym is) (breadth_more v l e.there e.breadth);
 }
 
@@ -193,21 +220,26 @@ edge_view image live begin links edges more v e view pushed =
 
 pub edge_put : (image : ImageValue) (live : LiveValue) (begin : List Step) (links : List Link) (edges more : List Edge) (v : SpaceValue) (e : Edge)
     (fates : List Fate) (table keys : List (List ℕ)) → IsFound (space_of image live begin links edges) fates table keys
-    → space_of image live begin links edges ≡ v → more ≡ edges ++ e ∷ [] → IsEdgeToStandIn v e
+    → space_of image live begin links edges ≡ v → more ≡ edges ++ e ∷ [] → IsEdgeToStandIn v e → (Contains v.edges e → ⊥)
     → IsFound (space_of image live begin links more) fates table keys
-edge_put image live begin links edges more v e fates table keys is view pushed edge =
+edge_put image live begin links edges more v e fates table keys is view pushed edge new =
     let w : SpaceValue = space_of image live begin links edges in
     subst (λ (es : List Edge). IsFound (space_of image live begin links es) fates table keys) (sym pushed)
-    (found_edge w fates table keys e is (subst (λ (x : SpaceValue). IsEdgeToStandIn x e) (sym view) edge))
+    (found_edge w fates table keys e is (subst (λ (x : SpaceValue). IsEdgeToStandIn x e) (sym view) edge)
+    (subst (λ (x : SpaceValue). Contains x.edges e → ⊥) (sym view) new))
 
-pub edge_expanding : (v w : SpaceValue) (e : Edge) (from most : ℕ) → w ≡ with_edge v e → IsExpanding v from most
-    → IsExpanding w from most
-edge_expanding v w e from most is x =
+pub edge_expanding : (v w : SpaceValue) (e : Edge) (from most : ℕ) → w ≡ with_edge v e → e.from ≡ from
+    → IsExpanding v from most → IsExpanding w from most
+edge_expanding v w e from most is at x =
     subst (λ (y : SpaceValue). IsExpanding y from most) (sym is) (record {
       there = x.there;
       within = x.within;
+      edges = λ d has. by_case d (Contains-push_cases v.edges e d has);
       breadth = breadth_stays v (with_edge v e) from refl refl x.breadth;
-    })
+    }) where
+      by_case : (d : Edge) → Contains v.edges d ⊎ (e ≡ d) → d.from ≤ from
+      by_case d (inl has) = x.edges d has
+      by_case d (inr last) = omega (arith, at, ap (λ (y : Edge). y.from) last)
 
 -- What stays as it is.
 

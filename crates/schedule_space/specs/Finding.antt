@@ -2,7 +2,7 @@
 use Rattle.std.specs.Prelude.{◌≡◌, ℕ, ◌+◌, ◌<◌, ◌≤◌, List, [], ◌∷◌, ◌++◌, length, map, slice_index_or, Contains, ◌⊎◌}
 use Rattle.std.specs.Prelude.{IsTrue}
 use Rattle.image_file.specs.ImageValue.{ImageValue}
-use Rattle.processor.specs.World.{World, run}
+use Rattle.processor.specs.World.{World, after, run}
 use Rattle.processor.specs.declared.steps.Step.{Step}
 use Rattle.waiting.specs.Running.{runs_in}
 use Rattle.program_flow.specs.Tables.{is_named_by}
@@ -14,8 +14,8 @@ use Rattle.schedule_space.specs.declared.links.Link.{Link}
 use Rattle.schedule_space.specs.declared.links.Edge.{Edge}
 use Rattle.schedule_space.specs.declared.fates.Fate.{Fate}
 use Rattle.schedule_space.specs.declared.fates.Fate.TheVariants as fate
-use Rattle.schedule_space.specs.Spaces.{schedules, SpaceValue, count, schedule_of, world_of}
-use Rattle.schedule_space.specs.Spaces.{AreAllApart, IsEdgeToStandIn}
+use Rattle.schedule_space.specs.Spaces.{schedules, SpaceValue, count, schedule_of, world_of, HasStandIn}
+use Rattle.schedule_space.specs.Spaces.{AreAllApart, ShortestFirst, AreAllDifferent, IsEdgeToStandIn}
 use Rattle.schedule_space.specs.Fates.{IsFate}
 use Rattle.schedule_space.specs.declared.known_steps.StepsSeen.{StepsSeen}
 use Rattle.schedule_space.specs.StreamSteps.{AreAllLeft}
@@ -38,12 +38,14 @@ with_link v l = record v { links = v.links ++ l ∷ [] }
 abbrev pub with_edge : SpaceValue → Edge → SpaceValue
 with_edge v e = record v { edges = v.edges ++ e ∷ [] }
 
--- What holds of the parts of a space: what may be read again is live, each link names an earlier world, each edge is one,
--- and each world has its fate.
+-- What holds of the parts of a space: what may be read again is live, each link names an earlier world, worlds are in the
+-- order of the lengths of their schedules, each edge is one, none is there twice, and each world has its fate.
 pub record IsSpace (v : SpaceValue) (fs : List Fate) : Type 0 where
   pub live : IsLive v.image v.live
   pub earlier : (k : ℕ) (l : Link) → k < length v.links → (slice_index_or v.links k l).from ≤ k
+  pub in_order : ShortestFirst v
   pub edges : (e : Edge) → Contains v.edges e → IsEdgeToStandIn v e
+  pub once : AreAllDifferent v.edges
   pub each : length fs ≡ count v
   pub fates : (k : ℕ) → k < count v → IsFate v.image (world_of v k) (slice_index_or fs k fate.GoesOn)
 
@@ -101,11 +103,27 @@ IsExpanded v k = (t : Step) → IsTaken v k t
 
 -- Schedules do not get shorter from place to place, and none is more than one step longer than that of this place.
 pub record IsBreadthFirst (v : SpaceValue) (from : ℕ) : Type 0 where
-  pub sorted : (j k : ℕ) → j ≤ k → k < count v → length (schedule_of v j) ≤ length (schedule_of v k)
+  pub sorted : ShortestFirst v
   pub near : (k : ℕ) → k < count v → length (schedule_of v k) ≤ length (schedule_of v from) + 1
 
--- What holds of the space while steps from the world at this place are taken.
+-- no edge is there yet for this step from the world at this place
+abbrev pub HasNoEdge : SpaceValue → ℕ → Step → Type 0
+HasNoEdge v from t = (e : Edge) → Contains v.edges e → e.from ≡ from → ¬ (e.step ≡ t)
+
+-- so it is of each of these steps
+abbrev pub HaveNoEdges : SpaceValue → ℕ → List Step → Type 0
+HaveNoEdges v from ts = (t : Step) → Contains ts t → HasNoEdge v from t
+
+-- What holds of the space while steps from the world at this place are taken: no edge leads from a later one.
 pub record IsExpanding (v : SpaceValue) (from most : ℕ) : Type 0 where
   pub there : from < count v
   pub within : count v ≤ most
+  pub edges : (e : Edge) → Contains v.edges e → e.from ≤ from
   pub breadth : IsBreadthFirst v from
+
+-- The space has as many worlds as it may have, and a step from the world at this place leads to one for which none of them
+-- stands.
+pub record IsFullAt (v : SpaceValue) (from most : ℕ) : Type 0 where
+  pub many : count v ≡ most
+  pub step : Step
+  pub missing : ¬ (HasStandIn v (after v.image (world_of v from) step))

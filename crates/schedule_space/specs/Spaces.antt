@@ -83,6 +83,10 @@ StandsFor v k w = AgreeBy v.live (world_of v k) w
 abbrev pub HasStandIn : SpaceValue → World → Type 0
 HasStandIn v w = (k : ℕ) × (k < count v) × StandsFor v k w
 
+-- some schedule that goes on from the beginning leads to a world for which none of the space stands
+abbrev pub LacksStandIn : SpaceValue → Type 0
+LacksStandIn v = (ts : List Step) × (¬ (HasStandIn v (run v.image (v.begin ++ ts))))
+
 -- none of its worlds stands for another one of them
 abbrev pub AreAllApart : SpaceValue → Type 0
 AreAllApart v = (k j : ℕ) → k < count v → j < count v → StandsFor v k (world_of v j) → k ≡ j
@@ -91,11 +95,20 @@ AreAllApart v = (k j : ℕ) → k < count v → j < count v → StandsFor v k (w
 abbrev pub StandAlone : SpaceValue → Type 0
 StandAlone v = (k : ℕ) → k < count v → (w : World) → StandsFor v k w → world_of v k ≡ w
 
+-- Its worlds are in the order of the lengths of their schedules: none comes before one whose schedule is shorter.
+abbrev pub ShortestFirst : SpaceValue → Type 0
+ShortestFirst v = (j k : ℕ) → j ≤ k → k < count v → length (schedule_of v j) ≤ length (schedule_of v k)
+
 -- no schedule that goes on from the beginning to the world at a place is shorter than the one that the links give
 abbrev pub IsShortest : SpaceValue → Type 0
 IsShortest v =
     (k : ℕ) → k < count v → (ts : List Step) → run v.image (v.begin ++ ts) ≡ world_of v k
     → length (schedule_of v k) ≤ length (v.begin ++ ts)
+
+-- no two elements of a list are the same
+abbrev pub AreAllDifferent : {A : Type 0} → List A → Type 0
+AreAllDifferent {A} xs =
+    (j k : ℕ) (d : A) → j < k → k < length xs → ¬ (slice_index_or xs j d ≡ slice_index_or xs k d)
 
 -- an edge is a step that leads from one world of the space to another one
 pub record IsEdge (v : SpaceValue) (e : Edge) : Type 0 where

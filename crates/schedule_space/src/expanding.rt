@@ -1,11 +1,13 @@
 //! All steps from a world of a space in the making, or one that can be taken before all others.
 
-ghost use Rattle.std.specs.Prelude.{◌≡◌, ◌⊎◌, true, false, Contains, IfOk, OnOk};
+ghost use Rattle.std.specs.Prelude.{◌≡◌, ◌<◌, ◌⊎◌, ◌++◌, [], ◌∷◌, true, false, Err, Contains, IfOk, OnOk};
 ghost use Rattle.processor.specs.declared.steps.Step.{Step};
 ghost use Rattle.local_steps.specs.SettledEndings.{AreSettled};
-ghost use Rattle.schedule_space.specs.Spaces.{world_of};
+ghost use Rattle.schedule_space.specs.declared.links.Edge.{Edge};
+ghost use Rattle.schedule_space.specs.Spaces.{world_of, AreAllDifferent};
 ghost use Rattle.schedule_space.specs.Kept.{AreKept, AreKeptAt};
 ghost use Rattle.schedule_space.specs.Finding.{IsGrown, IsTaken, IsTakenTo, IsExpanded, IsExpanding, HasRunning};
+ghost use Rattle.schedule_space.specs.Finding.{HasNoEdge, HaveNoEdges, IsFullAt};
 ghost use Rattle.schedule_space.specs.Quiet.{IsTakenQuietly, IsFollowedQuietly};
 
 use crate::finding::{Found, Stop};
@@ -39,10 +41,12 @@ impl<'i> Found<'i> {
         most: u32,
     ) -> Result<(), Stop>
         requires expanding { IsExpanding self.old from most }
+        requires edges { (e : Edge) → Contains self.old.edges e → e.from < from }
         requires machines { AreKept self.old machines.old }
         requires settled { AreSettled self.old.image settled.now }
         ensures grown { IsGrown self.old self.new }
         ensures expanding { IsExpanding self.new from most }
+        ensures full { result ≡ Err Stop.Full → IsFullAt self.new from most }
         ensures machines { OnOk result (AreKept self.new machines.new) }
         ensures quiet { OnOk result (IsFollowedQuietly looked_at.now self.new from) }
         ensures expanded { wanted ≡ Wanted.Worlds → OnOk result (IsExpanded self.new from) }
@@ -70,9 +74,12 @@ impl<'i> Found<'i> {
         requires expanding { IsExpanding self.old from most }
         requires machines { AreKeptAt self.old machines.old from }
         requires running { HasRunning (world_of self.old from) running.now }
+        requires once { AreAllDifferent running.now }
+        requires new { HaveNoEdges self.old from running.now }
         requires settled { AreSettled self.old.image settled.now }
         ensures grown { IsGrown self.old self.new }
         ensures expanding { IsExpanding self.new from most }
+        ensures full { result ≡ Err Stop.Full → IsFullAt self.new from most }
         ensures machines { OnOk result (AreKeptAt self.new machines.new from) }
         ensures quiet { OnOk result (IsFollowedQuietly looked_at.now self.new from) }
     {
@@ -100,14 +107,19 @@ impl<'i> Found<'i> {
     ) -> Result<bool, Stop>
         requires expanding { IsExpanding self.old link.from most }
         requires machines { AreKeptAt self.old machines.old link.from }
+        requires new { HasNoEdge self.old link.from link.step }
         requires settled { AreSettled self.old.image settled.now }
         ensures grown { IsGrown self.old self.new }
+        ensures edges { (t : Step) → ¬ (t ≡ link.step) → HasNoEdge self.old link.from t → HasNoEdge self.new link.from t }
         ensures expanding { IsExpanding self.new link.from most }
+        ensures full { result ≡ Err Stop.Full → IsFullAt self.new link.from most }
         ensures machines { OnOk result (AreKeptAt self.new machines.new link.from) }
         ensures alone { IfOk result (λ b. b ≡ true → IsTakenQuietly looked_at.now self.new link.from) }
         ensures left { IfOk result (λ b. b ≡ false
             → IsTaken self.new link.from link.step ⊎ Contains others.new.items link.step) }
         ensures others { (t : Step) → Contains others.old.items t → Contains others.new.items t }
+        ensures waits { IfOk result (λ b. (others.new.items ≡ others.old.items)
+            ⊎ ((others.new.items ≡ others.old.items ++ link.step ∷ []) × (self.new ≡ self.old))) }
     {
         let step = link.step;
         self.make_here(machines, link.from)?;
@@ -130,8 +142,11 @@ impl<'i> Found<'i> {
     ) -> Result<(), Stop>
         requires expanding { IsExpanding self.old from most }
         requires machines { AreKeptAt self.old machines.old from }
+        requires once { AreAllDifferent steps.now }
+        requires new { HaveNoEdges self.old from steps.now }
         ensures grown { IsGrown self.old self.new }
         ensures expanding { IsExpanding self.new from most }
+        ensures full { result ≡ Err Stop.Full → IsFullAt self.new from most }
         ensures machines { OnOk result (AreKeptAt self.new machines.new from) }
         ensures taken { OnOk result ((t : Step) → Contains steps.now t → IsTaken self.new from t) }
     {
@@ -157,8 +172,11 @@ impl<'i> Found<'i> {
     ) -> Result<u32, Stop>
         requires expanding { IsExpanding self.old link.from most }
         requires machines { AreKeptAt self.old machines.old link.from }
+        requires new { HasNoEdge self.old link.from link.step }
         ensures grown { IsGrown self.old self.new }
+        ensures edges { (t : Step) → ¬ (t ≡ link.step) → HasNoEdge self.old link.from t → HasNoEdge self.new link.from t }
         ensures expanding { IsExpanding self.new link.from most }
+        ensures full { result ≡ Err Stop.Full → IsFullAt self.new link.from most }
         ensures machines { OnOk result (AreKeptAt self.new machines.new link.from) }
         ensures taken { OnOk result (IsTaken self.new link.from link.step) }
         ensures to { IfOk result (λ to. IsTakenTo self.new link.from link.step to) }

@@ -4,11 +4,11 @@ ghost use Rattle.std.specs.Prelude.{◌≡◌, ◌<◌, ◌≤◌, ◌↔◌, �
 ghost use Rattle.schedule_space.specs.declared.links.Edge.{Edge};
 ghost use Rattle.dead_registers.specs.Clearing.{IsLive};
 ghost use Rattle.schedule_space.specs.Spaces.{count, IsComplete, IsDistinct, IsShortest, HasAllEdges};
-ghost use Rattle.schedule_space.specs.Spaces.{AreAllApart, StandAlone, IsEdgeToStandIn};
+ghost use Rattle.schedule_space.specs.Spaces.{AreAllApart, StandAlone, ShortestFirst, AreAllDifferent, IsEdgeToStandIn};
 ghost use Rattle.schedule_space.specs.Finding.{IsExpanded, NamesAll};
 ghost use Rattle.schedule_space.specs.Followed.{AllFollowed, HasAllEnds, HasShortestEnds, TellsWhetherAllEnd};
 ghost use Rattle.schedule_space.specs.Quiet.{AllFollowedQuietly};
-ghost use Rattle.schedule_space.specs.Answers.{space_in, is_complete, bound_in};
+ghost use Rattle.schedule_space.specs.Answers.{space_in, is_complete, bound_in, most_places, IsFull};
 
 use crate::expanding::Wanted;
 use crate::finding::{Found, Stop};
@@ -62,7 +62,11 @@ pub fn explore<'i, const S: usize, W: Watch>(
     ensures distinct { IfOk result (λ e. IsDistinct (space_in e)) }
     ensures alone { IfOk result (λ e. StandAlone (space_in e)) }
     ensures shortest { IfOk result (λ e. IsShortest (space_in e)) }
+    ensures in_order { IfOk result (λ e. ShortestFirst (space_in e)) }
+    ensures once { IfOk result (λ e. AreAllDifferent (space_in e).edges) }
     ensures within { IfOk result (λ e. count (space_in e) ≤ most) }
+    ensures full { IfOk result (λ e. bound_in e ≡ Some Bound.Worlds → IsFull (space_in e) most) }
+    ensures missing { IfOk result (λ e. bound_in e ≡ Some Bound.Worlds → ¬ (IsComplete (space_in e))) }
     ensures watched { IfOk result (λ e. bound_in e ≡ Some Bound.Watch → W.HasEnded watch.new) }
     ensures streams { (result ≡ Err LoadFault.Streams) ↔ (S < image.entry.now.slim) }
 {
@@ -105,7 +109,10 @@ pub fn explore_ends<'i, const S: usize, W: Watch>(
     ensures tells { IfOk result (λ e. is_complete e ≡ true → TellsWhetherAllEnd (space_in e)) }
     ensures distinct { IfOk result (λ e. AreAllApart (space_in e)) }
     ensures shortest { IfOk result (λ e. is_complete e ≡ true → HasShortestEnds (space_in e)) }
+    ensures in_order { IfOk result (λ e. ShortestFirst (space_in e)) }
+    ensures once { IfOk result (λ e. AreAllDifferent (space_in e).edges) }
     ensures within { IfOk result (λ e. count (space_in e) ≤ most) }
+    ensures full { IfOk result (λ e. bound_in e ≡ Some Bound.Worlds → IsFull (space_in e) most) }
     ensures watched { IfOk result (λ e. bound_in e ≡ Some Bound.Watch → W.HasEnded watch.new) }
     ensures streams { (result ≡ Err LoadFault.Streams) ↔ (S < image.entry.now.slim) }
 {
@@ -144,7 +151,10 @@ fn search<'i, const S: usize, W: Watch>(
     ensures distinct { IfOk result (λ e. AreAllApart (space_in e)) }
     ensures alone { IfOk result (λ e. NamesAll (space_in e).live → StandAlone (space_in e)) }
     ensures shortest { IfOk result (λ e. wanted ≡ Wanted.Worlds → IsShortest (space_in e)) }
+    ensures in_order { IfOk result (λ e. ShortestFirst (space_in e)) }
+    ensures once { IfOk result (λ e. AreAllDifferent (space_in e).edges) }
     ensures within { IfOk result (λ e. count (space_in e) ≤ most) }
+    ensures full { IfOk result (λ e. bound_in e ≡ Some Bound.Worlds → IsFull (space_in e) most) }
     ensures watched { IfOk result (λ e. bound_in e ≡ Some Bound.Watch → W.HasEnded watch.new) }
     ensures streams { (result ≡ Err LoadFault.Streams) ↔ (S < image.entry.now.slim) }
 {
@@ -176,6 +186,7 @@ fn world_limit(most: usize) -> u32
     requires { 1 ≤ most }
     ensures some { 1 ≤ result }
     ensures within { result ≤ most }
+    ensures is { result ≡ most_places most }
 {
     u32::try_from(most).unwrap_or(u32::MAX)
 }
@@ -200,7 +211,8 @@ fn is_to_go_on<const S: usize, W: Watch>(
 
 /// What ended a search whose worlds could not all be expanded.
 fn bound_of(stop: Stop) -> Bound
-    ensures { ¬ (result ≡ Bound.Watch) }
+    ensures watch { ¬ (result ≡ Bound.Watch) }
+    ensures worlds { result ≡ Bound.Worlds → stop ≡ Stop.Full }
 {
     match stop {
         Stop::Full => Bound::Worlds,

@@ -1,12 +1,14 @@
 //! A space in the making: worlds are told apart by their keys, which are those of the worlds with 0 in each register that
 //! does not matter.
 
-ghost use Rattle.std.specs.Prelude.{◌≡◌, ◌<◌, ◌≤◌, ◌+◌, [], ◌∷◌, ◌++◌, length, Some, IfOk, IfSome, OnOk, OnErr, Contains};
+ghost use Rattle.std.specs.Prelude.{◌≡◌, ◌<◌, ◌≤◌, ◌+◌, [], ◌∷◌, ◌++◌, length, Some, Err, IfOk, IfSome, OnOk, OnErr};
+ghost use Rattle.std.specs.Prelude.{Contains};
 ghost use Rattle.image_file.specs.ImageValue.{ImageValue};
 ghost use Rattle.processor.specs.World.{after};
 ghost use Rattle.dead_registers.specs.Clearing.{IsLive};
 ghost use Rattle.schedule_space.specs.Spaces.{count, schedule_of, world_of, machine_after};
-ghost use Rattle.schedule_space.specs.Spaces.{StandsFor, AreAllApart, StandAlone, IsEdgeToStandIn};
+ghost use Rattle.schedule_space.specs.Spaces.{StandsFor, AreAllApart, StandAlone, ShortestFirst, AreAllDifferent};
+ghost use Rattle.schedule_space.specs.Spaces.{HasEarlierLinks, IsEdgeToStandIn};
 ghost use Rattle.schedule_space.specs.declared.links.Edge.{Edge};
 ghost use Rattle.world_keys.specs.Tables.{Has};
 ghost use Rattle.machine.specs.MachineValue.{MachineValue};
@@ -17,7 +19,7 @@ ghost use Rattle.schedule_space.specs.StreamSteps.{AreAllLeft};
 ghost use Rattle.schedule_space.specs.Before.{IsBefore};
 ghost use Rattle.world_keys.specs.Tables.{Extends};
 ghost use Rattle.schedule_space.specs.Fates.{IsFate};
-ghost use Rattle.schedule_space.specs.Finding.{space_of, with_edge, IsGrown, IsExpanding, NamesAll, HasRunning};
+ghost use Rattle.schedule_space.specs.Finding.{space_of, with_edge, IsGrown, IsExpanding, IsFullAt, NamesAll, HasRunning};
 ghost use Rattle.schedule_space.specs.declared.finding.Stop.TheVariants.{NoMemory};
 
 use crate::expanding::Wanted;
@@ -155,17 +157,21 @@ impl<'i> Found<'i> {
         ensures is { result ≡ self.entry }
         ensures live { IsLive result.image result.live }
         ensures apart { AreAllApart result }
+        ensures links { HasEarlierLinks result }
+        ensures in_order { ShortestFirst result }
         ensures alone { NamesAll result.live → StandAlone result }
         ensures edges { (e : Edge) → Contains result.edges e → IsEdgeToStandIn result e }
+        ensures once { AreAllDifferent result.edges }
     {
         Space::from_parts(
             self.image, self.live, self.begin, self.links, self.edges, self.fates,
         )
     }
 
-    /// Puts an edge behind the others.
+    /// Puts an edge behind the others, that is not there yet.
     pub(crate) fn add_edge(&mut self, edge: Edge) -> Result<(), AllocError>
-        requires { IsEdgeToStandIn self.old edge }
+        requires edge { IsEdgeToStandIn self.old edge }
+        requires new { ¬ (Contains self.old.edges edge) }
         ensures added { OnOk result (self.new ≡ with_edge self.old edge) }
         ensures stays { OnErr result (self.new ≡ self.old) }
     {
@@ -173,10 +179,11 @@ impl<'i> Found<'i> {
         Ok(())
     }
 
-    /// The streams that run in the world at a place: all of them.
+    /// The streams that run in the world at a place: all of them, each once.
     pub(crate) fn running_at(&self, place: u32) -> Result<Vec<Step>, AllocError>
         requires { place < count self.now }
-        ensures { IfOk result (λ v. HasRunning (world_of self.now place) v.items) }
+        ensures all { IfOk result (λ v. HasRunning (world_of self.now place) v.items) }
+        ensures once { IfOk result (λ v. AreAllDifferent v.items) }
     {
         let key = self.keys.list(place as usize).unwrap();
         running_by(self.alloc, self.image, &self.seen.contents, key)
@@ -210,8 +217,10 @@ impl<'i> Found<'i> {
         requires expanding { IsExpanding self.old link.from most }
         requires machines { AreKeptAt self.old machines.old link.from }
         ensures grown { IsGrown self.old self.new }
+        ensures edges { self.new.edges ≡ self.old.edges }
         ensures expanding { IsExpanding self.new link.from most }
         ensures machines { OnOk result (AreKeptAt self.new machines.new link.from) }
+        ensures full { result ≡ Err Stop.Full → IsFullAt self.new link.from most }
         ensures there { IfOk result (λ k. k < count self.new) }
         ensures stands { IfOk result (λ k.
             StandsFor self.new k (after self.old.image (world_of self.old link.from) link.step)) }

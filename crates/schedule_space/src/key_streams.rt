@@ -1,6 +1,6 @@
 //! What the key of a world tells of its streams: which of them run, and how it goes on from the world.
 
-ghost use Rattle.std.specs.Prelude.{◌≡◌, ◌≢◌, ◌<◌, ◌+◌, ◌*◌, ℕ, true, length, Some, IsTrue, IfSome, IfOk, OnOk, Contains};
+ghost use Rattle.std.specs.Prelude.{◌≡◌, ◌≢◌, ◌<◌, ◌+◌, ◌*◌, ◌⊎◌, ℕ, [], true, length, Some, IsTrue, IfSome, IfOk, OnOk, Contains};
 ghost use Rattle.std.specs.Prelude.{slice_get};
 ghost use Rattle.stream_core.specs.Streams.{StreamValue};
 ghost use Rattle.processor.specs.declared.steps.Step.{Step};
@@ -14,6 +14,7 @@ ghost use Rattle.world_keys.specs.Tables.{place_in, Has, Extends};
 ghost use Rattle.world_keys.specs.StreamNumbers.{stream_numbers, IsReadable};
 ghost use Rattle.world_keys.specs.WorldKeys.{processor_numbers, processor_place, key_of};
 ghost use Rattle.world_keys.specs.WorldKeys.{IsHeld, IsKnownProcessor, IsKnown};
+ghost use Rattle.schedule_space.specs.Spaces.{AreAllDifferent};
 ghost use Rattle.schedule_space.specs.Fates.{IsFate};
 ghost use Rattle.schedule_space.specs.StreamSteps.{AreAllLeft};
 ghost use Rattle.schedule_space.specs.Before.{IsBefore};
@@ -32,7 +33,7 @@ const STATUS_AT: usize = 86;
 /// The status of a stream that runs, as a number.
 const RUNNING: u32 = 1;
 
-/// The streams that run in a world, by its key, in the order of processor and stream: all of them.
+/// The streams that run in a world, by its key, in the order of processor and stream: all of them, each once.
 pub(crate) fn running_by(
     alloc: Global,
     image: &Image,
@@ -40,9 +41,11 @@ pub(crate) fn running_by(
     key: &[u32],
 ) -> Result<Vec<Step>, AllocError>
     requires { length key.now ≡ length image.now.entries + 1 }
-    ensures { IfOk result (λ v. (live : LiveValue) (w : World) → IsKnown contents.now image.now (cleared live w)
+    ensures all { IfOk result (λ v. (live : LiveValue) (w : World) → IsKnown contents.now image.now (cleared live w)
         → key.now ≡ key_of contents.now image.now (cleared live w)
         → (t : Step) → IsTrue (runs_in w t) → Contains v.items t) }
+    ensures once { IfOk result (λ v. (live : LiveValue) (w : World) → IsKnown contents.now image.now (cleared live w)
+        → key.now ≡ key_of contents.now image.now (cleared live w) → AreAllDifferent v.items) }
 {
     let mut running = Vec::new(alloc);
     push_running_by(image, contents, key, &mut running)?;
@@ -57,9 +60,12 @@ fn push_running_by(
     running: &mut Vec<Step>,
 ) -> Result<(), AllocError>
     requires { length key.now ≡ length image.now.entries + 1 }
-    ensures { OnOk result ((live : LiveValue) (w : World) → IsKnown contents.now image.now (cleared live w)
+    ensures all { OnOk result ((live : LiveValue) (w : World) → IsKnown contents.now image.now (cleared live w)
         → key.now ≡ key_of contents.now image.now (cleared live w)
         → (t : Step) → IsTrue (runs_in w t) → Contains running.new.items t) }
+    ensures once { running.old.items ≡ [] → OnOk result ((live : LiveValue) (w : World)
+        → IsKnown contents.now image.now (cleared live w)
+        → key.now ≡ key_of contents.now image.now (cleared live w) → AreAllDifferent running.new.items) }
 {
     for p in 0..image.processors() {
         push_running(image, contents, key[p + 1], p as u8, running)?;
@@ -81,6 +87,11 @@ fn push_running(
         → (s : ℕ) → is_running (stream_at proc.streams s) ≡ true
         → Contains running.new.items (record { p = p; s = s })) }
     ensures others { (t : Step) → Contains running.old.items t → Contains running.new.items t }
+    ensures own { (t : Step) → Contains running.new.items t → Contains running.old.items t ⊎ (t.p ≡ p) }
+    ensures once { OnOk result ((proc : ProcessorValue) → IsKnownProcessor contents.now image.now proc
+        → content ≡ processor_place contents.now proc
+        → ((t : Step) → Contains running.old.items t → ¬ (t.p ≡ p)) → AreAllDifferent running.old.items
+        → AreAllDifferent running.new.items) }
 {
     let Some(marks) = contents.list(content as usize) else {
         return Ok(());
@@ -96,9 +107,10 @@ fn push_running(
 /// The stream of a mark, where it runs.
 fn running_by_mark(image: &Image, contents: &Table, marks: &[u32], mark: usize) -> Option<u8>
     requires { 2 * mark + 2 < length marks.now }
-    ensures { (proc : ProcessorValue) → IsHeld contents.now image.now proc
+    ensures runs { (proc : ProcessorValue) → IsHeld contents.now image.now proc
         → marks.now ≡ processor_numbers contents.now proc → (s : ℕ) → slice_get marks.now (2 * mark + 1) ≡ Some s
         → is_running (stream_at proc.streams s) ≡ true → result ≡ Some s }
+    ensures of { IfSome result (λ s. slice_get marks.now (2 * mark + 1) ≡ Some s) }
 {
     let s = marks[2 * mark + 1];
     if s < u32::from(image.slim()) && is_running_at(contents, marks[2 * mark + 2]) {

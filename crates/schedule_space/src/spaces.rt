@@ -4,6 +4,7 @@ ghost use Rattle.std.specs.Prelude.{◌≡◌, ◌<◌, ◌↔◌, length, IfOk,
 ghost use Rattle.dead_registers.specs.Clearing.{IsLive};
 ghost use Rattle.schedule_space.specs.declared.links.Edge.{Edge};
 ghost use Rattle.schedule_space.specs.Spaces.{count, schedule_of, world_of, machine_after, IsEdgeToStandIn, HasEarlierLinks};
+ghost use Rattle.schedule_space.specs.Spaces.{ShortestFirst, AreAllDifferent};
 ghost use Rattle.schedule_space.specs.Fates.{IsFate};
 ghost use Rattle.schedule_space.specs.Finding.{space_of, IsSpace};
 
@@ -88,10 +89,12 @@ impl<'i> Space<'i> {
         &self.begin
     }
 
-    /// How many worlds it has, each but the first found by a step from an earlier one. All that may be read matters.
+    /// How many worlds it has, each but the first found by a step from an earlier one, in the order of the lengths of
+    /// their schedules. All that may be read matters.
     pub fn len(&self) -> usize
         ensures count { result ≡ count self.now }
         ensures links { HasEarlierLinks self.now }
+        ensures in_order { ShortestFirst self.now }
         ensures live { IsLive self.now.image self.now.live }
     {
         self.fates.len()
@@ -104,10 +107,12 @@ impl<'i> Space<'i> {
         self.edges.len()
     }
 
-    /// The steps that lead from one world to one for which another stands, in the order of the worlds that they lead from.
+    /// The steps that lead from one world to one for which another stands, each once, in the order of the worlds that they
+    /// lead from.
     pub fn edges(&self) -> &[Edge]
         ensures edges { result.now ≡ self.now.edges }
         ensures each { (e : Edge) → Contains self.now.edges e → IsEdgeToStandIn self.now e }
+        ensures once { AreAllDifferent self.now.edges }
         ensures live { IsLive self.now.image self.now.live }
     {
         &self.edges

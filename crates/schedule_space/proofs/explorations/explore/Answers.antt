@@ -1,6 +1,6 @@
 use Rattle.std.proofs.Common.{true, replicate}
 use Rattle.schedule_space.specs.declared.expanding.Wanted.TheVariants as wanted
-use Rattle.schedule_space.proofs.Explored.{all_named, complete_if, edges_if, distinct_if, alone_in}
+use Rattle.schedule_space.proofs.Explored.{all_named, complete_if, edges_if, distinct_if, missing_if, alone_in}
 use Rattle.schedule_space.proofs.explorations.explore.Goals as goal
 
 pub returns-clause-complete : goal.returns-clause-complete
@@ -19,3 +19,6 @@ returns-clause-distinct g c = distinct_if c.search.result c.search.ensures.disti
 pub returns-clause-alone : goal.returns-clause-alone
 returns-clause-alone g c =
     alone_in (replicate 32 true) c.search.result all_named c.search.ensures.names c.search.ensures.alone
+
+pub returns-clause-missing : goal.returns-clause-missing
+returns-clause-missing g c = missing_if c.args.most c.search.result c.search.ensures.full

@@ -1,5 +1,7 @@
-use Rattle.std.proofs.Common.{◌≡◌, ◌<◌, sym, ap, ◌∙◌, subst, arith, rules, false}
+use Rattle.std.proofs.Common.{◌≡◌, ◌<◌, sym, ap, ◌∙◌, subst, arith, rules, false, length}
 use Rattle.std.specs.Result.{is_err}
+use Rattle.std.specs.List.{Contains}
+use Rattle.schedule_space.specs.declared.links.Edge.{Edge}
 use Rattle.image_file.specs.ImageValue.{ImageValue}
 use Rattle.machine.specs.MachineValue.{MachineValue}
 use Rattle.processor.specs.World.{steps}
@@ -13,7 +15,9 @@ use Rattle.schedule_space.specs.Quiet.{IsFollowedQuietly}
 use Rattle.schedule_space.proofs.Growing.{grown_refl}
 use Rattle.schedule_space.proofs.Taking.{expanded_more}
 use Rattle.schedule_space.proofs.Alone.{followed_more, same_followed}
-use Rattle.schedule_space.proofs.Exploring.{loaded, begun_kept, same_expanded, same_shortest, ended_well}
+use Rattle.schedule_space.proofs.Exploring.{loaded, begun_kept, same_expanded, same_shortest, full_when, ended_well}
+use Rattle.schedule_space.specs.declared.watches.Bound.TheVariants as bound
+use Rattle.schedule_space.specs.declared.finding.Stop.TheVariants as stop
 use Rattle.schedule_space.proofs.explorations.search.Goals as goal
 
 pub begin-requires : goal.begin-requires
@@ -42,6 +46,7 @@ loop-from-init g c =
       quiet = λ k below. absurd (omega arith);
       inside = omega arith;
       within = omega (arith, ap count is, c.world_limit-limit.ensures.some);
+      edges = λ e has. absurd (omega (arith, has.1, ap (λ (x : SpaceValue). length x.edges) is));
       kept =
           begun_kept v first c.new-machines.result c.in_ok-live.live begin is
           (loaded c.args.image.now c.in_ok-first.first first begin c.in_ok-first.ensures.is c.run.ensures) c.new-machines.ensures;
@@ -57,8 +62,10 @@ expand-expanded-requires g c =
     record {
       there = below;
       within = c.loop-from.invariant.within;
+      edges = λ e has. let less = c.loop-from.invariant.edges e has in omega (arith, less);
       breadth = c.loop-from.invariant.breadth below;
     } in
+    let edges : (e : Edge) → Contains v.edges e → e.from < n = c.loop-from.invariant.edges in
     let kept : AreKept v c.loop-from.machines = c.loop-from.invariant.kept in
     let settled : AreSettled v.image c.deref.result.now =
     subst (AreSettled v.image) (sym c.deref.ensures.value)
@@ -140,6 +147,15 @@ returns-in-Err-clause-shortest g c = λ on.
     c.expand-expanded.ensures.grown below (c.loop-from.invariant.expanded on) c.expand-expanded.ensures.expanding.breadth c.into_space-in-Err.ensures.live
     c.into_space-in-Err.ensures.apart
 
+pub returns-in-Err-clause-full : goal.returns-in-Err-clause-full
+returns-in-Err-clause-full g c = λ ended.
+    let below : c.loop-from.from < count c.loop-from.found = omega (arith, c.len.ensures, c.if-from-len.false) in
+    let why : c.bound_of.result ≡ bound.Worlds = cc in
+    let stopped : c.in-Err.stop ≡ stop.Full = c.bound_of.ensures.worlds why in
+    full_when c.expand-expanded.new.self c.into_space-in-Err.result c.loop-from.from c.world_limit-limit.result c.args.most
+    c.into_space-in-Err.ensures.is c.world_limit-limit.ensures.is c.into_space-in-Err.ensures.links
+    c.expand-expanded.ensures.expanding.there (c.expand-expanded.ensures.full cc)
+
 pub returns-in-Err-clause-within : goal.returns-in-Err-clause-within
 returns-in-Err-clause-within g c =
     omega (arith, ap count c.into_space-in-Err.ensures.is, c.expand-expanded.ensures.expanding.within, c.world_limit-limit.ensures.within)
@@ -163,6 +179,7 @@ loop-from-preserved g c =
           followed_more c.args.looked_at.now old new n c.expand-expanded.ensures.grown below c.loop-from.invariant.quiet quiet;
       inside = omega (arith, below, c.expand-expanded.ensures.grown.more);
       within = c.expand-expanded.ensures.expanding.within;
+      edges = λ e has. let at = c.expand-expanded.ensures.expanding.edges e has in omega (arith, at);
       kept = ended_well c.expand-expanded.result (AreKept new c.expand-expanded.new.machines) well c.expand-expanded.ensures.machines;
       breadth = λ below. breadth_next new n below c.expand-expanded.ensures.expanding.breadth;
     }

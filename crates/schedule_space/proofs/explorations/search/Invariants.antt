@@ -1,5 +1,7 @@
 -- the worlds so far are followed, or expanded, and the machines that are kept are those of their places
 use Rattle.std.proofs.Common.{◌≡◌, ℕ, ◌≤◌, ◌<◌}
+use Rattle.std.specs.List.{Contains}
+use Rattle.schedule_space.specs.declared.links.Edge.{Edge}
 use Rattle.schedule_space.specs.Spaces.{count}
 use Rattle.schedule_space.specs.Finding.{IsExpanded, IsBreadthFirst}
 use Rattle.schedule_space.specs.Kept.{AreKept}
@@ -16,6 +18,7 @@ invariant-loop-from g l = record {
   quiet : (k : ℕ) → k < l.from → IsFollowedQuietly l.looked_at l.found k;
   inside : l.from ≤ count l.found;
   within : count l.found ≤ l.limit;
+  edges : (e : Edge) → Contains l.found.edges e → e.from < l.from;
   kept : AreKept l.found l.machines;
   breadth : l.from < count l.found → IsBreadthFirst l.found l.from;
 }

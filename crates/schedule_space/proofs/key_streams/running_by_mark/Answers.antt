@@ -5,8 +5,8 @@ use Rattle.schedule_space.proofs.KeyStreams.{busy_at, runs_within, marked_place,
 use Rattle.schedule_space.proofs.key_streams.running_by_mark.Goals as goal
 use Rattle.schedule_space.proofs.key_streams.running_by_mark.Goals.{else-s-from-via-then-s-from+else-is_running_at, else-s-from-via-else-s-from}
 
-pub returns : goal.returns
-returns c = λ proc held read s is runs.
+pub returns-clause-runs : goal.returns-clause-runs
+returns-clause-runs c = λ proc held read s is runs.
     let t = c.args.contents.now in
     let marks = c.args.marks.now in
     let k = c.args.mark in

@@ -7,6 +7,6 @@ invariant_of-self-2 c = record {
   found =
       edge_put c.self.inside.image.now c.self.inside.live c.self.inside.begin.items c.self.inside.links.items c.self.inside.edges.items c.push.new.self.items
       c.args.self.now c.args.edge c.self.inside.fates.items c.self.inside.seen.contents c.self.inside.keys c.self.invariant.found
-      c.self.view_is (search rules) c.requires;
+      c.self.view_is (search rules) c.requires.edge c.requires.new;
   left = c.self.invariant.left;
 }

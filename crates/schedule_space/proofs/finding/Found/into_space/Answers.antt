@@ -2,7 +2,7 @@ use Rattle.std.proofs.Common.{sym, subst}
 use Rattle.std.specs.List.{Contains}
 use Rattle.dead_registers.specs.Clearing.{IsLive}
 use Rattle.schedule_space.specs.declared.links.Edge.{Edge}
-use Rattle.schedule_space.specs.Spaces.{SpaceValue, AreAllApart, StandAlone, IsEdgeToStandIn}
+use Rattle.schedule_space.specs.Spaces.{SpaceValue, AreAllApart, StandAlone, ShortestFirst, AreAllDifferent, HasEarlierLinks, IsEdgeToStandIn}
 use Rattle.schedule_space.specs.Finding.{space_of, NamesAll}
 use Rattle.schedule_space.proofs.Plain.{stand_alone}
 use Rattle.schedule_space.proofs.finding.Found.into_space.Goals as goal
@@ -24,3 +24,13 @@ pub returns-clause-edges : goal.returns-clause-edges
 returns-clause-edges c =
     subst (λ (v : SpaceValue). (e : Edge) → Contains v.edges e → IsEdgeToStandIn v e) (sym c.from_parts.ensures)
     c.self.invariant.found.space.edges
+
+pub returns-clause-in_order : goal.returns-clause-in_order
+returns-clause-in_order c = subst ShortestFirst (sym c.from_parts.ensures) c.self.invariant.found.space.in_order
+
+pub returns-clause-once : goal.returns-clause-once
+returns-clause-once c =
+    subst (λ (v : SpaceValue). AreAllDifferent v.edges) (sym c.from_parts.ensures) c.self.invariant.found.space.once
+
+pub returns-clause-links : goal.returns-clause-links
+returns-clause-links c = subst HasEarlierLinks (sym c.from_parts.ensures) c.self.invariant.found.space.earlier

@@ -16,7 +16,7 @@ use Rattle.schedule_space.proofs.Growing.{grown_to, count-link}
 use Rattle.schedule_space.proofs.Placing.{known_at, key_of_at, live_at, told_at, steps_at, steps_back, next_image, next_world}
 use Rattle.schedule_space.proofs.Making.{making_later, before_behind}
 use Rattle.schedule_space.proofs.Placing.{has_key, found_at, placed, placed_view, placed_grown, placed_there, placed_stands}
-use Rattle.schedule_space.proofs.Placing.{placed_expanding, kept, kept_view, stays_at, stays_expanding}
+use Rattle.schedule_space.proofs.Placing.{placed_expanding, full_at, kept, kept_view, stays_at, stays_expanding}
 use Rattle.schedule_space.proofs.Kept.{by_route, first_by, route_there, at_hand_same, new_machine, placed_at_hand}
 use Rattle.schedule_space.proofs.KeyStreams.{key_entries}
 use Rattle.world_keys.proofs.Places.{extends_trans}
@@ -235,7 +235,7 @@ invariant_of-self-2 g c =
           v c.self.inside.fates.items c.push_world.new.fates.items c.self.inside.seen.contents
           c.known_fate.new.seen.contents c.self.inside.keys c.push_world.new.keys c.in-Some.key.items c.args.link
           c.in_ok-next.next.fate n c.self.invariant.found c.self.view_is (extends_trans c.self.inside.seen.contents c.key_after.new.seen.contents c.known_fate.new.seen.contents c.key_after.ensures.grown c.known_fate.ensures.grown)
-          c.requires.expanding.there (next_image v c.args.link.from m n c.args.link.step at_m refl)
+          c.requires.expanding.there c.requires.expanding.breadth (next_image v c.args.link.from m n c.args.link.step at_m refl)
           (next_world v c.args.link.from m n c.args.link.step at_m refl) fate later.known (sym c.deref-2.ensures.value ∙ later.is_key)
           (λ has.
           let e = c.in_default-find.ensures.there.1 (subst (Has c.self.inside.keys) (sym c.deref.ensures.value) has) in absurd cc)
@@ -342,6 +342,9 @@ overflow_cast-result g c =
 pub returns-in_err-key-clause-grown : goal.returns-in_err-key-clause-grown
 returns-in_err-key-clause-grown g c = grown_to c.args.self.now (space_of c.self.inside.image.now c.self.inside.live c.self.inside.begin.items c.self.inside.links.items c.self.inside.edges.items) c.self.view_is
 
+pub returns-in_err-key-clause-edges : goal.returns-in_err-key-clause-edges
+returns-in_err-key-clause-edges g c = ap (λ (x : SpaceValue). x.edges) c.self.view_is
+
 pub returns-in_err-key-clause-expanding : goal.returns-in_err-key-clause-expanding
 returns-in_err-key-clause-expanding g c =
     stays_expanding c.args.self.now (space_of c.self.inside.image.now c.self.inside.live c.self.inside.begin.items c.self.inside.links.items c.self.inside.edges.items)
@@ -350,6 +353,9 @@ returns-in_err-key-clause-expanding g c =
 pub returns-in_err-known-clause-grown : goal.returns-in_err-known-clause-grown
 returns-in_err-known-clause-grown g c = grown_to c.args.self.now (space_of c.self.inside.image.now c.self.inside.live c.self.inside.begin.items c.self.inside.links.items c.self.inside.edges.items) c.self.view_is
 
+pub returns-in_err-known-clause-edges : goal.returns-in_err-known-clause-edges
+returns-in_err-known-clause-edges g c = ap (λ (x : SpaceValue). x.edges) c.self.view_is
+
 pub returns-in_err-known-clause-expanding : goal.returns-in_err-known-clause-expanding
 returns-in_err-known-clause-expanding g c =
     stays_expanding c.args.self.now (space_of c.self.inside.image.now c.self.inside.live c.self.inside.begin.items c.self.inside.links.items c.self.inside.edges.items)
@@ -357,6 +363,9 @@ returns-in_err-known-clause-expanding g c =
 
 pub returns-in_err-next-clause-grown : goal.returns-in_err-next-clause-grown
 returns-in_err-next-clause-grown g c = grown_to c.args.self.now (space_of c.self.inside.image.now c.self.inside.live c.self.inside.begin.items c.self.inside.links.items c.self.inside.edges.items) c.self.view_is
+
+pub returns-in_err-next-clause-edges : goal.returns-in_err-next-clause-edges
+returns-in_err-next-clause-edges g c = ap (λ (x : SpaceValue). x.edges) c.self.view_is
 
 pub returns-in_err-next-clause-expanding : goal.returns-in_err-next-clause-expanding
 returns-in_err-next-clause-expanding g c =
@@ -367,9 +376,27 @@ pub returns-then-place-most : goal.returns-then-place-most
 returns-then-place-most g c =
     let v = c.args.self.now in
     let w = space_of c.self.inside.image.now c.self.inside.live c.self.inside.begin.items c.self.inside.links.items c.self.inside.edges.items in
+    let r = c.route_to-route.result in
+    let m = machine_by c.args.machines.now.first.image r.begin.now r.links.now r.place in
+    let at_m : m ≡ machine_after v.image (schedule_of v c.args.link.from) =
+    by_route v w c.args.machines.now c.args.link.from r.begin.now r.links.now r.place c.self.view_is c.requires.machines.kept
+    c.route_to-route.ensures.begin c.route_to-route.ensures.links c.route_to-route.ensures.place in
+    let n = machine_next m c.args.link.step in
+    let key_is : c.in-Some.key.items ≡ key_of c.key_after.new.seen.contents n.image (cleared c.self.inside.live n.world) =
+    search rules in
+    let many : c.len-place.result ≡ length c.self.inside.links.items = search rules in
     record {
       grown = grown_to v w c.self.view_is;
+      edges = ap (λ (x : SpaceValue). x.edges) c.self.view_is;
       expanding = stays_expanding v w c.args.link.from c.args.most c.self.view_is c.requires.expanding;
+      full = λ _.
+          full_at w v c.self.inside.fates.items c.self.inside.seen.contents c.key_after.new.seen.contents c.self.inside.keys
+          c.in-Some.key.items n c.args.link.from c.args.most c.args.link.step c.self.invariant.found c.self.view_is
+          c.key_after.ensures.grown key_is (next_image v c.args.link.from m n c.args.link.step at_m refl)
+          (next_world v c.args.link.from m n c.args.link.step at_m refl)
+          (λ has.
+          let e = c.in_default-find.ensures.there.1 (subst (Has c.self.inside.keys) (sym c.deref.ensures.value) has) in absurd cc)
+          (omega (arith, many, ap count c.self.view_is, c.requires.expanding.within, c.if-place-most.true));
       machines = tt;
       there = tt;
       stands = tt;
@@ -398,7 +425,9 @@ returns-in_default g c =
     let key_is : key ≡ key_of c.key_after.new.seen.contents n.image (cleared c.self.inside.live n.world) = search rules in
     record {
       grown = grown_to v w c.self.view_is;
+      edges = ap (λ (x : SpaceValue). x.edges) c.self.view_is;
       expanding = stays_expanding v w c.args.link.from c.args.most c.self.view_is c.requires.expanding;
+      full = λ e. absurd cc;
       machines = subst (λ (x : SpaceValue). AreKeptAt x c.key_after.new.machines c.args.link.from) (sym c.self.view_is) one;
       there = subst (λ (x : SpaceValue). c.args.link.from < count x) (sym c.self.view_is) c.requires.expanding.there;
       stands =
@@ -437,7 +466,9 @@ returns-in-Some-find g c =
     (ap (λ (x : MachineValue). x.image) at_m) at has in
     record {
       grown = grown_to v w c.self.view_is;
+      edges = ap (λ (x : SpaceValue). x.edges) c.self.view_is;
       expanding = stays_expanding v w c.args.link.from c.args.most c.self.view_is c.requires.expanding;
+      full = λ e. absurd cc;
       machines = subst (λ (x : SpaceValue). AreKeptAt x c.key_after.new.machines c.args.link.from) (sym c.self.view_is) one;
       there = subst (λ (x : SpaceValue). c.in-Some-find.place < count x) (sym c.self.view_is) here.0;
       stands =
@@ -452,6 +483,9 @@ returns-in_err-push_world-clause-grown g c =
     grown_to v w
     (kept_view c.self.inside.image.now c.self.inside.live c.self.inside.begin.items c.self.inside.links.items c.push_world.new.links.items c.self.inside.edges.items v
     c.self.view_is c.in_err-push_world.ensures.links)
+
+pub returns-in_err-push_world-clause-edges : goal.returns-in_err-push_world-clause-edges
+returns-in_err-push_world-clause-edges g c = ap (λ (x : SpaceValue). x.edges) c.self.view_is
 
 pub returns-in_err-push_world-clause-expanding : goal.returns-in_err-push_world-clause-expanding
 returns-in_err-push_world-clause-expanding g c =
@@ -496,7 +530,9 @@ returns g c =
     subst (λ (x : MachineValue). IsAtHand (machine_next x l.step) c.in_ok-next.next.machine) same c.in_ok-next.ensures.machine in
     record {
       grown = grown;
+      edges = ap (λ (x : SpaceValue). x.edges) c.self.view_is;
       expanding = placed_expanding v u l c.args.most is (omega (arith, ap count is, count-link v l, at)) c.requires.expanding;
+      full = λ e. absurd cc;
       machines =
           placed_at_hand v u c.next_world.new.machines c.push_world.new.machines n l.from (c.len-place.result + 1) grown
           c.requires.expanding.there (placed_there v u l (c.len-place.result + 1) is at)

@@ -33,8 +33,8 @@ running_by-requires c =
     key_entries m.image c.self.inside.live c.self.inside.seen.contents m.world key known is_key
     ∙ ap (λ (x : SpaceValue). length x.image.entries + 1) (sym c.self.view_is)
 
-pub returns : goal.returns
-returns c =
+pub returns-clause-all : goal.returns-clause-all
+returns-clause-all c =
     let v = c.args.self.now in
     let w = space_of c.self.inside.image.now c.self.inside.live c.self.inside.begin.items c.self.inside.links.items c.self.inside.edges.items in
     let m = machine_at v c.args.place in
@@ -52,4 +52,25 @@ returns c =
     subst (λ (i : ImageValue). IsKnown c.self.inside.seen.contents i (cleared c.self.inside.live m.world)) image known in
     let by =
     subst (λ (i : ImageValue). key ≡ key_of c.self.inside.seen.contents i (cleared c.self.inside.live m.world)) image is_key in
-    IfOk-weaker c.running_by.result _ _ (λ r all. all c.self.inside.live m.world here by) c.running_by.ensures
+    IfOk-weaker c.running_by.result _ _ (λ r all. all c.self.inside.live m.world here by) c.running_by.ensures.all
+
+pub returns-clause-once : goal.returns-clause-once
+returns-clause-once c =
+    let v = c.args.self.now in
+    let w = space_of c.self.inside.image.now c.self.inside.live c.self.inside.begin.items c.self.inside.links.items c.self.inside.edges.items in
+    let m = machine_at v c.args.place in
+    let key = c.unwrap-key.result.now in
+    let image : v.image ≡ c.self.inside.image.now = ap (λ (x : SpaceValue). x.image) (sym c.self.view_is) in
+    let at : Some key ≡ slice_get c.self.inside.keys c.args.place =
+    sym (ap option_copied c.unwrap-key.ensures) ∙ c.list.ensures in
+    let known =
+    known_at w v c.self.inside.fates.items c.self.inside.seen.contents c.self.inside.keys c.args.place m
+    c.self.invariant.found c.self.view_is c.requires refl in
+    let is_key =
+    key_of_at w v c.self.inside.fates.items c.self.inside.seen.contents c.self.inside.keys key c.args.place m
+    c.self.invariant.found c.self.view_is c.requires refl at in
+    let here =
+    subst (λ (i : ImageValue). IsKnown c.self.inside.seen.contents i (cleared c.self.inside.live m.world)) image known in
+    let by =
+    subst (λ (i : ImageValue). key ≡ key_of c.self.inside.seen.contents i (cleared c.self.inside.live m.world)) image is_key in
+    IfOk-weaker c.running_by.result _ _ (λ r all. all c.self.inside.live m.world here by) c.running_by.ensures.once

@@ -1,15 +1,28 @@
-use Rattle.std.proofs.Common.{arith, rules, get_or}
+use Rattle.std.proofs.Common.{arith, rules, refl, get_or}
 use Rattle.processor.specs.declared.steps.Step.{Step}
-use Rattle.schedule_space.specs.Finding.{IsTaken}
+use Rattle.schedule_space.specs.Finding.{IsTaken, IsExpanding, HasNoEdge}
+use Rattle.schedule_space.specs.Kept.{AreKeptAt}
+use Rattle.schedule_space.proofs.Different.{no_edges_at, no_edges_next}
 use Rattle.schedule_space.proofs.Growing.{grown_refl, grown_trans}
 use Rattle.schedule_space.proofs.Taking.{taken_next, taken_each}
 use Rattle.schedule_space.proofs.finding.Found.take_all.Goals as goal
+
+pub take-requires : goal.take-requires
+take-requires g c =
+    let expanding : IsExpanding c.loop-place.self c.args.from c.args.most = c.loop-place.invariant.expanding in
+    let machines : AreKeptAt c.loop-place.self c.loop-place.machines c.args.from = c.loop-place.invariant.machines in
+    let n = c.loop-place.place in
+    let none : Step = record { p = 0; s = 0 } in
+    let new : HasNoEdge c.loop-place.self c.args.from (get_or c.args.steps.now n none) =
+    c.loop-place.invariant.new n none (omega arith) (omega arith) in
+    search rules
 
 pub loop-place-init : goal.loop-place-init
 loop-place-init g c = record {
   grown = grown_refl c.args.self.now;
   expanding = c.requires.expanding;
   taken = λ k d below. absurd (omega arith);
+  new = no_edges_at c.args.self.now c.args.from c.args.steps.now c.requires.new;
   machines = c.requires.machines;
 }
 
@@ -31,6 +44,9 @@ loop-place-preserved g c =
       taken =
           taken_next here new c.args.from n ts none c.take.ensures.grown c.loop-place.invariant.expanding.there (omega arith)
           c.loop-place.invariant.taken last;
+      new =
+          no_edges_next here new c.args.from n ts (get_or ts n none) none c.requires.once refl c.take.ensures.edges (omega arith)
+          c.loop-place.invariant.new;
       machines = search rules;
     }
 
@@ -38,6 +54,7 @@ pub returns : goal.returns
 returns g c = record {
   grown = c.loop-place.invariant.grown;
   expanding = c.loop-place.invariant.expanding;
+  full = λ e. absurd cc;
   machines = c.loop-place.invariant.machines;
   taken = taken_each c.loop-place.self c.args.from c.loop-place.place c.args.steps.now (omega arith) c.loop-place.invariant.taken;
 }

@@ -1,6 +1,7 @@
 -- the steps so far are taken, the space has grown by them, and the machines are those of its places
 use Rattle.schedule_space.specs.Finding.{IsGrown, IsExpanding}
 use Rattle.schedule_space.specs.Kept.{AreKeptAt}
+use Rattle.schedule_space.proofs.Different.{HaveNoEdgesFrom}
 use Rattle.schedule_space.proofs.Taking.{AreTaken}
 use Rattle.schedule_space.proofs.finding.Found.take_all.Given as goal
 
@@ -9,5 +10,6 @@ invariant-loop-place g l = record {
   grown : IsGrown l.fn.self l.self;
   expanding : IsExpanding l.self l.from l.most;
   taken : AreTaken l.self l.from l.steps l.place;
+  new : HaveNoEdgesFrom l.self l.from l.steps l.place;
   machines : AreKeptAt l.self l.machines l.from;
 }

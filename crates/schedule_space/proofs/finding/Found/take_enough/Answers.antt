@@ -1,10 +1,12 @@
-use Rattle.std.proofs.Common.{sym, arith, rules, inr, subst, get_or}
+use Rattle.std.proofs.Common.{sym, arith, rules, inr, refl, subst, get_or}
 use Rattle.std.specs.Prelude.{OnOk, List}
 use Rattle.image_file.specs.ImageValue.{ImageValue}
 use Rattle.processor.specs.declared.steps.Step.{Step}
 use Rattle.local_steps.specs.SettledEndings.{AreSettled}
 use Rattle.schedule_space.specs.Kept.{AreKeptAt}
-use Rattle.schedule_space.specs.Finding.{IsExpanding}
+use Rattle.schedule_space.specs.Spaces.{AreAllDifferent}
+use Rattle.schedule_space.specs.Finding.{IsExpanding, HasNoEdge, HaveNoEdges}
+use Rattle.schedule_space.proofs.Different.{different_same, no_edges_at, no_edges_next, waiting_none, waiting_next}
 use Rattle.schedule_space.proofs.Growing.{grown_refl, grown_trans}
 use Rattle.schedule_space.proofs.Taking.{AreAllTaken, IsTakenOrWaits, waits_next}
 use Rattle.schedule_space.proofs.Alone.{expanded_if, followed_if, waiting_taken}
@@ -16,6 +18,10 @@ take_free-requires g c =
     let machines : AreKeptAt c.loop-step.self c.loop-step.machines c.args.from = c.loop-step.invariant.machines in
     let settled : AreSettled c.loop-step.self.image c.args.settled.now =
     subst (λ (i : ImageValue). AreSettled i c.args.settled.now) (sym c.loop-step.invariant.grown.image) c.requires.settled in
+    let n = c.loop-step.step-index in
+    let none : Step = record { p = 0; s = 0 } in
+    let new : HasNoEdge c.loop-step.self c.args.from (get_or c.args.running.now n none) =
+    c.loop-step.invariant.new n none (omega arith) (omega arith) in
     search rules
 
 pub loop-step-init : goal.loop-step-init
@@ -23,6 +29,8 @@ loop-step-init g c = record {
   grown = grown_refl c.args.self.now;
   expanding = c.requires.expanding;
   waits = λ k d below. absurd (omega arith);
+  new = no_edges_at c.args.self.now c.args.from c.args.running.now c.requires.new;
+  waiting = waiting_none c.args.self.now c.args.from c.new-others.result.items c.args.running.now c.new-others.ensures.items;
   machines = c.requires.machines;
 }
 
@@ -37,6 +45,7 @@ returns-then-is_later g c = record {
       grown_trans c.args.self.now c.loop-step.self c.take_free.new.self c.loop-step.invariant.grown
       c.take_free.ensures.grown;
   expanding = c.take_free.ensures.expanding;
+  full = λ e. absurd cc;
   machines = c.in_ok-is_later.ensures.machines;
   quiet = inr (c.in_ok-is_later.ensures.alone c.if-is_later.true);
 }
@@ -57,14 +66,35 @@ loop-step-preserved g c =
           waits_next here new c.args.from n c.loop-step.others.items c.take_free.new.others.items ts none
           c.take_free.ensures.grown c.loop-step.invariant.expanding.there (omega arith) c.take_free.ensures.others
           c.loop-step.invariant.waits last;
+      new =
+          no_edges_next here new c.args.from n ts (get_or ts n none) none c.requires.once refl c.take_free.ensures.edges
+          (omega arith) c.loop-step.invariant.new;
+      waiting =
+          waiting_next here new c.args.from n c.loop-step.others.items c.take_free.new.others.items ts (get_or ts n none) none
+          c.requires.once refl (omega arith) c.take_free.ensures.edges c.in_ok-is_later.ensures.waits c.loop-step.invariant.new
+          c.loop-step.invariant.waiting;
       machines = c.in_ok-is_later.ensures.machines;
     }
+
+pub take_all-requires : goal.take_all-requires
+take_all-requires g c =
+    let v = c.loop-step.self in
+    let others = c.loop-step.others.items in
+    let waiting = c.loop-step.invariant.waiting in
+    let expanding : IsExpanding v c.args.from c.args.most = c.loop-step.invariant.expanding in
+    let machines : AreKeptAt v c.loop-step.machines c.args.from = c.loop-step.invariant.machines in
+    let once : AreAllDifferent c.deref.result.now =
+    different_same others c.deref.result.now c.deref.ensures.value waiting.once in
+    let new : HaveNoEdges v c.args.from c.deref.result.now =
+    subst (HaveNoEdges v c.args.from) (sym c.deref.ensures.value) waiting.new in
+    search rules
 
 pub returns : goal.returns
 returns g c = record {
   grown =
       grown_trans c.args.self.now c.loop-step.self c.take_all.new.self c.loop-step.invariant.grown c.take_all.ensures.grown;
   expanding = c.take_all.ensures.expanding;
+  full = c.take_all.ensures.full;
   machines = c.take_all.ensures.machines;
   quiet =
       followed_if c.take_all.result c.args.looked_at.now c.take_all.new.self c.args.from

@@ -1,8 +1,11 @@
 use Rattle.std.proofs.Common.{subst}
 use Rattle.dead_registers.specs.Clearing.{IsLive}
-use Rattle.schedule_space.specs.Spaces.{SpaceValue}
+use Rattle.schedule_space.specs.Spaces.{SpaceValue, ShortestFirst}
 use Rattle.schedule_space.proofs.spaces.Space.len.Goals as goal
 
 pub returns-clause-live : goal.returns-clause-live
 returns-clause-live c =
     subst (λ (v : SpaceValue). IsLive v.image v.live) c.self.view_is c.self.invariant.live
+
+pub returns-clause-in_order : goal.returns-clause-in_order
+returns-clause-in_order c = subst ShortestFirst c.self.view_is c.self.invariant.in_order
