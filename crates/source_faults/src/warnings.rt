@@ -1,15 +1,14 @@
 //! What is legal in a text and likely not what is meant.
 
 use crate::data_lines::DataLines;
-use crate::lines::Lines;
-use crate::message::Spot;
-use crate::notes::Notes;
+use crate::lines::CountedLines;
 use crate::numbers::{DATA_LABEL, EARLIER_CODE};
-use crate::phrases::put_shown;
+use crate::pieces::pieces;
 use crate::reader::{Reader, SourceFacts};
 use crate::straight_line::StraightLine;
 use crate::unreached::note_unreached;
 use asm_line::Item;
+use fault_messages::{Notes, Spot, put_shown};
 use image_file::Image;
 use insn_word::{Condition, ControlOp, Insn, decode_as};
 use std::alloc::{AllocError, Global};
@@ -41,7 +40,7 @@ fn note_lines<'t>(
     text: &'t [u8],
 ) -> Result<(), AllocError> {
     let mut straight = StraightLine::NEW;
-    for line in Lines::filled(text) {
+    for line in CountedLines::of(text) {
         let reader = Reader::at(source, line);
         match reader.own_item() {
             Ok(item) => note_item(notes, spots, &mut straight, &reader, data_lines, item)?,
@@ -111,12 +110,22 @@ fn note_code(notes: &mut Notes, reader: &Reader, insn: Insn) -> Result<(), Alloc
     };
     let is_asked = match c.op {
         ControlOp::Skip | ControlOp::Jump => c.cond != Condition::Always && c.code == 0,
-        _ => false,
+        ControlOp::Nop
+        | ControlOp::Call
+        | ControlOp::Exchange
+        | ControlOp::TargetSet
+        | ControlOp::TargetGet
+        | ControlOp::TrapGet
+        | ControlOp::Reserve
+        | ControlOp::Create
+        | ControlOp::Mask
+        | ControlOp::Quit
+        | ControlOp::QuitKeep => false,
     };
     if a.test && is_asked {
         let words = "the condition asks the code from before this word";
         let help = "the code that .T makes here counts from the next word on";
-        let operations = reader.instruction().pieces(notes.alloc(), b'|')?;
+        let operations = pieces(notes.alloc(), reader.instruction(), b'|')?;
         let last = operations
             .last()
             .copied()
