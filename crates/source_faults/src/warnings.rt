@@ -88,7 +88,7 @@ fn note_data_label(
     let Some(label) = reader.line().label() else {
         return Ok(());
     };
-    if let Some(address) = data_lines.address(reader.line().number) {
+    if let Some(address) = data_lines.address(reader.line().text.number) {
         notes.help.put("this data is at address ");
         notes.help.put_number(address as u64);
     }
@@ -108,20 +108,9 @@ fn note_code(notes: &mut Notes, reader: &Reader, insn: Insn) -> Result<(), Alloc
     let Insn::Normal { a, c, .. } = insn else {
         return Ok(());
     };
-    let is_asked = match c.op {
-        ControlOp::Skip | ControlOp::Jump => c.cond != Condition::Always && c.code == 0,
-        ControlOp::Nop
-        | ControlOp::Call
-        | ControlOp::Exchange
-        | ControlOp::TargetSet
-        | ControlOp::TargetGet
-        | ControlOp::TrapGet
-        | ControlOp::Reserve
-        | ControlOp::Create
-        | ControlOp::Mask
-        | ControlOp::Quit
-        | ControlOp::QuitKeep => false,
-    };
+    let is_asked = matches!(c.op, ControlOp::Skip | ControlOp::Jump)
+        && c.cond != Condition::Always
+        && c.code == 0;
     if a.test && is_asked {
         let words = "the condition asks the code from before this word";
         let help = "the code that .T makes here counts from the next word on";
