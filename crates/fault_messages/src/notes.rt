@@ -10,7 +10,7 @@ use std::alloc::{AllocError, Global};
 /// How many faults of a text, or warnings of it, are told at most.
 const MOST_FOUND: usize = 100_000;
 
-/// How many suggestions of labels are looked for in one text, each among all labels.
+/// How many suggestions of names are looked for in one text, each among many.
 const MOST_SUGGESTIONS: usize = 16;
 
 /// One thing that is found: where, what it is, and how it may be mended; the help is empty where nothing is said of that.
