@@ -2,9 +2,10 @@
 
 use crate::star_words::{past_words, star_here, star_words};
 use crate::stars::{SaidSteps, expand};
+use fault_messages::Message;
 use image_file::Image;
+use input_faults::check_schedule;
 use processor::Step;
-use source_faults::{Message, check_schedule};
 use std::alloc::{AllocError, Global};
 use std::str;
 use trace_text::{ScheduleFault, ScheduleFaultKind, read_schedule};

@@ -1,8 +1,9 @@
 //! Source texts as the lab reads them: with letters of any language in their comments (docs/LAB_REFERENCE.md,
 //! "Checks").
 
+use fault_messages::{Message, Severity};
 use source_comments::{ascii_comments, foreign_comments, is_showable};
-use source_faults::{Message, Severity, check_source};
+use source_faults::check_source;
 use std::alloc::{AllocError, Global};
 
 /// What some editors put before a text in UTF-8.

@@ -1,7 +1,7 @@
 //! What is said of a schedule's stars.
 
 use crate::stars::{MOST_STEPS_OF_STAR, Star, StarEnd};
-use source_faults::{Message, Severity};
+use fault_messages::{Message, Severity};
 use std::alloc::{AllocError, Global};
 
 /// A message that has no place yet.

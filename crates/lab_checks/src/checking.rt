@@ -7,10 +7,11 @@ use command_parts::{
     CommandAnswer, Inputs, LabFault, SourceText, Status, check_loose_schedule, is_image,
     read_program,
 };
+use fault_messages::{Message, Severity, push_message};
 use image_file::{Image, ImageFault, read_image};
+use input_faults::image_fault_words;
 use lab_requests::{CheckRequest, FileKind};
 use plain_text::plain;
-use source_faults::{Message, Severity, image_fault_words, push_message};
 use std::alloc::{AllocError, Global};
 use std::io::Read;
 use std::rt::Files;

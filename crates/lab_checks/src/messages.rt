@@ -1,9 +1,9 @@
 //! Messages about a file as JSON.
 
 use command_parts::push_object;
+use fault_messages::Message;
 use lab_json::{Object, text_value};
 use serde_json::Value;
-use source_faults::Message;
 use std::alloc::{AllocError, Global};
 
 /// Adds the object of a message about a file. What is wrong, and how it may be mended, are words for people.

@@ -1,6 +1,6 @@
 //! Names of data words that name nothing, as messages.
 
-use source_faults::{Message, Severity};
+use fault_messages::{Message, Severity};
 use source_places::{DataName, SourcePlaces};
 use std::alloc::{AllocError, Global};
 use std::str;

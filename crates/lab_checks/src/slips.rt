@@ -1,6 +1,6 @@
 //! What is likely not meant in a right source text, as messages.
 
-use source_faults::{Message, Severity};
+use fault_messages::{Message, Severity};
 use source_slips::{Slip, source_slips};
 use std::alloc::{AllocError, Global};
 

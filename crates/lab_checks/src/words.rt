@@ -1,8 +1,9 @@
 //! The commands `explain` and `word`.
 
 use command_parts::{CommandAnswer, LabFault, Status};
+use fault_messages::{Severity, push_message};
 use lab_words::{explained, instruction_told, source_of};
-use source_faults::{Severity, check_source, push_message};
+use source_faults::check_source;
 use std::alloc::{AllocError, Global};
 
 /// What a word of a program, of a run or of a message means; without one, all words that have a page.

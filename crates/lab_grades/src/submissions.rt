@@ -1,8 +1,8 @@
 //! Submissions, read.
 
 use command_parts::{Inputs, LabFault, Program, ProgramFault, program_in};
+use fault_messages::{Message, Severity};
 use grade_reports::{Verdict, VerdictKind};
-use source_faults::{Message, Severity};
 use std::alloc::{AllocError, Global};
 use std::io::Read;
 use std::rt::Files;

@@ -3,13 +3,13 @@
 use crate::data_words::put_data_help;
 use crate::examples::put_example;
 use crate::form::OperandForm;
-use crate::notes::Notes;
 use crate::operand_notes::Taking;
 use crate::operand_words::COMMENTS;
-use crate::phrases::{put_count, put_operands, put_shown};
+use crate::phrases::{put_count, put_operands};
+use crate::pieces::{has_comment, pieces};
 use crate::reader::Reader;
-use crate::token::Token;
 use asm_line::Fault;
+use fault_messages::{Notes, Token, put_shown};
 use plain_text::TextWriter;
 use std::alloc::{AllocError, Global};
 
@@ -52,7 +52,7 @@ fn put_count_help(
     operands: Token,
     pieces: &[Token],
 ) -> Result<(), AllocError> {
-    if operands.has_comment() {
+    if has_comment(operands) {
         notes.help.put(COMMENTS);
         return Ok(());
     }
@@ -102,10 +102,10 @@ fn fixed_help(taking: Taking, operands: Token, count: usize) -> Option<&'static 
 }
 
 /// The words of pieces that blanks separate.
-fn blank_words<'t>(alloc: Global, pieces: &[Token<'t>]) -> Result<Vec<Token<'t>>, AllocError> {
+fn blank_words<'t>(alloc: Global, written: &[Token<'t>]) -> Result<Vec<Token<'t>>, AllocError> {
     let mut words = Vec::new(alloc);
-    for piece in pieces {
-        for word in piece.pieces(alloc, b' ')? {
+    for piece in written {
+        for word in pieces(alloc, *piece, b' ')? {
             if !word.bytes.is_empty() {
                 words.push(word)?;
             }

@@ -1,6 +1,6 @@
 //! Where the data words of a text stand in memory.
 
-use crate::lines::Lines;
+use crate::lines::CountedLines;
 use crate::reader::{Reader, SourceFacts};
 use crate::text_notes::MAX_CELLS;
 use asm_line::Item;
@@ -29,8 +29,8 @@ impl DataLines {
     ) -> Result<DataLines, AllocError> {
         let mut lines = Vec::new(alloc);
         let mut first = 0usize;
-        for line in Lines::filled(text) {
-            let number = line.number;
+        for line in CountedLines::of(text) {
+            let number = line.text.number;
             if let Ok(Item::Cells { count, .. }) = Reader::at(source, line).own_item() {
                 let next = first.saturating_add(count as usize);
                 if next <= MAX_CELLS {

@@ -1,9 +1,8 @@
 //! Labels of data where an operand stands.
 
 use crate::form::OperandForm;
-use crate::label_notes::is_name;
-use crate::notes::Notes;
 use crate::reader::Reader;
+use fault_messages::Notes;
 use plain_text::TextWriter;
 use std::alloc::AllocError;
 
@@ -51,7 +50,7 @@ fn address_of(
     name: &[u8],
 ) -> Result<Option<usize>, AllocError> {
     let place = reader.place_of(name);
-    if place.is_none() && !is_name(name) || !notes.may_suggest() {
+    if place.is_none() && !reader.may_be_label(name) || !notes.may_suggest() {
         return Ok(None);
     }
     let alloc = notes.alloc();

@@ -1,9 +1,8 @@
 //! Statements of the right form.
 
 use crate::form::OperandForm;
-use crate::phrases::put_shown;
 use crate::reader::Reader;
-use crate::token::Token;
+use fault_messages::{Token, put_shown};
 use plain_text::TextWriter;
 use std::alloc::{AllocError, Global};
 

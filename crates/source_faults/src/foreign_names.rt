@@ -3,8 +3,6 @@
 //! Each table has a row a line: names of one thing with a space between two, and after `=` what is said of them. It is one
 //! text, since each text costs the prover time.
 
-use crate::nearest::are_same;
-
 /// Operations of other machines, and how to write them.
 const OPERATIONS: &str = "MOV MOVE MV CPY COPY=ADD r1, r2, 0 copies r2 to r1; LIT r1, 5 sets r1 to 5
 LI LDI MOVI LOADI SET=LIT r1, 5 sets r1 to 5
@@ -102,7 +100,7 @@ fn said_of(table: &'static str, name: &[u8]) -> Option<&'static str> {
 /// Whether a name is among some names, in letters of either case.
 fn has_name(names: &str, name: &[u8]) -> bool {
     for known in names.split(' ') {
-        if are_same(known.as_bytes(), name) {
+        if known.as_bytes().eq_ignore_ascii_case(name) {
             return true;
         }
     }

@@ -1,16 +1,15 @@
 //! What is wrong with the head of a statement.
 
 use crate::foreign_names::{foreign_directive, foreign_operation};
-use crate::label_notes::is_name;
-use crate::notes::Notes;
 use crate::operand_words::COMMENTS;
 use crate::operations::{
     Named, directive_named, nearest_directive, nearest_operation, operation_named,
 };
-use crate::phrases::{put_listed, put_meant, put_shown};
+use crate::phrases::{put_listed, put_meant};
+use crate::pieces::split_head;
 use crate::reader::Reader;
-use crate::token::Token;
 use asm_line::Fault;
+use fault_messages::{Notes, Token, put_shown};
 use plain_text::TextWriter;
 use std::alloc::{AllocError, Global};
 
@@ -123,9 +122,9 @@ fn put_operation_help(
     head: Token,
     operands: Token,
 ) -> Result<(), AllocError> {
-    let next = operands.split_head().0;
+    let next = split_head(operands).0;
     let name = head.cut(b'.').0;
-    if is_name(head.bytes) && operation_named(next.cut(b'.').0.bytes).is_some() {
+    if reader.may_be_label(head.bytes) && operation_named(next.cut(b'.').0.bytes).is_some() {
         help.put("a label has a colon: ");
         put_shown(help, head.bytes);
         help.put(":");
@@ -148,7 +147,7 @@ fn put_meant_operation(
     if put_with_dot(help, reader, name)? {
         return Ok(());
     }
-    match nearest_operation(name) {
+    match nearest_operation(help.alloc(), name)? {
         Some(nearest) => put_with_suffix(help, reader, nearest, suffix),
         None => {
             help.put("CHEAT_SHEET.md has all operations");
@@ -227,18 +226,19 @@ pub(crate) fn note_unknown_directive(
     } else {
         notes.words.put("no directive is called ");
         put_shown(&mut notes.words, head.bytes);
-        put_directive_help(&mut notes.help, head.bytes);
+        put_directive_help(&mut notes.help, head.bytes)?;
     }
     notes.add(reader.spot(head))
 }
 
 /// Adds which directive may be meant by a name that none has.
-fn put_directive_help(help: &mut TextWriter, name: &[u8]) {
+fn put_directive_help(help: &mut TextWriter, name: &[u8]) -> Result<(), AllocError> {
     if let Some(words) = foreign_directive(name) {
         help.put(words);
-    } else if let Some(nearest) = nearest_directive(name) {
+    } else if let Some(nearest) = nearest_directive(help.alloc(), name)? {
         put_meant(help, nearest);
     } else {
         help.put("CHEAT_SHEET.md has all directives");
     }
+    Ok(())
 }

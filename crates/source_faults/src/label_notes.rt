@@ -1,11 +1,13 @@
 //! What is wrong with a label.
 
-use crate::notes::Notes;
+ghost use Rattle.std.specs.Prelude.{◌≡◌};
+ghost use Rattle.asm_line.specs.Text.{is_further};
+
 use crate::operations::directive_named;
-use crate::phrases::put_shown;
+use crate::pieces::trimmed;
 use crate::reader::Reader;
-use crate::token::Token;
 use asm_line::Fault;
+use fault_messages::{Notes, Token, put_shown};
 use std::alloc::AllocError;
 
 /// How many characters a label has at most.
@@ -21,7 +23,7 @@ pub(crate) fn note_label(notes: &mut Notes, reader: &Reader) -> Result<bool, All
         notes.number(Fault::Unknown.number());
         notes.say(reader.spot(second), "a line has at most one label", help)?;
         Ok(false)
-    } else if directive_named(label.trim().bytes).is_some() {
+    } else if directive_named(trimmed(label).bytes).is_some() {
         let help = "take the colon away";
         notes.number(Fault::Unknown.number());
         notes.say(reader.spot(label), "a directive has no colon", help)?;
@@ -37,7 +39,17 @@ fn note_name(notes: &mut Notes, reader: &Reader, label: Token) -> Result<(), All
     match reader.item(Some(label.bytes), b"") {
         Ok(_) => Ok(()),
         Err(Fault::LabelTwice) => note_twice(notes, reader, label),
-        Err(_) => note_malformed(notes, reader, label),
+        Err(
+            Fault::NotAscii
+            | Fault::Unknown
+            | Fault::Operand
+            | Fault::Range
+            | Fault::TwoWriters
+            | Fault::LabelMissing
+            | Fault::Directive
+            | Fault::Limit
+            | Fault::NoMemory,
+        ) => note_malformed(notes, reader, label),
     }
 }
 
@@ -45,7 +57,7 @@ fn note_name(notes: &mut Notes, reader: &Reader, label: Token) -> Result<(), All
 fn note_twice(notes: &mut Notes, reader: &Reader, label: Token) -> Result<(), AllocError> {
     let first = match reader.place_of(label.bytes) {
         Some(place) => place.line.saturating_add(1),
-        None => reader.line().number + 1,
+        None => reader.line().text.number + 1,
     };
     notes.words.put("the label ");
     put_shown(&mut notes.words, label.bytes);
@@ -64,7 +76,7 @@ fn note_malformed(notes: &mut Notes, reader: &Reader, label: Token) -> Result<()
 
 /// Why a label is no name, and how it may be mended.
 fn malformed_words(label: Token) -> (&'static str, &'static str) {
-    let name = label.trim().bytes;
+    let name = trimmed(label).bytes;
     if name.is_empty() {
         ("a label has a name", "it stands right before the colon")
     } else if !is_of_names(name) {
@@ -80,11 +92,6 @@ fn malformed_words(label: Token) -> (&'static str, &'static str) {
     }
 }
 
-/// Whether a text has only what labels may have.
-pub(crate) fn is_name(text: &[u8]) -> bool {
-    !text.is_empty() && text.len() <= LONGEST_LABEL && is_of_names(text)
-}
-
 /// Whether labels may have each byte of a text.
 fn is_of_names(text: &[u8]) -> bool {
     for byte in text {
@@ -96,6 +103,8 @@ fn is_of_names(text: &[u8]) -> bool {
 }
 
 /// Whether a label may have this byte.
-fn is_of_name(byte: u8) -> bool {
+fn is_of_name(byte: u8) -> bool
+    ensures { result ≡ is_further byte }
+{
     byte.is_ascii_alphanumeric() || byte == b'_'
 }

@@ -1,7 +1,7 @@
 //! Numbers that are written as on other machines.
 
 use crate::form::OperandForm;
-use crate::phrases::put_shown;
+use fault_messages::put_shown;
 use plain_text::TextWriter;
 use text_parts::{Base, Number, read_digits};
 

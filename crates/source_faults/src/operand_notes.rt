@@ -3,14 +3,13 @@
 use crate::count_notes::note_count;
 use crate::data_words::put_data_help;
 use crate::form::OperandForm;
-use crate::notes::Notes;
 use crate::operand_words::{
     put_form_help, put_missing_label_help, put_range_help, put_range_words,
 };
-use crate::phrases::put_shown;
+use crate::pieces::pieces;
 use crate::reader::Reader;
-use crate::token::Token;
 use asm_line::Fault;
+use fault_messages::{Notes, Token, put_shown};
 use plain_text::TextWriter;
 use std::alloc::{AllocError, Global};
 
@@ -65,7 +64,7 @@ fn operand_pieces<'t>(alloc: Global, operands: Token<'t>) -> Result<Vec<Token<'t
     if operands.bytes.is_empty() {
         Ok(Vec::new(alloc))
     } else {
-        operands.pieces(alloc, b',')
+        pieces(alloc, operands, b',')
     }
 }
 
@@ -105,8 +104,14 @@ fn note_operand(
     match fault {
         Fault::LabelMissing => note_missing_label(notes, reader, operand),
         Fault::Range => note_range(notes, reader, taken, operand),
-        _ if operand.bytes.is_empty() => note_missing_operand(notes, reader, taken, operand),
-        _ => note_form(notes, reader, taken, operand),
+        Fault::NotAscii
+        | Fault::Unknown
+        | Fault::Operand
+        | Fault::TwoWriters
+        | Fault::LabelTwice
+        | Fault::Directive
+        | Fault::Limit
+        | Fault::NoMemory => note_malformed(notes, reader, taken, operand),
     }
 }
 
@@ -117,7 +122,7 @@ fn note_missing_label(
     operand: Token,
 ) -> Result<(), AllocError> {
     if !put_data_help(notes, reader, OperandForm::Value, operand.bytes)? {
-        put_missing_label_help(notes, reader, operand.bytes);
+        put_missing_label_help(notes, reader, operand.bytes)?;
     }
     notes.words.put("no line has the label ");
     put_shown(&mut notes.words, operand.bytes);
@@ -136,6 +141,20 @@ fn note_range(
     put_range_help(&mut notes.help, reader, taken.form, operand.bytes);
     notes.number(Fault::Range.number());
     notes.add(reader.spot(operand))
+}
+
+/// Tells that an operand is missing, or none of its form.
+fn note_malformed(
+    notes: &mut Notes,
+    reader: &Reader,
+    taken: Taken,
+    operand: Token,
+) -> Result<(), AllocError> {
+    if operand.bytes.is_empty() {
+        note_missing_operand(notes, reader, taken, operand)
+    } else {
+        note_form(notes, reader, taken, operand)
+    }
 }
 
 /// Tells that an operand is missing.
@@ -160,7 +179,7 @@ fn note_form(
     operand: Token,
 ) -> Result<(), AllocError> {
     if !put_data_help(notes, reader, taken.form, operand.bytes)? {
-        put_form_help(&mut notes.help, reader, taken.form, operand);
+        put_form_help(&mut notes.help, reader, taken.form, operand)?;
     }
     taken.put_name(&mut notes.words);
     notes.words.put_all(&[" is ", taken.form.noun(), ", and "]);

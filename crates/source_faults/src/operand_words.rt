@@ -2,15 +2,16 @@
 
 use crate::foreign_names::foreign_condition;
 use crate::form::OperandForm;
-use crate::nearest::Nearest;
-use crate::notes::Notes;
+use crate::nearest::nearest_of;
 use crate::number_words::{are_capital_digits, decimal, put_number_help};
 use crate::operand_notes::Taken;
 use crate::operations::{nearest_condition, operation_named};
-use crate::phrases::{put_meant, put_shown};
+use crate::phrases::put_meant;
+use crate::pieces::{has_comment, split_head};
 use crate::reader::Reader;
-use crate::token::Token;
+use fault_messages::{Notes, Token, put_shown};
 use plain_text::TextWriter;
+use std::alloc::AllocError;
 
 /// What begins a comment.
 pub(crate) const COMMENTS: &str = "a comment begins with ;";
@@ -102,22 +103,23 @@ pub(crate) fn put_form_help(
     reader: &Reader,
     form: OperandForm,
     operand: Token,
-) {
+) -> Result<(), AllocError> {
     if let Some(words) = joined_help(operand) {
         help.put(words);
     } else if reader.place_of(operand.bytes).is_some() {
         put_label_help(help, form, operand.bytes);
-    } else if !put_written_help(help, form, operand.bytes) {
+    } else if !put_written_help(help, form, operand.bytes)? {
         help.put(advice(form, operand.bytes));
     }
+    Ok(())
 }
 
 /// What to write where an operand has a comment, the next operation in it, or a suffix.
 fn joined_help(operand: Token) -> Option<&'static str> {
-    if operand.has_comment() {
+    if has_comment(operand) {
         return Some(COMMENTS);
     }
-    let behind = operand.split_head().1;
+    let behind = split_head(operand).1;
     if operand.bytes.contains(&b'&') {
         return Some("a bar | stands between two operations of a word");
     }
@@ -146,16 +148,20 @@ fn put_label_help(help: &mut TextWriter, form: OperandForm, label: &[u8]) {
 }
 
 /// Adds what to write for an operand of this form that is written as on other machines, and answers whether it is.
-fn put_written_help(help: &mut TextWriter, form: OperandForm, operand: &[u8]) -> bool {
-    match form {
+fn put_written_help(
+    help: &mut TextWriter,
+    form: OperandForm,
+    operand: &[u8],
+) -> Result<bool, AllocError> {
+    Ok(match form {
         OperandForm::Condition => {
-            put_condition_help(help, operand);
+            put_condition_help(help, operand)?;
             true
         }
         OperandForm::Base => put_base_help(help, operand),
         OperandForm::Register | OperandForm::Target => false,
         _ => put_number_help(help, form, operand),
-    }
+    })
 }
 
 /// Adds what to write for an address where a register belongs, and answers whether the operand is one.
@@ -206,18 +212,23 @@ fn advice(form: OperandForm, operand: &[u8]) -> &'static str {
 }
 
 /// Adds which condition may be meant.
-fn put_condition_help(help: &mut TextWriter, operand: &[u8]) {
+fn put_condition_help(help: &mut TextWriter, operand: &[u8]) -> Result<(), AllocError> {
     if let Some(name) = foreign_condition(operand) {
         help.put_all(&["did you mean ", name, "?"]);
-    } else if let Some(name) = nearest_condition(operand) {
+    } else if let Some(name) = nearest_condition(help.alloc(), operand)? {
         put_meant(help, name);
     } else {
         help.put(OperandForm::Condition.advice());
     }
+    Ok(())
 }
 
 /// Adds what may be meant by a label that stands on no line.
-pub(crate) fn put_missing_label_help(notes: &mut Notes, reader: &Reader, name: &[u8]) {
+pub(crate) fn put_missing_label_help(
+    notes: &mut Notes,
+    reader: &Reader,
+    name: &[u8],
+) -> Result<(), AllocError> {
     match name {
         [b'r', b'0'..=b'9', ..] => {
             notes.help.put("ADD with 0 copies a register: ADD r1, ");
@@ -231,11 +242,12 @@ pub(crate) fn put_missing_label_help(notes: &mut Notes, reader: &Reader, name: &
             put_shown(&mut notes.help, name);
             notes.help.put(" says");
         }
-        _ => match nearest_label(notes, reader, name) {
+        _ => match nearest_label(notes, reader, name)? {
             Some(label) => put_meant(&mut notes.help, label),
             None => put_no_label_help(&mut notes.help, name),
         },
     }
+    Ok(())
 }
 
 /// Adds how a name is written that is near no label.
@@ -251,13 +263,13 @@ fn put_no_label_help(help: &mut TextWriter, name: &[u8]) {
 }
 
 /// The label that is nearest to a name, if one is near enough and few were looked for.
-fn nearest_label<'t>(notes: &mut Notes, reader: &Reader<'_, 't>, name: &[u8]) -> Option<&'t [u8]> {
+fn nearest_label<'t>(
+    notes: &mut Notes,
+    reader: &Reader<'_, 't>,
+    name: &[u8],
+) -> Result<Option<&'t [u8]>, AllocError> {
     if !notes.may_suggest() {
-        return None;
+        return Ok(None);
     }
-    let mut nearest = Nearest::to(name);
-    for label in reader.names() {
-        nearest.see(*label);
-    }
-    nearest.name()
+    nearest_of(notes.alloc(), name, reader.names())
 }

@@ -1,9 +1,10 @@
 //! The operations and directives by their names, with the operands that they take.
 
 use crate::form::OperandForm;
-use crate::nearest::Nearest;
+use crate::nearest::nearest_of;
 use asm_line::{Directive, names};
 use insn_word::{ArithmeticOp, Condition, ControlOp, MemoryOp, WideOp};
+use std::alloc::{AllocError, Global};
 
 /// A part of a word.
 #[derive(Clone, Copy, PartialEq, Eq)]
@@ -153,30 +154,36 @@ pub(crate) fn operation_named(name: &[u8]) -> Option<Named> {
 }
 
 /// The operation whose name is nearest to a text, if one is near enough.
-pub(crate) fn nearest_operation(text: &[u8]) -> Option<&'static [u8]> {
-    let mut nearest = Nearest::to(text);
+pub(crate) fn nearest_operation(
+    alloc: Global,
+    text: &[u8],
+) -> Result<Option<&'static [u8]>, AllocError> {
+    let mut known = Vec::new(alloc);
     for op in MemoryOp::ALL.iter() {
-        nearest.see(names::memory(*op).as_bytes());
+        known.push(names::memory(*op).as_bytes())?;
     }
     for op in ArithmeticOp::ALL.iter() {
-        nearest.see(names::arithmetic(*op).as_bytes());
+        known.push(names::arithmetic(*op).as_bytes())?;
     }
     for op in ControlOp::ALL.iter() {
-        nearest.see(names::control(*op).as_bytes());
+        known.push(names::control(*op).as_bytes())?;
     }
     for op in WideOp::ALL.iter() {
-        nearest.see(names::wide(*op).as_bytes());
+        known.push(names::wide(*op).as_bytes())?;
     }
-    nearest.name()
+    nearest_of(alloc, text, &known)
 }
 
 /// The condition whose name is nearest to a text, if one is near enough.
-pub(crate) fn nearest_condition(text: &[u8]) -> Option<&'static [u8]> {
-    let mut nearest = Nearest::to(text);
+pub(crate) fn nearest_condition(
+    alloc: Global,
+    text: &[u8],
+) -> Result<Option<&'static [u8]>, AllocError> {
+    let mut known = Vec::new(alloc);
     for condition in Condition::ALL.iter() {
-        nearest.see(names::condition(*condition).as_bytes());
+        known.push(names::condition(*condition).as_bytes())?;
     }
-    nearest.name()
+    nearest_of(alloc, text, &known)
 }
 
 /// All directives.
@@ -203,12 +210,15 @@ pub(crate) fn directive_named(name: &[u8]) -> Option<Directive> {
 }
 
 /// The directive whose name is nearest to a text, if one is near enough.
-pub(crate) fn nearest_directive(text: &[u8]) -> Option<&'static [u8]> {
-    let mut nearest = Nearest::to(text);
+pub(crate) fn nearest_directive(
+    alloc: Global,
+    text: &[u8],
+) -> Result<Option<&'static [u8]>, AllocError> {
+    let mut known = Vec::new(alloc);
     for directive in DIRECTIVES.iter() {
-        nearest.see(names::directive(*directive).as_bytes());
+        known.push(names::directive(*directive).as_bytes())?;
     }
-    nearest.name()
+    nearest_of(alloc, text, &known)
 }
 
 /// The operands that a directive takes at most.

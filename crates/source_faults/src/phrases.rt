@@ -1,29 +1,8 @@
 //! Parts of sentences.
 
 use crate::form::OperandForm;
+use fault_messages::put_shown;
 use plain_text::TextWriter;
-
-/// How many bytes of a text a sentence shows at most.
-const LONGEST: usize = 40;
-
-/// Adds a piece of a text as a sentence shows it: at most 40 bytes, in which each control character is a question mark.
-pub(crate) fn put_shown(out: &mut TextWriter, bytes: &[u8]) {
-    let front = bytes.get(..LONGEST).unwrap_or(bytes);
-    match String::from_utf8_lossy(out.alloc(), front) {
-        Ok(front) => put_letters(out, front.as_str()),
-        Err(_) => out.lack_piece(),
-    }
-    if bytes.len() > LONGEST {
-        out.put("..");
-    }
-}
-
-/// Adds a text in which each control character is a question mark.
-fn put_letters(out: &mut TextWriter, text: &str) {
-    for letter in text.chars() {
-        out.put_letter(if letter.is_control() { '?' } else { letter });
-    }
-}
 
 /// Adds which name may be meant.
 pub(crate) fn put_meant(out: &mut TextWriter, name: &[u8]) {

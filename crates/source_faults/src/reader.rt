@@ -2,15 +2,17 @@
 
 use crate::data_lines::DataLines;
 use crate::form::OperandForm;
-use crate::label_notes::is_name;
-use crate::lines::{Lines, TextLine};
-use crate::message::Spot;
-use crate::token::Token;
+use crate::lines::{CountedLine, CountedLines};
+use crate::pieces::split_head;
 use asm_line::{Fault, Item, Place, SourceLine, read_line};
 use asm_text::{Outline, outline_of};
+use fault_messages::{Spot, Token};
 use insn_word::Profile;
 use source_places::SourcePlaces;
 use std::alloc::{AllocError, Global};
+
+/// How many labels of a text are compared with a name that none has.
+const MOST_NAMES: usize = 16_384;
 
 /// What is known of a text before its lines are read.
 #[derive(Drop)]
@@ -23,12 +25,13 @@ pub(crate) struct SourceFacts<'t> {
 impl<'t> SourceFacts<'t> {
     /// Of this text.
     pub(crate) fn of(alloc: Global, text: &'t [u8]) -> Result<SourceFacts<'t>, AllocError> {
-        let names = names_of(alloc, text)?;
-        Ok(SourceFacts {
+        let mut source = SourceFacts {
             text,
             outline: outline_of(alloc, text)?,
-            names,
-        })
+            names: Vec::new(alloc),
+        };
+        source.names = names_of(alloc, &source)?;
+        Ok(source)
     }
 
     /// How many program words it has.
@@ -50,13 +53,15 @@ impl<'t> SourceFacts<'t> {
     }
 }
 
-/// The labels of a text that are names, in the order of their lines.
-fn names_of<'t>(alloc: Global, text: &'t [u8]) -> Result<Vec<&'t [u8]>, AllocError> {
+/// The first labels of a text that are names, in the order of their lines.
+fn names_of<'t>(alloc: Global, source: &SourceFacts<'t>) -> Result<Vec<&'t [u8]>, AllocError> {
     let mut names = Vec::new(alloc);
-    for line in Lines::filled(text) {
-        match line.source.label {
-            Some(label) if is_name(label) => names.push(label)?,
-            _ => {}
+    for line in CountedLines::of(source.text) {
+        if let Some(label) = line.source.label
+            && names.len() < MOST_NAMES
+            && Reader::at(source, line).may_be_label(label)
+        {
+            names.push(label)?;
         }
     }
     Ok(names)
@@ -66,17 +71,17 @@ fn names_of<'t>(alloc: Global, text: &'t [u8]) -> Result<Vec<&'t [u8]>, AllocErr
 #[derive(Clone, Copy)]
 pub(crate) struct Reader<'s, 't> {
     source: &'s SourceFacts<'t>,
-    line: TextLine<'t>,
+    line: CountedLine<'t>,
 }
 
 impl<'s, 't> Reader<'s, 't> {
     /// In the place of this line.
-    pub(crate) fn at(source: &'s SourceFacts<'t>, line: TextLine<'t>) -> Reader<'s, 't> {
+    pub(crate) fn at(source: &'s SourceFacts<'t>, line: CountedLine<'t>) -> Reader<'s, 't> {
         Reader { source, line }
     }
 
     /// The line.
-    pub(crate) fn line(&self) -> &TextLine<'t> {
+    pub(crate) fn line(&self) -> &CountedLine<'t> {
         &self.line
     }
 
@@ -85,7 +90,7 @@ impl<'s, 't> Reader<'s, 't> {
         self.line.spot(token)
     }
 
-    /// The labels of the text, in the order of their lines.
+    /// The first labels of the text, in the order of their lines.
     pub(crate) fn names(&self) -> &[&'t [u8]] {
         &self.source.names
     }
@@ -137,7 +142,7 @@ impl<'s, 't> Reader<'s, 't> {
             outline.profile,
             &outline.labels,
             outline.words,
-            self.line.number,
+            self.line.text.number,
             self.line.here,
             &SourceLine { label, statement },
         )
@@ -152,18 +157,20 @@ impl<'s, 't> Reader<'s, 't> {
     pub(crate) fn instruction(&self) -> Token<'t> {
         let statement = self.line.statement();
         if statement.begins(b'@') {
-            statement.split_head().1
+            split_head(statement).1
         } else {
             statement
         }
     }
 
+    /// Whether a text may be a label.
+    pub(crate) fn may_be_label(&self, text: &[u8]) -> bool {
+        self.item(Some(text), b"").err() != Some(Fault::Unknown)
+    }
+
     /// Whether the head of a statement is one of the text's profile.
     pub(crate) fn knows(&self, head: &[u8]) -> bool {
-        match self.item(None, head) {
-            Err(Fault::Unknown) => false,
-            Ok(_) | Err(_) => true,
-        }
+        self.item(None, head).err() != Some(Fault::Unknown)
     }
 
     /// Whether the operation of a name may have this suffix.

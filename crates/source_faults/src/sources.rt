@@ -2,18 +2,17 @@
 
 ghost use Rattle.std.specs.Prelude.{◌≡◌, ◌<◌, ◌||◌, is_err, vec_len, IfOk, OnOk};
 ghost use Rattle.asm_text.specs.Sources.{meaning_of, Means};
-ghost use Rattle.source_faults.specs.Messages.{has_error};
+ghost use Rattle.fault_messages.specs.Messages.{has_error};
 
 use crate::label_notes::note_label;
-use crate::lines::Lines;
-use crate::message::{Message, Severity, Spot};
-use crate::notes::{Notes, in_order};
+use crate::lines::CountedLines;
 use crate::reader::{Reader, SourceFacts};
 use crate::statement_notes::note_statement;
 use crate::text_notes::{Totals, last_line, note_foreign};
 use crate::warnings::warnings_of;
 use asm_line::Fault;
 use asm_text::{AsmFault, assemble};
+use fault_messages::{Message, Notes, Severity, Spot, in_order};
 use image_file::Image;
 use std::alloc::{AllocError, Global};
 
@@ -98,7 +97,7 @@ fn note_faults<'t>(
     text: &'t [u8],
 ) -> Result<(), AllocError> {
     let mut totals = Totals::NONE;
-    for line in Lines::filled(text) {
+    for line in CountedLines::of(text) {
         note_foreign(notes, &line)?;
         totals.see(&line);
         let reader = Reader::at(source, line);

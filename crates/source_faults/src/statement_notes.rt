@@ -2,13 +2,13 @@
 
 use crate::form::OperandForm;
 use crate::head_notes::{note_unknown_directive, note_unknown_operation};
-use crate::notes::Notes;
 use crate::operand_notes::{Taking, note_operands};
 use crate::operations::{Named, directive_named, directive_operands, operation_named};
+use crate::pieces::{pieces, split_head};
 use crate::reader::Reader;
-use crate::token::Token;
 use crate::word_notes::{WrittenOperation, note_word};
 use asm_line::{Directive, Fault, names};
+use fault_messages::{Notes, Token};
 use std::alloc::AllocError;
 
 /// Tells what is wrong with the statement of a line.
@@ -24,7 +24,7 @@ pub(crate) fn note_statement(notes: &mut Notes, reader: &Reader) -> Result<(), A
 }
 
 fn note_directive(notes: &mut Notes, reader: &Reader, statement: Token) -> Result<(), AllocError> {
-    let (head, operands) = statement.split_head();
+    let (head, operands) = split_head(statement);
     match directive_named(head.bytes) {
         Some(directive) if reader.knows(head.bytes) => {
             note_operands(notes, reader, taking(directive), head, operands)
@@ -41,7 +41,14 @@ fn taking(directive: Directive) -> Taking<'static> {
         forms,
         least: match directive {
             Directive::Data => 1,
-            _ => forms.len(),
+            Directive::Profile
+            | Directive::Slim
+            | Directive::Chain
+            | Directive::Retry
+            | Directive::Trap
+            | Directive::Entry
+            | Directive::Word
+            | Directive::Fill => forms.len(),
         },
     }
 }
@@ -53,7 +60,7 @@ fn note_instruction(
 ) -> Result<(), AllocError> {
     let before = notes.len();
     let text = note_lookahead(notes, reader, statement)?;
-    let pieces = text.pieces(notes.alloc(), b'|')?;
+    let pieces = pieces(notes.alloc(), text, b'|')?;
     note_pieces(notes, reader, &pieces, before)
 }
 
@@ -86,7 +93,7 @@ fn note_lookahead<'t>(
     if !statement.begins(b'@') {
         return Ok(statement);
     }
-    let (head, behind) = statement.split_head();
+    let (head, behind) = split_head(statement);
     let number = head.behind(1).bytes;
     if let Some(fault) = reader.operand_fault(notes.alloc(), OperandForm::Lookahead, number)? {
         let help = "a blank comes after it";
@@ -117,7 +124,7 @@ fn note_operation(
         notes.say(reader.spot(piece), "an operation is missing here", help)?;
         return Ok(None);
     }
-    let (head, operands) = piece.split_head();
+    let (head, operands) = split_head(piece);
     let name = head.cut(b'.').0;
     match operation_named(name.bytes) {
         Some(named) if reader.knows(head.bytes) => {

@@ -1,12 +1,11 @@
 //! What registers hold along a straight line of the program.
 
 use crate::data_lines::DataLines;
-use crate::notes::Notes;
 use crate::numbers::{LABEL_ADDRESS, POINTER_CONTROL};
-use crate::phrases::put_shown;
+use crate::pieces::{split_head, trimmed};
 use crate::reader::Reader;
-use crate::token::Token;
 use asm_line::names;
+use fault_messages::{Notes, Token, put_shown};
 use insn_word::{APart, Access, CPart, Condition, ControlOp, Insn, MPart, MemoryOp, WideOp};
 use plain_text::TextWriter;
 use std::alloc::AllocError;
@@ -125,7 +124,7 @@ fn leaves(c: CPart) -> bool {
 /// The label that is the last operand of a wide operation, if it is one.
 fn label_operand<'t>(reader: &Reader<'_, 't>) -> Option<&'t [u8]> {
     let statement = reader.line().statement();
-    let operand = statement.cut(b',').1?.trim();
+    let operand = trimmed(statement.cut(b',').1?);
     reader.place_of(operand.bytes)?;
     Some(operand.bytes)
 }
@@ -227,9 +226,9 @@ fn control_name(control: u32) -> &'static str {
 
 /// The base of a line's reference, which stands in its first operation.
 fn base_operand<'t>(reader: &Reader<'_, 't>) -> Token<'t> {
-    let first = reader.instruction().cut(b'|').0.trim();
-    match first.split_head().1.cut(b',').1 {
-        Some(behind) => behind.cut(b',').0.trim(),
+    let first = trimmed(reader.instruction().cut(b'|').0);
+    match split_head(first).1.cut(b',').1 {
+        Some(behind) => trimmed(behind.cut(b',').0),
         None => first,
     }
 }

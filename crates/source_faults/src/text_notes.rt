@@ -1,13 +1,11 @@
 //! What is wrong with a text as a whole.
 
-use crate::lines::TextLine;
-use crate::message::Spot;
-use crate::notes::Notes;
+use crate::lines::CountedLine;
 use crate::operations::directive_named;
-use crate::phrases::put_shown;
+use crate::pieces::{split_head, trimmed};
 use crate::reader::SourceFacts;
-use crate::token::Token;
 use asm_line::{Directive, Fault, Item};
+use fault_messages::{Notes, Spot, Token, put_shown};
 use std::alloc::AllocError;
 
 const MAX_ENTRIES: usize = 16;
@@ -47,17 +45,24 @@ impl Totals {
     };
 
     /// Takes a line by its form, whatever fault it has.
-    pub(crate) fn see(&mut self, line: &TextLine) {
+    pub(crate) fn see(&mut self, line: &CountedLine) {
         let head = match line.label() {
-            Some(label) if label.begins(b'.') => label.trim(),
-            _ => line.statement().split_head().0,
+            Some(label) if label.begins(b'.') => trimmed(label),
+            _ => split_head(line.statement()).0,
         };
         if head.begins(b'.') {
             match directive_named(head.bytes) {
                 Some(Directive::Entry) => self.has_entry = true,
                 Some(Directive::Data | Directive::Fill) => self.has_data = true,
                 Some(Directive::Word) => self.has_word = true,
-                _ => {}
+                Some(
+                    Directive::Profile
+                    | Directive::Slim
+                    | Directive::Chain
+                    | Directive::Retry
+                    | Directive::Trap,
+                )
+                | None => {}
             }
         }
     }
@@ -66,7 +71,7 @@ impl Totals {
     pub(crate) fn take(
         &mut self,
         notes: &mut Notes,
-        line: &TextLine,
+        line: &CountedLine,
         item: Item,
     ) -> Result<(), AllocError> {
         match item {
@@ -82,7 +87,7 @@ impl Totals {
         }
     }
 
-    fn take_entry(&mut self, notes: &mut Notes, line: &TextLine) -> Result<(), AllocError> {
+    fn take_entry(&mut self, notes: &mut Notes, line: &CountedLine) -> Result<(), AllocError> {
         self.entries = self.entries.saturating_add(1);
         if self.entries == MAX_ENTRIES + 1 {
             let help = "a machine has at most 16 processors";
@@ -95,7 +100,7 @@ impl Totals {
     fn take_cells(
         &mut self,
         notes: &mut Notes,
-        line: &TextLine,
+        line: &CountedLine,
         count: usize,
     ) -> Result<(), AllocError> {
         let before = self.cells;
@@ -164,28 +169,28 @@ pub(crate) fn last_line(text: &[u8]) -> Spot {
 }
 
 /// The place of the head of a line's statement.
-fn head_spot(line: &TextLine) -> Spot {
-    line.spot(line.statement().split_head().0)
+fn head_spot(line: &CountedLine) -> Spot {
+    line.spot(split_head(line.statement()).0)
 }
 
 /// Tells that a directive stands a second time, or keeps where it stands first.
 fn note_once(
     notes: &mut Notes,
-    line: &TextLine,
+    line: &CountedLine,
     first: &mut Option<usize>,
 ) -> Result<(), AllocError> {
     let Some(number) = *first else {
-        *first = Some(line.number + 1);
+        *first = Some(line.text.number + 1);
         return Ok(());
     };
-    put_shown(&mut notes.words, line.statement().split_head().0.bytes);
+    put_shown(&mut notes.words, split_head(line.statement()).0.bytes);
     notes.words.put(" stands on line ");
     notes.words.put_number(number as u64);
     notes.number(Fault::Directive.number());
     notes.say(head_spot(line), " already", "it may stand once")
 }
 
-fn take_word(notes: &mut Notes, line: &TextLine) -> Result<(), AllocError> {
+fn take_word(notes: &mut Notes, line: &CountedLine) -> Result<(), AllocError> {
     if line.here == MAX_PROGRAM_WORDS {
         let words = "a program has at most 65536 words, and this is one more";
         notes.number(Fault::Limit.number());
@@ -195,8 +200,8 @@ fn take_word(notes: &mut Notes, line: &TextLine) -> Result<(), AllocError> {
 }
 
 /// Tells that a byte of the line is above 7F.
-pub(crate) fn note_foreign(notes: &mut Notes, line: &TextLine) -> Result<(), AllocError> {
-    let rest = Token::of_line(line.bytes).behind(length_of(line.bytes, true));
+pub(crate) fn note_foreign(notes: &mut Notes, line: &CountedLine) -> Result<(), AllocError> {
+    let rest = Token::of_line(line.text.bytes).behind(length_of(line.text.bytes, true));
     let Some(byte) = rest.bytes.first() else {
         return Ok(());
     };

@@ -1,8 +1,7 @@
 //! Words of a program that no way reaches.
 
-use crate::message::Spot;
-use crate::notes::Notes;
 use crate::numbers::UNREACHED;
+use fault_messages::{Notes, Spot};
 use image_file::Image;
 use reachable_places::unreached_rows;
 use std::alloc::AllocError;

@@ -1,15 +1,14 @@
 //! What is legal in a text and likely not what is meant.
 
 use crate::data_lines::DataLines;
-use crate::lines::Lines;
-use crate::message::Spot;
-use crate::notes::Notes;
+use crate::lines::CountedLines;
 use crate::numbers::{DATA_LABEL, EARLIER_CODE};
-use crate::phrases::put_shown;
+use crate::pieces::pieces;
 use crate::reader::{Reader, SourceFacts};
 use crate::straight_line::StraightLine;
 use crate::unreached::note_unreached;
 use asm_line::Item;
+use fault_messages::{Notes, Spot, put_shown};
 use image_file::Image;
 use insn_word::{Condition, ControlOp, Insn, decode_as};
 use std::alloc::{AllocError, Global};
@@ -41,7 +40,7 @@ fn note_lines<'t>(
     text: &'t [u8],
 ) -> Result<(), AllocError> {
     let mut straight = StraightLine::NEW;
-    for line in Lines::filled(text) {
+    for line in CountedLines::of(text) {
         let reader = Reader::at(source, line);
         match reader.own_item() {
             Ok(item) => note_item(notes, spots, &mut straight, &reader, data_lines, item)?,
@@ -89,7 +88,7 @@ fn note_data_label(
     let Some(label) = reader.line().label() else {
         return Ok(());
     };
-    if let Some(address) = data_lines.address(reader.line().number) {
+    if let Some(address) = data_lines.address(reader.line().text.number) {
         notes.help.put("this data is at address ");
         notes.help.put_number(address as u64);
     }
@@ -109,14 +108,13 @@ fn note_code(notes: &mut Notes, reader: &Reader, insn: Insn) -> Result<(), Alloc
     let Insn::Normal { a, c, .. } = insn else {
         return Ok(());
     };
-    let is_asked = match c.op {
-        ControlOp::Skip | ControlOp::Jump => c.cond != Condition::Always && c.code == 0,
-        _ => false,
-    };
+    let is_asked = matches!(c.op, ControlOp::Skip | ControlOp::Jump)
+        && c.cond != Condition::Always
+        && c.code == 0;
     if a.test && is_asked {
         let words = "the condition asks the code from before this word";
         let help = "the code that .T makes here counts from the next word on";
-        let operations = reader.instruction().pieces(notes.alloc(), b'|')?;
+        let operations = pieces(notes.alloc(), reader.instruction(), b'|')?;
         let last = operations
             .last()
             .copied()

@@ -1,10 +1,10 @@
 //! What is wrong with the operations of a word together.
 
-use crate::notes::Notes;
 use crate::operations::{Named, Part};
+use crate::pieces::{split_head, trimmed};
 use crate::reader::Reader;
-use crate::token::Token;
 use asm_line::{Fault, Item};
+use fault_messages::{Notes, Token};
 use insn_word::Insn;
 use std::alloc::AllocError;
 
@@ -131,12 +131,11 @@ fn first_writer<'t>(
 
 /// The register that an operation writes; 0 for none.
 fn destination(reader: &Reader, operation: WrittenOperation) -> u8 {
-    match reader.item(None, operation.piece.bytes) {
-        Ok(Item::Instruction(Insn::Normal { m, a, c, .. })) => {
-            m.destination().max(a.destination()).max(c.destination())
-        }
-        _ => 0,
-    }
+    let item = reader.item(None, operation.piece.bytes);
+    let Ok(Item::Instruction(Insn::Normal { m, a, c, .. })) = item else {
+        return 0;
+    };
+    m.destination().max(a.destination()).max(c.destination())
 }
 
 /// Tells that two operations write one register.
@@ -152,8 +151,8 @@ fn note_both(
         .words
         .put_all(&[first, " and ", second, " both write r"]);
     notes.words.put_number(u64::from(register));
-    let operands = operation.piece.split_head().1;
-    let written = operands.cut(b',').0.trim();
+    let operands = split_head(operation.piece).1;
+    let written = trimmed(operands.cut(b',').0);
     notes.number(Fault::TwoWriters.number());
     notes.add_with(reader.spot(written), "use two words, or another register")
 }

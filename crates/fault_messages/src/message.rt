@@ -49,16 +49,20 @@ pub struct Message {
 
 /// A place in a text, as a message has it.
 #[derive(Clone, Copy)]
-pub(crate) struct Spot {
-    pub(crate) line: usize,
-    pub(crate) start: usize,
-    pub(crate) column: usize,
-    pub(crate) width: usize,
+pub struct Spot {
+    /// The line, from 1.
+    pub line: usize,
+    /// How many bytes of the text stand before the line.
+    pub start: usize,
+    /// The first byte of the place on its line, from 1.
+    pub column: usize,
+    /// How many bytes the place has, at least 1.
+    pub width: usize,
 }
 
 impl Spot {
     /// The first place of a text.
-    pub(crate) const FIRST: Spot = Spot {
+    pub const FIRST: Spot = Spot {
         line: 1,
         start: 0,
         column: 1,

@@ -2,13 +2,11 @@
 
 ghost use Rattle.std.specs.Prelude.{◌≡◌, ◌<◌, ◌||◌, is_err, is_some, vec_len, IfOk, OnOk};
 ghost use Rattle.trace_text.specs.Schedules.{schedule_of};
-ghost use Rattle.source_faults.specs.Messages.{has_error};
+ghost use Rattle.fault_messages.specs.Messages.{has_error};
 
-use crate::lines::{Lines, TextLine};
-use crate::message::{Message, Severity, Spot};
-use crate::notes::{Notes, in_order};
 use crate::schedule_notes::{ScheduleLine, note_fields};
 use crate::streams::Streams;
+use fault_messages::{Message, Notes, Severity, Spot, TextLine, TextLines, in_order};
 use image_file::Image;
 use std::alloc::{AllocError, Global};
 use trace_text::{ScheduleFault, ScheduleFaultKind, read_schedule};
@@ -90,7 +88,7 @@ fn note_lines(
     let mut streams = streams;
     let mut steps = 0;
     let mut has_returns = false;
-    for line in Lines::of(text) {
+    for line in TextLines::of(text) {
         if line.start < text.len() {
             if let Some(fields) = note_fields(faults, &line, &mut has_returns)? {
                 steps = note_steps(faults, &line, steps, fields)?;

@@ -1,8 +1,9 @@
 //! Images.
 
-ghost use Rattle.std.specs.Prelude.{◌<◌, ◌^◌};
+ghost use Rattle.std.specs.Prelude.{◌≡◌, ◌<◌, ◌^◌, IfOk};
+ghost use Rattle.fault_messages.specs.declared.message.Severity.TheVariants as severity;
 
-use crate::message::{Message, Severity};
+use fault_messages::{Message, Severity};
 use image_file::{CountField, ImageFault};
 use plain_text::TextWriter;
 use std::alloc::{AllocError, Global};
@@ -21,7 +22,10 @@ pub fn image_fault_words(
     alloc: Global,
     bytes: &[u8],
     fault: ImageFault,
-) -> Result<Message, AllocError> {
+) -> Result<Message, AllocError>
+    ensures error { IfOk result (λ message. message.severity ≡ severity.Error) }
+    ensures line { IfOk result (λ message. message.line ≡ 1) }
+{
     let mut words = TextWriter::new(alloc);
     let FaultPlace { place, width, help } = tell_fault(&mut words, bytes, fault);
     Ok(Message {

@@ -1,9 +1,9 @@
 -- Messages about a text.
 use Rattle.std.specs.Prelude.{Bool, true, false, List}
 use Rattle.std.specs.List.{list_any}
-use Rattle.source_faults.specs.declared.message.Message.{Message}
-use Rattle.source_faults.specs.declared.message.Severity.{Severity}
-use Rattle.source_faults.specs.declared.message.Severity.TheVariants as severity
+use Rattle.fault_messages.specs.declared.message.Message.{Message}
+use Rattle.fault_messages.specs.declared.message.Severity.{Severity}
+use Rattle.fault_messages.specs.declared.message.Severity.TheVariants as severity
 
 abbrev pub is_error : Severity → Bool
 is_error severity.Error = true

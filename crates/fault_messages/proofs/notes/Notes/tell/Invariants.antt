@@ -1,6 +1,6 @@
 use Rattle.std.proofs.Common.{◌≡◌, ◌&&◌, ◌||◌, nat_lt, length}
-use Rattle.source_faults.specs.Messages.{is_error, has_error}
-use Rattle.source_faults.proofs.notes.Notes.tell.Given as goal
+use Rattle.fault_messages.specs.Messages.{is_error, has_error}
+use Rattle.fault_messages.proofs.notes.Notes.tell.Given as goal
 
 abbrev pub invariant-loop-one : goal.invariant-loop-one
 invariant-loop-one l =

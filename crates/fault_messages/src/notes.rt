@@ -1,7 +1,7 @@
 //! What is found in a text.
 
 ghost use Rattle.std.specs.Prelude.{◌≡◌, ◌<◌, ◌&&◌, ◌||◌, ◌==◌, nat_lt, vec_len, IfOk, OnOk};
-ghost use Rattle.source_faults.specs.Messages.{is_error, has_error};
+ghost use Rattle.fault_messages.specs.Messages.{is_error, has_error};
 
 use crate::message::{Message, Severity, Spot};
 use plain_text::TextWriter;
@@ -10,7 +10,7 @@ use std::alloc::{AllocError, Global};
 /// How many faults of a text, or warnings of it, are told at most.
 const MOST_FOUND: usize = 100_000;
 
-/// How many suggestions of labels are looked for in one text, each among all labels.
+/// How many suggestions of names are looked for in one text, each among many.
 const MOST_SUGGESTIONS: usize = 16;
 
 /// One thing that is found: where, what it is, and how it may be mended; the help is empty where nothing is said of that.
@@ -48,11 +48,11 @@ impl Note {
 
 /// What is found in a text so far.
 #[derive(Drop)]
-pub(crate) struct Notes {
+pub struct Notes {
     /// What is wrong, of what is added next.
-    pub(crate) words: TextWriter,
+    pub words: TextWriter,
     /// How it may be mended.
-    pub(crate) help: TextWriter,
+    pub help: TextWriter,
     suggestions: usize,
     number: Option<u8>,
     found: Vec<Note>,
@@ -60,7 +60,7 @@ pub(crate) struct Notes {
 
 impl Notes {
     /// Nothing.
-    pub(crate) fn new(alloc: Global) -> Notes {
+    pub fn new(alloc: Global) -> Notes {
         Notes {
             words: TextWriter::new(alloc),
             help: TextWriter::new(alloc),
@@ -71,26 +71,26 @@ impl Notes {
     }
 
     /// The allocator of what is found.
-    pub(crate) fn alloc(&self) -> Global {
+    pub fn alloc(&self) -> Global {
         self.words.alloc()
     }
 
     /// How much is found.
-    pub(crate) fn len(&self) -> usize
+    pub fn len(&self) -> usize
         ensures { result ≡ vec_len self.now.found }
     {
         self.found.len()
     }
 
     /// What is added next has this number: that of a fault, or of a warning.
-    pub(crate) fn number(&mut self, number: u8)
+    pub fn number(&mut self, number: u8)
         ensures { self.new.found ≡ self.old.found }
     {
         self.number = Some(number);
     }
 
     /// Adds what is found at a place, with the words and the help that are written, unless very much is found already.
-    pub(crate) fn add(&mut self, spot: Spot) -> Result<(), AllocError>
+    pub fn add(&mut self, spot: Spot) -> Result<(), AllocError>
         ensures { OnOk result (0 < vec_len self.new.found) }
     {
         let number = self.number.take();
@@ -108,7 +108,7 @@ impl Notes {
     }
 
     /// Adds what is found at a place, in fixed words after those that are written.
-    pub(crate) fn say(&mut self, spot: Spot, words: &str, help: &str) -> Result<(), AllocError>
+    pub fn say(&mut self, spot: Spot, words: &str, help: &str) -> Result<(), AllocError>
         ensures { OnOk result (0 < vec_len self.new.found) }
     {
         self.words.put(words);
@@ -116,7 +116,7 @@ impl Notes {
     }
 
     /// Adds what is found at a place with the words that are written, and fixed words after the help.
-    pub(crate) fn add_with(&mut self, spot: Spot, help: &str) -> Result<(), AllocError>
+    pub fn add_with(&mut self, spot: Spot, help: &str) -> Result<(), AllocError>
         ensures { OnOk result (0 < vec_len self.new.found) }
     {
         self.help.put(help);
@@ -124,7 +124,7 @@ impl Notes {
     }
 
     /// Whether one suggestion more may be looked for, which is then counted.
-    pub(crate) fn may_suggest(&mut self) -> bool {
+    pub fn may_suggest(&mut self) -> bool {
         if self.suggestions < MOST_SUGGESTIONS {
             self.suggestions += 1;
             true
@@ -134,11 +134,7 @@ impl Notes {
     }
 
     /// Tells what is found by messages after others.
-    pub(crate) fn tell(
-        self,
-        severity: Severity,
-        messages: &mut Vec<Message>,
-    ) -> Result<(), AllocError>
+    pub fn tell(self, severity: Severity, messages: &mut Vec<Message>) -> Result<(), AllocError>
         ensures { OnOk result (has_error messages.new.items
             ≡ (has_error messages.old.items || (is_error severity && nat_lt 0 (vec_len self.found)))) }
     {
@@ -152,7 +148,7 @@ impl Notes {
 
 /// Messages in the order of their lines and columns.
 #[tactic(auto, using(crate::proofs::Order::errors_kept))]
-pub(crate) fn in_order(mut messages: Vec<Message>) -> Result<Vec<Message>, AllocError>
+pub fn in_order(mut messages: Vec<Message>) -> Result<Vec<Message>, AllocError>
     ensures { IfOk result (λ ordered. has_error ordered.items ≡ has_error messages.items) }
 {
     messages.sort_by_key(|message| (message.line, message.column))?;

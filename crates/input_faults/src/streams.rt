@@ -1,9 +1,7 @@
 //! The processors and streams that a schedule names.
 
-use crate::lines::TextLine;
-use crate::notes::Notes;
 use crate::schedule_notes::ScheduleLine;
-use crate::token::Token;
+use fault_messages::{Notes, TextLine, Token};
 use image_file::Image;
 use plain_text::TextWriter;
 use std::alloc::{AllocError, Global};

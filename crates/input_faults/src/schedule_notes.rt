@@ -1,9 +1,6 @@
 //! What is wrong with a line of a schedule.
 
-use crate::lines::TextLine;
-use crate::notes::Notes;
-use crate::phrases::put_shown;
-use crate::token::Token;
+use fault_messages::{Notes, TextLine, Token, put_shown};
 use plain_text::TextWriter;
 use std::alloc::AllocError;
 use text_parts::{Base, Number, find_either, read_digits};
@@ -71,15 +68,15 @@ pub(crate) fn note_fields<'t>(
         Some(third) => note_times(notes, line, third)?,
         None => Some(1),
     };
-    Ok(match (processor, stream, times) {
-        (Some(processor), Some(stream), Some(times)) => Some(ScheduleLine {
-            processor,
-            stream,
-            times,
-            token,
-        }),
-        _ => None,
-    })
+    let (Some(processor), Some(stream), Some(times)) = (processor, stream, times) else {
+        return Ok(None);
+    };
+    Ok(Some(ScheduleLine {
+        processor,
+        stream,
+        times,
+        token,
+    }))
 }
 
 /// Tells what is wrong with a number up to 255, and answers it where it is right.
