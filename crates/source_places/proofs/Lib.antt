@@ -1,1 +1,2 @@
 mod WordLines
+mod NotedNames
