@@ -1,10 +1,10 @@
 -- One more name of a table.
-use Rattle.std.proofs.Common.{◌≡◌, ℕ, Bool, true, false, cond, List, Option, Some, None, refl, sym, ◌∙◌, ap, unwrap_or}
+use Rattle.std.proofs.Common.{◌≡◌, ℕ, ◌+◌, add-zero, Bool, true, false, cond, List, Option, Some, None, refl, sym, ◌∙◌, ap, unwrap_or}
 use Rattle.std.specs.Option.{option_map, option_or}
 use Rattle.std.specs.Str.{bytes_eq}
 use Rattle.std.proofs.lemmas.Slice.Eq.{bytes_eq-Decides}
 use Rattle.std.proofs.lemmas.Bool.{false_from_ne_true}
-use Rattle.source_places.specs.DataNames.{DataNameValue, is_called, if_called}
+use Rattle.source_places.specs.DataNames.{DataNameValue, if_called}
 use Rattle.source_places.specs.SourcePlaces.{data_name_seen}
 use Rattle.source_places.specs.declared.data_names.DataName.{DataName}
 
@@ -44,3 +44,19 @@ noted before now n v value is q = ap (option_map data_name_seen) (is q) ∙ by_t
     by_test false e =
         let back : bytes_eq q n.name.now ≡ false = same_both_ways q n.name.now ∙ e in
         rw (e, back) (sym (or_none (option_map data_name_seen (before q))))
+
+-- A name counted once more.
+pub counted : (before now : List ℕ → Option ℕ) (name : List ℕ) (v : ℕ) → v ≡ unwrap_or (before name) 0 + 1
+    → ((q : List ℕ) → now q ≡ cond (bytes_eq name q) (Some v) (before q)) → (q : List ℕ)
+    → unwrap_or (now q) 0 ≡ unwrap_or (before q) 0 + cond (bytes_eq q name) 1 0
+counted before now name v value is q = ap (λ o. unwrap_or o 0) (is q) ∙ by_test (bytes_eq name q) refl
+  where
+    by_test : (b : Bool) → bytes_eq name q ≡ b
+        → unwrap_or (cond (bytes_eq name q) (Some v) (before q)) 0 ≡ unwrap_or (before q) 0 + cond (bytes_eq q name) 1 0
+    by_test true e =
+        let same : name ≡ q = (bytes_eq-Decides name q).0 e in
+        let back : bytes_eq q name ≡ true = same_both_ways q name ∙ e in
+        rw (e, back) (value ∙ ap (λ l. unwrap_or (before l) 0 + 1) same)
+    by_test false e =
+        let back : bytes_eq q name ≡ false = same_both_ways q name ∙ e in
+        rw (e, back) (sym (add-zero (unwrap_or (before q) 0)))
