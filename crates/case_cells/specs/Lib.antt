@@ -1,2 +1,2 @@
--- What public contracts promise: which lines say cells.
+-- What public contracts promise: which lines say cells, and what is wrong with a text that has others.
 pub mod CellLines

@@ -1,14 +1,14 @@
 //! Cells, read from their text.
 
-ghost use Rattle.std.specs.Prelude.{◌≡◌, ◌++◌, codes, IsTrue, IfOk, IfNone};
-ghost use Rattle.std.specs.List.{list_all};
-ghost use Rattle.asm_line.specs.Lines.{lines};
+ghost use Rattle.std.specs.Prelude.{◌≡◌, ◌++◌, codes, IfOk, IfErr, IfNone};
 ghost use Rattle.asm_line.specs.SourceLines.{line_seen};
 ghost use Rattle.asm_text.specs.Sources.{Means};
-ghost use Rattle.case_cells.specs.CellLines.{is_cells_line, program_behind};
+ghost use Rattle.case_cells.specs.declared.reading.CellsFault.TheVariants.{NoMemory};
+ghost use Rattle.case_cells.specs.CellLines.{is_cells_line, program_behind, HasCellsAlone};
+ghost use Rattle.case_cells.specs.CellLines.{first_other_line, HasCellsFault};
 
 use asm_line::{SourceLine, next_source_line};
-use asm_text::{AsmFault, assemble};
+use asm_text::{AsmFault, Fault, assemble};
 use image_file::Image;
 use std::alloc::{AllocError, AllocFailed, Global};
 
@@ -28,22 +28,28 @@ pub enum CellsFault {
 }
 
 impl From<AllocError> for CellsFault {
+    ghost from_gives = { λ _ fault. fault ≡ NoMemory };
+
     fn from(_error: AllocError) -> CellsFault {
         CellsFault::NoMemory
     }
 }
 
 impl<T: Drop> From<AllocFailed<T>> for CellsFault {
+    ghost from_gives = { λ _ fault. fault ≡ NoMemory };
+
     fn from(_error: AllocFailed<T>) -> CellsFault {
         CellsFault::NoMemory
     }
 }
 
 /// The image of the cells that a text says and a program of one word, as the assembler reads them. Each line of the
-/// text is one of `.data` or `.fill`, without a label, or has nothing but a comment.
+/// text is one of `.data` or `.fill`, without a label, or has nothing but a comment. Else the first line that is another
+/// one; else the fault that the assembler finds.
 pub fn read_cells(alloc: Global, text: &[u8]) -> Result<Image, CellsFault>
     ensures means { IfOk result (Means (text.now ++ program_behind)) }
-    ensures cells { IfOk result (λ _. IsTrue (list_all is_cells_line (lines text.now))) }
+    ensures cells { IfOk result (λ _. HasCellsAlone text.now) }
+    ensures fault { IfErr result (HasCellsFault text.now) }
 {
     if let Some(line) = first_other_line(text) {
         return Err(CellsFault::Line(line));
@@ -51,6 +57,7 @@ pub fn read_cells(alloc: Global, text: &[u8]) -> Result<Image, CellsFault>
     let whole = program_of_cells(alloc, text)?;
     match assemble(alloc, &whole) {
         Ok(image) => Ok(image),
+        Err(fault) if fault.kind == Fault::NoMemory => Err(CellsFault::NoMemory),
         Err(fault) => Err(CellsFault::Source(fault)),
     }
 }
@@ -66,7 +73,8 @@ pub fn program_of_cells(alloc: Global, text: &[u8]) -> Result<Vec<u8>, AllocErro
 
 /// The number, from 1, of the first line that is none of cells.
 fn first_other_line(text: &[u8]) -> Option<usize>
-    ensures { IfNone result (IsTrue (list_all is_cells_line (lines text.now))) }
+    ensures first { result ≡ first_other_line text.now }
+    ensures none { IfNone result (HasCellsAlone text.now) }
 {
     let mut number = 0;
     let mut rest = Some(text);

@@ -1,2 +1,6 @@
--- When two source texts mean the same. It is a promise: the clause of the public function cites it.
+-- When two source texts mean the same image, and which comments a text has. Both are promises: the clauses of the public
+-- function cite them.
 pub mod SameMeaning
+pub mod Comments
+-- What only the code below them cites:
+pub mod CommentsSeen

@@ -1,7 +1,8 @@
-//! One layout of source texts: labels, statements and comments in columns, the image unchanged
+//! One layout of source texts: labels, statements and comments in columns, the image and the comments unchanged
 //! (docs/WRITING_PROGRAMS.md, "One layout").
 #![tactic(auto)]
 
+mod comments;
 mod lines;
 mod same_image;
 mod statements;

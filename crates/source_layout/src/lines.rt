@@ -1,9 +1,9 @@
 //! The columns of a line. Columns count from 0.
 
+use crate::comments::comment_of;
 use crate::statements::push_statement;
 use asm_line::cut_line;
 use std::alloc::{AllocError, Global};
-use text_parts::cut;
 
 /// The column of statements; behind a longer label one blank stands.
 const STATEMENT: usize = 8;
@@ -79,19 +79,6 @@ fn push_comment(
     Ok(out.extend_from_slice(comment)?)
 }
 
-/// What stands behind the first semicolon of a line, without the blanks at its end; None where there is none.
-fn comment_of(line: &[u8]) -> Option<&[u8]> {
-    let (_, comment) = cut(line, b';');
-    let comment = comment?;
-    let mut length: usize = 0;
-    for (place, byte) in comment.iter().enumerate() {
-        if !is_blank(*byte) {
-            length = place.saturating_add(1);
-        }
-    }
-    comment.get(..length)
-}
-
 /// The column of a comment behind so many bytes.
 fn column_behind(width: usize) -> usize {
     if width < COMMENT {
@@ -134,9 +121,4 @@ fn push_blanks(out: &mut Vec<u8>, start: usize, column: usize) -> Result<(), All
 /// How many bytes the line has that begins at this place of the output.
 fn width_from(out: &Vec<u8>, start: usize) -> usize {
     out.len().saturating_sub(start)
-}
-
-/// A space, a tab or a carriage return.
-fn is_blank(byte: u8) -> bool {
-    matches!(byte, b' ' | b'\t' | b'\r')
 }

@@ -1,33 +1,41 @@
 //! A layout that is kept where it means the same.
 
-ghost use Rattle.std.specs.Prelude.{◌≡◌, Ok, None, IfOk, IfSome};
+ghost use Rattle.std.specs.Prelude.{◌≡◌, Ok, Err, None, IfOk, IfSome};
 ghost use Rattle.std.specs.Bool.{IsTrue};
 ghost use Rattle.asm_line.specs.Lines.{lines};
 ghost use Rattle.asm_text.specs.Sources.{meaning_of_lines};
-ghost use Rattle.source_layout.specs.SameMeaning.{MeanTheSame};
+ghost use Rattle.asm_text.specs.declared.fault.AsmFault.{AsmFault};
+ghost use Rattle.source_layout.specs.Comments.{comments_of};
+ghost use Rattle.source_layout.specs.SameMeaning.{MeanOneImage};
 
+use crate::comments::have_same_comments;
 use crate::lines::in_columns;
 use asm_text::{Fault, assemble};
 use image_file::Image;
 use source_comments::ascii_comments;
 use std::alloc::{AllocError, Global};
 
-/// The text in the one layout; None where the text has a fault, or where its layout would mean another image. Comments
-/// may have any bytes. Only memory can be missing.
+/// The text in the one layout: it means the image of the text, and has the same comments on the same lines. None where
+/// the text has a fault, or where its layout would be otherwise. Comments may have any bytes. Only memory can be missing.
 pub fn laid_out(alloc: Global, text: &[u8]) -> Result<Option<Vec<u8>>, AllocError>
-    ensures meaning { IfOk result (λ o. IfSome o (λ laid. MeanTheSame laid.items text.now)) }
+    ensures image { IfOk result (λ o. IfSome o (λ laid. MeanOneImage laid.items text.now)) }
+    ensures comments { IfOk result (λ o. IfSome o (λ laid. comments_of laid.items ≡ comments_of text.now)) }
+    ensures fault { IfOk result (λ o. (e : AsmFault) → meaning_of_lines (lines text.now) ≡ Err e → o ≡ None) }
 {
     let laid = in_columns(alloc, text)?;
-    if mean_the_same(alloc, &laid, text)? {
+    if !have_same_comments(alloc, &laid, text)? {
+        return Ok(None);
+    }
+    if mean_one_image(alloc, &laid, text)? {
         Ok(Some(laid))
     } else {
         Ok(None)
     }
 }
 
-/// Whether two texts mean an image, and the same one.
-fn mean_the_same(alloc: Global, text: &[u8], other: &[u8]) -> Result<bool, AllocError>
-    ensures { IfOk result (λ same. IsTrue same → MeanTheSame text.now other.now) }
+/// Whether two texts mean one image.
+fn mean_one_image(alloc: Global, text: &[u8], other: &[u8]) -> Result<bool, AllocError>
+    ensures { IfOk result (λ same. IsTrue same → MeanOneImage text.now other.now) }
 {
     let Some(image) = image_of(alloc, text)? else {
         return Ok(false);

@@ -1,1 +1,4 @@
 mod WordLines
+mod NotedNames
+mod OwnNames
+mod LineCells

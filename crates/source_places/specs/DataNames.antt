@@ -1,6 +1,7 @@
 -- The names that a source text gives words of the memory.
 use Rattle.std.specs.Prelude.{ℕ, ◌==◌, Bool, true, ◌&&◌, if◌then◌else◌, List, [], ◌∷◌, ◌++◌, take, filter, count_by}
 use Rattle.std.specs.Prelude.{Option, Some, None}
+use Rattle.std.specs.Option.{option_map, option_or}
 use Rattle.std.specs.Str.{bytes_eq}
 use Rattle.text_parts.specs.Pieces.{text_after}
 use Rattle.asm_line.specs.Text.{is_name}
@@ -50,7 +51,7 @@ names_said (l ∷ ls) = name_of l (line_name l.bytes) ++ names_said ls
 
 -- whether a name is said so
 abbrev pub is_called : List ℕ → DataNameValue → Bool
-is_called name n = bytes_eq n.name name
+is_called name n = bytes_eq name n.name
 
 -- whether a label, where it stands, stands on line k
 abbrev pub is_on : ℕ → Option Place → Bool
@@ -72,3 +73,16 @@ said_names text = take most_names (names_said (data_lines text))
 -- of those the ones that name their words: no other line says or has them
 abbrev pub data_names : List ℕ → List DataNameValue
 data_names text = let said = said_names text in filter (is_own (place (lines text)) said) said
+
+-- a name, where it is this one
+abbrev pub if_called : List ℕ → DataNameValue → Option DataNameValue
+if_called name n = if is_called name n then Some n else None
+
+-- the first of some names that is this one
+abbrev pub first_called : List ℕ → List DataNameValue → Option DataNameValue
+first_called name [] = None
+first_called name (n ∷ ns) = option_or (if_called name n) (first_called name ns)
+
+-- the first data word of a name's line
+abbrev pub first_word : Option DataNameValue → Option ℕ
+first_word o = option_map (λ n. n.first) o

@@ -1,17 +1,20 @@
 //! The names that a source text gives words of the memory.
 
-ghost use Rattle.std.specs.Prelude.{◌≡◌, ◌==◌, ◌++◌, ◌<◌, length, take, filter, count_by, IfOk, OnOk};
+ghost use Rattle.std.specs.Prelude.{◌≡◌, ◌+◌, ◌<◌, ◌^◌, ◌++◌, if◌then◌else◌, ℕ, List};
+ghost use Rattle.std.specs.Prelude.{take, filter, count_by, IfOk, OnOk};
 ghost use Rattle.std.specs.List.{list_all};
 ghost use Rattle.std.specs.Option.{option_copied};
 ghost use Rattle.asm_line.specs.Labels.{places_of};
 ghost use Rattle.asm_line.specs.Text.{is_first, is_further, is_name};
 ghost use Rattle.source_places.specs.DataNames.{name_in, comment_name, name_by, line_name, name_of, names_said};
-ghost use Rattle.source_places.specs.DataNames.{is_called, is_on, is_own, most_names};
+ghost use Rattle.source_places.specs.DataNames.{DataNameValue, is_called, is_on, is_own, most_names};
 ghost use Rattle.source_places.specs.SourcePlaces.{data_line_seen, data_lines_seen, data_name_seen, data_names_seen};
+ghost use Rattle.source_places.specs.TimesSaid.{times_in};
 
 use crate::lines::{DataLine, comment_of};
 use asm_line::{Labels, Place, cut_line};
 use std::alloc::{AllocError, Global};
+use std::collections::HashMap;
 
 /// How many of the names that a text says for its data are taken; the others name nothing.
 pub const MOST_NAMES: usize = 4096;
@@ -85,20 +88,23 @@ pub(crate) fn own_names<'t>(
     ensures { let said = data_names_seen said.now in IfOk result (λ names. data_names_seen names.items
         ≡ filter (is_own (places_of labels.now) said) said) }
 {
+    let times = times_said(alloc, said)?;
     let mut names = Vec::new(alloc);
     for name in said {
-        if is_own(labels, said, name) {
+        if is_own(labels, &times, name) {
             names.push(*name)?;
         }
     }
     Ok(names)
 }
 
-/// Whether no other line says a name, and no label of another line is that name.
-fn is_own(labels: &Labels, said: &[DataName], name: &DataName) -> bool
-    ensures { result ≡ is_own (places_of labels.now) (data_names_seen said.now) (data_name_seen name.now) }
+/// Whether no other line says a name, which is said so often, and no label of another line is that name.
+fn is_own(labels: &Labels, times: &HashMap<&[u8], usize>, name: &DataName) -> bool
+    ensures { (said : List DataNameValue) → times_in times.now name.now.name.now
+        ≡ count_by (is_called name.now.name.now) said
+        → result ≡ is_own (places_of labels.now) said (data_name_seen name.now) }
 {
-    is_on(name.number, labels.find(name.name)) && times_said(said, name.name) == 1
+    times_of(times, name.name) == 1 && is_on(name.number, labels.find(name.name))
 }
 
 /// Whether a label, where it stands, stands on this line.
@@ -111,17 +117,39 @@ fn is_on(number: usize, place: Option<Place>) -> bool
     }
 }
 
-/// How often a name is said.
-fn times_said(said: &[DataName], name: &[u8]) -> usize
-    ensures { result ≡ count_by (is_called name.now) (data_names_seen said.now) }
+/// How often each name is said.
+fn times_said<'t>(
+    alloc: Global,
+    said: &[DataName<'t>],
+) -> Result<HashMap<&'t [u8], usize>, AllocError>
+    ensures { IfOk result (λ times. (q : List ℕ) → times_in times q ≡ count_by (is_called q) (data_names_seen said.now)) }
 {
-    let mut times = 0;
-    for other in said {
-        if other.name == name {
-            times += 1;
-        }
+    let mut times = HashMap::new(alloc);
+    for name in said {
+        count_name(&mut times, name)?;
     }
-    times
+    Ok(times)
+}
+
+/// Counts a name once more.
+fn count_name<'t>(
+    times: &mut HashMap<&'t [u8], usize>,
+    name: &DataName<'t>,
+) -> Result<(), AllocError>
+    requires { times_in times.old name.now.name.now + 1 < 2 ^ 64 }
+    ensures { OnOk result ((q : List ℕ) → times_in times.new q
+        ≡ times_in times.old q + (if is_called q (data_name_seen name.now) then 1 else 0)) }
+{
+    *times.entry(name.name)?.or_insert(0) += 1;
+    Ok(())
+}
+
+/// How often a name was counted.
+#[tactic(auto, unfolding(crate::specs::TimesSaid::times_in))]
+fn times_of(times: &HashMap<&[u8], usize>, name: &[u8]) -> usize
+    ensures { result ≡ times_in times.now name.now }
+{
+    times.get(name).copied().unwrap_or(0)
 }
 
 /// The name of a line of data with these bytes: its label, or else what its comment says.

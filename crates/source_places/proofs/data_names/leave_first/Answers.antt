@@ -1,4 +1,4 @@
-use Rattle.std.proofs.Common.{◌≡◌, take, sym, ◌∙◌, ap}
+use Rattle.std.proofs.Common.{sym, ◌∙◌, ap}
 use Rattle.std.proofs.lemmas.List.{take-map}
 use Rattle.source_places.specs.DataNames.{most_names}
 use Rattle.source_places.specs.SourcePlaces.{data_name_seen, data_names_seen}
