@@ -1,6 +1,6 @@
 //! Whether claims hold of all worlds of a space, or on the way through a schedule.
 
-ghost use Rattle.std.specs.Prelude.{◌≡◌, ◌↔◌, IsTrue, IfOk};
+ghost use Rattle.std.specs.Prelude.{◌≡◌, ◌↔◌, ◌<◌, IsTrue, IfOk, Err};
 ghost use Rattle.claims.specs.Holding.{holds};
 ghost use Rattle.schedule_verdicts.specs.KeptClaims.{all_hold, AreKept, AreKeptOnTheWay};
 
@@ -17,7 +17,8 @@ pub(crate) fn are_kept<const S: usize>(
     space: &Space<'_>,
     claims: &[Claim],
 ) -> Result<bool, LoadFault>
-    ensures { IfOk result (λ b. IsTrue b ↔ AreKept space.now claims.now) }
+    ensures kept { IfOk result (λ b. IsTrue b ↔ AreKept space.now claims.now) }
+    ensures streams { result ≡ Err LoadFault.Streams → S < space.now.image.slim }
 {
     if claims.is_empty() {
         return Ok(true);
@@ -34,14 +35,15 @@ pub(crate) fn are_kept<const S: usize>(
 /// Whether claims hold of each world on the way through a schedule of an image: of the first one, and of that behind each
 /// step.
 ///
-/// `Streams` only where the image's slim is above `S`.
+/// `Streams` exactly where the image's slim is above `S`.
 pub fn are_kept_on_the_way<const S: usize>(
     alloc: Global,
     image: &Image,
     schedule: &[Step],
     claims: &[Claim],
 ) -> Result<bool, LoadFault>
-    ensures { IfOk result (λ b. IsTrue b ↔ AreKeptOnTheWay image.now schedule.now claims.now) }
+    ensures kept { IfOk result (λ b. IsTrue b ↔ AreKeptOnTheWay image.now schedule.now claims.now) }
+    ensures streams { (result ≡ Err LoadFault.Streams) ↔ (S < image.now.slim) }
 {
     let mut machine = Machine::<S>::load(alloc, image)?;
     for taken in 0..schedule.len() {

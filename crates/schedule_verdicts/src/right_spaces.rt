@@ -1,6 +1,6 @@
 //! Whether every schedule of an image comes to a right end.
 
-ghost use Rattle.std.specs.Prelude.{◌≡◌, ◌↔◌, ◌<◌, ◌⊎◌, IsTrue, IfOk, ℕ};
+ghost use Rattle.std.specs.Prelude.{◌≡◌, ◌↔◌, ◌<◌, ◌⊎◌, IsTrue, IfOk, Err, ℕ};
 ghost use Rattle.schedule_space.specs.Spaces.{count, world_of, IsComplete, HasAllEdges};
 ghost use Rattle.schedule_space.specs.Reaching.{CanEnd};
 ghost use Rattle.schedule_space.specs.Followed.{AllFollowed, HasAllEnds, TellsWhetherAllEnd};
@@ -22,7 +22,7 @@ use std::alloc::{AllocError, Global};
 /// or that leaves out just steps at which the claims do not look, only where beside that the claims hold wherever a schedule
 /// leads. Where all that is so it is true, of a space of either kind.
 ///
-/// `Streams` only where the image's slim is above `S`.
+/// `Streams` exactly where the image's slim is above `S`.
 pub fn is_right<const S: usize>(
     alloc: Global,
     space: &Space<'_>,
@@ -42,9 +42,13 @@ pub fn is_right<const S: usize>(
         → IsRightOnEachWay space.now.image space.now.begin expected.now claims.now) }
     ensures only { IfOk result (λ b. (IsComplete space.now × HasAllEdges space.now) ⊎ AllFollowed space.now
         → IsRightOnEachWay space.now.image space.now.begin expected.now claims.now → IsTrue b) }
+    ensures streams { (result ≡ Err LoadFault.Streams) ↔ (S < space.now.image.slim) }
 {
     // They say that each place but the first was found from an earlier one, and that what is live is all that may be read.
     let (_worlds, _live) = (space.len(), space.live());
+    if usize::from(space.image().slim()) > S {
+        return Err(LoadFault::Streams);
+    }
     if !ends_are_right::<S>(alloc, space, expected)? {
         return Ok(false);
     }
@@ -62,6 +66,7 @@ fn ends_are_right<const S: usize>(
 ) -> Result<bool, LoadFault>
     ensures are { IfOk result (λ b. IsTrue b ↔ EndRight space.now expected.now) }
     ensures registers { IfOk result (λ b. IsTrue b → EndOfRegisters space.now expected.now) }
+    ensures streams { result ≡ Err LoadFault.Streams → S < space.now.image.slim }
 {
     for place in 0..space.len() {
         if !is_right_at::<S>(alloc, space, place, expected)? {
@@ -81,6 +86,7 @@ fn is_right_at<const S: usize>(
     requires { place < count space.now }
     ensures is { IfOk result (λ b. IsTrue b ↔ IsRightAt space.now expected.now place) }
     ensures registers { IfOk result (λ b. IsTrue b → IsOfRegistersAt space.now expected.now place) }
+    ensures streams { result ≡ Err LoadFault.Streams → S < space.now.image.slim }
 {
     match space.fate(place) {
         Fate::GoesOn => Ok(true),

@@ -1,6 +1,6 @@
 //! Whether some world shows a claim that has to hold of one at least.
 
-ghost use Rattle.std.specs.Prelude.{◌≡◌, ◌<◌, IsTrue, IsFalse, IfSome, IfOk, None, Err};
+ghost use Rattle.std.specs.Prelude.{◌≡◌, ◌<◌, ◌↔◌, IsTrue, IsFalse, IfSome, IfOk, None, Err};
 ghost use Rattle.schedule_verdicts.specs.ShownClaims.{IsShownOnTheWay, IsUnshownOnTheWay, IsShown, AreShown};
 ghost use Rattle.schedule_verdicts.specs.ShownClaims.{IsUnshownIn, IsUnshownAt, TellsOfClaims};
 
@@ -15,7 +15,7 @@ use std::alloc::Global;
 /// where each is shown. Then each is shown by a schedule. Of a space that has all worlds, or that leaves out just steps at
 /// which the claims do not look, this is so where each is.
 ///
-/// `Streams` only where the image's slim is above `S`.
+/// `Streams` exactly where the image's slim is above `S`.
 pub fn first_unshown<const S: usize>(
     alloc: Global,
     space: &Space<'_>,
@@ -25,10 +25,13 @@ pub fn first_unshown<const S: usize>(
     ensures only { IfOk result (λ told. TellsOfClaims space.now claims.now
         → AreShown space.now.image space.now.begin claims.now → told ≡ None) }
     ensures unshown { IfOk result (λ told. IfSome told (λ k. IsUnshownAt space.now claims.now k)) }
-    ensures streams { result ≡ Err LoadFault.Streams → S < space.now.image.slim }
+    ensures streams { (result ≡ Err LoadFault.Streams) ↔ (S < space.now.image.slim) }
 {
     // They say that it has a first world, and that what is live is all that may be read.
     let (_worlds, _live) = (space.len(), space.live());
+    if usize::from(space.image().slim()) > S {
+        return Err(LoadFault::Streams);
+    }
     for place in 0..claims.len() {
         if !is_shown::<S>(alloc, space, &claims[place])? {
             return Ok(Some(place));
@@ -45,7 +48,7 @@ fn is_shown<const S: usize>(
 ) -> Result<bool, LoadFault>
     ensures shown { IfOk result (λ b. IsTrue b → IsShown space.now.image space.now.begin claim.now) }
     ensures unshown { IfOk result (λ b. IsFalse b → IsUnshownIn space.now claim.now) }
-    ensures streams { result ≡ Err LoadFault.Streams → S < space.now.image.slim }
+    ensures streams { (result ≡ Err LoadFault.Streams) ↔ (S < space.now.image.slim) }
 {
     if is_shown_on_the_way::<S>(alloc, space.image(), space.begin(), claim)? {
         return Ok(true);
@@ -61,7 +64,7 @@ fn is_shown<const S: usize>(
 
 /// Whether some world on the way through a schedule of an image shows a claim: the first one, or that behind some step.
 ///
-/// `Streams` only where the image's slim is above `S`.
+/// `Streams` exactly where the image's slim is above `S`.
 pub fn is_shown_on_the_way<const S: usize>(
     alloc: Global,
     image: &Image,
@@ -70,7 +73,7 @@ pub fn is_shown_on_the_way<const S: usize>(
 ) -> Result<bool, LoadFault>
     ensures shown { IfOk result (λ b. IsTrue b → IsShownOnTheWay image.now schedule.now claim.now) }
     ensures unshown { IfOk result (λ b. IsFalse b → IsUnshownOnTheWay image.now schedule.now claim.now) }
-    ensures streams { result ≡ Err LoadFault.Streams → S < image.now.slim }
+    ensures streams { (result ≡ Err LoadFault.Streams) ↔ (S < image.now.slim) }
 {
     let mut machine = Machine::<S>::load(alloc, image)?;
     for taken in 0..schedule.len() {

@@ -1,6 +1,7 @@
 -- Which ends can still be reached from the worlds of a space.
 use Rattle.std.specs.Prelude.{◌≡◌, ℕ, ◌+◌, ◌<◌, Bool, List, length, map, Contains, Vec}
 use Rattle.std.specs.List.{HoldsAt}
+use Rattle.std.specs.List.Sorted.{IsStrictlyIncreasing}
 use Rattle.std.specs.Global.{Global}
 use Rattle.terminal_components.specs.declared.links.Link.{Link}
 use Rattle.terminal_components.specs.Reachability.{AreBackwardReachable, IsMarked, ReachesOne}
@@ -12,12 +13,14 @@ use Rattle.lab_ends.specs.declared.every_end.SpaceEnd.{SpaceEnd}
 abbrev pub CanStillCome : SpaceValue → ℕ → SpaceEnd → Type 0
 CanStillCome v k end = ReachesOne (count v) (map link_of v.edges) end.places.items k
 
--- the numbers of the ends, which count from 1, that can still be reached from the world at a place
+-- These are the numbers of the ends, which count from 1, that can still be reached from the world at a place: each once,
+-- in ascending order.
 pub record AreAhead (v : SpaceValue) (ends : List SpaceEnd) (k : ℕ) (numbers : List ℕ) : Type 0 where
   pub sound :
       (m : ℕ) → Contains numbers m
       → (i : ℕ) × (i < length ends) × (m ≡ i + 1) × HoldsAt (CanStillCome v k) ends i
   pub all : (i : ℕ) → i < length ends → HoldsAt (CanStillCome v k) ends i → Contains numbers (i + 1)
+  pub order : IsStrictlyIncreasing numbers
 
 -- those of each world
 pub record AreEndsAhead (v : SpaceValue) (ends : List SpaceEnd) (ahead : List (Vec ℕ Global)) : Type 0 where
@@ -37,10 +40,11 @@ pub record AreMarks (n : ℕ) (links : List Link) (ends : List SpaceEnd) (marks 
 abbrev pub IsMarkedIn : ℕ → Vec Bool Global → Type 0
 IsMarkedIn k mark = IsMarked mark.items k
 
--- the numbers, which count from 1, of the first n marks at which a place is marked
+-- The numbers, which count from 1, of the first n marks at which a place is marked: each once, in ascending order.
 pub record AreMarkNumbers (marks : List (Vec Bool Global)) (k n : ℕ) (numbers : List ℕ) : Type 0 where
   pub sound : (m : ℕ) → Contains numbers m → (i : ℕ) × (i < n) × (m ≡ i + 1) × HoldsAt (IsMarkedIn k) marks i
   pub all : (i : ℕ) → i < n → HoldsAt (IsMarkedIn k) marks i → Contains numbers (i + 1)
+  pub order : IsStrictlyIncreasing numbers
 
 -- the same of all marks, as a vector
 abbrev pub AreNumbersIn : List (Vec Bool Global) → ℕ → Vec ℕ Global → Type 0

@@ -23,7 +23,7 @@ returns-clause-ends g c =
     right_by_ends v c.args.expected.now c.args.claims.now
     (record { ends = ends; reach = reach; kept = told.0 yes }) (c.in_ok-ends_are_right.ensures.registers (search rules))
     c.live-live.ensures.live)
-    c.are_kept.ensures
+    c.are_kept.ensures.kept
 
 pub returns-clause-each_way : goal.returns-clause-each_way
 returns-clause-each_way g c =
@@ -35,7 +35,7 @@ returns-clause-each_way g c =
     (λ b told yes.
     right_by_worlds v c.args.expected.now c.args.claims.now
     (record { ends = ends; reach = reach; kept = told.0 yes }))
-    c.are_kept.ensures
+    c.are_kept.ensures.kept
 
 pub returns-clause-shown : goal.returns-clause-shown
 returns-clause-shown g c =
@@ -49,7 +49,7 @@ returns-clause-shown g c =
     right_by_quiet v c.args.expected.now c.args.claims.now
     (record { ends = ends; reach = reach; kept = told.0 yes }) (c.in_ok-ends_are_right.ensures.registers (search rules))
     c.live-live.ensures.live)
-    c.are_kept.ensures
+    c.are_kept.ensures.kept
 
 pub returns-then-not-branch-clause-only : goal.returns-then-not-branch-clause-only
 returns-then-not-branch-clause-only g c = λ taken right.
@@ -78,4 +78,4 @@ returns-clause-only g c =
     → IsRightOnEachWay v.image v.begin c.args.expected.now c.args.claims.now → IsTrue b)
     (λ b told taken right.
     told.1 (right_of_space v c.args.expected.now c.args.claims.now c.len-worlds.ensures.links right).kept)
-    c.are_kept.ensures
+    c.are_kept.ensures.kept
