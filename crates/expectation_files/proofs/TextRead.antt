@@ -1,5 +1,5 @@
 -- What the lines of a text say, from what was found in the first of them.
-use Rattle.std.proofs.Common.{◌≡◌, ℕ, ◌+◌, List, [], ◌∷◌, Ok, Err, true, false, cond, ap, sym, ◌∙◌}
+use Rattle.std.proofs.Common.{◌≡◌, ℕ, ◌+◌, List, [], ◌∷◌, Ok, Err, true, false, cond, refl, ap, sym, ◌∙◌}
 use Rattle.text_parts.specs.Pieces.{pieces}
 use Rattle.image_file.specs.ImageValue.{ImageValue}
 use Rattle.expectation_files.specs.Addresses.{Names}
@@ -9,6 +9,8 @@ use Rattle.expectation_files.specs.Files.{unless_nothing, nothing_said, file_sai
 use Rattle.expectation_files.specs.declared.faults.FileFault.{FileFault}
 use Rattle.expectation_files.specs.declared.faults.FileFault.TheVariants as file
 use Rattle.expectation_files.specs.declared.faults.LineFault.{LineFault}
+use Rattle.expectation_files.specs.declared.faults.Unread.{Unread}
+use Rattle.expectation_files.specs.declared.faults.Unread.TheVariants as unread
 use Rattle.expectation_files.proofs.Joined.{joined_nothing, in_front-in_front}
 
 -- a line with a fault
@@ -19,6 +21,17 @@ unfolding file_said
 at_fault ns i v text bytes line more n f found cut fault =
     ap unless_nothing (sym found ∙ ap (λ ls. in_front v (lines_said ns i n ls)) cut
     ∙ ap (λ s. in_front v (on_line n s (lines_said ns i (n + 1) more))) fault)
+
+-- a line that was not read
+pub at_unread : (ns : Names) (i : ImageValue) (v : RequirementsValue) (text bytes line : List ℕ) (more : List (List ℕ))
+    (n : ℕ) (u : Unread) (r : FileFault)
+    → in_front v (lines_said ns i n (pieces 10 bytes)) ≡ lines_said ns i 1 (pieces 10 text)
+    → pieces 10 bytes ≡ line ∷ more → ((f : LineFault) → u ≡ unread.Fault f → line_said ns i line ≡ Err f)
+    → ((f : LineFault) → u ≡ unread.Fault f → r ≡ file.Line n f) → (u ≡ unread.NoMemory → r ≡ file.NoMemory)
+    → ¬ (r ≡ file.NoMemory) → file_said ns i text ≡ Err r
+at_unread ns i v text bytes line more n (unread.Fault f) r found cut said is none some =
+    at_fault ns i v text bytes line more n f found cut (said f refl) ∙ ap Err (sym (is f refl))
+at_unread ns i v text bytes line more n unread.NoMemory r found cut said is none some = absurd (some (none refl))
 
 -- a line more
 pub line_more : (ns : Names) (i : ImageValue) (v w : RequirementsValue) (text bytes line : List ℕ)

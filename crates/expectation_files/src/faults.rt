@@ -2,6 +2,8 @@
 
 ghost use Rattle.std.specs.Prelude.{◌≡◌};
 ghost use Rattle.expectation_files.specs.declared.faults.FileFault.TheVariants.{NoMemory};
+ghost use Rattle.expectation_files.specs.declared.faults.FileFault.TheVariants as file;
+ghost use Rattle.expectation_files.specs.declared.faults.LineFault.{LineFault};
 ghost use Rattle.expectation_files.specs.declared.faults.Unread.TheVariants as unread;
 
 use std::alloc::{AllocError, AllocFailed};
@@ -120,6 +122,19 @@ pub(crate) enum Unread {
     Fault(LineFault),
     /// Memory was refused.
     NoMemory,
+}
+
+impl Unread {
+    /// What it means for a file where the line has this number, from 1.
+    pub(crate) fn on_line(self, line: usize) -> FileFault
+        ensures fault { (f : LineFault) → self ≡ unread.Fault f → result ≡ file.Line line f }
+        ensures no_memory { self ≡ unread.NoMemory → result ≡ NoMemory }
+    {
+        match self {
+            Unread::Fault(fault) => FileFault::Line { line, fault },
+            Unread::NoMemory => FileFault::NoMemory,
+        }
+    }
 }
 
 impl From<LineFault> for Unread {

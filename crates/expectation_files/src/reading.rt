@@ -6,7 +6,7 @@ ghost use Rattle.expectation_files.specs.Seen.{names_in, requirements_seen};
 ghost use Rattle.expectation_files.specs.declared.faults.FileFault.TheVariants as file;
 
 use crate::addresses::KnownNames;
-use crate::faults::{FileFault, Unread};
+use crate::faults::FileFault;
 use crate::lines::read_line;
 use crate::requirements::Requirements;
 use image_file::Image;
@@ -35,13 +35,7 @@ pub fn read_requirements(
         number += 1;
         match read_line(alloc, names, image, line) {
             Ok(meaning) => found.add(alloc, number, line, meaning)?,
-            Err(Unread::Fault(fault)) => {
-                return Err(FileFault::Line {
-                    line: number,
-                    fault,
-                });
-            }
-            Err(Unread::NoMemory) => return Err(FileFault::NoMemory),
+            Err(unread) => return Err(unread.on_line(number)),
         }
         rest = following;
     }

@@ -3,12 +3,11 @@ use Rattle.std.specs.Option.{option_copied}
 use Rattle.text_parts.specs.Pieces.{pieces, rest_pieces, rest_length}
 use Rattle.expectation_files.specs.Files.{lines_said, in_front, nothing_said}
 use Rattle.expectation_files.specs.Seen.{names_in, requirements_seen, meaning_seen}
-use Rattle.expectation_files.specs.declared.faults.FileFault.TheVariants as file
-use Rattle.expectation_files.proofs.TextRead.{at_fault, line_more, nothing_found, all_found}
+use Rattle.expectation_files.proofs.TextRead.{at_unread, line_more, nothing_found, all_found}
 use Rattle.expectation_files.proofs.reading.read_requirements.Goals as goal
 
-pub returns-in-Err-Fault-clause-fault : goal.returns-in-Err-Fault-clause-fault
-returns-in-Err-Fault-clause-fault c = λ _.
+pub returns-in-Err-clause-fault : goal.returns-in-Err-clause-fault
+returns-in-Err-clause-fault c = λ some.
     let ns = names_in c.args.names in
     let v = requirements_seen c.loop-rest.found in
     let n = c.loop-rest.number + 1 in
@@ -16,10 +15,9 @@ returns-in-Err-Fault-clause-fault c = λ _.
     ≡ lines_said ns c.args.image.now 1 (pieces 10 c.args.text.now) =
     ap (λ r. in_front v (lines_said ns c.args.image.now n (rest_pieces 10 (option_copied r)))) (sym c.in-Some.is)
     ∙ c.loop-rest.invariant.found in
-    at_fault ns c.args.image.now v c.args.text.now c.in-Some.bytes.now c.cut.result.0.now
-    (rest_pieces 10 (option_copied c.cut.result.1)) n _ found c.cut.ensures.pieces
-    (c.in-Err-Fault.ensures.fault _ c.in-Err-Fault.field-0-is)
-    ∙ ap (λ f. Err (file.Line n f)) c.in-Err-Fault.fault-is
+    at_unread ns c.args.image.now v c.args.text.now c.in-Some.bytes.now c.cut.result.0.now
+    (rest_pieces 10 (option_copied c.cut.result.1)) n c.in-Err.unread c.on_line.result found c.cut.ensures.pieces
+    c.in-Err.ensures.fault c.on_line.ensures.fault c.on_line.ensures.no_memory some
 
 pub loop-rest-preserved : goal.loop-rest-preserved
 loop-rest-preserved c =
