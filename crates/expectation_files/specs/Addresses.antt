@@ -131,7 +131,7 @@ abbrev pub places_between : Result ℕ LineFaultKind → Result ℕ LineFaultKin
 places_between (Err kind) last = Err kind
 places_between (Ok first) (Err kind) = Err kind
 places_between (Ok first) (Ok last) =
-    if nat_le first last then Ok (record { first = first; last = last }) else Err fault.Range
+    if nat_le first last then Ok (record { first = first; last = last }) else Err fault.PlaceRange
 
 abbrev pub places_of_texts : Names → ℕ → List ℕ → Option (List ℕ) → PlacesSaid
 places_of_texts names count first None = Err fault.Points

@@ -197,7 +197,7 @@ pub(crate) fn places_said(
     if first <= last {
         Ok(PlaceRange { first, last })
     } else {
-        Err(LineFaultKind::Range)
+        Err(LineFaultKind::PlaceRange)
     }
 }
 

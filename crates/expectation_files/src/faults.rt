@@ -72,6 +72,35 @@ pub enum LineFaultKind {
     MissingStream,
     /// The program has no word of this number, or of this label.
     Place,
+    /// The range of program words ends before it begins.
+    PlaceRange,
+}
+
+impl LineFaultKind {
+    /// Whether the line may be right of another program: it names what this one lacks.
+    pub fn is_of_program(self) -> bool {
+        match self {
+            LineFaultKind::Name
+            | LineFaultKind::MissingWord
+            | LineFaultKind::MissingStream
+            | LineFaultKind::Place
+            | LineFaultKind::PlaceRange => true,
+            LineFaultKind::Unknown
+            | LineFaultKind::Form(_)
+            | LineFaultKind::Address
+            | LineFaultKind::Points
+            | LineFaultKind::Range
+            | LineFaultKind::Stream
+            | LineFaultKind::Register
+            | LineFaultKind::Number
+            | LineFaultKind::Trap
+            | LineFaultKind::Count
+            | LineFaultKind::Operation
+            | LineFaultKind::Beyond
+            | LineFaultKind::Busy
+            | LineFaultKind::Twice => false,
+        }
+    }
 }
 
 /// The first thing that is wrong with a line.

@@ -22,4 +22,4 @@ pub use reading::read_requirements;
 pub use requirements::{
     NEVER_BUSY, Requirements, WrittenLine, are_rules_kept, line_of, written_line,
 };
-pub use words::{WordSpan, word_span};
+pub use words::{WordSpan, word_of, word_span};

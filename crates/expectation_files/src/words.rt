@@ -5,6 +5,7 @@ ghost use Rattle.std.specs.List.{position};
 ghost use Rattle.expectation_files.specs.Words.{is_blank, skip_blanks, statement, words_of};
 ghost use Rattle.expectation_files.specs.OperandsSeen.{AreOperands};
 
+use std::str;
 use text_parts::cut;
 
 /// The words after the first word of a line, or after the first words of a claim.
@@ -130,4 +131,12 @@ pub fn word_span(line: &[u8], number: usize) -> WordSpan {
             width: 0,
         },
     }
+}
+
+/// The word of this number on a line, from 0 for the first one; empty where the line has no such word, or it is no text.
+pub fn word_of(line: &[u8], number: usize) -> &str {
+    let span = word_span(line, number);
+    let from = span.column.saturating_sub(1);
+    let word = line.get(from..from.saturating_add(span.width)).unwrap_or(&[]);
+    str::from_utf8(word).unwrap_or("")
 }
