@@ -1,6 +1,2 @@
-mod Behind
-mod Words
 mod Resting
 mod Ranges
-mod Faults
-mod TextRead

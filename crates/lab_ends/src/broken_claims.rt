@@ -1,11 +1,12 @@
 //! Worlds that break claims, those of each claim as one end.
 
 ghost use Rattle.std.specs.Prelude.{◌≡◌, ◌++◌, IfOk, OnOk, length, map, string_bytes};
+ghost use Rattle.expectation_files.specs.Seen.{texts_of};
 ghost use Rattle.lab_ends.specs.BrokenClaims.{broken_places, broken_before, broken_end, broken_end_of, broken_ends, value_of};
 
 use crate::every_end::{EndKey, SpaceEnd, SpaceEndKind, new_end};
-use crate::wishes::Wishes;
 use claims::Claim;
+use expectation_files::{Requirements, WrittenLine};
 use image_machines::loaded;
 use schedule_space::{Space, machine_at};
 use std::alloc::{AllocError, Global};
@@ -14,41 +15,59 @@ use std::alloc::{AllocError, Global};
 pub(crate) fn add_broken<const S: usize>(
     alloc: Global,
     ends: &mut Vec<SpaceEnd>,
-    wishes: &Wishes,
+    required: &Requirements,
     space: &Space<'_>,
 ) -> Result<(), AllocError>
     ensures { OnOk result (map value_of ends.new.items ≡ map value_of ends.old.items
-        ++ broken_ends space.now wishes.now.claims.items (map string_bytes wishes.now.claim_texts.items)) }
+        ++ broken_ends space.now required.now.claims.items (texts_of required.now.claim_lines.items)) }
 {
-    let count = wishes.claims.len().min(wishes.claim_texts.len());
+    add_each::<S>(
+        alloc,
+        ends,
+        required.claims(),
+        required.claim_lines(),
+        space,
+    )
+}
+
+/// Adds the worlds that break each of these claims, which these lines say.
+fn add_each<const S: usize>(
+    alloc: Global,
+    ends: &mut Vec<SpaceEnd>,
+    claims: &[Claim],
+    lines: &[WrittenLine],
+    space: &Space<'_>,
+) -> Result<(), AllocError>
+    ensures { OnOk result (map value_of ends.new.items ≡ map value_of ends.old.items
+        ++ broken_ends space.now claims.now (texts_of lines.now)) }
+{
+    let count = claims.len().min(lines.len());
     for index in 0..count {
-        let claim = &wishes.claims[index];
-        let text = &wishes.claim_texts[index];
-        let line = wishes.claim_lines.get(index).copied().unwrap_or(0);
-        add_if_broken::<S>(alloc, ends, claim, text.as_str(), line, space)?;
+        let claim = &claims[index];
+        let line = &lines[index];
+        add_if_broken::<S>(alloc, ends, claim, line, space)?;
     }
     Ok(())
 }
 
-/// Adds the worlds that break a claim of this text, which the line of this number says, as one end, if there are any.
+/// Adds the worlds that break a claim, which this line says, as one end, if there are any.
 fn add_if_broken<const S: usize>(
     alloc: Global,
     ends: &mut Vec<SpaceEnd>,
     claim: &Claim,
-    text: &str,
-    line: usize,
+    line: &WrittenLine,
     space: &Space<'_>,
 ) -> Result<(), AllocError>
     ensures { OnOk result (map value_of ends.new.items ≡ map value_of ends.old.items
-        ++ broken_end_of space.now claim.now text.now) }
+        ++ broken_end_of space.now claim.now (string_bytes line.now.words)) }
 {
     let places = places_that_break::<S>(alloc, claim, space)?;
     let before = breaks_before::<S>(alloc, claim, space)?;
     if places.is_empty() && before.is_empty() {
         return Ok(());
     }
-    let text = String::from_str(alloc, text)?;
-    ends.push(end_that_is_broken(alloc, space, text, line, places, &before)?)?;
+    let text = String::from_str(alloc, line.words.as_str())?;
+    ends.push(end_that_is_broken(alloc, space, text, line.number, places, &before)?)?;
     Ok(())
 }
 

@@ -2,8 +2,8 @@
 
 use crate::cycles::push_cycle;
 use crate::every_end::{EndKey, SpaceEnd, SpaceEndKind, new_end};
-use crate::wishes::NEVER_BUSY;
 use busy_streams::Busy;
+use expectation_files::NEVER_BUSY;
 use lab_texts::ProgramNames;
 use schedule_space::{Space, machine_at};
 use std::alloc::{AllocError, Global};

@@ -1,6 +1,7 @@
 //! Ends of all schedules, and what they are told by.
 
-ghost use Rattle.std.specs.Prelude.{◌≡◌, IfOk, OnOk, map, string_bytes};
+ghost use Rattle.std.specs.Prelude.{◌≡◌, IfOk, OnOk, map};
+ghost use Rattle.expectation_files.specs.Seen.{texts_of};
 ghost use Rattle.lab_ends.specs.BrokenClaims.{value_of, HasBrokenEnds};
 
 use crate::broken_claims::add_broken;
@@ -10,9 +11,9 @@ use crate::expected_traps::is_expected_trap;
 use crate::findings::first_finding;
 use crate::sources::sources_of;
 use crate::spinning::add_spinning;
-use crate::wishes::Wishes;
 use busy_streams::Busy;
 use end_kinds::{EndKind, Status, end_kind_of, status_of};
+use expectation_files::Requirements;
 use expectations::{Expectation, first_missed};
 use lab_texts::Notation;
 use processor::Step;
@@ -107,16 +108,16 @@ impl SpaceEnd {
 pub fn space_ends<const S: usize>(
     alloc: Global,
     notation: Notation<'_, '_>,
-    wishes: &Wishes,
+    required: &Requirements,
     space: &Space<'_>,
     is_complete: bool,
     busy: Option<Busy>,
 ) -> Result<Vec<SpaceEnd>, AllocError>
-    ensures broken { IfOk result (λ ends. HasBrokenEnds space.now wishes.now.claims.items
-        (map string_bytes wishes.now.claim_texts.items) (map value_of ends.items)) }
+    ensures broken { IfOk result (λ ends. HasBrokenEnds space.now required.now.claims.items
+        (texts_of required.now.claim_lines.items) (map value_of ends.items)) }
 {
-    let mut ends = unbroken_ends::<S>(alloc, notation, wishes, space, is_complete, busy)?;
-    add_broken::<S>(alloc, &mut ends, wishes, space)?;
+    let mut ends = unbroken_ends::<S>(alloc, notation, required, space, is_complete, busy)?;
+    add_broken::<S>(alloc, &mut ends, required, space)?;
     tell_more::<S>(alloc, &mut ends, notation, space)?;
     Ok(ends)
 }
@@ -125,7 +126,7 @@ pub fn space_ends<const S: usize>(
 fn unbroken_ends<const S: usize>(
     alloc: Global,
     notation: Notation<'_, '_>,
-    wishes: &Wishes,
+    required: &Requirements,
     space: &Space<'_>,
     is_complete: bool,
     busy: Option<Busy>,
@@ -133,14 +134,14 @@ fn unbroken_ends<const S: usize>(
     let mut ends = Vec::new(alloc);
     for place in 0..space.len() {
         if place < space.len() && space.fate(place) != Fate::GoesOn {
-            add_end::<S>(alloc, &mut ends, notation, &wishes.ends, space, place)?;
+            add_end::<S>(alloc, &mut ends, notation, required.ends(), space, place)?;
         }
     }
     if is_complete {
         add_spinning::<S>(alloc, &mut ends, notation.names, notation.style, space)?;
     }
     if let Some(busy) = busy {
-        let line = wishes.never_busy.unwrap_or(0);
+        let line = required.never_busy().unwrap_or(0);
         ends.push(busy_end::<S>(alloc, notation.names, space, busy, line)?)?;
     }
     Ok(ends)

@@ -4,7 +4,8 @@ use crate::expectation_texts::push_expected;
 use crate::explored_objects::is_as_expected;
 use crate::searches::Explored;
 use command_parts::{Inputs, LabFault, Program};
-use lab_ends::{SpaceEnd, SpaceEndKind, Wishes};
+use expectation_files::Requirements;
+use lab_ends::{SpaceEnd, SpaceEndKind};
 use plain_text::stem_of;
 use replay_page::{MOST_STEPS, RunNames, RunVerdict, page_of_run};
 use std::alloc::{AllocError, Global};
@@ -18,8 +19,8 @@ pub(crate) struct FoundProgram<'a> {
     pub path: &'a str,
     /// The program.
     pub program: &'a Program,
-    /// What is wished of it.
-    pub wishes: &'a Wishes,
+    /// What is required of it.
+    pub required: &'a Requirements,
     /// What the search among its schedules came to.
     pub found: &'a Explored,
 }
@@ -91,8 +92,8 @@ impl FoundProgram<'_> {
 
     /// How an end was judged, which does not meet this line; nothing where that is empty.
     fn verdict_of<'m>(self, end: &SpaceEnd, missed: &'m str) -> RunVerdict<'m> {
-        let wishes = self.wishes;
-        if wishes.is_nothing() {
+        let required = self.required;
+        if required.is_nothing() {
             RunVerdict::NotJudged
         } else if is_as_expected(end) && self.found.broken_rule.is_none() {
             RunVerdict::Expected
@@ -112,11 +113,11 @@ impl FoundProgram<'_> {
         }
         let mut words = String::new(alloc);
         if let Some(place) = end.missed {
-            push_expected(&mut words, self.wishes, place)?;
+            push_expected(&mut words, self.required, place)?;
         } else if let Some(place) = self.found.broken_rule
-            && let Some(said) = self.wishes.rules.get(place)
+            && let Some(said) = self.required.rule_lines().get(place)
         {
-            words.push_str(&said.text)?;
+            words.push_str(&said.words)?;
         }
         Ok(words)
     }

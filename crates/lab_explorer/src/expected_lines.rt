@@ -1,7 +1,7 @@
 //! Which line of a file says what an end misses, or what a world breaks.
 
-use crate::expectation_texts::push_expected;
-use lab_ends::{NEVER_BUSY, SpaceEnd, SpaceEndKind, Wishes};
+use expectation_files::{Requirements, WrittenLine};
+use lab_ends::{SpaceEnd, SpaceEndKind};
 use lab_json::{Fields, line_value};
 use serde_json::Value;
 use std::alloc::{AllocError, Global};
@@ -10,7 +10,7 @@ use std::alloc::{AllocError, Global};
 #[derive(Clone, Copy)]
 pub struct ExpectedLines<'a> {
     /// What was read.
-    pub wishes: &'a Wishes,
+    pub required: &'a Requirements,
 }
 
 impl ExpectedLines<'_> {
@@ -24,18 +24,15 @@ impl ExpectedLines<'_> {
         serde_json::put(fields, alloc, "missed", self.missed_value(alloc, missed)?)
     }
 
-    /// Puts the line of the claim with these words as `claim`; null where there is none.
+    /// Puts the line of the claim at a place as `claim`; null where there is none.
     pub fn put_claim(
         self,
         alloc: Global,
         fields: &mut Fields,
-        words: Option<&str>,
+        claim: Option<usize>,
     ) -> Result<(), AllocError> {
-        let claim = match words {
-            Some(words) => line_value(alloc, self.line_of_claim(words), words)?,
-            None => Value::Null,
-        };
-        serde_json::put(fields, alloc, "claim", claim)
+        let line = claim.and_then(|place| self.required.claim_lines().get(place));
+        serde_json::put(fields, alloc, "claim", value_of_line(alloc, line)?)
     }
 
     /// The line of the expectation at a place; null where there is none.
@@ -44,15 +41,8 @@ impl ExpectedLines<'_> {
         alloc: Global,
         missed: Option<usize>,
     ) -> Result<Value, AllocError> {
-        let Some(place) = missed else {
-            return Ok(Value::Null);
-        };
-        let Some(line) = self.wishes.end_lines.get(place) else {
-            return Ok(Value::Null);
-        };
-        let mut text = String::new(alloc);
-        push_expected(&mut text, self.wishes, place)?;
-        line_value(alloc, *line, &text)
+        let line = missed.and_then(|place| self.required.end_lines().get(place));
+        value_of_line(alloc, line)
     }
 
     /// The line that worlds of an end break; null where they break none.
@@ -62,22 +52,12 @@ impl ExpectedLines<'_> {
             SpaceEndKind::End(_) => Ok(Value::Null),
         }
     }
+}
 
-    /// The number, from 1, of the first line of the claim with these words; 0 where there is none.
-    fn line_of_claim(self, words: &str) -> usize {
-        if words == NEVER_BUSY {
-            return self.wishes.never_busy.unwrap_or(0);
-        }
-        let texts = &self.wishes.claim_texts;
-        let place = texts
-            .iter()
-            .position(|text: &String| text.as_str() == words);
-        self.claim_line(place)
-    }
-
-    /// The number, from 1, of the line of the claim at a place; 0 where there is none.
-    pub(crate) fn claim_line(self, place: Option<usize>) -> usize {
-        let line = place.and_then(|place| self.wishes.claim_lines.get(place));
-        line.copied().unwrap_or(0)
+/// A line with its number; null where there is none.
+fn value_of_line(alloc: Global, line: Option<&WrittenLine>) -> Result<Value, AllocError> {
+    match line {
+        Some(line) => line_value(alloc, line.number, &line.words),
+        None => Ok(Value::Null),
     }
 }

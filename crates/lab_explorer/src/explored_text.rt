@@ -9,7 +9,8 @@ use crate::unkept::{push_unkept, push_unkept_objects};
 use command_parts::CommandAnswer;
 use end_kinds::EndKind;
 use image_file::Image;
-use lab_ends::{SpaceEnd, SpaceEndKind, Wishes};
+use expectation_files::Requirements;
+use lab_ends::{SpaceEnd, SpaceEndKind};
 use plain_text::push_plain;
 use std::alloc::{AllocError, Global};
 use trace_text::write_schedule;
@@ -17,20 +18,20 @@ use trace_text::write_schedule;
 /// The most turns of a schedule that are shown with a claim that it breaks.
 const MOST_TURNS: usize = 40;
 
-/// What is said of a search among the schedules of an image, of which this is wished.
+/// What is said of a search among the schedules of an image, of which this is required.
 pub(crate) fn answer_of(
     alloc: Global,
     is_json: bool,
     image: &Image,
-    wishes: &Wishes,
+    required: &Requirements,
     found: &Explored,
 ) -> Result<CommandAnswer, AllocError> {
     let mut output = String::new(alloc);
     if is_json {
-        push_objects(alloc, &mut output, image, ExpectedLines { wishes }, found)?;
-        push_unkept_objects(alloc, &mut output, wishes, found.unkept())?;
+        push_objects(alloc, &mut output, image, ExpectedLines { required }, found)?;
+        push_unkept_objects(alloc, &mut output, required, found.unkept())?;
     } else {
-        push_lines(alloc, &mut output, wishes, found)?;
+        push_lines(alloc, &mut output, required, found)?;
     }
     Ok(CommandAnswer::printed(alloc, output, found.status()))
 }
@@ -39,17 +40,17 @@ pub(crate) fn answer_of(
 fn push_lines(
     alloc: Global,
     out: &mut String,
-    wishes: &Wishes,
+    required: &Requirements,
     found: &Explored,
 ) -> Result<(), AllocError> {
     push_head_line(out, found)?;
-    push_unkept(out, wishes, found.unkept(), true)?;
+    push_unkept(out, required, found.unkept(), true)?;
     let columns = columns_of(alloc, found)?;
     if !found.ends.is_empty() {
         columns.push_names(out)?;
     }
     for end in found.ends.iter() {
-        push_end_line(alloc, out, columns, wishes, found, end)?;
+        push_end_line(alloc, out, columns, required, found, end)?;
     }
     Ok(())
 }
@@ -117,7 +118,7 @@ fn push_end_line(
     alloc: Global,
     out: &mut String,
     columns: EndColumns,
-    wishes: &Wishes,
+    required: &Requirements,
     found: &Explored,
     end: &SpaceEnd,
 ) -> Result<(), AllocError> {
@@ -130,7 +131,7 @@ fn push_end_line(
     };
     columns.push_cells(out, cells)?;
     push_plain(out, &end.text)?;
-    push_missed(out, wishes, end)?;
+    push_missed(out, required, end)?;
     end_line(out)?;
     columns.push_note(out, &end.finding)?;
     columns.push_note(out, &end.cycle_words)?;
@@ -181,15 +182,15 @@ fn broken_words(alloc: Global, end: &SpaceEnd) -> Result<String, AllocError> {
 }
 
 /// Adds in what an end is not as expected, where something is.
-fn push_missed(out: &mut String, wishes: &Wishes, end: &SpaceEnd) -> Result<(), AllocError> {
-    if wishes.ends.is_empty() || !end.is_trapped && end.missed.is_none() {
+fn push_missed(out: &mut String, required: &Requirements, end: &SpaceEnd) -> Result<(), AllocError> {
+    if required.ends().is_empty() || !end.is_trapped && end.missed.is_none() {
         return Ok(());
     }
     push_missed_head(out, &end.text)?;
     match end.missed {
         Some(place) => {
             out.push_str(": ")?;
-            push_expected(out, wishes, place)
+            push_expected(out, required, place)
         }
         None => Ok(()),
     }

@@ -6,9 +6,9 @@ use crate::explored_text::answer_of;
 use crate::graphs::write_graph;
 use crate::searches::{SpaceSearch, explore_program};
 use crate::watching::{Console, Watcher};
-use crate::wished::wishes_of;
+use crate::reading::requirements_of;
 use command_parts::{CommandAnswer, Inputs, LabFault, Program, read_program, read_steps, style_of};
-use lab_ends::Wishes;
+use expectation_files::Requirements;
 use lab_requests::ExploreRequest;
 use lab_texts::ProgramNames;
 use processor::Step;
@@ -26,20 +26,20 @@ pub fn show_every_end<C: Clock, F: Files, R: Read, E: Write>(
 ) -> Result<CommandAnswer, LabFault> {
     let program = read_program(alloc, inputs, request.program)?;
     let names = ProgramNames::of(alloc, &program.text)?;
-    let wishes = wishes_asked(alloc, inputs, request.expected, &program, &names)?;
+    let required = requirements_asked(alloc, inputs, request.expected, &program)?;
     let begin = begin_asked(alloc, inputs, request, &program)?;
     let made = make_folders(alloc, inputs, request);
     let mut watcher = Watcher::new(alloc, console, request.bounds)?;
-    let asked = search_asked(request, &wishes, &begin);
+    let asked = search_asked(request, &required, &begin);
     let found = explore_program(alloc, &program, &names, &asked, &mut watcher);
     watcher.finish();
     let found = found?;
     let is_json = request.shown.json;
-    let mut answer = answer_of(alloc, is_json, &program.image, &wishes, &found)?;
+    let mut answer = answer_of(alloc, is_json, &program.image, &required, &found)?;
     let told = FoundProgram {
         path: request.program,
         program: &program,
-        wishes: &wishes,
+        required: &required,
         found: &found,
     };
     let kept = write_folders(alloc, inputs, request, made, told);
@@ -61,29 +61,28 @@ fn begin_asked<F: Files, R: Read>(
     }
 }
 
-/// What is wished of the program; nothing where no file says it.
-fn wishes_asked<F: Files, R: Read>(
+/// What is required of the program; nothing where no file says it.
+fn requirements_asked<F: Files, R: Read>(
     alloc: Global,
     inputs: &mut Inputs<'_, F, R>,
     path: Option<&str>,
     program: &Program,
-    names: &ProgramNames<'_>,
-) -> Result<Wishes, LabFault> {
+) -> Result<Requirements, LabFault> {
     let Some(path) = path else {
-        return Ok(Wishes::none(alloc));
+        return Ok(Requirements::none(alloc));
     };
     let text = inputs.read(alloc, path)?;
-    wishes_of(alloc, path, &text, names, &program.image)
+    requirements_of(alloc, path, &text, program)
 }
 
 /// The search that is asked for.
 fn search_asked<'a>(
     request: &ExploreRequest,
-    wishes: &'a Wishes,
+    required: &'a Requirements,
     begin: &'a [Step],
 ) -> SpaceSearch<'a> {
     SpaceSearch {
-        wishes,
+        required,
         begin,
         most: request.bounds.worlds,
         is_plain: request.is_plain,

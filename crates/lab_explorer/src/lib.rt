@@ -1,7 +1,6 @@
-//! The command `explore`: every end that schedules of a program come to, judged by what is wished.
+//! The command `explore`: every end that schedules of a program come to, judged by what is required.
 #![tactic(auto)]
 
-mod claim_texts;
 mod end_columns;
 mod end_folders;
 mod end_pages;
@@ -11,20 +10,22 @@ mod explored_objects;
 mod explored_text;
 mod exploring;
 mod graphs;
+mod fault_texts;
+mod reading;
 mod searches;
 mod spaces;
 mod unkept;
 mod watching;
 mod widths;
-mod wished;
 
-pub use claim_texts::claim_words;
 pub use end_columns::{EndCells, EndColumns, end_line};
 pub use expectation_texts::push_expected;
 pub use expected_lines::ExpectedLines;
 pub use explored_objects::put_bound;
 pub use exploring::show_every_end;
 pub use searches::{Explored, SpaceSearch, explore_program};
+pub use fault_texts::fault_words;
+pub use reading::{file_fault, requirements_of};
 pub use unkept::{Unkept, push_unkept, push_unkept_objects};
 pub use watching::{Console, SearchBound, Watcher};
-pub use wished::{wish_fault, wishes_of};
+

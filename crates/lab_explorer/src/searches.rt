@@ -6,7 +6,7 @@ ghost use Rattle.schedule_space.specs.Followed.{AllFollowed};
 ghost use Rattle.busy_streams.specs.Busy.{IsNeverBusy};
 ghost use Rattle.busy_streams.specs.BusySpaces.{HasAllWorlds};
 ghost use Rattle.schedule_verdicts.specs.KeptClaims.{AreKeptOnTheWay};
-ghost use Rattle.lab_ends.specs.ProgramWishes.{IsJudged};
+ghost use Rattle.expectation_files.specs.Judged.{IsJudged};
 ghost use Rattle.schedule_verdicts.specs.NamedRegisters.{AreNamed};
 ghost use Rattle.schedule_verdicts.specs.RightSpaces.{IsFollowedForClaims, IsRightOnEachWay};
 ghost use Rattle.schedule_verdicts.specs.ShownClaims.{AreShown, IsRightThroughout, TellsOfClaims};
@@ -18,11 +18,13 @@ use crate::watching::{SearchBound, Watcher};
 use busy_streams::{Busy, first_busy};
 use command_parts::{Program, Status};
 use end_kinds::EndKind;
+use expectation_files::Requirements;
 use image_file::Image;
-use lab_ends::{SpaceEnd, SpaceEndKind, Wishes, are_rules_kept, first_broken_rule, space_ends};
+use lab_ends::{SpaceEnd, SpaceEndKind, space_ends};
 use lab_texts::{Notation, NumberStyle, ProgramNames};
 use machine::LoadFault;
 use processor::Step;
+use program_rules::first_broken;
 use schedule_space::Space;
 use schedule_verdicts::{are_kept_on_the_way, first_unshown, is_right};
 use std::alloc::{AllocError, Global};
@@ -32,13 +34,13 @@ use std::time::Clock;
 /// What is looked for among the schedules of a program.
 #[derive(Clone, Copy)]
 pub struct SpaceSearch<'a> {
-    /// What is wished of the program.
-    pub wishes: &'a Wishes,
+    /// What is required of the program.
+    pub required: &'a Requirements,
     /// The schedule that all begin with.
     pub begin: &'a [Step],
     /// The most worlds, at least 1.
     pub most: usize,
-    /// Whether all worlds are looked for, also where what is wished needs fewer.
+    /// Whether all worlds are looked for, also where what is required needs fewer.
     pub is_plain: bool,
     /// Whether the graph of the worlds is drawn.
     pub is_drawn: bool,
@@ -47,14 +49,7 @@ pub struct SpaceSearch<'a> {
 }
 
 impl SpaceSearch<'_> {
-    /// Whether something is wished of the program, and it keeps the rules of programs that are.
-    fn is_judged(&self, image: &Image) -> bool
-        ensures { IsTrue result ↔ IsJudged image.now self.now.wishes.now }
-    {
-        !self.wishes.is_nothing() && are_rules_kept(image, &self.wishes.rules)
-    }
-
-    /// Whether it is to be judged by what was found: that is complete, something is wished, the program keeps the rules,
+    /// Whether it is to be judged by what was found: that is complete, something is required, the program keeps the rules,
     /// each claim that has to hold of one world at least does, and no stream was found that loops alone.
     fn judges(
         &self,
@@ -63,10 +58,10 @@ impl SpaceSearch<'_> {
         unshown: Option<usize>,
         busy: Option<Busy>,
     ) -> bool
-        ensures { IsTrue result ↔ (IsTrue is_complete × IsJudged image.now self.now.wishes.now
+        ensures { IsTrue result ↔ (IsTrue is_complete × IsJudged image.now self.now.required.now
             × (unshown ≡ None) × (busy ≡ None)) }
     {
-        is_complete && self.is_judged(image) && unshown.is_none() && busy.is_none()
+        is_complete && self.required.is_judged(image) && unshown.is_none() && busy.is_none()
     }
 
     /// The most worlds that are looked for: at least one.
@@ -76,11 +71,11 @@ impl SpaceSearch<'_> {
         self.most.max(1)
     }
 
-    /// Whether all worlds are looked for: where it is asked for, and where no stream is wished to loop alone.
+    /// Whether all worlds are looked for: where it is asked for, and where no stream is to loop alone.
     pub(crate) fn takes_all(&self) -> bool
-        ensures { IsSome self.now.wishes.now.never_busy → IsTrue result }
+        ensures { IsSome self.now.required.now.never_busy → IsTrue result }
     {
-        self.is_plain || self.wishes.never_busy.is_some()
+        self.is_plain || self.required.never_busy().is_some()
     }
 }
 
@@ -101,15 +96,15 @@ pub struct Explored {
     pub begin: usize,
     /// Their ends.
     pub ends: Vec<SpaceEnd>,
-    /// Which of the rules of programs that are wished is the first that the program breaks.
+    /// Which of the rules of programs that are required is the first that the program breaks.
     pub broken_rule: Option<usize>,
     /// Which of the claims that have to hold of one world at least is the first that none shows which was looked at.
     pub unshown: Option<usize>,
     /// The graph of the worlds, where it is asked for, and they are no more than a graph has.
     pub graph: Option<String>,
-    /// Whether they are all, something is wished, the program keeps the rules, every schedule is right, its end and each
+    /// Whether they are all, something is required, the program keeps the rules, every schedule is right, its end and each
     /// world on its way, each claim that has to hold of one world at least does, and no stream loops alone where that
-    /// is wished (PROMISES.md, "Every schedule is right").
+    /// is required (PROMISES.md, "Every schedule is right").
     pub is_right: bool,
 }
 
@@ -126,7 +121,7 @@ impl Explored {
         self.is_of_all_worlds || is_known || end.schedule.is_empty()
     }
 
-    /// What is wished of the program as a whole, and is known not to be so: of what was not looked at nothing is known.
+    /// What is required of the program as a whole, and is known not to be so: of what was not looked at nothing is known.
     pub fn unkept(&self) -> Unkept {
         Unkept {
             rule: self.broken_rule,
@@ -149,10 +144,10 @@ pub fn explore_program<C: Clock, E: Write>(
     asked: &SpaceSearch<'_>,
     watcher: &mut Watcher<'_, '_, C, E>,
 ) -> Result<Explored, AllocError>
-    ensures right { IfOk result (λ e. let wishes = asked.now.wishes.now in IsTrue e.is_right
-        ↔ (IsTrue e.is_complete × IsJudged program.now.image wishes
-        × IsRightThroughout program.now.image asked.now.begin.now wishes.ends.items wishes.claims.items
-        (is_some wishes.never_busy))) }
+    ensures right { IfOk result (λ e. let required = asked.now.required.now in IsTrue e.is_right
+        ↔ (IsTrue e.is_complete × IsJudged program.now.image required
+        × IsRightThroughout program.now.image asked.now.begin.now required.ends.items required.claims.items
+        (is_some required.never_busy))) }
 {
     match program.image.slim() {
         0 | 1 => explore_on::<1, C, E>(alloc, program, names, asked, watcher),
@@ -170,21 +165,21 @@ fn explore_on<const S: usize, C: Clock, E: Write>(
     asked: &SpaceSearch<'_>,
     watcher: &mut Watcher<'_, '_, C, E>,
 ) -> Result<Explored, AllocError>
-    ensures right { IfOk result (λ e. let wishes = asked.now.wishes.now in IsTrue e.is_right
-        ↔ (IsTrue e.is_complete × IsJudged program.now.image wishes
-        × IsRightThroughout program.now.image asked.now.begin.now wishes.ends.items wishes.claims.items
-        (is_some wishes.never_busy))) }
+    ensures right { IfOk result (λ e. let required = asked.now.required.now in IsTrue e.is_right
+        ↔ (IsTrue e.is_complete × IsJudged program.now.image required
+        × IsRightThroughout program.now.image asked.now.begin.now required.ends.items required.claims.items
+        (is_some required.never_busy))) }
 {
     let (space, is_complete) = space_of::<S, C, E>(alloc, &program.image, asked, watcher)?;
-    let wishes = asked.wishes;
-    let busy = busy_in::<S>(alloc, wishes, &space, is_complete)?;
+    let required = asked.required;
+    let busy = busy_in::<S>(alloc, required, &space, is_complete)?;
     let style = asked.style;
     let notation = Notation { names, style };
-    let ends = space_ends::<S>(alloc, notation, wishes, &space, is_complete, busy)?;
+    let ends = space_ends::<S>(alloc, notation, required, &space, is_complete, busy)?;
     let graph = graph_asked(alloc, asked.is_drawn, &space, &ends)?;
-    let unshown = unshown_in::<S>(alloc, asked.wishes, &space)?;
+    let unshown = unshown_in::<S>(alloc, asked.required, &space)?;
     let is_judged = asked.judges(&program.image, is_complete, unshown, busy);
-    let is_right = are_all_right::<S>(alloc, asked.wishes, &space, is_judged)?;
+    let is_right = are_all_right::<S>(alloc, asked.required, &space, is_judged)?;
     Ok(Explored {
         worlds: space.len(),
         steps: space.step_count(),
@@ -193,7 +188,7 @@ fn explore_on<const S: usize, C: Clock, E: Write>(
         is_of_all_worlds: asked.takes_all(),
         begin: asked.begin.len(),
         ends,
-        broken_rule: first_broken_rule(&program.image, &asked.wishes.rules),
+        broken_rule: first_broken(&program.image, asked.required.rules()),
         unshown,
         graph,
         is_right,
@@ -204,32 +199,32 @@ fn explore_on<const S: usize, C: Clock, E: Write>(
 /// one on the way through its beginning.
 fn unshown_in<const S: usize>(
     alloc: Global,
-    wishes: &Wishes,
+    required: &Requirements,
     space: &Space<'_>,
 ) -> Result<Option<usize>, AllocError>
     ensures shown { IfOk result (λ told. told ≡ None
-        → AreShown space.now.image space.now.begin wishes.now.claims.items) }
-    ensures only { IfOk result (λ told. TellsOfClaims space.now wishes.now.claims.items
-        → AreShown space.now.image space.now.begin wishes.now.claims.items → told ≡ None) }
+        → AreShown space.now.image space.now.begin required.now.claims.items) }
+    ensures only { IfOk result (λ told. TellsOfClaims space.now required.now.claims.items
+        → AreShown space.now.image space.now.begin required.now.claims.items → told ≡ None) }
 {
-    match first_unshown::<S>(alloc, space, &wishes.claims) {
+    match first_unshown::<S>(alloc, space, required.claims()) {
         Ok(unshown) => Ok(unshown),
         Err(LoadFault::NoMemory | LoadFault::Streams) => Err(AllocError),
     }
 }
 
-/// The first world of a space from which a stream loops alone, where none is wished to and the space has all worlds.
+/// The first world of a space from which a stream loops alone, where none is to and the space has all worlds.
 fn busy_in<const S: usize>(
     alloc: Global,
-    wishes: &Wishes,
+    required: &Requirements,
     space: &Space<'_>,
     is_complete: bool,
 ) -> Result<Option<Busy>, AllocError>
-    ensures wished { IfOk result (λ told. IsTrue is_complete → IsSome wishes.now.never_busy
+    ensures asked { IfOk result (λ told. IsTrue is_complete → IsSome required.now.never_busy
         → HasAllWorlds space.now → (told ≡ None) ↔ IsNeverBusy space.now.image space.now.begin) }
-    ensures unwished { IfOk result (λ told. IsNone wishes.now.never_busy → told ≡ None) }
+    ensures unasked { IfOk result (λ told. IsNone required.now.never_busy → told ≡ None) }
 {
-    if !is_complete || wishes.never_busy.is_none() {
+    if !is_complete || required.never_busy().is_none() {
         return Ok(None);
     }
     match first_busy::<S>(alloc, space) {
@@ -238,34 +233,34 @@ fn busy_in<const S: usize>(
     }
 }
 
-/// Whether all that is wished of a space is so, where it is judged: of its ends, of its worlds, and of those on the way
+/// Whether all that is required of a space is so, where it is judged: of its ends, of its worlds, and of those on the way
 /// through the steps that all its schedules begin with.
 fn are_all_right<const S: usize>(
     alloc: Global,
-    wishes: &Wishes,
+    required: &Requirements,
     space: &Space<'_>,
     is_judged: bool,
 ) -> Result<bool, AllocError>
     ensures judged { IfOk result (λ b. IsTrue b → IsTrue is_judged) }
     ensures before { IfOk result (λ b. IsTrue b
-        → AreKeptOnTheWay space.now.image space.now.begin wishes.now.claims.items) }
-    ensures shown { IfOk result (λ b. IsTrue b → AreNamed wishes.now.ends.items space.now.live.names
-        → IsFollowedForClaims space.now wishes.now.claims.items
-        → IsRightOnEachWay space.now.image space.now.begin wishes.now.ends.items wishes.now.claims.items) }
+        → AreKeptOnTheWay space.now.image space.now.begin required.now.claims.items) }
+    ensures shown { IfOk result (λ b. IsTrue b → AreNamed required.now.ends.items space.now.live.names
+        → IsFollowedForClaims space.now required.now.claims.items
+        → IsRightOnEachWay space.now.image space.now.begin required.now.ends.items required.now.claims.items) }
     ensures each_way { IfOk result (λ b. IsTrue b → IsComplete space.now
-        → IsRightOnEachWay space.now.image space.now.begin wishes.now.ends.items wishes.now.claims.items) }
+        → IsRightOnEachWay space.now.image space.now.begin required.now.ends.items required.now.claims.items) }
     ensures only { IfOk result (λ b. IsTrue is_judged
         → (IsComplete space.now × HasAllEdges space.now) ⊎ AllFollowed space.now
-        → IsRightThroughout space.now.image space.now.begin wishes.now.ends.items wishes.now.claims.items
-        (is_some wishes.now.never_busy) → IsTrue b) }
+        → IsRightThroughout space.now.image space.now.begin required.now.ends.items required.now.claims.items
+        (is_some required.now.never_busy) → IsTrue b) }
 {
     if !is_judged {
         return Ok(false);
     }
-    if !are_kept_before::<S>(alloc, wishes, space)? {
+    if !are_kept_before::<S>(alloc, required, space)? {
         return Ok(false);
     }
-    match is_right::<S>(alloc, space, &wishes.ends, &wishes.claims) {
+    match is_right::<S>(alloc, space, required.ends(), required.claims()) {
         Ok(right) => Ok(right),
         Err(LoadFault::NoMemory | LoadFault::Streams) => Err(AllocError),
     }
@@ -274,13 +269,13 @@ fn are_all_right<const S: usize>(
 /// Whether all that is claimed holds on the way through the steps that all schedules of a space begin with.
 fn are_kept_before<const S: usize>(
     alloc: Global,
-    wishes: &Wishes,
+    required: &Requirements,
     space: &Space<'_>,
 ) -> Result<bool, AllocError>
     ensures { IfOk result (λ b. IsTrue b
-        ↔ AreKeptOnTheWay space.now.image space.now.begin wishes.now.claims.items) }
+        ↔ AreKeptOnTheWay space.now.image space.now.begin required.now.claims.items) }
 {
-    match are_kept_on_the_way::<S>(alloc, space.image(), space.begin(), &wishes.claims) {
+    match are_kept_on_the_way::<S>(alloc, space.image(), space.begin(), required.claims()) {
         Ok(are_kept) => Ok(are_kept),
         Err(LoadFault::NoMemory | LoadFault::Streams) => Err(AllocError),
     }

@@ -31,12 +31,12 @@ pub(crate) fn space_of<'i, const S: usize, C: Clock, E: Write>(
 ) -> Result<(Space<'i>, bool), AllocError>
     ensures image { IfOk result (λ found. found.0.image ≡ image.entry.now) }
     ensures begin { IfOk result (λ found. found.0.begin ≡ asked.now.begin.now) }
-    ensures known { IfOk result (λ found. let wishes = asked.now.wishes.now in IsTrue found.1
-        → IsComplete found.0 ⊎ (AreNamed wishes.ends.items found.0.live.names
-        × IsFollowedForClaims found.0 wishes.claims.items)) }
+    ensures known { IfOk result (λ found. let required = asked.now.required.now in IsTrue found.1
+        → IsComplete found.0 ⊎ (AreNamed required.ends.items found.0.live.names
+        × IsFollowedForClaims found.0 required.claims.items)) }
     ensures taken { IfOk result (λ found. IsTrue found.1
         → (IsComplete found.0 × HasAllEdges found.0) ⊎ AllFollowed found.0) }
-    ensures worlds { IfOk result (λ found. IsTrue found.1 → IsSome asked.now.wishes.now.never_busy
+    ensures worlds { IfOk result (λ found. IsTrue found.1 → IsSome asked.now.required.now.never_busy
         → HasAllWorlds found.0) }
 {
     if asked.takes_all() {
@@ -80,14 +80,14 @@ fn all_ends<'i, const S: usize, C: Clock, E: Write>(
 ) -> Result<(Space<'i>, bool), AllocError>
     ensures image { IfOk result (λ found. found.0.image ≡ image.entry.now) }
     ensures begin { IfOk result (λ found. found.0.begin ≡ asked.now.begin.now) }
-    ensures named { IfOk result (λ found. AreNamed asked.now.wishes.now.ends.items found.0.live.names) }
+    ensures named { IfOk result (λ found. AreNamed asked.now.required.now.ends.items found.0.live.names) }
     ensures shown { IfOk result (λ found. IsTrue found.1
-        → IsFollowedForClaims found.0 asked.now.wishes.now.claims.items) }
+        → IsFollowedForClaims found.0 asked.now.required.now.claims.items) }
     ensures taken { IfOk result (λ found. IsTrue found.1 → AllFollowed found.0) }
 {
     let most = asked.most_worlds();
-    let names = named_registers(&asked.wishes.ends);
-    let places = places_looked_at(alloc, &asked.wishes.claims)?;
+    let names = named_registers(asked.required.ends());
+    let places = places_looked_at(alloc, asked.required.claims())?;
     match explore_ends::<S, _>(alloc, image, asked.begin, &names, &places, most, watcher) {
         Ok(Exploration::Complete(space)) => Ok((space, true)),
         Ok(Exploration::Bounded(space, bound)) => {

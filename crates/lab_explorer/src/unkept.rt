@@ -1,13 +1,12 @@
-//! What is wished of a program as a whole, and is not so.
+//! What is required of a program as a whole, and is not so.
 
-use crate::expected_lines::ExpectedLines;
 use command_parts::{Status, push_object};
-use lab_ends::{NEVER_BUSY, Wishes};
+use expectation_files::{NEVER_BUSY, Requirements, WrittenLine};
 use lab_json::{Object, line_value};
 use serde_json::Value;
 use std::alloc::{AllocError, Global};
 
-/// What is wished of a program as a whole, and is not so.
+/// What is required of a program as a whole, and is not so.
 #[derive(Clone, Copy, Debug)]
 pub struct Unkept {
     /// The place of the first rule of programs that it breaks.
@@ -36,17 +35,18 @@ impl Unkept {
 /// by every schedule or by some runs: those say nothing of other schedules.
 pub fn push_unkept(
     out: &mut String,
-    wishes: &Wishes,
+    required: &Requirements,
     unkept: Unkept,
     is_of_every: bool,
 ) -> Result<(), AllocError> {
-    if let Some(said) = unkept.rule.and_then(|place| wishes.rules.get(place)) {
-        let line = said.line;
-        let words = said.text.as_str();
+    if let Some(said) = broken_rule(required, unkept) {
+        let line = said.number;
+        let words = said.words.as_str();
         write!(out, "NOT as expected: {words} (line {line})\n")?;
     }
-    if let Some(words) = unshown_words(wishes, unkept) {
-        let line = ExpectedLines { wishes }.claim_line(unkept.unshown);
+    if let Some(claim) = unshown_claim(required, unkept) {
+        let line = claim.number;
+        let words = claim.words.as_str();
         let (head, who) = if is_of_every {
             ("NOT as expected", "schedule")
         } else {
@@ -70,16 +70,15 @@ pub fn push_unkept(
 pub fn push_unkept_objects(
     alloc: Global,
     out: &mut String,
-    wishes: &Wishes,
+    required: &Requirements,
     unkept: Unkept,
 ) -> Result<(), AllocError> {
-    if let Some(said) = unkept.rule.and_then(|place| wishes.rules.get(place)) {
-        let line = line_value(alloc, said.line, &said.text);
+    if let Some(said) = broken_rule(required, unkept) {
+        let line = line_value(alloc, said.number, &said.words);
         push_line_object(alloc, out, "rule", "broken", line)?;
     }
-    if let Some(words) = unshown_words(wishes, unkept) {
-        let number = ExpectedLines { wishes }.claim_line(unkept.unshown);
-        let line = line_value(alloc, number, words);
+    if let Some(claim) = unshown_claim(required, unkept) {
+        let line = line_value(alloc, claim.number, &claim.words);
         push_line_object(alloc, out, "unshown", "claim", line)?;
     }
     if let Some(number) = unkept.undecided {
@@ -89,12 +88,14 @@ pub fn push_unkept_objects(
     Ok(())
 }
 
-/// The words of the claim that no world shows.
-fn unshown_words<'w>(wishes: &'w Wishes, unkept: Unkept) -> Option<&'w str> {
-    let text = unkept
-        .unshown
-        .and_then(|place| wishes.claim_texts.get(place))?;
-    Some(text.as_str())
+/// The line of the rule that the program breaks.
+fn broken_rule(required: &Requirements, unkept: Unkept) -> Option<&WrittenLine> {
+    unkept.rule.and_then(|place| required.rule_lines().get(place))
+}
+
+/// The line of the claim that no world shows.
+fn unshown_claim(required: &Requirements, unkept: Unkept) -> Option<&WrittenLine> {
+    unkept.unshown.and_then(|place| required.claim_lines().get(place))
 }
 
 /// Adds an object of this kind, whose one field is a line.

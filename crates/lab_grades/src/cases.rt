@@ -1,6 +1,5 @@
 //! The cases that submissions are judged by.
 
-use crate::wish_lines::WishLines;
 use asm_text::AsmFault;
 use case_cells::{CellsFault, program_of_cells, read_cells};
 use command_parts::{Inputs, LabFault, folder_names, slash_after};
@@ -31,9 +30,7 @@ pub(crate) struct Case {
     /// The path of the file of expectations.
     pub path: String,
     /// Its text.
-    pub wishes: Vec<u8>,
-    /// The lines of it that say something of runs.
-    pub lines: WishLines,
+    pub expected: Vec<u8>,
     /// An image with the cells that take the place of a submission's own.
     pub cells: Option<Image>,
     /// The text of these cells; empty where there are none.
@@ -47,13 +44,11 @@ impl Case {
         inputs: &mut Inputs<'_, F, R>,
         path: String,
     ) -> Result<Case, LabFault> {
-        let wishes = inputs.read(alloc, &path)?;
-        let lines = WishLines::of(alloc, &wishes)?;
+        let expected = inputs.read(alloc, &path)?;
         Ok(Case {
             name: None,
             path,
-            wishes,
-            lines,
+            expected,
             cells: None,
             given: Vec::new(alloc),
         })

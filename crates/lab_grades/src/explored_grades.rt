@@ -5,6 +5,7 @@ ghost use Rattle.schedule_verdicts.specs.ShownClaims.{IsRightThroughout};
 
 use crate::end_flaws::{EndFlaw, first_end_flaw};
 use crate::judged::{Grading, Judged, verdict_by_line};
+use crate::missed_lines::{claim_line, claim_line_numbered, end_line};
 use crate::seed_grades::sampled_verdict;
 use command_parts::LabFault;
 use grade_reports::{CountedEnd, Known, Verdict, VerdictKind, WishLine, Witness};
@@ -29,8 +30,8 @@ pub(crate) fn explored_verdict<X: Threads + Sync, C: Clock, E: Write>(
     console: &mut Console<'_, C, E>,
 ) -> Result<Verdict, LabFault>
     ensures right { let j = judged.now in IfOk result (λ v. v.kind ≡ VerdictKind.Right
-        → IsRightThroughout j.program.now.image [] j.wishes.now.ends.items j.wishes.now.claims.items
-        (is_some j.wishes.now.never_busy)) }
+        → IsRightThroughout j.program.now.image [] j.required.now.ends.items j.required.now.claims.items
+        (is_some j.required.now.never_busy)) }
 {
     let found = searched(alloc, grading, judged, bounds, console)?;
     let verdict = verdict_of_ends(alloc, grading, judged, &found)?;
@@ -50,12 +51,12 @@ fn searched<C: Clock, E: Write>(
     console: &mut Console<'_, C, E>,
 ) -> Result<Explored, LabFault>
     ensures right { let j = judged.now in IfOk result (λ e. IsTrue e.is_right
-        → IsRightThroughout j.program.now.image [] j.wishes.now.ends.items j.wishes.now.claims.items
-        (is_some j.wishes.now.never_busy)) }
+        → IsRightThroughout j.program.now.image [] j.required.now.ends.items j.required.now.claims.items
+        (is_some j.required.now.never_busy)) }
 {
     let begin = Vec::new(alloc);
     let asked = SpaceSearch {
-        wishes: judged.wishes,
+        required: judged.required,
         begin: &begin,
         most: bounds.worlds,
         is_plain: false,
@@ -153,7 +154,7 @@ fn verdict_of_unshown(
 ) -> Result<Verdict, AllocError>
     ensures { IfOk result (λ v. ¬ (v.kind ≡ VerdictKind.Right)) }
 {
-    let line = judged.lines.claim_at(alloc, Some(place))?;
+    let line = claim_line(alloc, judged.required, Some(place))?;
     let kind = VerdictKind::Wrong;
     verdict_by_line(alloc, kind, known, line, "no schedule has such a state")
 }
@@ -212,8 +213,8 @@ fn missed_by(
     end: &SpaceEnd,
 ) -> Result<Option<WishLine>, AllocError> {
     match end.kind {
-        SpaceEndKind::End(_) => judged.lines.end_at(alloc, end.missed),
-        SpaceEndKind::Broken => judged.lines.claim_of_line(alloc, end.line),
+        SpaceEndKind::End(_) => end_line(alloc, judged.required, end.missed),
+        SpaceEndKind::Broken => claim_line_numbered(alloc, judged.required, end.line),
     }
 }
 

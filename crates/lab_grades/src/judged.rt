@@ -3,13 +3,17 @@
 ghost use Rattle.std.specs.Prelude.{◌≡◌, IfOk};
 
 use crate::cases::Case;
-use crate::wish_lines::WishLines;
+use crate::missed_lines::line_of_report;
 use command_parts::{LabFault, Program};
 use grade_reports::{Known, Verdict, VerdictKind, WishLine};
-use lab_ends::{AddressedText, ClaimFault, NamedText, WishFault, Wishes, with_addresses};
-use lab_explorer::{claim_words, wish_fault};
+use expectation_files::{
+    FileFault, KnownNames, LineFault, Requirements, line_of, read_requirements, word_of,
+    written_line,
+};
+use lab_explorer::{fault_words, file_fault};
 use lab_requests::GradeRequest;
 use lab_texts::{NumberStyle, ProgramNames};
+use source_places::SourcePlaces;
 use std::alloc::{AllocError, Global};
 
 /// How submissions are judged.
@@ -40,88 +44,59 @@ pub(crate) struct Judged<'a, 't> {
     /// The names of its places.
     pub names: &'a ProgramNames<'t>,
     /// What is wanted.
-    pub wishes: &'a Wishes,
-    /// The lines that say it.
-    pub lines: &'a WishLines,
+    pub required: &'a Requirements,
 }
 
-/// What a case wants of a submission, or what is said of one that has not all that a claim speaks of, or not a word of a
-/// name. The names are those of the case's cells, where these have some, and else the submission's own.
-pub(crate) fn wishes_for(
+/// What a case wants of a submission, or what is said of one that has not all that a line speaks of. The names of data words
+/// are those of the case's cells, where these have some, and else the submission's own; labels are the submission's.
+pub(crate) fn requirements_for(
     alloc: Global,
     case: &Case,
     program: &Program,
-    names: &ProgramNames<'_>,
-) -> Result<Result<Wishes, Verdict>, LabFault> {
-    match addressed(alloc, case, names)? {
-        NamedText::Plain(text) => wishes_of(alloc, case, program, names, &text),
-        NamedText::Unknown(name) => {
-            Ok(Err(verdict_without(alloc, case, name.line, &name.words)?))
+) -> Result<Result<Requirements, Verdict>, LabFault> {
+    let given = SourcePlaces::of(alloc, &case.given)?;
+    let own = SourcePlaces::of(alloc, &program.text)?;
+    let words = match given.data_names() {
+        [] => own.data_names(),
+        words => words,
+    };
+    let known = KnownNames {
+        words,
+        labels: own.labels(),
+    };
+    match read_requirements(alloc, known, &program.image, &case.expected) {
+        Ok(required) => Ok(Ok(required)),
+        Err(FileFault::Line { line, fault }) if fault.kind.is_of_program() => {
+            Ok(Err(verdict_without(alloc, case, program, line, fault)?))
         }
+        Err(fault) => Err(file_fault(alloc, &case.path, &case.expected, fault, program)?),
     }
 }
 
-/// The text of what a case wants, with addresses in place of the names of data words.
-fn addressed(
-    alloc: Global,
-    case: &Case,
-    names: &ProgramNames<'_>,
-) -> Result<NamedText, AllocError> {
-    let given = ProgramNames::of(alloc, &case.given)?;
-    if names_words(&given) {
-        with_addresses(alloc, &given, &case.wishes)
-    } else {
-        with_addresses(alloc, names, &case.wishes)
-    }
-}
-
-/// What is wanted by a text with addresses, or what is said of a submission that has not all that a claim speaks of.
-fn wishes_of(
+/// What is said of a submission that has not all that a line speaks of.
+fn verdict_without(
     alloc: Global,
     case: &Case,
     program: &Program,
-    names: &ProgramNames<'_>,
-    text: &AddressedText,
-) -> Result<Result<Wishes, Verdict>, LabFault> {
-    match Wishes::of(alloc, text, names, &program.image) {
-        Ok(wishes) => Ok(Ok(wishes)),
-        Err(WishFault::Claim { line, fault }) if fault.is_of_program() => Ok(Err(
-            verdict_without_parts(alloc, case, program, line, fault)?,
-        )),
-        Err(fault) => Err(wish_fault(alloc, &case.path, fault, &program.image)?),
-    }
+    line: usize,
+    fault: LineFault,
+) -> Result<Verdict, AllocError> {
+    let path = case.path.as_str();
+    let written = written_line(alloc, &case.expected, line)?;
+    let word = word_of(line_of(&case.expected, line), fault.word);
+    let own = ProgramNames::of(alloc, &program.text)?;
+    let given = ProgramNames::of(alloc, &case.given)?;
+    let names = if names_words(&given) { &given } else { &own };
+    let reason = fault_words(alloc, fault.kind, word, &program.image, names)?;
+    let words = format!(in alloc; "{path}:{line}: {reason}")?;
+    let mut verdict = Verdict::of_no_program(alloc, VerdictKind::Wrong, words);
+    verdict.missed = Some(line_of_report(alloc, &written)?);
+    Ok(verdict)
 }
 
 /// Whether a text names some of its data words.
 fn names_words(names: &ProgramNames<'_>) -> bool {
     names.data_lines().iter().any(|line| names.has_name((line.first as u64).saturating_mul(8)))
-}
-
-/// What is said of a submission that has not all that the claim of a line speaks of.
-fn verdict_without_parts(
-    alloc: Global,
-    case: &Case,
-    program: &Program,
-    line: usize,
-    fault: ClaimFault,
-) -> Result<Verdict, AllocError> {
-    let reason = claim_words(alloc, fault, &program.image)?;
-    verdict_without(alloc, case, line, &reason)
-}
-
-/// The same for a reason.
-fn verdict_without(
-    alloc: Global,
-    case: &Case,
-    line: usize,
-    reason: &str,
-) -> Result<Verdict, AllocError> {
-    let path = case.path.as_str();
-    let missed = case.lines.line_of(alloc, line)?;
-    let words = format!(in alloc; "{path}:{line}: {reason}")?;
-    let mut verdict = Verdict::of_no_program(alloc, VerdictKind::Wrong, words);
-    verdict.missed = missed;
-    Ok(verdict)
 }
 
 /// The verdict of this kind on a submission by a line of what is wanted, for this reason.

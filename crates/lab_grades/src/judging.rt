@@ -2,12 +2,14 @@
 
 use crate::cases::Case;
 use crate::explored_grades::explored_verdict;
-use crate::judged::{Grading, Judged, wishes_for};
+use crate::judged::{Grading, Judged, requirements_for};
+use crate::missed_lines::line_of_report;
 use crate::seed_grades::sampled_verdict;
 use case_cells::with_cells_of;
 use command_parts::{LabFault, Program};
-use grade_reports::{Known, Verdict, VerdictKind, WishLine};
-use lab_ends::{RuleLine, first_broken_rule};
+use grade_reports::{Known, Verdict, VerdictKind};
+use expectation_files::{Requirements, WrittenLine};
+use program_rules::first_broken;
 use lab_explorer::Console;
 use lab_texts::ProgramNames;
 use std::alloc::{AllocError, Global};
@@ -136,13 +138,12 @@ fn verdict_of<X: Threads + Sync, C: Clock, E: Write>(
     console: &mut Console<'_, C, E>,
 ) -> Result<Verdict, LabFault> {
     let names = ProgramNames::of(alloc, &program.text)?;
-    match wishes_for(alloc, case, program, &names)? {
-        Ok(wishes) => {
+    match requirements_for(alloc, case, program)? {
+        Ok(required) => {
             let judged = Judged {
                 program,
                 names: &names,
-                wishes: &wishes,
-                lines: &case.lines,
+                required: &required,
             };
             verdict_of_judged(rt, alloc, grading, case, &judged, console)
         }
@@ -165,22 +166,23 @@ fn verdict_of_judged<X: Threads + Sync, C: Clock, E: Write>(
     }
 }
 
-/// The first rule of programs that a program breaks; None where it keeps all.
-fn broken_rule<'a>(judged: &Judged<'a, '_>) -> Option<&'a RuleLine> {
-    let rules: &'a [RuleLine] = &judged.wishes.rules;
-    let place = first_broken_rule(&judged.program.image, rules)?;
-    rules.get(place)
+/// The line of the first rule of programs that a program breaks; None where it keeps all.
+fn broken_rule<'a>(judged: &Judged<'a, '_>) -> Option<&'a WrittenLine> {
+    let required: &'a Requirements = judged.required;
+    let place = first_broken(&judged.program.image, required.rules())?;
+    required.rule_lines().get(place)
 }
 
 /// What is said of a program that breaks a rule of programs.
-fn verdict_of_rule(alloc: Global, case: &Case, rule: &RuleLine) -> Result<Verdict, AllocError> {
+fn verdict_of_rule(
+    alloc: Global,
+    case: &Case,
+    rule: &WrittenLine,
+) -> Result<Verdict, AllocError> {
     let path = case.path.as_str();
-    let line = rule.line;
-    let text = rule.text.as_str();
-    let missed = WishLine {
-        number: line,
-        text: String::from_str(alloc, text)?,
-    };
+    let line = rule.number;
+    let text = rule.words.as_str();
+    let missed = line_of_report(alloc, rule)?;
     let words = format!(in alloc; "{path}:{line}: not {text}")?;
     let mut verdict = Verdict::of_no_program(alloc, VerdictKind::Wrong, words);
     verdict.missed = Some(missed);

@@ -7,6 +7,7 @@ mod explored_grades;
 mod grading;
 mod judged;
 mod judging;
+mod missed_lines;
 mod page_folder;
 mod page_names;
 mod seed_ends;
@@ -14,6 +15,5 @@ mod seed_grades;
 mod side_by_side;
 mod submissions;
 mod verdict_pages;
-mod wish_lines;
 
 pub use grading::{Grades, grade, grades_of};

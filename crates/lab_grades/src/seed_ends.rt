@@ -1,6 +1,7 @@
 //! The ends of all seeds of a submission, counted.
 
 use crate::judged::{Grading, Judged};
+use crate::missed_lines::{claim_line, end_line};
 use end_kinds::Status;
 use grade_reports::{CountedEnd, WishLine, Witness};
 use seed_outcomes::{SeedOutcome, SurveySeeds, outcomes_of, worst_status};
@@ -21,8 +22,8 @@ pub(crate) fn counted_ends<X: Threads + Sync>(
         style: grading.style,
     };
     let image = &judged.program.image;
-    let wishes = judged.wishes;
-    let mut outcomes = outcomes_of(rt, alloc, image, judged.names, wishes, seeds)?;
+    let required = judged.required;
+    let mut outcomes = outcomes_of(rt, alloc, image, judged.names, required, seeds)?;
     outcomes.sort_by_key(|outcome: &SeedOutcome| usize::MAX - outcome.runs)?;
     Ok((ends_of(alloc, judged, &outcomes)?, worst_status(&outcomes)))
 }
@@ -63,7 +64,7 @@ fn missed_by(
     outcome: &SeedOutcome,
 ) -> Result<Option<WishLine>, AllocError> {
     match (outcome.missed, outcome.broken) {
-        (None, Some(claim)) => judged.lines.claim_at(alloc, Some(claim)),
-        (missed, _) => judged.lines.end_at(alloc, missed),
+        (None, Some(claim)) => claim_line(alloc, judged.required, Some(claim)),
+        (missed, _) => end_line(alloc, judged.required, missed),
     }
 }

@@ -5,6 +5,7 @@ ghost use Rattle.seed_verdicts.specs.Seeds.{AreJudged};
 ghost use Rattle.seed_verdicts.specs.ShownBySeeds.{AreShownBySeeds};
 
 use crate::judged::{Grading, Judged, verdict_by_line};
+use crate::missed_lines::{busy_line, claim_line, end_line};
 use crate::seed_ends::counted_ends;
 use end_kinds::{EndKind, Status, end_kind_of, status_of};
 use expectations::first_missed;
@@ -27,12 +28,12 @@ pub(crate) fn sampled_verdict<X: Threads + Sync>(
     judged: &Judged<'_, '_>,
 ) -> Result<Verdict, AllocError>
     ensures right { let j = judged.now in IfOk result (λ v. v.kind ≡ VerdictKind.Right → AreJudged
-        j.program.now.image j.wishes.now.ends.items j.wishes.now.claims.items
+        j.program.now.image j.required.now.ends.items j.required.now.claims.items
         (record { first = 0; count = grading.now.request.now.seeds; most = grading.now.request.now.most }) None) }
     ensures shown { let j = judged.now in IfOk result (λ v. v.kind ≡ VerdictKind.Right → AreShownBySeeds
-        j.program.now.image j.wishes.now.claims.items
+        j.program.now.image j.required.now.claims.items
         (record { first = 0; count = grading.now.request.now.seeds; most = grading.now.request.now.most })) }
-    ensures busy { IfOk result (λ v. v.kind ≡ VerdictKind.Right → IsNone judged.now.wishes.now.never_busy) }
+    ensures busy { IfOk result (λ v. v.kind ≡ VerdictKind.Right → IsNone judged.now.required.now.never_busy) }
 {
     let seeds = Seeds {
         first: 0,
@@ -57,32 +58,32 @@ fn verdict_of_right(
     seeds: Seeds,
 ) -> Result<Verdict, AllocError>
     ensures shown { let j = judged.now in IfOk result (λ v. v.kind ≡ VerdictKind.Right
-        → AreShownBySeeds j.program.now.image j.wishes.now.claims.items seeds) }
-    ensures busy { IfOk result (λ v. v.kind ≡ VerdictKind.Right → IsNone judged.now.wishes.now.never_busy) }
+        → AreShownBySeeds j.program.now.image j.required.now.claims.items seeds) }
+    ensures busy { IfOk result (λ v. v.kind ≡ VerdictKind.Right → IsNone judged.now.required.now.never_busy) }
 {
     let known = known_of(seeds.count);
-    let claims = &judged.wishes.claims;
+    let claims = judged.required.claims();
     let Some(place) = unshown_by_seeds(alloc, &judged.program.image, claims, seeds)? else {
         return verdict_of_shown(alloc, judged, known);
     };
-    let line = judged.lines.claim_at(alloc, Some(place))?;
+    let line = claim_line(alloc, judged.required, Some(place))?;
     let kind = VerdictKind::NotDecided;
     verdict_by_line(alloc, kind, known, line, "no run has such a state")
 }
 
-/// The same where each claim is shown that has to hold of one world at least: right, unless no stream is wished to loop
+/// The same where each claim is shown that has to hold of one world at least: right, unless no stream is to loop
 /// alone, which no run can show.
 fn verdict_of_shown(
     alloc: Global,
     judged: &Judged<'_, '_>,
     known: Known,
 ) -> Result<Verdict, AllocError>
-    ensures { IfOk result (λ v. v.kind ≡ VerdictKind.Right → IsNone judged.now.wishes.now.never_busy) }
+    ensures { IfOk result (λ v. v.kind ≡ VerdictKind.Right → IsNone judged.now.required.now.never_busy) }
 {
-    if judged.wishes.never_busy.is_none() {
+    if judged.required.never_busy().is_none() {
         return Ok(Verdict::plain(alloc, VerdictKind::Right, known));
     }
-    let line = judged.lines.busy_line(alloc)?;
+    let line = busy_line(alloc, judged.required)?;
     let kind = VerdictKind::NotDecided;
     verdict_by_line(
         alloc,
@@ -127,7 +128,7 @@ fn flaw_of<X: Threads + Sync>(
     is_spread: bool,
 ) -> Result<Option<SeedFlaw>, AllocError>
     ensures { let j = judged.now in IfOk result (λ found. AreJudged
-        j.program.now.image j.wishes.now.ends.items j.wishes.now.claims.items seeds found) }
+        j.program.now.image j.required.now.ends.items j.required.now.claims.items seeds found) }
 {
     let found = by_room!(
         judged.program.image,
@@ -148,14 +149,14 @@ fn flaw_on<X: Threads + Sync, const S: usize>(
     is_spread: bool,
 ) -> Result<Option<SeedFlaw>, LoadFault>
     ensures { let j = judged.now in IfOk result (λ found. AreJudged
-        j.program.now.image j.wishes.now.ends.items j.wishes.now.claims.items seeds found) }
+        j.program.now.image j.required.now.ends.items j.required.now.claims.items seeds found) }
 {
     let image = &judged.program.image;
-    let wishes = judged.wishes;
+    let required = judged.required;
     if is_spread {
-        first_flaw::<X, S>(rt, alloc, image, &wishes.ends, &wishes.claims, seeds)
+        first_flaw::<X, S>(rt, alloc, image, required.ends(), required.claims(), seeds)
     } else {
-        first_flaw_alone::<S>(alloc, image, &wishes.ends, &wishes.claims, seeds)
+        first_flaw_alone::<S>(alloc, image, required.ends(), required.claims(), seeds)
     }
 }
 
@@ -202,9 +203,9 @@ fn missed_by(
     missed: Option<usize>,
 ) -> Result<Option<WishLine>, AllocError> {
     match flaw {
-        RunFlaw::Broken { claim, .. } => judged.lines.claim_at(alloc, Some(claim)),
+        RunFlaw::Broken { claim, .. } => claim_line(alloc, judged.required, Some(claim)),
         RunFlaw::Trap | RunFlaw::Deadlock | RunFlaw::Missed { .. } | RunFlaw::OutOfSteps => {
-            judged.lines.end_at(alloc, missed)
+            end_line(alloc, judged.required, missed)
         }
     }
 }
@@ -267,7 +268,7 @@ fn shown_at_end<const S: usize>(
     Ok(ShownRun {
         kind: end_kind_of(machine),
         words: said.text,
-        missed: first_missed(machine, &judged.wishes.ends),
+        missed: first_missed(machine, judged.required.ends()),
         finding,
     })
 }

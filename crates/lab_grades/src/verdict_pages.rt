@@ -1,7 +1,7 @@
 //! The pages of verdicts: runs that show that submissions are not right.
 
 use crate::cases::Case;
-use crate::judged::{Grading, wishes_for};
+use crate::judged::{Grading, requirements_for};
 use crate::judging::given_by;
 use command_parts::{LabFault, Program, made_by};
 use grade_reports::{Verdict, Witness};
@@ -124,14 +124,14 @@ fn page_of_all<C: Clock, E: Write>(
     console: &mut Console<'_, C, E>,
 ) -> Result<Option<String>, LabFault> {
     let names = ProgramNames::of(alloc, &shown.program.text)?;
-    let Ok(wishes) = wishes_for(alloc, shown.case, shown.program, &names)? else {
+    let Ok(required) = requirements_for(alloc, shown.case, shown.program)? else {
         return Ok(None);
     };
     let played = PlayedProgram {
         called: shown.called,
         program: shown.program,
         names: &names,
-        wishes: &wishes,
+        required: &required,
         opened: steps,
     };
     play_page(alloc, &played, console)

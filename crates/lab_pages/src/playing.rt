@@ -4,8 +4,9 @@ use crate::goals::{EndCriteria, goal_place};
 use crate::opened_pages::opened_after;
 use busy_streams::{Busy, first_busy};
 use command_parts::{CommandAnswer, Inputs, LabFault, Program, read_program, read_steps};
-use lab_ends::{NEVER_BUSY, Wishes, are_rules_kept, space_ends};
-use lab_explorer::{Console, Watcher, push_expected, wishes_of};
+use expectation_files::{NEVER_BUSY, Requirements, WrittenLine, are_rules_kept};
+use lab_ends::space_ends;
+use lab_explorer::{Console, Watcher, requirements_of};
 use lab_requests::{Bounds, PlayRequest};
 use lab_texts::{Notation, NumberStyle, ProgramNames};
 use machine::LoadFault;
@@ -28,12 +29,12 @@ pub fn write_play_page<C: Clock, F: Files, R: Read, E: Write>(
 ) -> Result<CommandAnswer, LabFault> {
     let program = read_program(alloc, inputs, request.program)?;
     let names = ProgramNames::of(alloc, &program.text)?;
-    let wishes = match request.expected {
+    let required = match request.expected {
         Some(path) => {
             let text = inputs.read(alloc, path)?;
-            wishes_of(alloc, path, &text, &names, &program.image)?
+            requirements_of(alloc, path, &text, &program)?
         }
-        None => Wishes::none(alloc),
+        None => Requirements::none(alloc),
     };
     let begin = match request.from {
         Some(path) => read_steps(alloc, inputs, &program, path)?,
@@ -42,7 +43,7 @@ pub fn write_play_page<C: Clock, F: Files, R: Read, E: Write>(
     let played = Played {
         program: &program,
         names: &names,
-        wishes: &wishes,
+        required: &required,
         begin: &begin,
         opened: &[],
     };
@@ -58,7 +59,7 @@ pub fn write_play_page<C: Clock, F: Files, R: Read, E: Write>(
 pub(crate) struct Played<'a, 't> {
     pub program: &'a Program,
     pub names: &'a ProgramNames<'t>,
-    pub wishes: &'a Wishes,
+    pub required: &'a Requirements,
     pub begin: &'a [Step],
     /// The steps after which the page opens.
     pub opened: &'a [Step],
@@ -112,16 +113,16 @@ fn graph_on<const S: usize, C: Clock, E: Write>(
         names: played.names,
         style: NumberStyle::Decimal,
     };
-    let wishes = played.wishes;
-    let busy = busy_in::<S>(alloc, &space, wishes)?;
-    let mut ends = space_ends::<S>(alloc, notation, wishes, &space, true, busy)?;
+    let required = played.required;
+    let busy = busy_in::<S>(alloc, &space, required)?;
+    let mut ends = space_ends::<S>(alloc, notation, required, &space, true, busy)?;
     // (a claim that only the given beginning breaks has no state on the page)
     ends.retain(|end| !end.places.is_empty());
-    let expected = expected_texts(alloc, played.wishes)?;
+    let expected = expected_texts(alloc, played.required)?;
     let judging = EndCriteria {
         is_judged: !expected.is_empty(),
-        keeps_rules: are_rules_kept(image, &played.wishes.rules)
-            && are_all_shown::<S>(alloc, &space, played.wishes)?,
+        keeps_rules: are_rules_kept(image, played.required.rules())
+            && are_all_shown::<S>(alloc, &space, played.required)?,
     };
     let asked = GraphNames {
         program: program_name(request),
@@ -135,13 +136,13 @@ fn graph_on<const S: usize, C: Clock, E: Write>(
     Ok(Some(graph))
 }
 
-/// The first state from which a stream loops alone, of those of a space, where none is wished to.
+/// The first state from which a stream loops alone, of those of a space, where none is to.
 fn busy_in<const S: usize>(
     alloc: Global,
     space: &Space<'_>,
-    wishes: &Wishes,
+    required: &Requirements,
 ) -> Result<Option<Busy>, LabFault> {
-    if wishes.never_busy.is_none() {
+    if required.never_busy().is_none() {
         return Ok(None);
     }
     match first_busy::<S>(alloc, space) {
@@ -154,9 +155,9 @@ fn busy_in<const S: usize>(
 fn are_all_shown<const S: usize>(
     alloc: Global,
     space: &Space<'_>,
-    wishes: &Wishes,
+    required: &Requirements,
 ) -> Result<bool, LabFault> {
-    match first_unshown::<S>(alloc, space, &wishes.claims) {
+    match first_unshown::<S>(alloc, space, required.claims()) {
         Ok(unshown) => Ok(unshown.is_none()),
         Err(LoadFault::NoMemory | LoadFault::Streams) => Err(LabFault::NoMemory),
     }
@@ -172,23 +173,27 @@ fn too_many(alloc: Global, request: &PlayRequest) -> Result<LabFault, AllocError
 }
 
 /// What is expected of ends, and what is claimed, as it is written.
-fn expected_texts(alloc: Global, wishes: &Wishes) -> Result<Vec<String>, AllocError> {
+fn expected_texts(alloc: Global, required: &Requirements) -> Result<Vec<String>, AllocError> {
     let mut texts = Vec::new(alloc);
-    for place in 0..wishes.ends.len() {
-        let mut text = String::new(alloc);
-        push_expected(&mut text, wishes, place)?;
-        texts.push(text)?;
-    }
-    for claim in &wishes.claim_texts {
-        texts.push(String::from_str(alloc, claim)?)?;
-    }
-    if wishes.never_busy.is_some() {
+    push_words(alloc, &mut texts, required.end_lines())?;
+    push_words(alloc, &mut texts, required.claim_lines())?;
+    if required.never_busy().is_some() {
         texts.push(String::from_str(alloc, NEVER_BUSY)?)?;
     }
-    for said in &wishes.rules {
-        texts.push(String::from_str(alloc, &said.text)?)?;
-    }
+    push_words(alloc, &mut texts, required.rule_lines())?;
     Ok(texts)
+}
+
+/// Adds the words of lines.
+fn push_words(
+    alloc: Global,
+    texts: &mut Vec<String>,
+    lines: &[WrittenLine],
+) -> Result<(), AllocError> {
+    for line in lines {
+        texts.push(String::from_str(alloc, &line.words)?)?;
+    }
+    Ok(())
 }
 
 /// What the program is called: as was asked, or by its file's name.

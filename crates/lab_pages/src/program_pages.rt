@@ -2,7 +2,7 @@
 
 use crate::playing::{Played, page_text};
 use command_parts::{LabFault, Program};
-use lab_ends::Wishes;
+use expectation_files::Requirements;
 use lab_explorer::Console;
 use lab_requests::{MOST_PLAYED, PlayRequest};
 use lab_texts::ProgramNames;
@@ -36,8 +36,8 @@ pub struct PlayedProgram<'a, 't> {
     pub program: &'a Program,
     /// The names of its places.
     pub names: &'a ProgramNames<'t>,
-    /// What is wished of it.
-    pub wishes: &'a Wishes,
+    /// What is required of it.
+    pub required: &'a Requirements,
     /// The steps after which the page opens.
     pub opened: &'a [Step],
 }
@@ -61,7 +61,7 @@ pub fn play_page<C: Clock, E: Write>(
     let played = Played {
         program: asked.program,
         names: asked.names,
-        wishes: asked.wishes,
+        required: asked.required,
         begin: &begin,
         opened: asked.opened,
     };

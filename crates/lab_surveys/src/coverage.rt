@@ -1,6 +1,6 @@
 //! What the search among every schedule adds to a survey.
 
-use crate::survey_objects::{SurveyInput, broken_words, push_broken_object, push_coverage};
+use crate::survey_objects::{SurveyInput, push_broken_object, push_coverage};
 use lab_ends::{SpaceEnd, SpaceEndKind};
 use lab_explorer::Explored;
 use seed_outcomes::SeedOutcome;
@@ -18,7 +18,7 @@ pub(crate) fn push_every_schedule(
 ) -> Result<(), AllocError> {
     for end in &found.ends {
         if !is_end(end) && !is_named(surveyed, end, outcomes) {
-            push_broken(alloc, out, is_json, surveyed, end.text.as_str())?;
+            push_broken(alloc, out, is_json, end)?;
         }
     }
     push_met(alloc, out, is_json, found, outcomes)
@@ -31,8 +31,11 @@ fn is_end(end: &SpaceEnd) -> bool {
 
 /// Whether an outcome names the claim that is broken there.
 fn is_named(surveyed: SurveyInput, broken: &SpaceEnd, outcomes: &[SeedOutcome]) -> bool {
-    let claim = broken.text.as_str();
-    outcomes.iter().any(|outcome| broken_words(surveyed.wishes, outcome) == Some(claim))
+    let lines = surveyed.required.claim_lines();
+    outcomes.iter().any(|outcome| match outcome.broken {
+        Some(place) => lines.get(place).is_some_and(|line| line.number == broken.line),
+        None => false,
+    })
 }
 
 /// Adds that some schedule breaks a claim.
@@ -40,12 +43,12 @@ fn push_broken(
     alloc: Global,
     out: &mut String,
     is_json: bool,
-    surveyed: SurveyInput,
-    claim: &str,
+    broken: &SpaceEnd,
 ) -> Result<(), AllocError> {
     if is_json {
-        return push_broken_object(alloc, out, surveyed, claim);
+        return push_broken_object(alloc, out, broken);
     }
+    let claim = broken.text.as_str();
     write!(
         out,
         "NOT as expected: {claim}: some schedule breaks it, and explore shows which\n"

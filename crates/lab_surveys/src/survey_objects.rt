@@ -2,9 +2,10 @@
 
 use command_parts::{Program, made_by, push_object};
 use end_kinds::EndKind;
-use lab_ends::Wishes;
+use expectation_files::Requirements;
+use lab_ends::SpaceEnd;
 use lab_explorer::{ExpectedLines, Explored, put_bound};
-use lab_json::{Fields, Object, digits, object_of, put_run};
+use lab_json::{Fields, Object, digits, line_value, object_of, put_run};
 use lab_requests::Maker;
 use rayon::prelude::*;
 use seed_outcomes::SeedOutcome;
@@ -17,8 +18,8 @@ use std::thread::Threads;
 pub(crate) struct SurveyInput<'a> {
     /// The program.
     pub program: &'a Program,
-    /// What is wished of it.
-    pub wishes: &'a Wishes,
+    /// What is required of it.
+    pub required: &'a Requirements,
     /// The most steps of a schedule.
     pub most: usize,
 }
@@ -27,7 +28,7 @@ impl<'a> SurveyInput<'a> {
     /// The lines that say what is expected of ends.
     fn lines(&self) -> ExpectedLines<'a> {
         ExpectedLines {
-            wishes: self.wishes,
+            required: self.required,
         }
     }
 }
@@ -100,29 +101,26 @@ fn put_run_of(
     let maker = Maker::Random { seed: outcome.seed };
     let lines = surveyed.lines();
     lines.put_missed(alloc, fields, outcome.missed)?;
-    lines.put_claim(alloc, fields, broken_words(surveyed.wishes, outcome))?;
+    lines.put_claim(alloc, fields, outcome.broken)?;
     let made = made_by(alloc, image, maker, surveyed.most)?;
     put_run(alloc, fields, image, &made.steps)
 }
 
 /// The claim that is broken on the way to an outcome.
-pub(crate) fn broken_words<'w>(wishes: &'w Wishes, outcome: &SeedOutcome) -> Option<&'w str> {
-    let text = outcome
-        .broken
-        .and_then(|place| wishes.claim_texts.get(place))?;
-    Some(text.as_str())
+pub(crate) fn broken_words<'w>(required: &'w Requirements, outcome: &SeedOutcome) -> Option<&'w str> {
+    let line = outcome.broken.and_then(|place| required.claim_lines().get(place))?;
+    Some(line.words.as_str())
 }
 
-/// Adds the object that names a claim which some schedule breaks.
+/// Adds the object that names the claim which some schedule breaks.
 pub(crate) fn push_broken_object(
     alloc: Global,
     out: &mut String,
-    surveyed: SurveyInput,
-    claim: &str,
+    broken: &SpaceEnd,
 ) -> Result<(), AllocError> {
-    let mut fields = object_of(alloc, "broken")?;
-    surveyed.lines().put_claim(alloc, &mut fields, Some(claim))?;
-    push_object(alloc, out, &Value::Object(fields))
+    let mut object = Object::of_kind(alloc, "broken");
+    object.put("claim", line_value(alloc, broken.line, &broken.text));
+    push_object(alloc, out, &object.whole()?)
 }
 
 /// Adds the object that says how many of so many ends of every schedule the seeds met.

@@ -3,10 +3,11 @@
 use crate::coverage::push_every_schedule;
 use crate::survey_objects::{SurveyInput, broken_words, push_outcome_objects};
 use command_parts::{CommandAnswer, Inputs, LabFault, read_program, style_of};
-use lab_ends::{Wishes, first_broken_rule};
+use expectation_files::Requirements;
+use program_rules::first_broken;
 use lab_explorer::{
     Console, EndCells, EndColumns, Explored, SpaceSearch, Unkept, Watcher, end_line,
-    explore_program, push_expected, push_unkept, push_unkept_objects, wishes_of,
+    explore_program, push_expected, push_unkept, push_unkept_objects, requirements_of,
 };
 use lab_requests::{Bounds, SurveyRequest};
 use lab_texts::{NumberStyle, ProgramNames};
@@ -33,13 +34,13 @@ pub fn survey<X: Threads + Sync, C: Clock, F: Files, R: Read, E: Write>(
     }
     let program = read_program(alloc, inputs, request.program)?;
     let names = ProgramNames::of(alloc, &program.text)?;
-    let wishes = match request.expected {
-        Some(path) => wishes_of(alloc, path, &text, &names, &program.image)?,
-        None => Wishes::none(alloc),
+    let required = match request.expected {
+        Some(path) => requirements_of(alloc, path, &text, &program)?,
+        None => Requirements::none(alloc),
     };
     let surveyed = SurveyInput {
         program: &program,
-        wishes: &wishes,
+        required: &required,
         most: request.most,
     };
     survey_of(rt, alloc, request, surveyed, &names, console)
@@ -61,14 +62,14 @@ fn survey_of<X: Threads + Sync, C: Clock, E: Write>(
         style: style_of(request.shown),
     };
     let image = &surveyed.program.image;
-    let mut outcomes = outcomes_of(rt, alloc, image, names, surveyed.wishes, seeds)?;
+    let mut outcomes = outcomes_of(rt, alloc, image, names, surveyed.required, seeds)?;
     outcomes.sort_by_key(|outcome: &SeedOutcome| usize::MAX - outcome.runs)?;
     let is_json = request.shown.json;
     let mut output = String::new(alloc);
     if is_json {
         push_outcome_objects(rt, alloc, &mut output, surveyed, &outcomes)?;
     } else {
-        push_outcomes(alloc, &mut output, surveyed.wishes, &outcomes)?;
+        push_outcomes(alloc, &mut output, surveyed.required, &outcomes)?;
     }
     let status = worst_status(&outcomes);
     let Some(bounds) = request.explored else {
@@ -91,7 +92,7 @@ fn unkept_by_seeds(
 ) -> Result<Unkept, AllocError> {
     let SurveyInput {
         program,
-        wishes,
+        required,
         ..
     } = surveyed;
     let tried = Seeds {
@@ -100,9 +101,9 @@ fn unkept_by_seeds(
         most: seeds.most,
     };
     Ok(Unkept {
-        rule: first_broken_rule(&program.image, &wishes.rules),
-        unshown: unshown_by_seeds(alloc, &program.image, &wishes.claims, tried)?,
-        undecided: wishes.never_busy,
+        rule: first_broken(&program.image, required.rules()),
+        unshown: unshown_by_seeds(alloc, &program.image, required.claims(), tried)?,
+        undecided: required.never_busy(),
     })
 }
 
@@ -116,9 +117,9 @@ fn push_whole(
     is_of_every: bool,
 ) -> Result<(), AllocError> {
     if is_json {
-        push_unkept_objects(alloc, out, surveyed.wishes, unkept)
+        push_unkept_objects(alloc, out, surveyed.required, unkept)
     } else {
-        push_unkept(out, surveyed.wishes, unkept, is_of_every)
+        push_unkept(out, surveyed.required, unkept, is_of_every)
     }
 }
 
@@ -126,7 +127,7 @@ fn push_whole(
 fn push_outcomes(
     alloc: Global,
     out: &mut String,
-    wishes: &Wishes,
+    required: &Requirements,
     outcomes: &[SeedOutcome],
 ) -> Result<(), AllocError> {
     let mut columns = EndColumns::named("runs", "first by");
@@ -138,7 +139,7 @@ fn push_outcomes(
         columns.push_names(out)?;
     }
     for outcome in outcomes {
-        push_outcome(alloc, out, columns, wishes, outcome)?;
+        push_outcome(alloc, out, columns, required, outcome)?;
     }
     Ok(())
 }
@@ -169,7 +170,7 @@ fn every_end<C: Clock, E: Write>(
 ) -> Result<Explored, LabFault> {
     let begin = Vec::new(alloc);
     let asked = SpaceSearch {
-        wishes: surveyed.wishes,
+        required: surveyed.required,
         begin: &begin,
         most: bounds.worlds,
         is_plain: false,
@@ -187,13 +188,13 @@ fn push_outcome(
     alloc: Global,
     out: &mut String,
     columns: EndColumns,
-    wishes: &Wishes,
+    required: &Requirements,
     outcome: &SeedOutcome,
 ) -> Result<(), AllocError> {
     let seed = seed_words(alloc, outcome)?;
     columns.push_cells(out, cells_of(outcome, &seed))?;
     push_plain(out, outcome.text.as_str())?;
-    push_judgement(out, wishes, outcome)?;
+    push_judgement(out, required, outcome)?;
     end_line(out)?;
     columns.push_note(out, outcome.finding.as_str())
 }
@@ -201,10 +202,10 @@ fn push_outcome(
 /// Adds that an outcome is not as expected, and the first line that it misses, or that is broken on the way.
 fn push_judgement(
     out: &mut String,
-    wishes: &Wishes,
+    required: &Requirements,
     outcome: &SeedOutcome,
 ) -> Result<(), AllocError> {
-    let is_judged = !wishes.ends.is_empty() || !wishes.claims.is_empty();
+    let is_judged = !required.ends().is_empty() || !required.claims().is_empty();
     if !is_judged || outcome.is_as_expected() {
         return Ok(());
     }
@@ -212,9 +213,9 @@ fn push_judgement(
     out.push_str("NOT as expected")?;
     if let Some(place) = outcome.missed {
         out.push_str(": ")?;
-        return push_expected(out, wishes, place);
+        return push_expected(out, required, place);
     }
-    if let Some(claim) = broken_words(wishes, outcome) {
+    if let Some(claim) = broken_words(required, outcome) {
         out.push_str(": ")?;
         return out.push_str(claim);
     }

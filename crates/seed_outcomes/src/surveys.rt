@@ -9,7 +9,8 @@ use end_kinds::end_kind_of;
 use expectations::first_missed;
 use image_file::Image;
 use image_machines::{by_room, loaded};
-use lab_ends::{Wishes, end_text_of, is_expected_trap};
+use expectation_files::Requirements;
+use lab_ends::{end_text_of, is_expected_trap};
 use lab_texts::{NumberStyle, ProgramNames};
 use machine::{LoadFault, Machine};
 use processor::Step;
@@ -43,8 +44,8 @@ pub(crate) struct Surveyed<'a, 't> {
     pub image: &'a Image,
     /// The names of its places.
     pub names: &'a ProgramNames<'t>,
-    /// What is wished of it.
-    pub wishes: &'a Wishes,
+    /// What is required of it.
+    pub required: &'a Requirements,
     /// How many steps the program's fair run has.
     pub fair_steps: usize,
     /// The most steps of a schedule.
@@ -71,12 +72,12 @@ pub fn outcomes_of<X: Threads + Sync>(
     alloc: Global,
     image: &Image,
     names: &ProgramNames<'_>,
-    wishes: &Wishes,
+    required: &Requirements,
     seeds: SurveySeeds,
 ) -> Result<Vec<SeedOutcome>, AllocError> {
     by_room!(
         image,
-        outcomes_on::<X>(rt, alloc, image, names, wishes, seeds)
+        outcomes_on::<X>(rt, alloc, image, names, required, seeds)
     )
 }
 
@@ -86,14 +87,14 @@ fn outcomes_on<'a, 't, X: Threads + Sync, const S: usize>(
     alloc: Global,
     image: &'a Image,
     names: &'a ProgramNames<'t>,
-    wishes: &'a Wishes,
+    required: &'a Requirements,
     seeds: SurveySeeds,
 ) -> Result<Vec<SeedOutcome>, AllocError> {
     let fair_steps = fair_length(alloc, &loaded::<S>(alloc, image)?)?;
     let surveyed = Surveyed {
         image,
         names,
-        wishes,
+        required,
         fair_steps,
         most: seeds.most,
         style: seeds.style,
@@ -177,12 +178,12 @@ fn outcome_of<const S: usize>(
     let is_trapped = words
         .stopped
         .iter()
-        .any(|stream| !is_expected_trap(&surveyed.wishes.ends, stream));
+        .any(|stream| !is_expected_trap(surveyed.required.ends(), stream));
     Ok(SeedOutcome {
         kind: end_kind_of(&machine),
         text: words.text,
-        missed: first_missed(&machine, &surveyed.wishes.ends),
-        broken: broken_by::<S>(alloc, surveyed.image, &made.steps, &surveyed.wishes.claims)?,
+        missed: first_missed(&machine, surveyed.required.ends()),
+        broken: broken_by::<S>(alloc, surveyed.image, &made.steps, surveyed.required.claims())?,
         is_trapped,
         seed,
         steps: made.steps.len(),

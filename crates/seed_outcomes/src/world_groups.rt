@@ -24,7 +24,7 @@ pub(crate) fn groups_of_seeds<X: Threads + Sync, const S: usize>(
     surveyed: &Surveyed<'_, '_>,
     seeds: SeedRange,
 ) -> Result<Vec<SeedGroup>, AllocError> {
-    if !surveyed.wishes.claims.is_empty() {
+    if !surveyed.required.claims().is_empty() {
         return single_seeds(alloc, seeds);
     }
     let ranges = ranges_of(alloc, seeds, part_size(rt, seeds.count))?;

@@ -7,10 +7,10 @@ use Rattle.lab_explorer.proofs.searches.explore_on.Goals as goal
 pub returns : goal.returns
 returns g c = record {
   right =
-      let wishes = c.args.asked.now.wishes.now in
-      let expected = wishes.ends.items in
-      let claims = wishes.claims.items in
-      let alone = is_some wishes.never_busy in
+      let required = c.args.asked.now.required.now in
+      let expected = required.ends.items in
+      let claims = required.claims.items in
+      let alone = is_some required.never_busy in
       let v = c.in_ok-space.space in
       let image = c.in_ok-space.ensures.image in
       let begin = c.in_ok-space.ensures.begin in
@@ -47,7 +47,7 @@ returns g c = record {
             ] in
             let none = c.in_ok-unshown.ensures.only tells right.shown in
             let alone_none =
-            none_found wishes.never_busy c.in_ok-busy.busy busy.unwished
+            none_found required.never_busy c.in_ok-busy.busy busy.unwished
             (λ some. (busy.wished all.0 some (c.in_ok-space.ensures.worlds all.0 some)).1 (right.busy some)) in
             found.only (judged.1 (all.0, all.1, none, alone_none))
             (c.in_ok-space.ensures.taken all.0) right,

@@ -1,0 +1,124 @@
+-- What lines say, joined.
+use Rattle.std.proofs.Common.{◌≡◌, ℕ, List, [], ◌∷◌, ◌++◌, Option, Some, None, Ok, Err, length, refl, ap, sym, ◌∙◌}
+use Rattle.std.proofs.Common.{append_assoc, append-nil}
+use Rattle.std.specs.Option.{option_or}
+use Rattle.std.proofs.Math.ListN.{replicate}
+use Rattle.expectations.specs.declared.expectation.Expectation.{Expectation}
+use Rattle.program_rules.specs.declared.program_rule.ProgramRule.{ProgramRule}
+use Rattle.expectation_files.specs.ClaimLines.{ClaimValue}
+use Rattle.expectation_files.specs.Lines.{Nothing, End, Claimed, Rules, NeverBusy}
+use Rattle.expectation_files.specs.Files.{RequirementsValue, FileSaid, nothing_said, said_on, joined, in_front}
+
+or_none : (o : Option ℕ) → option_or o None ≡ o
+or_none None = refl
+or_none (Some k) = refl
+
+or_assoc : (a b c : Option ℕ) → option_or (option_or a b) c ≡ option_or a (option_or b c)
+or_assoc None b c = refl
+or_assoc (Some k) b c = refl
+
+pub joined_nothing : (v : RequirementsValue) → joined v nothing_said ≡ v
+joined_nothing v =
+    rw (
+      append-nil v.ends,
+      append-nil v.end_numbers,
+      append-nil v.claims,
+      append-nil v.claim_numbers,
+      append-nil v.rules,
+      append-nil v.rule_numbers,
+      or_none v.never_busy,
+    ) refl
+
+pub joined_end : (v : RequirementsValue) (e : Expectation) (k : ℕ) → joined v (said_on k (End e))
+    ≡ record {
+      ends = v.ends ++ e ∷ [];
+      end_numbers = v.end_numbers ++ k ∷ [];
+      claims = v.claims;
+      claim_numbers = v.claim_numbers;
+      rules = v.rules;
+      rule_numbers = v.rule_numbers;
+      never_busy = v.never_busy;
+    }
+joined_end v e k =
+    rw (
+      append-nil v.claims,
+      append-nil v.claim_numbers,
+      append-nil v.rules,
+      append-nil v.rule_numbers,
+      or_none v.never_busy,
+    ) refl
+
+pub joined_claim : (v : RequirementsValue) (c : ClaimValue) (k : ℕ) → joined v (said_on k (Claimed c))
+    ≡ record {
+      ends = v.ends;
+      end_numbers = v.end_numbers;
+      claims = v.claims ++ c ∷ [];
+      claim_numbers = v.claim_numbers ++ k ∷ [];
+      rules = v.rules;
+      rule_numbers = v.rule_numbers;
+      never_busy = v.never_busy;
+    }
+joined_claim v c k =
+    rw (
+      append-nil v.ends,
+      append-nil v.end_numbers,
+      append-nil v.rules,
+      append-nil v.rule_numbers,
+      or_none v.never_busy,
+    ) refl
+
+pub joined_rules : (v : RequirementsValue) (rs : List ProgramRule) (k : ℕ) → joined v (said_on k (Rules rs))
+    ≡ record {
+      ends = v.ends;
+      end_numbers = v.end_numbers;
+      claims = v.claims;
+      claim_numbers = v.claim_numbers;
+      rules = v.rules ++ rs;
+      rule_numbers = v.rule_numbers ++ replicate (length rs) k;
+      never_busy = v.never_busy;
+    }
+joined_rules v rs k =
+    rw (
+      append-nil v.ends,
+      append-nil v.end_numbers,
+      append-nil v.claims,
+      append-nil v.claim_numbers,
+      or_none v.never_busy,
+    ) refl
+
+pub joined_busy : (v : RequirementsValue) (k : ℕ) → joined v (said_on k NeverBusy)
+    ≡ record {
+      ends = v.ends;
+      end_numbers = v.end_numbers;
+      claims = v.claims;
+      claim_numbers = v.claim_numbers;
+      rules = v.rules;
+      rule_numbers = v.rule_numbers;
+      never_busy = option_or v.never_busy (Some k);
+    }
+joined_busy v k =
+    rw (
+      append-nil v.ends,
+      append-nil v.end_numbers,
+      append-nil v.claims,
+      append-nil v.claim_numbers,
+      append-nil v.rules,
+      append-nil v.rule_numbers,
+    ) refl
+
+joined_assoc : (v w u : RequirementsValue) → joined (joined v w) u ≡ joined v (joined w u)
+joined_assoc v w u =
+    rw (
+      append_assoc v.ends w.ends u.ends,
+      append_assoc v.end_numbers w.end_numbers u.end_numbers,
+      append_assoc v.claims w.claims u.claims,
+      append_assoc v.claim_numbers w.claim_numbers u.claim_numbers,
+      append_assoc v.rules w.rules u.rules,
+      append_assoc v.rule_numbers w.rule_numbers u.rule_numbers,
+      or_assoc v.never_busy w.never_busy u.never_busy,
+    ) refl
+
+pub in_front-in_front : (v w : RequirementsValue) (said : FileSaid)
+    → in_front v (in_front w said) ≡ in_front (joined v w) said
+in_front-in_front v w (Ok u) = ap Ok (sym (joined_assoc v w u))
+in_front-in_front v w (Err f) = refl

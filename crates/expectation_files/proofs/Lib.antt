@@ -1,0 +1,3 @@
+mod WordCuts
+mod Joined
+mod TextRead

@@ -1,0 +1,119 @@
+-- What a file of expectations says.
+use Rattle.std.specs.Prelude.{◌≡◌, ℕ, ◌+◌, ◌==◌, ◌&&◌, Bool, if◌then◌else◌, List, [], ◌∷◌, ◌++◌, length, map}
+use Rattle.std.specs.Prelude.{Option, Some, None, is_some, not, Result, Ok, Err}
+use Rattle.std.specs.Option.{option_or}
+use Rattle.std.proofs.Math.ListN.{replicate}
+use Rattle.text_parts.specs.Pieces.{pieces}
+use Rattle.image_file.specs.ImageValue.{ImageValue}
+use Rattle.expectations.specs.declared.expectation.Expectation.{Expectation}
+use Rattle.program_rules.specs.declared.program_rule.ProgramRule.{ProgramRule}
+use Rattle.expectation_files.specs.Addresses.{Names}
+use Rattle.expectation_files.specs.ClaimLines.{ClaimValue}
+use Rattle.expectation_files.specs.Lines.{Meaning, Nothing, End, Claimed, Rules, NeverBusy, MeaningSaid, line_said}
+use Rattle.expectation_files.specs.declared.faults.FileFault.{FileFault}
+use Rattle.expectation_files.specs.declared.faults.FileFault.TheVariants as file
+
+-- What lines say, in their order, each kind with the numbers of its lines; of the lines `never busy` the first one's number.
+pub record RequirementsValue : Type 0 where
+  pub ends : List Expectation
+  pub end_numbers : List ℕ
+  pub claims : List ClaimValue
+  pub claim_numbers : List ℕ
+  pub rules : List ProgramRule
+  pub rule_numbers : List ℕ
+  pub never_busy : Option ℕ
+
+abbrev pub nothing_said : RequirementsValue
+nothing_said = record {
+  ends = [];
+  end_numbers = [];
+  claims = [];
+  claim_numbers = [];
+  rules = [];
+  rule_numbers = [];
+  never_busy = None;
+}
+
+-- what the line of this number says
+abbrev pub said_on : ℕ → Meaning → RequirementsValue
+said_on k Nothing = nothing_said
+said_on k (End e) = record {
+  ends = e ∷ [];
+  end_numbers = k ∷ [];
+  claims = [];
+  claim_numbers = [];
+  rules = [];
+  rule_numbers = [];
+  never_busy = None;
+}
+said_on k (Claimed c) = record {
+  ends = [];
+  end_numbers = [];
+  claims = c ∷ [];
+  claim_numbers = k ∷ [];
+  rules = [];
+  rule_numbers = [];
+  never_busy = None;
+}
+said_on k (Rules rs) = record {
+  ends = [];
+  end_numbers = [];
+  claims = [];
+  claim_numbers = [];
+  rules = rs;
+  rule_numbers = replicate (length rs) k;
+  never_busy = None;
+}
+said_on k NeverBusy = record {
+  ends = [];
+  end_numbers = [];
+  claims = [];
+  claim_numbers = [];
+  rules = [];
+  rule_numbers = [];
+  never_busy = Some k;
+}
+
+-- what some lines say, and what those after them say
+abbrev pub joined : RequirementsValue → RequirementsValue → RequirementsValue
+joined v w = record {
+  ends = v.ends ++ w.ends;
+  end_numbers = v.end_numbers ++ w.end_numbers;
+  claims = v.claims ++ w.claims;
+  claim_numbers = v.claim_numbers ++ w.claim_numbers;
+  rules = v.rules ++ w.rules;
+  rule_numbers = v.rule_numbers ++ w.rule_numbers;
+  never_busy = option_or v.never_busy w.never_busy;
+}
+
+abbrev pub FileSaid : Type 0
+FileSaid = Result RequirementsValue FileFault
+
+-- these, and what later lines say, where none of them has a fault
+abbrev pub in_front : RequirementsValue → FileSaid → FileSaid
+in_front v (Ok w) = Ok (joined v w)
+in_front v (Err f) = Err f
+
+-- what a line says in front of what the lines behind it say: its fault stands before theirs
+abbrev pub on_line : ℕ → MeaningSaid → FileSaid → FileSaid
+on_line k (Err f) later = Err (file.Line k f)
+on_line k (Ok m) later = in_front (said_on k m) later
+
+-- what lines say of which the first has this number
+abbrev pub lines_said : Names → ImageValue → ℕ → List (List ℕ) → FileSaid
+lines_said names i k [] = Ok nothing_said
+lines_said names i k (l ∷ ls) = on_line k (line_said names i l) (lines_said names i (k + 1) ls)
+
+-- whether nothing is said
+abbrev pub is_nothing : RequirementsValue → Bool
+is_nothing v = length v.ends == 0 && (length v.claims == 0 && (length v.rules == 0 && not (is_some v.never_busy)))
+
+-- a file has to say something
+abbrev pub unless_nothing : FileSaid → FileSaid
+unless_nothing (Err f) = Err f
+unless_nothing (Ok v) = if is_nothing v then Err file.Empty else Ok v
+
+-- what a text says of a program with these names and this image: all that its lines say, in their order; or the fault of the
+-- least line that has one
+unfoldable pub file_said : Names → ImageValue → List ℕ → FileSaid
+file_said names i text = unless_nothing (lines_said names i 1 (pieces 10 text))

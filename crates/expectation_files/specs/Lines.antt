@@ -1,0 +1,85 @@
+-- What a line of a file of expectations says.
+use Rattle.std.specs.Prelude.{ℕ, Bool, false, if◌then◌else◌, List, [], ◌∷◌, codes, Result, Ok, Err}
+use Rattle.std.specs.Str.{bytes_eq}
+use Rattle.image_file.specs.ImageValue.{ImageValue}
+use Rattle.claims.specs.declared.claim.Scope.{Scope}
+use Rattle.claims.specs.declared.claim.Scope.TheVariants.{Always, Never, Once}
+use Rattle.expectations.specs.declared.expectation.Expectation.{Expectation}
+use Rattle.program_rules.specs.declared.program_rule.ProgramRule.{ProgramRule}
+use Rattle.expectation_files.specs.Words.{words_on}
+use Rattle.expectation_files.specs.Addresses.{Names}
+use Rattle.expectation_files.specs.WordLines.{Said, at, word_said, words_said, sum_said}
+use Rattle.expectation_files.specs.EndLines.{register_said, finished_said, stopped_said}
+use Rattle.expectation_files.specs.ClaimLines.{ClaimValue, claim_said}
+use Rattle.expectation_files.specs.RuleLines.{RulesSaid, entries_said, most_words_said, operations_said}
+use Rattle.expectation_files.specs.declared.faults.LineFault.{LineFault}
+use Rattle.expectation_files.specs.declared.faults.LineFaultKind.TheVariants as fault
+use Rattle.expectation_files.specs.declared.rule_lines.OperationVerb.TheVariants.{Forbid, Require}
+
+-- what a line says: nothing; what the end of a run has to be; a claim about worlds; rules for the program; that no stream
+-- ever loops alone
+pub data Meaning : Type 0 where
+  Nothing : Meaning
+  End : Expectation → Meaning
+  Claimed : ClaimValue → Meaning
+  Rules : List ProgramRule → Meaning
+  NeverBusy : Meaning
+
+abbrev pub MeaningSaid : Type 0
+MeaningSaid = Result Meaning LineFault
+
+abbrev pub end_of : Said → MeaningSaid
+end_of (Err f) = Err f
+end_of (Ok e) = Ok (End e)
+
+abbrev pub claim_of : Result ClaimValue LineFault → MeaningSaid
+claim_of (Err f) = Err f
+claim_of (Ok c) = Ok (Claimed c)
+
+abbrev pub rules_of : RulesSaid → MeaningSaid
+rules_of (Err f) = Err f
+rules_of (Ok rs) = Ok (Rules rs)
+
+-- whether words are `busy` alone
+abbrev pub is_busy_alone : List (List ℕ) → Bool
+is_busy_alone (w ∷ []) = bytes_eq w (codes "busy")
+is_busy_alone _ = false
+
+-- what stands behind `never`: `busy` alone, or a claim
+abbrev pub never_said : Names → ImageValue → List (List ℕ) → MeaningSaid
+never_said names i ws = if is_busy_alone ws then Ok NeverBusy else claim_of (claim_said names i Never ws)
+
+-- Lines by their first words.
+
+abbrev pub rules_named : List ℕ → List (List ℕ) → MeaningSaid
+rules_named name os =
+    if bytes_eq name (codes "entries") then rules_of (entries_said os)
+    else (if bytes_eq name (codes "at") then rules_of (most_words_said os)
+    else (if bytes_eq name (codes "forbid") then rules_of (operations_said Forbid os)
+    else (if bytes_eq name (codes "require") then rules_of (operations_said Require os)
+    else at 0 fault.Unknown)))
+
+abbrev pub claim_named : Names → ImageValue → List ℕ → List (List ℕ) → MeaningSaid
+claim_named names i name os =
+    if bytes_eq name (codes "always") then claim_of (claim_said names i Always os)
+    else (if bytes_eq name (codes "never") then never_said names i os
+    else (if bytes_eq name (codes "some") then claim_of (claim_said names i Once os)
+    else rules_named name os))
+
+abbrev pub meaning_named : Names → ImageValue → List ℕ → List (List ℕ) → MeaningSaid
+meaning_named names i name os =
+    if bytes_eq name (codes "word") then end_of (word_said names os)
+    else (if bytes_eq name (codes "words") then end_of (words_said names os)
+    else (if bytes_eq name (codes "sum") then end_of (sum_said names os)
+    else (if bytes_eq name (codes "register") then end_of (register_said os)
+    else (if bytes_eq name (codes "finished") then end_of (finished_said os)
+    else (if bytes_eq name (codes "stopped") then end_of (stopped_said os)
+    else claim_named names i name os)))))
+
+abbrev pub words_meaning : Names → ImageValue → List (List ℕ) → MeaningSaid
+words_meaning names i [] = Ok Nothing
+words_meaning names i (name ∷ os) = meaning_named names i name os
+
+-- what a line says of a program with these names and this image, or its fault
+unfoldable pub line_said : Names → ImageValue → List ℕ → MeaningSaid
+line_said names i line = words_meaning names i (words_on line)

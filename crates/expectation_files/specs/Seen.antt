@@ -1,0 +1,51 @@
+-- What the code holds of what was read.
+use Rattle.std.specs.Prelude.{ℕ, List, map, string_bytes}
+use Rattle.source_places.specs.SourcePlaces.{data_names_seen, labels_seen}
+use Rattle.expectation_files.specs.declared.addresses.KnownNames.{KnownNames}
+use Rattle.claims.specs.declared.claim.Claim.{Claim}
+use Rattle.claims.specs.declared.claim.ClaimForm.{ClaimForm}
+use Rattle.claims.specs.declared.claim.ClaimForm.TheVariants as form
+use Rattle.expectation_files.specs.Addresses.{Names}
+use Rattle.expectation_files.specs.ClaimLines.{ClaimValue, ClaimFormValue, OfWord, OfStreams}
+use Rattle.expectation_files.specs.Lines.{Meaning, Nothing, End, Claimed, Rules, NeverBusy}
+use Rattle.expectation_files.specs.Files.{RequirementsValue}
+use Rattle.expectation_files.specs.declared.lines.LineMeaning.{LineMeaning}
+use Rattle.expectation_files.specs.declared.lines.LineMeaning.TheVariants as line
+use Rattle.expectation_files.specs.declared.requirements.Requirements.{Requirements}
+use Rattle.expectation_files.specs.declared.requirements.WrittenLine.{WrittenLine}
+
+-- the names that lines can use
+abbrev pub names_in : KnownNames → Names
+names_in names = record { word_names = data_names_seen names.words.now; labels = labels_seen names.labels.now }
+
+abbrev pub form_seen : ClaimForm → ClaimFormValue
+form_seen (form.Word a t) = OfWord a t
+form_seen (form.AtMost most ts first last) = OfStreams most ts.items first last
+
+abbrev pub claim_seen : Claim → ClaimValue
+claim_seen c = record { scope = c.scope; form = form_seen c.form }
+
+abbrev pub meaning_seen : LineMeaning → Meaning
+meaning_seen line.Nothing = Nothing
+meaning_seen (line.End e) = End e
+meaning_seen (line.Claim c) = Claimed (claim_seen c)
+meaning_seen (line.Rules rs) = Rules rs.items
+meaning_seen line.NeverBusy = NeverBusy
+
+abbrev pub numbers_of : List WrittenLine → List ℕ
+numbers_of ls = map (λ (l : WrittenLine). l.number) ls
+
+-- the words of lines, as their bytes
+abbrev pub texts_of : List WrittenLine → List (List ℕ)
+texts_of ls = map (λ (l : WrittenLine). string_bytes l.words) ls
+
+abbrev pub requirements_seen : Requirements → RequirementsValue
+requirements_seen r = record {
+  ends = r.ends.items;
+  end_numbers = numbers_of r.end_lines.items;
+  claims = map claim_seen r.claims.items;
+  claim_numbers = numbers_of r.claim_lines.items;
+  rules = r.rules.items;
+  rule_numbers = numbers_of r.rule_lines.items;
+  never_busy = r.never_busy;
+}

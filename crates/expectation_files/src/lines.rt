@@ -1,0 +1,175 @@
+//! What a line says.
+
+ghost use Rattle.std.specs.Prelude.{◌≡◌, ℕ, List, [], ◌∷◌, Ok, Err, IfOk, IfErr};
+ghost use Rattle.expectation_files.specs.Words.{words_of};
+ghost use Rattle.expectation_files.specs.Lines.{line_said, meaning_named, claim_named, rules_named, never_said};
+ghost use Rattle.expectation_files.specs.Lines.{is_busy_alone, Rules};
+ghost use Rattle.expectation_files.specs.OperandsSeen.{AreOperands};
+ghost use Rattle.expectation_files.specs.Seen.{names_in, meaning_seen};
+ghost use Rattle.expectation_files.specs.declared.faults.Unread.TheVariants as unread;
+ghost use Rattle.expectation_files.specs.declared.faults.LineFault.{LineFault};
+
+use crate::addresses::KnownNames;
+use crate::claim_lines::read_claim;
+use crate::end_lines::{read_finished, read_register, read_stopped};
+use crate::faults::{LineFault, LineFaultKind, Unread};
+use crate::rule_lines::{OperationVerb, read_entries, read_most_words, read_operations};
+use crate::word_lines::{read_sum, read_word, read_words};
+use crate::words::{Operands, next_word, read_operands, statement_of};
+use claims::{Claim, Scope};
+use expectations::Expectation;
+use image_file::Image;
+use program_rules::ProgramRule;
+use std::alloc::Global;
+
+/// What a line says.
+#[derive(Drop)]
+pub(crate) enum LineMeaning {
+    /// Nothing: it has blanks and a comment at most.
+    Nothing,
+    /// What the end of a run has to be.
+    End(Expectation),
+    /// What has to hold of the states on the way.
+    Claim(Claim),
+    /// What the program itself has to be.
+    Rules(Vec<ProgramRule>),
+    /// That no stream ever loops alone.
+    NeverBusy,
+}
+
+/// What a line says of a program with these names and this image.
+#[tactic(auto, unfolding(crate::specs::Lines::line_said))]
+pub(crate) fn read_line(
+    alloc: Global,
+    names: KnownNames<'_, '_>,
+    image: &Image,
+    line: &[u8],
+) -> Result<LineMeaning, Unread>
+    ensures means { IfOk result (λ m. line_said (names_in names.entry) image.now line.now ≡ Ok (meaning_seen m)) }
+    ensures fault { IfErr result (λ u. (f : LineFault) → u ≡ unread.Fault f
+        → line_said (names_in names.entry) image.now line.now ≡ Err f) }
+{
+    match next_word(statement_of(line)) {
+        Some((name, rest)) => read_named(alloc, names, image, name, rest),
+        None => Ok(LineMeaning::Nothing),
+    }
+}
+
+/// What a line says that begins with this name.
+fn read_named(
+    alloc: Global,
+    names: KnownNames<'_, '_>,
+    image: &Image,
+    name: &[u8],
+    text: &[u8],
+) -> Result<LineMeaning, Unread>
+    ensures means { IfOk result (λ m. meaning_named (names_in names.entry) image.now name.now (words_of text.now)
+        ≡ Ok (meaning_seen m)) }
+    ensures fault { IfErr result (λ u. (f : LineFault) → u ≡ unread.Fault f
+        → meaning_named (names_in names.entry) image.now name.now (words_of text.now) ≡ Err f) }
+{
+    let operands = read_operands(text);
+    if name == b"word".as_slice() {
+        return Ok(LineMeaning::End(read_word(names, &operands)?));
+    }
+    if name == b"words".as_slice() {
+        return Ok(LineMeaning::End(read_words(names, &operands)?));
+    }
+    if name == b"sum".as_slice() {
+        return Ok(LineMeaning::End(read_sum(names, &operands)?));
+    }
+    if name == b"register".as_slice() {
+        return Ok(LineMeaning::End(read_register(&operands)?));
+    }
+    if name == b"finished".as_slice() {
+        return Ok(LineMeaning::End(read_finished(&operands)?));
+    }
+    if name == b"stopped".as_slice() {
+        return Ok(LineMeaning::End(read_stopped(&operands)?));
+    }
+    read_claim_named(alloc, names, image, name, text)
+}
+
+/// What a line says that begins with this name, which is none of those of ends.
+fn read_claim_named(
+    alloc: Global,
+    names: KnownNames<'_, '_>,
+    image: &Image,
+    name: &[u8],
+    text: &[u8],
+) -> Result<LineMeaning, Unread>
+    ensures means { IfOk result (λ m. claim_named (names_in names.entry) image.now name.now (words_of text.now)
+        ≡ Ok (meaning_seen m)) }
+    ensures fault { IfErr result (λ u. (f : LineFault) → u ≡ unread.Fault f
+        → claim_named (names_in names.entry) image.now name.now (words_of text.now) ≡ Err f) }
+{
+    if name == b"always".as_slice() {
+        return Ok(LineMeaning::Claim(read_claim(alloc, names, image, Scope::Always, text)?));
+    }
+    if name == b"never".as_slice() {
+        return read_never(alloc, names, image, text);
+    }
+    if name == b"some".as_slice() {
+        return Ok(LineMeaning::Claim(read_claim(alloc, names, image, Scope::Once, text)?));
+    }
+    read_rules_named(alloc, name, text)
+}
+
+/// What follows `never`: `busy` alone, or a claim.
+fn read_never(
+    alloc: Global,
+    names: KnownNames<'_, '_>,
+    image: &Image,
+    text: &[u8],
+) -> Result<LineMeaning, Unread>
+    ensures means { IfOk result (λ m. never_said (names_in names.entry) image.now (words_of text.now)
+        ≡ Ok (meaning_seen m)) }
+    ensures fault { IfErr result (λ u. (f : LineFault) → u ≡ unread.Fault f
+        → never_said (names_in names.entry) image.now (words_of text.now) ≡ Err f) }
+{
+    if is_busy(&read_operands(text)) {
+        return Ok(LineMeaning::NeverBusy);
+    }
+    Ok(LineMeaning::Claim(read_claim(alloc, names, image, Scope::Never, text)?))
+}
+
+/// Whether operands are the word `busy` alone.
+fn is_busy(operands: &Operands) -> bool
+    ensures { (os : List (List ℕ)) → AreOperands operands.now os → result ≡ is_busy_alone os }
+{
+    match *operands {
+        Operands::One(word) => word == b"busy".as_slice(),
+        Operands::Zero | Operands::Two(..) | Operands::Three(..) | Operands::More(..) => false,
+    }
+}
+
+/// What a line says that begins with this name, which is none of those of ends and claims.
+fn read_rules_named(alloc: Global, name: &[u8], text: &[u8]) -> Result<LineMeaning, Unread>
+    ensures means { IfOk result (λ m. rules_named name.now (words_of text.now) ≡ Ok (meaning_seen m)) }
+    ensures fault { IfErr result (λ u. (f : LineFault) → u ≡ unread.Fault f
+        → rules_named name.now (words_of text.now) ≡ Err f) }
+{
+    if name == b"entries".as_slice() {
+        return one_rule(alloc, read_entries(&read_operands(text))?);
+    }
+    if name == b"at".as_slice() {
+        return one_rule(alloc, read_most_words(&read_operands(text))?);
+    }
+    if name == b"forbid".as_slice() {
+        return Ok(LineMeaning::Rules(read_operations(alloc, OperationVerb::Forbid, text)?));
+    }
+    if name == b"require".as_slice() {
+        return Ok(LineMeaning::Rules(read_operations(alloc, OperationVerb::Require, text)?));
+    }
+    Err(Unread::Fault(LineFault::at(0, LineFaultKind::Unknown)))
+}
+
+/// A line that says this one rule.
+fn one_rule(alloc: Global, rule: ProgramRule) -> Result<LineMeaning, Unread>
+    ensures means { IfOk result (λ m. meaning_seen m ≡ Rules (rule ∷ [])) }
+    ensures fault { IfErr result (λ u. u ≡ unread.NoMemory) }
+{
+    let mut rules = Vec::new(alloc);
+    rules.push(rule)?;
+    Ok(LineMeaning::Rules(rules))
+}
