@@ -5,11 +5,11 @@ ghost use Rattle.std.specs.Prelude.{◌≡◌, IfOk};
 use crate::cases::Case;
 use crate::missed_lines::line_of_report;
 use command_parts::{LabFault, Program};
-use grade_reports::{Known, Verdict, VerdictKind, WishLine};
 use expectation_files::{
     FileFault, KnownNames, LineFault, Requirements, line_of, read_requirements, word_of,
     written_line,
 };
+use grade_reports::{Known, Verdict, VerdictKind, WishLine};
 use lab_explorer::{fault_words, file_fault};
 use lab_requests::GradeRequest;
 use lab_texts::{NumberStyle, ProgramNames};

@@ -7,11 +7,11 @@ use crate::missed_lines::line_of_report;
 use crate::seed_grades::sampled_verdict;
 use case_cells::with_cells_of;
 use command_parts::{LabFault, Program};
-use grade_reports::{Known, Verdict, VerdictKind};
 use expectation_files::{Requirements, WrittenLine};
-use program_rules::first_broken;
+use grade_reports::{Known, Verdict, VerdictKind};
 use lab_explorer::Console;
 use lab_texts::ProgramNames;
+use program_rules::first_broken;
 use std::alloc::{AllocError, Global};
 use std::io::Write;
 use std::mem;
@@ -174,11 +174,7 @@ fn broken_rule<'a>(judged: &Judged<'a, '_>) -> Option<&'a WrittenLine> {
 }
 
 /// What is said of a program that breaks a rule of programs.
-fn verdict_of_rule(
-    alloc: Global,
-    case: &Case,
-    rule: &WrittenLine,
-) -> Result<Verdict, AllocError> {
+fn verdict_of_rule(alloc: Global, case: &Case, rule: &WrittenLine) -> Result<Verdict, AllocError> {
     let path = case.path.as_str();
     let line = rule.number;
     let text = rule.words.as_str();

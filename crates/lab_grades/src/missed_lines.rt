@@ -10,7 +10,10 @@ pub(crate) fn end_line(
     required: &Requirements,
     place: Option<usize>,
 ) -> Result<Option<WishLine>, AllocError> {
-    copy_of(alloc, place.and_then(|place| required.end_lines().get(place)))
+    copy_of(
+        alloc,
+        place.and_then(|place| required.end_lines().get(place)),
+    )
 }
 
 /// The line of the claim at a place; None where there is none.
@@ -19,7 +22,10 @@ pub(crate) fn claim_line(
     required: &Requirements,
     place: Option<usize>,
 ) -> Result<Option<WishLine>, AllocError> {
-    copy_of(alloc, place.and_then(|place| required.claim_lines().get(place)))
+    copy_of(
+        alloc,
+        place.and_then(|place| required.claim_lines().get(place)),
+    )
 }
 
 /// The line of this number that says something of the states on the way; None where it is no such line.

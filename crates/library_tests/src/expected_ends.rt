@@ -1,6 +1,9 @@
 //! What the end of a run has to be, read from its text and judged of machines.
 use crate::sources::image_of;
-use expectations::{Expectation, ExpectationFaultKind, first_missed, read_expectations};
+use expectation_files::{
+    FileFault, KnownNames, LineFault, LineFaultKind, LineForm, Requirements, read_requirements,
+};
+use expectations::{Expectation, first_missed};
 use image_file::Image;
 use machine::Machine;
 use std::alloc::Global;
@@ -78,54 +81,159 @@ const ROWS: [Row; 28] = [
 ];
 
 /// A text that has a fault, its line, and what it is.
-const FAULTS: [(&str, usize, ExpectationFaultKind); 38] = [
-    ("", 0, ExpectationFaultKind::Empty),
-    ("# finished\n \t\r\n", 0, ExpectationFaultKind::Empty),
-    ("finished\nword 8", 2, ExpectationFaultKind::Form),
-    ("\n\nfinish\nword 4 0", 3, ExpectationFaultKind::Form),
-    ("finished now", 1, ExpectationFaultKind::Form),
-    ("word 8 1 fill", 1, ExpectationFaultKind::Form),
-    ("word 8 1 full full", 1, ExpectationFaultKind::Form),
-    ("word 4 x", 1, ExpectationFaultKind::Address),
-    ("word 2097152 0", 1, ExpectationFaultKind::Address),
-    ("word -8 0", 1, ExpectationFaultKind::Address),
-    ("register 16.0 r1 0", 1, ExpectationFaultKind::Stream),
-    ("register 0.128 r1 0", 1, ExpectationFaultKind::Stream),
-    ("register 0 r1 0", 1, ExpectationFaultKind::Stream),
-    ("register 0.0 r32 0", 1, ExpectationFaultKind::Register),
+/// A text, the line of its fault, the word there, from 0, and what is wrong with it. The program is `QUITTING`.
+const FAULTS: [(&str, usize, usize, LineFaultKind); 57] = [
     (
-        "word 8 0x10000000000000000",
+        "finished\nword 8",
+        2,
+        0,
+        LineFaultKind::Form(LineForm::Word),
+    ),
+    ("\n\nfinish\nword 4 0", 3, 0, LineFaultKind::Unknown),
+    (
+        "finished now",
         1,
-        ExpectationFaultKind::Number,
+        0,
+        LineFaultKind::Form(LineForm::Finished),
+    ),
+    ("word 8 1 fill", 1, 3, LineFaultKind::Form(LineForm::Word)),
+    (
+        "word 8 1 full full",
+        1,
+        3,
+        LineFaultKind::Form(LineForm::Word),
+    ),
+    ("word 4 x", 1, 1, LineFaultKind::Address),
+    ("word 2097152 0", 1, 1, LineFaultKind::Address),
+    ("word -8 0", 1, 1, LineFaultKind::Address),
+    ("word [4] 0", 1, 1, LineFaultKind::Address),
+    ("word total 0", 1, 1, LineFaultKind::Name),
+    ("word [total+1] 0", 1, 1, LineFaultKind::Name),
+    ("register 16.0 r1 0", 1, 1, LineFaultKind::Stream),
+    ("register 0.128 r1 0", 1, 1, LineFaultKind::Stream),
+    ("register 0 r1 0", 1, 1, LineFaultKind::Stream),
+    ("register 0.0 r32 0", 1, 2, LineFaultKind::Register),
+    ("word 8 0x10000000000000000", 1, 2, LineFaultKind::Number),
+    ("word 8 -0x8000000000000001", 1, 2, LineFaultKind::Number),
+    ("stopped 0.0 0", 1, 2, LineFaultKind::Trap),
+    ("stopped 15.127 11", 1, 2, LineFaultKind::Trap),
+    ("words 8..0 1", 1, 1, LineFaultKind::Range),
+    ("words 8 1", 1, 1, LineFaultKind::Points),
+    ("words 0.8 1", 1, 1, LineFaultKind::Points),
+    (
+        "words 0..8 1 fill",
+        1,
+        3,
+        LineFaultKind::Form(LineForm::Words),
     ),
     (
-        "word 8 -0x8000000000000001",
+        "words 0..8 1 full full",
         1,
-        ExpectationFaultKind::Number,
+        0,
+        LineFaultKind::Form(LineForm::Words),
     ),
-    ("stopped 0.0 0", 1, ExpectationFaultKind::Trap),
-    ("stopped 15.127 11", 1, ExpectationFaultKind::Trap),
-    ("words 8..0 1", 1, ExpectationFaultKind::Range),
-    ("words 8 1", 1, ExpectationFaultKind::Form),
-    ("words 0.8 1", 1, ExpectationFaultKind::Form),
-    ("words 0..8 1 fill", 1, ExpectationFaultKind::Form),
-    ("words 0..8 1 full full", 1, ExpectationFaultKind::Form),
-    ("words 4..8 1", 1, ExpectationFaultKind::Address),
-    ("words 0..2097152 1", 1, ExpectationFaultKind::Address),
-    ("words 0...8 1", 1, ExpectationFaultKind::Address),
-    ("words 0.. 1", 1, ExpectationFaultKind::Address),
-    ("words 0..8 x", 1, ExpectationFaultKind::Number),
-    ("sum 0..8", 1, ExpectationFaultKind::Form),
-    ("sum 0..8 1 full", 1, ExpectationFaultKind::Form),
-    ("sum 8..0 x", 1, ExpectationFaultKind::Range),
-    ("word 0 is word", 1, ExpectationFaultKind::Form),
-    ("word 0 over word 8", 1, ExpectationFaultKind::Form),
-    ("word 0 is word 8 signed", 1, ExpectationFaultKind::Form),
-    ("word 0 is word 8 + 1 2", 1, ExpectationFaultKind::Form),
-    ("word 0 below word 8 1 +", 1, ExpectationFaultKind::Form),
-    ("word 0 is word 3 + x", 1, ExpectationFaultKind::Address),
-    ("word 0 is word 8 + x", 1, ExpectationFaultKind::Number),
+    ("words 4..8 1", 1, 1, LineFaultKind::Address),
+    ("words 0..2097152 1", 1, 1, LineFaultKind::Address),
+    ("words 0...8 1", 1, 1, LineFaultKind::Address),
+    ("words 0.. 1", 1, 1, LineFaultKind::Address),
+    ("words 0..8 x", 1, 2, LineFaultKind::Number),
+    ("sum 0..8", 1, 0, LineFaultKind::Form(LineForm::Sum)),
+    ("sum 0..8 1 full", 1, 0, LineFaultKind::Form(LineForm::Sum)),
+    ("sum 8..0 x", 1, 1, LineFaultKind::Range),
+    ("word 0 is word", 1, 3, LineFaultKind::Form(LineForm::Word)),
+    (
+        "word 0 over word 8",
+        1,
+        2,
+        LineFaultKind::Form(LineForm::Word),
+    ),
+    (
+        "word 0 is word 8 signed",
+        1,
+        2,
+        LineFaultKind::Form(LineForm::Word),
+    ),
+    (
+        "word 0 is word 8 + 1 2",
+        1,
+        7,
+        LineFaultKind::Form(LineForm::Word),
+    ),
+    (
+        "word 0 below word 8 1 +",
+        1,
+        5,
+        LineFaultKind::Form(LineForm::Word),
+    ),
+    ("word 0 is word 3 + x", 1, 4, LineFaultKind::Address),
+    ("word 0 is word 8 + x", 1, 6, LineFaultKind::Number),
+    (
+        "always word 0 is",
+        1,
+        3,
+        LineFaultKind::Form(LineForm::Claim),
+    ),
+    ("never word 8 is 1", 1, 2, LineFaultKind::MissingWord),
+    (
+        "always word 0 above 18446744073709551615",
+        1,
+        4,
+        LineFaultKind::Beyond,
+    ),
+    ("never word 0 below 0", 1, 4, LineFaultKind::Beyond),
+    ("some word 0 is +-5", 1, 4, LineFaultKind::Number),
+    (
+        "always word 0 above 9223372036854775808 signed",
+        1,
+        4,
+        LineFaultKind::Number,
+    ),
+    (
+        "always at most 1 of 0.0 0.0 in 0..1",
+        1,
+        6,
+        LineFaultKind::Twice,
+    ),
+    (
+        "always at most 1 of 0.1 in 0..1",
+        1,
+        5,
+        LineFaultKind::MissingStream,
+    ),
+    (
+        "always at most 1 of 0.0 in 0..9",
+        1,
+        7,
+        LineFaultKind::Place,
+    ),
+    (
+        "always at most 1 of 0.0 in 1..0",
+        1,
+        7,
+        LineFaultKind::PlaceRange,
+    ),
+    (
+        "always at most x of 0.0 in 0..1",
+        1,
+        3,
+        LineFaultKind::Count,
+    ),
+    ("some busy", 1, 1, LineFaultKind::Busy),
+    ("never busy 3", 1, 1, LineFaultKind::Busy),
+    ("entries x", 1, 1, LineFaultKind::Count),
+    ("entries", 1, 0, LineFaultKind::Form(LineForm::Entries)),
+    (
+        "at most 5 word",
+        1,
+        3,
+        LineFaultKind::Form(LineForm::MostWords),
+    ),
+    ("forbid FADD NOP", 1, 2, LineFaultKind::Operation),
+    ("require", 1, 0, LineFaultKind::Form(LineForm::Operations)),
 ];
+
+/// Texts that say nothing.
+const EMPTY: [&str; 2] = ["", "# finished\n \t\r\n; finished"];
 
 /// The machine of an image after so many steps of its only stream.
 fn machine_after(alloc: Global, image: &Image, steps: usize) -> Option<Machine<8>> {
@@ -136,16 +244,21 @@ fn machine_after(alloc: Global, image: &Image, steps: usize) -> Option<Machine<8
     Some(machine)
 }
 
-fn expectations_of(alloc: Global, text: &str) -> Option<Vec<Expectation>> {
-    read_expectations(alloc, text.as_bytes()).ok()
+/// What a text requires of a program, by addresses alone.
+fn required_by(alloc: Global, image: &Image, text: &str) -> Result<Requirements, FileFault> {
+    let known = KnownNames {
+        words: &[],
+        labels: &[],
+    };
+    read_requirements(alloc, known, image, text.as_bytes())
 }
 
 /// The first that is missed; none where something has a fault.
 fn missed(alloc: Global, source: &str, steps: usize, text: &str) -> Option<Option<usize>> {
     let image = image_of(alloc, source)?;
     let machine = machine_after(alloc, &image, steps)?;
-    let expectations = expectations_of(alloc, text)?;
-    Some(first_missed(&machine, &expectations))
+    let required = required_by(alloc, &image, text).ok()?;
+    Some(first_missed(&machine, required.ends()))
 }
 
 /// The first of the rows that is judged otherwise.
@@ -163,19 +276,24 @@ fn are_judged(rt: HostRuntime) {
     assert!(rt; first_misjudged(rt.alloc(), &ROWS).is_none());
 }
 
-/// The line and the kind of a text's fault.
-fn fault_of(alloc: Global, text: &str) -> Option<(usize, ExpectationFaultKind)> {
-    let fault = read_expectations(alloc, text.as_bytes()).err()?;
-    Some((fault.line, fault.kind))
+/// The fault of a text.
+fn fault_of(alloc: Global, text: &str) -> Option<FileFault> {
+    let image = image_of(alloc, QUITTING)?;
+    required_by(alloc, &image, text).err()
 }
 
 /// The first of the texts that has another fault.
 fn first_with_another(
     alloc: Global,
-    faults: &[(&'static str, usize, ExpectationFaultKind)],
+    faults: &[(&'static str, usize, usize, LineFaultKind)],
 ) -> Option<usize> {
-    for (number, (text, line, kind)) in faults.iter().enumerate() {
-        if fault_of(alloc, text) != Some((*line, *kind)) {
+    for (number, (text, line, word, kind)) in faults.iter().enumerate() {
+        let fault = LineFault {
+            word: *word,
+            kind: *kind,
+        };
+        let wanted = FileFault::Line { line: *line, fault };
+        if fault_of(alloc, text) != Some(wanted) {
             return Some(number);
         }
     }
@@ -185,6 +303,13 @@ fn first_with_another(
 #[test]
 fn have_faults(rt: HostRuntime) {
     assert!(rt; first_with_another(rt.alloc(), &FAULTS).is_none());
+}
+
+#[test]
+fn say_nothing(rt: HostRuntime) {
+    for text in EMPTY {
+        assert!(rt; fault_of(rt.alloc(), text) == Some(FileFault::Empty));
+    }
 }
 
 /// The least and the greatest number are the same bits as others.
@@ -204,6 +329,7 @@ fn are_numbers_of_64_bits(rt: HostRuntime) {
             value: u64::MAX,
         },
     ];
-    let found = expectations_of(rt.alloc(), text);
-    assert!(rt; matches!(&found, Some(found) if found.as_slice() == expected.as_slice()));
+    let image = image_of(rt.alloc(), QUITTING);
+    let found = image.and_then(|image| required_by(rt.alloc(), &image, text).ok());
+    assert!(rt; matches!(&found, Some(found) if found.ends() == expected.as_slice()));
 }
