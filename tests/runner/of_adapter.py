@@ -329,6 +329,23 @@ def damaged_messages():
         yield "damaged", ([4] * (DAMAGED + 1), False, 0), (alive, late, editor.process.wait())
 
 
+@checks.others("adapter/heads")
+def heads():
+    """A message has one response however the names of its head's fields are written, and whatever fields stand beside."""
+    body = b'{"seq":7,"type":"request","command":"threads","arguments":{}}'
+    written = [b"Content-Length: %d\r\n\r\n", b"content-length: %d\r\n\r\n", b"CONTENT-LENGTH:%d\r\n\r\n",
+               b"content-type: text\r\ncOnTeNt-LeNgTh: %d\r\n\r\n", b"Content-Length: %d\r\nX-Other: 1\r\n\r\n"]
+    with adapters.adapter() as editor:
+        editor.launched(LOCK, LOST)
+        found = []
+        for head in written:
+            editor.send(head % len(body) + body)
+            response = editor.response()
+            found.append((response["request_seq"], response["success"]))
+        editor.body("disconnect")
+        yield "heads", [(7, True)] * len(written), found
+
+
 @checks.others("adapter/pause")
 def pause():
     """A long search is stopped by a pause, and then goes on to its end."""

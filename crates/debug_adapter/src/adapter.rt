@@ -1,16 +1,17 @@
 //! A launched program, and which of its requests does what.
 
-ghost use Rattle.std.specs.Prelude.{◌≡◌, ◌+◌, OnOk};
+ghost use Rattle.std.specs.Prelude.{OnOk, string_bytes};
+ghost use Rattle.adapter_messages.specs.Responses.{SendsResponse, SendsNoResponse};
 
 use crate::breaking::KnownPoint;
-use crate::commands::{DapCommand, MoveCommand, PointCommand, ViewCommand};
-use crate::connection::{Connection, Events};
-use crate::greeting::{Client, no_command};
-use crate::json_text::Json;
 use crate::refusals::Refusal;
-use crate::requests::DapRequest;
 use crate::searching::OngoingMove;
 use crate::stop_conditions::StopConditions;
+use adapter_messages::{
+    Client, Connection, DapCommand, DapRequest, Events, Flow, MoveCommand, PointCommand,
+    ViewCommand, no_command,
+};
+use editor_wire::Json;
 use lab_texts::{Columns, ProgramNames};
 use named_session::NamedSession;
 use processor::Step;
@@ -30,15 +31,6 @@ pub struct Origin<'a> {
     pub stops_on_entry: bool,
     /// What the client says of itself.
     pub client: Client,
-}
-
-/// What comes after a request.
-#[derive(Clone, Copy, PartialEq, Eq)]
-pub enum Flow {
-    /// The next request.
-    On,
-    /// The end.
-    End,
 }
 
 /// A session of a client over a launched program.
@@ -89,14 +81,15 @@ impl<'a, 'i, 't> Adapter<'a, 'i, 't> {
         self.search.is_some()
     }
 
-    /// Answers a request: by one response, which has its number, and the events that come after.
+    /// Answers a request: by one response, which has its number and its command, and the events that come after.
+    #[tactic(auto, using(adapter_messages::proofs::Sending::response_then_events))]
     pub fn handle(
         &mut self,
         connection: &mut Connection,
         request: &DapRequest,
     ) -> Result<Flow, AllocError>
-        ensures one { OnOk result (connection.new.answered ≡ connection.old.answered + 1) }
-        ensures whom { OnOk result (connection.new.last_answered ≡ request.now.seq) }
+        ensures one { OnOk result (SendsResponse connection.old.outbox connection.new.outbox
+            request.now.seq (string_bytes request.now.command)) }
     {
         let alloc = self.alloc;
         let mut body = Json::new(alloc);
@@ -113,20 +106,21 @@ impl<'a, 'i, 't> Adapter<'a, 'i, 't> {
                 Flow::On
             }
         };
-        connection.outbox.tell_all(alloc, &events)?;
+        connection.tell_all(alloc, &events)?;
         Ok(turn)
     }
 
-    /// Goes on with what is under way for a slice of steps, and tells where it stops.
+    /// Goes on with what is under way for a slice of steps, and tells where it stops, by events.
+    #[tactic(auto, using(adapter_messages::proofs::Sending::nothing_sent))]
     pub fn go_on(&mut self, connection: &mut Connection) -> Result<(), AllocError>
-        ensures none { connection.new.answered ≡ connection.old.answered }
+        ensures none { SendsNoResponse connection.old.outbox connection.new.outbox }
     {
         let alloc = self.alloc;
         let mut events = Events::new(alloc);
         if self.search_on(&mut events).is_err() {
             return Err(AllocError);
         }
-        connection.outbox.tell_all(alloc, &events)
+        connection.tell_all(alloc, &events)
     }
 
     /// Does what a request asks for, and writes the body of its response and the events after it.

@@ -1,10 +1,10 @@
 //! The client's breakpoints.
 
 use crate::adapter::Adapter;
-use crate::json_text::Json;
 use crate::refusals::Refusal;
-use crate::requests::DapRequest;
+use adapter_messages::DapRequest;
 use debug_commands::{Answer, Command};
+use editor_wire::Json;
 use serde_json::Value;
 
 /// The most breakpoints of a kind; each may be a point a processor.

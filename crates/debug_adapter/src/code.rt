@@ -1,10 +1,10 @@
 //! The program: its source, its lines, its words.
 
 use crate::adapter::Adapter;
-use crate::json_text::Json;
 use crate::memory::whole_number;
 use crate::refusals::Refusal;
-use crate::requests::DapRequest;
+use adapter_messages::DapRequest;
+use editor_wire::Json;
 use plain_text::file_name;
 use serde_json::Value;
 

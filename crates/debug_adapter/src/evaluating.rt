@@ -1,10 +1,10 @@
 //! What names and expressions stand for.
 
 use crate::adapter::Adapter;
-use crate::json_text::Json;
 use crate::refusals::Refusal;
-use crate::requests::DapRequest;
 use crate::variables::style_of;
+use adapter_messages::DapRequest;
+use editor_wire::Json;
 use lab_texts::{NumberStyle, push_word};
 use named_session::{UserName, read_name};
 use processor::Step;

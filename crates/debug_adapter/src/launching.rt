@@ -1,6 +1,6 @@
 //! What a request to launch asks for.
 
-use crate::requests::DapRequest;
+use adapter_messages::DapRequest;
 use processor::MAX_STEPS;
 
 /// How many steps a made schedule has at most, where none are said.

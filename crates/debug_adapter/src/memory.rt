@@ -2,10 +2,10 @@
 
 use crate::adapter::Adapter;
 use crate::code::read_reference;
-use crate::json_text::Json;
 use crate::refusals::Refusal;
-use crate::requests::DapRequest;
+use adapter_messages::DapRequest;
 use base64::engine::general_purpose::STANDARD;
+use editor_wire::Json;
 
 /// The most bytes that are told at once: all of the largest memory.
 const MOST_BYTES: u64 = 2_097_152;

@@ -1,12 +1,11 @@
 //! Requests that go to another position.
 
 use crate::adapter::Adapter;
-use crate::connection::Events;
-use crate::json_text::Json;
 use crate::refusals::Refusal;
-use crate::requests::DapRequest;
 use crate::searching::{OngoingMove, StopReason};
 use crate::stop_conditions::{StopConditions, first_found, last_found, runs};
+use adapter_messages::{DapRequest, Events};
+use editor_wire::Json;
 use processor::Step;
 
 impl<'a, 'i, 't> Adapter<'a, 'i, 't> {

@@ -1,10 +1,10 @@
 //! What can be looked at of a stream, and references to it.
 
 use crate::adapter::Adapter;
-use crate::json_text::Json;
 use crate::refusals::Refusal;
-use crate::requests::DapRequest;
 use crate::streams::{stream_of_id, thread_id};
+use adapter_messages::DapRequest;
+use editor_wire::Json;
 use processor::Step;
 
 /// The first reference to the registers of streams; the thread's number is added.

@@ -1,9 +1,9 @@
 //! Moves in slices, so that a pause is seen between two of them.
 
 use crate::adapter::Adapter;
-use crate::connection::Events;
 use crate::refusals::Refusal;
 use crate::stop_conditions::{Match, StopConditions, first_found, last_found};
+use adapter_messages::Events;
 use debug_commands::Why;
 use processor::Step;
 

@@ -2,10 +2,10 @@
 
 use crate::adapter::Adapter;
 use crate::breaking::PointKind;
-use crate::connection::Events;
-use crate::json_text::Json;
 use crate::refusals::Refusal;
 use crate::streams::thread_id;
+use adapter_messages::Events;
+use editor_wire::Json;
 use lab_texts::{Notation, NumberStyle, push_step_line, push_trap};
 use named_session::LastStep;
 use processor::Step;

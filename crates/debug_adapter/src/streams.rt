@@ -1,9 +1,9 @@
 //! Streams as threads with one frame each.
 
 use crate::adapter::Adapter;
-use crate::json_text::Json;
 use crate::refusals::Refusal;
-use crate::requests::DapRequest;
+use adapter_messages::DapRequest;
+use editor_wire::Json;
 use lab_texts::push_stream;
 use processor::Step;
 use stream_core::Status;

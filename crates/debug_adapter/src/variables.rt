@@ -1,10 +1,10 @@
 //! What stands in the places of a stream and of the memory.
 
 use crate::adapter::Adapter;
-use crate::json_text::Json;
 use crate::refusals::Refusal;
-use crate::requests::DapRequest;
 use crate::scopes::{Container, container_of, word_reference};
+use adapter_messages::DapRequest;
+use editor_wire::Json;
 use lab_texts::{NumberStyle, full_word, push_trap, push_value, push_word, wanted_word};
 use processor::Step;
 use serde_json::Value;

@@ -23,11 +23,11 @@ const LAST_ADDRESS: u64 = 8 * MAX_WORDS as u64 - 1;
 
 /// The names by which lines can speak of a program.
 #[derive(Clone, Copy)]
-pub struct KnownNames<'a, 't> {
+pub struct KnownNames<'a, 'd, 'l> {
     /// Those of its data words.
-    pub words: &'a [DataName<'t>],
+    pub words: &'a [DataName<'d>],
     /// Its labels.
-    pub labels: &'a [SourceLabel<'t>],
+    pub labels: &'a [SourceLabel<'l>],
 }
 
 /// The words from one to another.
@@ -50,7 +50,7 @@ pub(crate) struct PlaceRange {
 
 /// The byte address that a text says, perhaps in brackets: a number that some machine has a word at, or a word's name.
 #[tactic(auto, unfolding(crate::specs::Addresses::address_said))]
-pub(crate) fn address_said(names: KnownNames<'_, '_>, text: &[u8]) -> Result<u64, LineFaultKind>
+pub(crate) fn address_said(names: KnownNames<'_, '_, '_>, text: &[u8]) -> Result<u64, LineFaultKind>
     ensures { result ≡ address_said (names_in names.entry) text.now }
 {
     let text = unbracketed(text);
@@ -155,7 +155,7 @@ fn is_first(byte: u8) -> bool
 /// The words of a range `FIRST..LAST`.
 #[tactic(auto, unfolding(crate::specs::Addresses::range_said))]
 pub(crate) fn range_said(
-    names: KnownNames<'_, '_>,
+    names: KnownNames<'_, '_, '_>,
     text: &[u8],
 ) -> Result<AddressRange, LineFaultKind>
     ensures { result ≡ range_said (names_in names.entry) text.now }
@@ -184,7 +184,7 @@ fn behind_point(text: Option<&[u8]>) -> Option<&[u8]>
 /// The program words of a range `FIRST..LAST`, of so many.
 #[tactic(auto, unfolding(crate::specs::Addresses::places_said))]
 pub(crate) fn places_said(
-    names: KnownNames<'_, '_>,
+    names: KnownNames<'_, '_, '_>,
     count: usize,
     text: &[u8],
 ) -> Result<PlaceRange, LineFaultKind>
@@ -203,7 +203,11 @@ pub(crate) fn places_said(
 
 /// The program word that a text says, of so many: a number, or a label and perhaps a number after a plus.
 #[tactic(auto, unfolding(crate::specs::Addresses::place_said))]
-fn place_said(names: KnownNames<'_, '_>, count: usize, text: &[u8]) -> Result<u32, LineFaultKind>
+fn place_said(
+    names: KnownNames<'_, '_, '_>,
+    count: usize,
+    text: &[u8],
+) -> Result<u32, LineFaultKind>
     ensures { result ≡ place_said (names_in names.entry) count text.now }
 {
     match count_named(text) {
@@ -213,7 +217,7 @@ fn place_said(names: KnownNames<'_, '_>, count: usize, text: &[u8]) -> Result<u3
 }
 
 /// The program word that a label and perhaps a number after a plus say, of so many.
-fn place_by_label(names: KnownNames<'_, '_>, count: usize, text: &[u8]) -> Option<u32>
+fn place_by_label(names: KnownNames<'_, '_, '_>, count: usize, text: &[u8]) -> Option<u32>
     ensures { result ≡ place_by (names_in names.entry) count text.now None }
 {
     let (name, digits) = cut(text, b'+');

@@ -24,7 +24,7 @@ use std::alloc::Global;
 #[tactic(auto, unfolding(crate::specs::ClaimLines::claim_said))]
 pub(crate) fn read_claim(
     alloc: Global,
-    names: KnownNames<'_, '_>,
+    names: KnownNames<'_, '_, '_>,
     image: &Image,
     scope: Scope,
     text: &[u8],
@@ -40,7 +40,7 @@ pub(crate) fn read_claim(
 /// What is claimed, by its first word.
 fn read_form(
     alloc: Global,
-    names: KnownNames<'_, '_>,
+    names: KnownNames<'_, '_, '_>,
     image: &Image,
     text: &[u8],
 ) -> Result<ClaimForm, Unread>
@@ -66,7 +66,7 @@ fn read_form(
 /// `ADDRESS STATE`, `ADDRESS RELATION NUMBER`, or `ADDRESS RELATION NUMBER signed`.
 #[tactic(auto, unfolding(crate::specs::ClaimLines::word_claimed))]
 fn read_word(
-    names: KnownNames<'_, '_>,
+    names: KnownNames<'_, '_, '_>,
     image: &Image,
     operands: &Operands,
 ) -> Result<ClaimForm, LineFault>
@@ -97,7 +97,7 @@ fn read_word(
 
 /// A test of the word at an address that the image has.
 fn word_tested(
-    names: KnownNames<'_, '_>,
+    names: KnownNames<'_, '_, '_>,
     image: &Image,
     address: &[u8],
     test: Result<WordTest, LineFault>,

@@ -37,7 +37,7 @@ struct StreamsRead<'t> {
 #[tactic(auto, unfolding(crate::specs::ClaimLines::streams_claimed))]
 pub(crate) fn read_streams(
     alloc: Global,
-    names: KnownNames<'_, '_>,
+    names: KnownNames<'_, '_, '_>,
     image: &Image,
     text: &[u8],
 ) -> Result<ClaimForm, Unread>
@@ -66,7 +66,7 @@ pub(crate) fn read_streams(
 /// At most so many of the streams of a text run at places of its range.
 fn at_most_of(
     alloc: Global,
-    names: KnownNames<'_, '_>,
+    names: KnownNames<'_, '_, '_>,
     image: &Image,
     most: Option<usize>,
     text: &[u8],
@@ -84,7 +84,7 @@ fn at_most_of(
 
 /// At most so many of these streams run at places of the range that follows them.
 fn streams_at(
-    names: KnownNames<'_, '_>,
+    names: KnownNames<'_, '_, '_>,
     image: &Image,
     most: usize,
     read: StreamsRead<'_>,

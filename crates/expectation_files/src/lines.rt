@@ -41,7 +41,7 @@ pub(crate) enum LineMeaning {
 #[tactic(auto, unfolding(crate::specs::Lines::line_said))]
 pub(crate) fn read_line(
     alloc: Global,
-    names: KnownNames<'_, '_>,
+    names: KnownNames<'_, '_, '_>,
     image: &Image,
     line: &[u8],
 ) -> Result<LineMeaning, Unread>
@@ -58,7 +58,7 @@ pub(crate) fn read_line(
 /// What a line says that begins with this name.
 fn read_named(
     alloc: Global,
-    names: KnownNames<'_, '_>,
+    names: KnownNames<'_, '_, '_>,
     image: &Image,
     name: &[u8],
     text: &[u8],
@@ -93,7 +93,7 @@ fn read_named(
 /// What a line says that begins with this name, which is none of those of ends.
 fn read_claim_named(
     alloc: Global,
-    names: KnownNames<'_, '_>,
+    names: KnownNames<'_, '_, '_>,
     image: &Image,
     name: &[u8],
     text: &[u8],
@@ -118,7 +118,7 @@ fn read_claim_named(
 /// What follows `never`: `busy` alone, or a claim.
 fn read_never(
     alloc: Global,
-    names: KnownNames<'_, '_>,
+    names: KnownNames<'_, '_, '_>,
     image: &Image,
     text: &[u8],
 ) -> Result<LineMeaning, Unread>

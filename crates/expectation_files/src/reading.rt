@@ -19,7 +19,7 @@ use text_parts::cut;
 /// in place of these.
 pub fn read_requirements(
     alloc: Global,
-    names: KnownNames<'_, '_>,
+    names: KnownNames<'_, '_, '_>,
     image: &Image,
     text: &[u8],
 ) -> Result<Requirements, FileFault>

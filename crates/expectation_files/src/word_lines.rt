@@ -19,7 +19,7 @@ const WORD: LineFaultKind = LineFaultKind::Form(LineForm::Word);
 
 /// `ADDRESS VALUE`, and perhaps `full` or `empty`; or `ADDRESS RELATION word ADDRESS`, and what may stand after it.
 pub(crate) fn read_word(
-    names: KnownNames<'_, '_>,
+    names: KnownNames<'_, '_, '_>,
     operands: &Operands,
 ) -> Result<Expectation, LineFault>
     ensures { (os : List (List ℕ)) → AreOperands operands.now os → result ≡ word_said (names_in names.entry) os }
@@ -41,7 +41,7 @@ pub(crate) fn read_word(
 }
 
 fn word(
-    names: KnownNames<'_, '_>,
+    names: KnownNames<'_, '_, '_>,
     address: &[u8],
     value: &[u8],
     state: Option<FullEmpty>,
@@ -62,7 +62,7 @@ fn word(
 
 /// Nothing, or `+ NUMBER`, and perhaps `signed`: after two words and how the first stands to the second.
 fn read_compared(
-    names: KnownNames<'_, '_>,
+    names: KnownNames<'_, '_, '_>,
     address: &[u8],
     relation: &[u8],
     other: &[u8],
@@ -105,7 +105,7 @@ fn read_compared(
 }
 
 fn compared(
-    names: KnownNames<'_, '_>,
+    names: KnownNames<'_, '_, '_>,
     relation: Option<Relation>,
     address: &[u8],
     other: &[u8],
@@ -134,7 +134,7 @@ fn compared(
 
 /// `FIRST..LAST VALUE`, and perhaps `full` or `empty`.
 pub(crate) fn read_words(
-    names: KnownNames<'_, '_>,
+    names: KnownNames<'_, '_, '_>,
     operands: &Operands,
 ) -> Result<Expectation, LineFault>
     ensures { (os : List (List ℕ)) → AreOperands operands.now os → result ≡ words_said (names_in names.entry) os }
@@ -153,7 +153,7 @@ pub(crate) fn read_words(
 }
 
 fn words(
-    names: KnownNames<'_, '_>,
+    names: KnownNames<'_, '_, '_>,
     range: &[u8],
     value: &[u8],
     state: Option<FullEmpty>,
@@ -175,7 +175,7 @@ fn words(
 
 /// `FIRST..LAST VALUE`
 pub(crate) fn read_sum(
-    names: KnownNames<'_, '_>,
+    names: KnownNames<'_, '_, '_>,
     operands: &Operands,
 ) -> Result<Expectation, LineFault>
     ensures { (os : List (List ℕ)) → AreOperands operands.now os → result ≡ sum_said (names_in names.entry) os }
@@ -188,7 +188,7 @@ pub(crate) fn read_sum(
     }
 }
 
-fn sum(names: KnownNames<'_, '_>, range: &[u8], value: &[u8]) -> Result<Expectation, LineFault>
+fn sum(names: KnownNames<'_, '_, '_>, range: &[u8], value: &[u8]) -> Result<Expectation, LineFault>
     ensures { result ≡ sum_of_range (range_said (names_in names.entry) range.now) (value_named value.now) }
 {
     let range = match range_said(names, range) {

@@ -137,6 +137,8 @@ pub fn word_span(line: &[u8], number: usize) -> WordSpan {
 pub fn word_of(line: &[u8], number: usize) -> &str {
     let span = word_span(line, number);
     let from = span.column.saturating_sub(1);
-    let word = line.get(from..from.saturating_add(span.width)).unwrap_or(&[]);
+    let word = line
+        .get(from..from.saturating_add(span.width))
+        .unwrap_or(&[]);
     str::from_utf8(word).unwrap_or("")
 }

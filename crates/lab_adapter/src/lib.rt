@@ -1,7 +1,8 @@
 //! The command `dap`: the debugger in editors.
 #![tactic(auto)]
 
-mod second_thread;
+mod loading;
 mod serving;
+mod transport;
 
 pub use serving::adapt;

@@ -8,8 +8,8 @@ use crate::searches::Explored;
 use crate::unkept::{push_unkept, push_unkept_objects};
 use command_parts::CommandAnswer;
 use end_kinds::EndKind;
-use image_file::Image;
 use expectation_files::Requirements;
+use image_file::Image;
 use lab_ends::{SpaceEnd, SpaceEndKind};
 use plain_text::push_plain;
 use std::alloc::{AllocError, Global};
@@ -182,7 +182,11 @@ fn broken_words(alloc: Global, end: &SpaceEnd) -> Result<String, AllocError> {
 }
 
 /// Adds in what an end is not as expected, where something is.
-fn push_missed(out: &mut String, required: &Requirements, end: &SpaceEnd) -> Result<(), AllocError> {
+fn push_missed(
+    out: &mut String,
+    required: &Requirements,
+    end: &SpaceEnd,
+) -> Result<(), AllocError> {
     if required.ends().is_empty() || !end.is_trapped && end.missed.is_none() {
         return Ok(());
     }

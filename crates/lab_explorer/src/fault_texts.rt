@@ -62,7 +62,8 @@ fn form_words(form: LineForm) -> &'static str {
         LineForm::Word => {
             "a line about a word is word ADDRESS VALUE [full|empty], or word ADDRESS is|above|below word ADDRESS [+ NUMBER] [signed]"
         }
-        LineForm::Words => "a line about the words of a range is words FIRST..LAST VALUE [full|empty]",
+        LineForm::Words =>
+            "a line about the words of a range is words FIRST..LAST VALUE [full|empty]",
         LineForm::Sum => "a line about a sum is sum FIRST..LAST VALUE",
         LineForm::Register => "a line about a register is register P.S rN VALUE",
         LineForm::Finished => "nothing follows finished",

@@ -3,12 +3,11 @@
 use crate::fault_texts::fault_words;
 use command_parts::{LabFault, Program};
 use expectation_files::{
-    FileFault, KnownNames, LineFault, Requirements, line_of, read_requirements, word_of,
-    word_span,
+    FileFault, KnownNames, LineFault, Requirements, line_of, read_requirements, word_of, word_span,
 };
+use fault_messages::{Message, Severity, push_message};
 use lab_texts::ProgramNames;
 use plain_text::plain;
-use fault_messages::{Message, Severity, push_message};
 use source_places::SourcePlaces;
 use std::alloc::{AllocError, Global};
 
@@ -81,7 +80,10 @@ fn message_on(
 /// How many bytes of a text stand before a line, which is counted from 1.
 fn start_of(text: &[u8], line: usize) -> usize {
     let mut start: usize = 0;
-    for before in text.split(|byte| *byte == b'\n').take(line.saturating_sub(1)) {
+    for before in text
+        .split(|byte| *byte == b'\n')
+        .take(line.saturating_sub(1))
+    {
         start = start.saturating_add(before.len()).saturating_add(1);
     }
     start.min(text.len())

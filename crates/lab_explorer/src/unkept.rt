@@ -90,12 +90,16 @@ pub fn push_unkept_objects(
 
 /// The line of the rule that the program breaks.
 fn broken_rule(required: &Requirements, unkept: Unkept) -> Option<&WrittenLine> {
-    unkept.rule.and_then(|place| required.rule_lines().get(place))
+    unkept
+        .rule
+        .and_then(|place| required.rule_lines().get(place))
 }
 
 /// The line of the claim that no world shows.
 fn unshown_claim(required: &Requirements, unkept: Unkept) -> Option<&WrittenLine> {
-    unkept.unshown.and_then(|place| required.claim_lines().get(place))
+    unkept
+        .unshown
+        .and_then(|place| required.claim_lines().get(place))
 }
 
 /// Adds an object of this kind, whose one field is a line.

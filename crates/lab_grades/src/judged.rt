@@ -13,7 +13,7 @@ use grade_reports::{Known, Verdict, VerdictKind, WishLine};
 use lab_explorer::{fault_words, file_fault};
 use lab_requests::GradeRequest;
 use lab_texts::{NumberStyle, ProgramNames};
-use source_places::SourcePlaces;
+use source_places::{DataName, SourceLabel, SourcePlaces};
 use std::alloc::{AllocError, Global};
 
 /// How submissions are judged.
@@ -56,21 +56,30 @@ pub(crate) fn requirements_for(
 ) -> Result<Result<Requirements, Verdict>, LabFault> {
     let given = SourcePlaces::of(alloc, &case.given)?;
     let own = SourcePlaces::of(alloc, &program.text)?;
-    let words = match given.data_names() {
-        [] => own.data_names(),
-        words => words,
+    let read = if given.data_names().is_empty() {
+        read_by(alloc, case, program, own.data_names(), own.labels())
+    } else {
+        read_by(alloc, case, program, given.data_names(), own.labels())
     };
-    let known = KnownNames {
-        words,
-        labels: own.labels(),
-    };
-    match read_requirements(alloc, known, &program.image, &case.expected) {
+    match read {
         Ok(required) => Ok(Ok(required)),
         Err(FileFault::Line { line, fault }) if fault.kind.is_of_program() => {
             Ok(Err(verdict_without(alloc, case, program, line, fault)?))
         }
         Err(fault) => Err(file_fault(alloc, &case.path, &case.expected, fault, program)?),
     }
+}
+
+/// What a case wants of a submission, by these names and labels.
+fn read_by(
+    alloc: Global,
+    case: &Case,
+    program: &Program,
+    words: &[DataName<'_>],
+    labels: &[SourceLabel<'_>],
+) -> Result<Requirements, FileFault> {
+    let known = KnownNames { words, labels };
+    read_requirements(alloc, known, &program.image, &case.expected)
 }
 
 /// What is said of a submission that has not all that a line speaks of.

@@ -33,7 +33,9 @@ fn is_end(end: &SpaceEnd) -> bool {
 fn is_named(surveyed: SurveyInput, broken: &SpaceEnd, outcomes: &[SeedOutcome]) -> bool {
     let lines = surveyed.required.claim_lines();
     outcomes.iter().any(|outcome| match outcome.broken {
-        Some(place) => lines.get(place).is_some_and(|line| line.number == broken.line),
+        Some(place) => lines
+            .get(place)
+            .is_some_and(|line| line.number == broken.line),
         None => false,
     })
 }

@@ -107,8 +107,13 @@ fn put_run_of(
 }
 
 /// The claim that is broken on the way to an outcome.
-pub(crate) fn broken_words<'w>(required: &'w Requirements, outcome: &SeedOutcome) -> Option<&'w str> {
-    let line = outcome.broken.and_then(|place| required.claim_lines().get(place))?;
+pub(crate) fn broken_words<'w>(
+    required: &'w Requirements,
+    outcome: &SeedOutcome,
+) -> Option<&'w str> {
+    let line = outcome
+        .broken
+        .and_then(|place| required.claim_lines().get(place))?;
     Some(line.words.as_str())
 }
 

@@ -4,7 +4,6 @@ use crate::coverage::push_every_schedule;
 use crate::survey_objects::{SurveyInput, broken_words, push_outcome_objects};
 use command_parts::{CommandAnswer, Inputs, LabFault, read_program, style_of};
 use expectation_files::Requirements;
-use program_rules::first_broken;
 use lab_explorer::{
     Console, EndCells, EndColumns, Explored, SpaceSearch, Unkept, Watcher, end_line,
     explore_program, push_expected, push_unkept, push_unkept_objects, requirements_of,
@@ -12,6 +11,7 @@ use lab_explorer::{
 use lab_requests::{Bounds, SurveyRequest};
 use lab_texts::{NumberStyle, ProgramNames};
 use plain_text::push_plain;
+use program_rules::first_broken;
 use seed_outcomes::{SeedOutcome, SurveySeeds, outcomes_of, unshown_by_seeds, worst_status};
 use seed_verdicts::Seeds;
 use std::alloc::{AllocError, Global};

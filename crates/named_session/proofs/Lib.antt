@@ -1,2 +1,3 @@
 pub mod LastOnes
 pub mod FirstPosition
+pub mod NextWorlds

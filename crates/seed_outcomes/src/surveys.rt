@@ -6,10 +6,10 @@ use crate::parts::{part_size, parts_of};
 use crate::world_groups::{SeedGroup, groups_of_seeds};
 use claims::Claim;
 use end_kinds::end_kind_of;
+use expectation_files::Requirements;
 use expectations::first_missed;
 use image_file::Image;
 use image_machines::{by_room, loaded};
-use expectation_files::Requirements;
 use lab_ends::{end_text_of, is_expected_trap};
 use lab_texts::{NumberStyle, ProgramNames};
 use machine::{LoadFault, Machine};
@@ -175,15 +175,20 @@ fn outcome_of<const S: usize>(
     let mut machine = loaded::<S>(alloc, surveyed.image)?;
     let made = surveyed.take_seed(alloc, &mut machine, seed)?;
     let words = end_text_of(alloc, &machine, surveyed.names, surveyed.style)?;
-    let is_trapped = words
-        .stopped
-        .iter()
-        .any(|stream| !is_expected_trap(surveyed.required.ends(), stream));
+    let is_trapped = words.stopped.iter().any(|stream| !is_expected_trap(
+        surveyed.required.ends(),
+        stream,
+    ));
     Ok(SeedOutcome {
         kind: end_kind_of(&machine),
         text: words.text,
         missed: first_missed(&machine, surveyed.required.ends()),
-        broken: broken_by::<S>(alloc, surveyed.image, &made.steps, surveyed.required.claims())?,
+        broken: broken_by::<S>(
+            alloc,
+            surveyed.image,
+            &made.steps,
+            surveyed.required.claims(),
+        )?,
         is_trapped,
         seed,
         steps: made.steps.len(),

@@ -158,7 +158,7 @@ fn command_called(commands: &[(&str, DapCommand)], name: &str) -> Option<DapComm
 
 impl MoveCommand {
     /// Whether it begins a move, so that nothing else may be under way.
-    pub(crate) fn begins(self) -> bool {
+    pub fn begins(self) -> bool {
         match self {
             MoveCommand::Continue
             | MoveCommand::ReverseContinue

@@ -1,11 +1,8 @@
-//! Requests, read from the bytes of messages.
+//! Requests, read from the values of messages.
 
 use crate::commands::{DapCommand, dap_command};
 use serde_json::Value;
 use std::alloc::{AllocError, Global};
-
-/// How many values a message may have at most. Each takes far more memory than its bytes.
-const MOST_VALUES: usize = 20_000;
 
 /// A request of the client.
 #[derive(Drop)]
@@ -20,8 +17,7 @@ pub struct DapRequest {
 }
 
 /// The request of a message. A message that is none has an empty command, and 0 for a number that it lacks.
-pub fn read_request(alloc: Global, bytes: &[u8]) -> Result<DapRequest, AllocError> {
-    let message = read_message(alloc, bytes)?;
+pub fn read_request(alloc: Global, message: Value) -> Result<DapRequest, AllocError> {
     let seq = message.get("seq").and_then(Value::as_u64).unwrap_or(0);
     let name = command_in(&message);
     let kind = dap_command(name);
@@ -32,18 +28,6 @@ pub fn read_request(alloc: Global, bytes: &[u8]) -> Result<DapRequest, AllocErro
         kind,
         message,
     })
-}
-
-/// The value of a message; null where it is no JSON, or has too many values.
-fn read_message(alloc: Global, bytes: &[u8]) -> Result<Value, AllocError> {
-    if values_in(bytes) > MOST_VALUES {
-        return Ok(Value::Null);
-    }
-    match Value::from_slice(alloc, bytes) {
-        Ok(message) => Ok(message),
-        Err(error) if error.is_memory() => Err(AllocError),
-        Err(_) => Ok(Value::Null),
-    }
 }
 
 /// The command of a request; empty where the value is none.
@@ -57,17 +41,6 @@ fn command_in(message: &Value) -> &str {
 /// A member that is a text.
 fn text_in<'v>(value: &'v Value, name: &str) -> Option<&'v str> {
     value.get(name).and_then(Value::as_str)
-}
-
-/// How many values a text has at most.
-fn values_in(text: &[u8]) -> usize {
-    let mut count: usize = 1;
-    for byte in text {
-        if matches!(*byte, b',' | b':' | b'[' | b'{') {
-            count = count.saturating_add(1);
-        }
-    }
-    count
 }
 
 impl DapRequest {

@@ -1,5 +1,6 @@
 //! JSON, written piece by piece.
 
+use crate::quoting::push_quoted;
 use std::alloc::{AllocError, Global};
 
 /// A JSON text that is being written. Where memory is refused for a piece, the text lacks it, and [`Json::whole`] says so
@@ -147,21 +148,4 @@ impl Json {
         self.plain_of(name, value.text.as_str());
         self.lacks_pieces = self.lacks_pieces || value.lacks_pieces;
     }
-}
-
-/// Adds a text as a JSON string.
-fn push_quoted(out: &mut String, text: &str) -> Result<(), AllocError> {
-    out.push_str("\"")?;
-    for letter in text.chars() {
-        match letter {
-            '"' => out.push_str("\\\"")?,
-            '\\' => out.push_str("\\\\")?,
-            '\0'..='\x1f' => {
-                let code = letter as u32;
-                write!(out, "\\u{code:04x}")?;
-            }
-            _ => out.push(letter)?,
-        }
-    }
-    out.push_str("\"")
 }

@@ -1,13 +1,22 @@
 //! Requests before a program is launched.
 
-ghost use Rattle.std.specs.Prelude.{◌≡◌, ◌+◌, OnOk};
+ghost use Rattle.std.specs.Prelude.{OnOk, string_bytes};
+ghost use Rattle.adapter_messages.specs.Responses.{SendsResponse};
 
-use crate::adapter::Flow;
 use crate::commands::DapCommand;
 use crate::connection::Connection;
-use crate::json_text::Json;
 use crate::requests::DapRequest;
+use editor_wire::Json;
 use std::alloc::{AllocError, Global};
+
+/// What comes after a request.
+#[derive(Clone, Copy, PartialEq, Eq)]
+pub enum Flow {
+    /// The next request.
+    On,
+    /// The end.
+    End,
+}
 
 /// What the client says of itself.
 #[derive(Clone, Copy)]
@@ -28,15 +37,16 @@ impl Client {
     }
 }
 
-/// Answers a request before a program is launched, which is none to launch: by one response, which has its number.
+/// Answers a request before a program is launched, which is none to launch: by one response, which has its number and its
+/// command.
 pub fn greet(
     alloc: Global,
     connection: &mut Connection,
     client: &mut Client,
     request: &DapRequest,
 ) -> Result<Flow, AllocError>
-    ensures one { OnOk result (connection.new.answered ≡ connection.old.answered + 1) }
-    ensures whom { OnOk result (connection.new.last_answered ≡ request.now.seq) }
+    ensures one { OnOk result (SendsResponse connection.old.outbox connection.new.outbox
+        request.now.seq (string_bytes request.now.command)) }
 {
     let command = request.command.as_str();
     match request.kind {
@@ -64,7 +74,7 @@ pub fn greet(
 }
 
 /// Why a command that is none is refused.
-pub(crate) fn no_command(command: &str) -> &'static str {
+pub fn no_command(command: &str) -> &'static str {
     match command {
         "" => "this is no request",
         "setVariable" | "setExpression" | "writeMemory" =>

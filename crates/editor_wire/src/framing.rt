@@ -8,7 +8,7 @@ pub const MESSAGE_LIMIT: u64 = 8_388_608;
 /// The longest head that is taken, in bytes.
 const HEAD_LIMIT: usize = 4096;
 
-/// What stands before a length.
+/// What stands before a length, in letters of any case.
 const LENGTH_NAME: &[u8] = b"Content-Length:";
 
 /// What was cut out.
@@ -104,9 +104,10 @@ impl Frames {
 fn length_in(head: &[u8]) -> Option<(u64, bool)> {
     for place in (0..head.len()).rev() {
         let rest = head.get(place..).unwrap_or(b"");
-        if rest.starts_with(LENGTH_NAME) {
-            let length = number_at(rest.get(LENGTH_NAME.len()..).unwrap_or(b""))?;
-            return Some((length, place == 0 || is_line_end(head, place)));
+        if let Some((name, value)) = rest.split_at_checked(LENGTH_NAME.len())
+            && name.eq_ignore_ascii_case(LENGTH_NAME)
+        {
+            return Some((number_at(value)?, is_line_end(head, place)));
         }
     }
     None

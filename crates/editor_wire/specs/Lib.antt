@@ -1,0 +1,4 @@
+-- texts in JSON
+pub mod JsonStrings
+-- messages as bytes
+pub mod Wire

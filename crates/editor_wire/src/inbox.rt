@@ -1,0 +1,38 @@
+//! Messages that came in, for who answers them.
+
+use crossbeam_channel::Receiver;
+use serde_json::Value;
+use std::alloc::{AllocError, Global};
+use std::sync::Wait;
+
+/// What the thread that reads passes on of a message: its value, unless memory was refused for it.
+pub(crate) type ReceivedMessage = Result<Value, AllocError>;
+
+/// The messages that came in, in their order. What is no JSON, or past a limit, is null.
+#[derive(Drop)]
+pub struct Inbox {
+    receiver: Receiver<ReceivedMessage, Global>,
+}
+
+impl Inbox {
+    /// The messages of a channel.
+    pub(crate) fn of(receiver: Receiver<ReceivedMessage, Global>) -> Inbox {
+        Inbox { receiver }
+    }
+
+    /// Waits for the next message; None at the end of the input.
+    pub fn next<X: Wait>(&self, rt: &X) -> Result<Option<Value>, AllocError> {
+        match self.receiver.recv(rt) {
+            Ok(received) => Ok(Some(received?)),
+            Err(_) => Ok(None),
+        }
+    }
+
+    /// The next message where one has come already; else None.
+    pub fn next_there<X: Wait>(&self, rt: &X) -> Result<Option<Value>, AllocError> {
+        match self.receiver.try_recv(rt) {
+            Ok(received) => Ok(Some(received?)),
+            Err(_) => Ok(None),
+        }
+    }
+}

@@ -1,0 +1,34 @@
+//! The JSON of messages that came in.
+
+use crate::framing::Frame;
+use serde_json::Value;
+use std::alloc::{AllocError, Global};
+
+/// How many values a message may have at most. Each takes far more memory than its bytes.
+pub const VALUE_LIMIT: usize = 20_000;
+
+/// The value of a message; null where it is no JSON, or is past a limit.
+pub fn message_of(alloc: Global, frame: &Frame) -> Result<Value, AllocError> {
+    let Frame::Message(bytes) = frame else {
+        return Ok(Value::Null);
+    };
+    if values_in(bytes) > VALUE_LIMIT {
+        return Ok(Value::Null);
+    }
+    match Value::from_slice(alloc, bytes) {
+        Ok(message) => Ok(message),
+        Err(error) if error.is_memory() => Err(AllocError),
+        Err(_) => Ok(Value::Null),
+    }
+}
+
+/// How many values a text has at most.
+fn values_in(text: &[u8]) -> usize {
+    let mut count: usize = 1;
+    for byte in text {
+        if matches!(*byte, b',' | b':' | b'[' | b'{') {
+            count = count.saturating_add(1);
+        }
+    }
+    count
+}

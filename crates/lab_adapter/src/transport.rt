@@ -1,0 +1,60 @@
+//! Where requests come from, and where answers go.
+
+use adapter_messages::{Connection, DapRequest, read_request};
+use command_parts::{LabFault, write_out};
+use editor_wire::Inbox;
+use serde_json::Value;
+use std::alloc::Global;
+use std::io::Write;
+use std::sync::Wait;
+
+/// Where messages come from, and where they go.
+#[derive(Drop)]
+pub(crate) struct Transport<'a, W> {
+    alloc: Global,
+    inbox: Inbox,
+    /// What is sent to the client.
+    pub(crate) connection: Connection,
+    output: &'a mut W,
+}
+
+impl<'a, W: Write> Transport<'a, W> {
+    /// A transport by which nothing was sent.
+    pub(crate) fn new(alloc: Global, inbox: Inbox, output: &'a mut W) -> Transport<'a, W> {
+        Transport {
+            alloc,
+            inbox,
+            connection: Connection::new(alloc),
+            output,
+        }
+    }
+
+    /// Writes what is to be sent.
+    pub(crate) fn flush(&mut self) -> Result<(), LabFault> {
+        let bytes = self.connection.outbox.take_bytes(self.alloc)?;
+        write_out(self.output, bytes.as_bytes())
+    }
+
+    /// Writes what is to be sent, and waits for the next request; None at the end of the input. What is no request is
+    /// one of an empty command.
+    pub(crate) fn next<X: Wait>(&mut self, rt: &X) -> Result<Option<DapRequest>, LabFault> {
+        self.flush()?;
+        let message = self.inbox.next(rt)?;
+        self.request_in(message)
+    }
+
+    /// The same where one has come already, and else None.
+    pub(crate) fn next_there<X: Wait>(&mut self, rt: &X) -> Result<Option<DapRequest>, LabFault> {
+        self.flush()?;
+        let message = self.inbox.next_there(rt)?;
+        self.request_in(message)
+    }
+
+    /// The request of a message, where there is one.
+    fn request_in(&self, message: Option<Value>) -> Result<Option<DapRequest>, LabFault> {
+        match message {
+            Some(message) => Ok(Some(read_request(self.alloc, message)?)),
+            None => Ok(None),
+        }
+    }
+}
