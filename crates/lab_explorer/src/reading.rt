@@ -46,8 +46,9 @@ pub fn file_fault(
         }
         FileFault::Line { line, fault } => {
             let message = message_on(alloc, text, line, fault, program)?;
+            let path = plain(alloc, path)?;
             let mut lines = String::new(alloc);
-            push_message(&mut lines, path, text, &message)?;
+            push_message(&mut lines, &path, text, &message)?;
             Ok(LabFault::Lines(lines))
         }
     }
