@@ -135,7 +135,8 @@ def unknown():
             said = lab(folder, "explore", "p.asm", "--expect", "w.x")
             graded = lab(folder, "grade", "--seeds", "2", "--expect", "w.x", "p.asm")
             reason = b"no word is named totl: did you mean total?" if shown == b"totl" else b"no word is named a: " + KNOWN
-            return ((1, b"", b"w.x:2:1: error: " + reason + b"\n"), True, True), (
+            marked = f"    2 | word {name} 0\n      |      {'^' * len(name)}\n".encode()
+            return ((1, b"", b"w.x:2:6: error: " + reason + b"\n" + marked), True, True), (
                 told(said), b"wrong" in graded.out, reason in graded.out)
         yield f"expected {name}", lambda check=check, name=name: with_folder(
             check, p_asm=SOURCE, w_x=f"finished\nword {name} 0\n".encode())
