@@ -95,7 +95,7 @@ fn data_name<'n, 't>(names: &'n [DataName<'t>], text: &[u8]) -> Option<&'n DataN
     ensures { option_map (λ n. data_name_seen n.now) result ≡ find (is_called text.now) (data_names_seen names.now) }
 {
     for name in names {
-        if name.name == text {
+        if text == name.name {
             return Some(name);
         }
     }
