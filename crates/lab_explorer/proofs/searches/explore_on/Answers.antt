@@ -29,7 +29,7 @@ returns g c = record {
               right = right;
               before = found.before yes;
               shown = c.in_ok-unshown.ensures.shown so.2;
-              busy = λ some. (busy.wished so.0 some (c.in_ok-space.ensures.worlds so.0 some)).0 so.3;
+              busy = λ some. (busy.asked so.0 some (c.in_ok-space.ensures.worlds so.0 some)).0 so.3;
             } in (
               so.0,
               so.1,
@@ -47,8 +47,8 @@ returns g c = record {
             ] in
             let none = c.in_ok-unshown.ensures.only tells right.shown in
             let alone_none =
-            none_found required.never_busy c.in_ok-busy.busy busy.unwished
-            (λ some. (busy.wished all.0 some (c.in_ok-space.ensures.worlds all.0 some)).1 (right.busy some)) in
+            none_found required.never_busy c.in_ok-busy.busy busy.unasked
+            (λ some. (busy.asked all.0 some (c.in_ok-space.ensures.worlds all.0 some)).1 (right.busy some)) in
             found.only (judged.1 (all.0, all.1, none, alone_none))
             (c.in_ok-space.ensures.taken all.0) right,
       );

@@ -6,4 +6,4 @@ pub returns-in-Ok-clause-only : goal.returns-in-Ok-clause-only
 returns-in-Ok-clause-only g c =
     let v = c.args.space.now in
     subst (λ claims. TellsOfClaims v claims → AreShown v.image v.begin claims → c.in-Ok.unshown ≡ None)
-    c.deref.ensures.value c.in-Ok.ensures.only
+    c.claims.ensures c.in-Ok.ensures.only
