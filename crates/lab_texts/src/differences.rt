@@ -5,11 +5,11 @@ use crate::names::ProgramNames;
 use crate::notation::Notation;
 use crate::run_pieces::RunPieces;
 use crate::values::{NumberStyle, put_content, put_tags};
+use changed_words::ChangedWord;
 use machine::Machine;
 use plain_text::TextWriter;
 use std::alloc::AllocError;
 use step_views::{Change, Place};
-use tag_memory::Word;
 
 /// Adds a line for each word of the memory that is not the image's: what it was, what it is, and the comment of its
 /// line.
@@ -33,10 +33,16 @@ pub fn put_differing_words<const S: usize>(
 ) {
     for (index, cell) in machine.image().cells().iter().enumerate() {
         let address = index as u64 * 8;
-        if let Some(word) = machine.word(address)
-            && word != *cell
+        if let Some(after) = machine.word(address)
+            && after != *cell
         {
-            put_word_line(out, names, style, address, *cell, word);
+            let before = *cell;
+            let word = ChangedWord {
+                address,
+                before,
+                after,
+            };
+            put_word_line(out, names, style, word);
         }
     }
 }
@@ -46,39 +52,30 @@ fn put_word_line(
     out: &mut TextWriter,
     names: &ProgramNames,
     style: NumberStyle,
-    address: u64,
-    before: Word,
-    after: Word,
+    word: ChangedWord,
 ) {
-    put_word_change(out, names, style, address, before, after);
-    names.put_comment(out, address);
+    put_word_change(out, names, style, word);
+    names.put_comment(out, word.address);
     out.put("\n");
 }
 
-/// Adds the words of the memory that are not the image's in one line, as `[0] 0 -> 4 (the sum), [8] 0 -> 2 (the max)`:
+/// Adds words of the memory that are not as the image has them in one line, as `[0] 0 -> 4 (the sum), [8] 0 -> 2 (the max)`:
 /// the comment of a line stands after the last of its words, after blanks where there is one word alone.
-pub fn push_changed_words<const S: usize>(
+pub fn push_changed_words(
     out: &mut String,
     names: &ProgramNames,
     style: NumberStyle,
-    machine: &Machine<'_, S>,
+    words: &[ChangedWord],
 ) -> Result<(), AllocError> {
     let mut text = TextWriter::take(out);
     let mut last = None;
-    let mut count: usize = 0;
-    for (index, cell) in machine.image().cells().iter().enumerate() {
-        let address = index as u64 * 8;
-        if let Some(word) = machine.word(address)
-            && word != *cell
-        {
-            put_between(&mut text, names, last, address);
-            put_word_change(&mut text, names, style, address, *cell, word);
-            last = Some(address);
-            count = count.saturating_add(1);
-        }
+    for word in words {
+        put_between(&mut text, names, last, word.address);
+        put_word_change(&mut text, names, style, *word);
+        last = Some(word.address);
     }
     match last {
-        Some(address) if count == 1 => put_remark(&mut text, names, address),
+        Some(address) if words.len() == 1 => put_remark(&mut text, names, address),
         Some(address) => put_remark_in_brackets(&mut text, names, address),
         None => {}
     }
@@ -122,10 +119,13 @@ fn put_word_change(
     out: &mut TextWriter,
     names: &ProgramNames,
     style: NumberStyle,
-    address: u64,
-    before: Word,
-    after: Word,
+    word: ChangedWord,
 ) {
+    let ChangedWord {
+        address,
+        before,
+        after,
+    } = word;
     names.put_address(out, address);
     out.put(" ");
     let values = before.value() != after.value();

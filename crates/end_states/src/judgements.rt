@@ -1,0 +1,41 @@
+//! How the end of a run is judged: whether it is as expected, and what it means for the exit status.
+
+ghost use Rattle.std.specs.Prelude.{◌≡◌, ◌||◌, is_some};
+ghost use Rattle.end_kinds.specs.Statuses.{status_of};
+
+use end_kinds::{EndKind, Status, status_of};
+
+/// How the end of a run is judged. This is the one answer to whether an end is as expected, for all commands.
+#[derive(Clone, Copy, Debug, PartialEq, Eq)]
+pub struct EndJudgement {
+    /// The kind of the end.
+    pub kind: EndKind,
+    /// The place of the first expectation that it misses, among all of ends.
+    pub missed: Option<usize>,
+    /// The place of the first claim that does not hold of some world of the run, among all claims.
+    pub broken: Option<usize>,
+    /// Whether a trap that is not expected stopped a stream.
+    pub is_trapped: bool,
+}
+
+impl EndJudgement {
+    /// Whether the end is as expected: it is no deadlock, no expectation is missed, no claim is broken on the way, and each
+    /// trap that stopped a stream is expected.
+    pub fn is_expected(self) -> bool {
+        self.kind != EndKind::Deadlock && !self.is_wrong() && !self.is_trapped
+    }
+
+    /// What the end means for the exit status.
+    pub fn status(self) -> Status
+        ensures { result ≡ status_of self.kind (is_some self.missed || is_some self.broken) self.is_trapped }
+    {
+        status_of(self.kind, self.is_wrong(), self.is_trapped)
+    }
+
+    /// Whether an expectation is missed, or a claim is broken.
+    fn is_wrong(self) -> bool
+        ensures { result ≡ (is_some self.missed || is_some self.broken) }
+    {
+        self.missed.is_some() || self.broken.is_some()
+    }
+}

@@ -1,0 +1,13 @@
+//! The end of a run as a value: who was stopped, who waits for which word, which words changed, and how it is judged by
+//! what is expected (docs/LAB.md, "Ends").
+#![tactic(auto)]
+
+mod judgements;
+mod judging;
+mod states;
+
+pub use judgements::EndJudgement;
+pub use judging::{JudgedEnd, judged_end};
+pub use states::{
+    ChangedWord, EndState, TrapStop, WaitingStream, changed_words, end_state_of, trap_stops,
+};

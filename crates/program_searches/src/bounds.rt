@@ -1,0 +1,36 @@
+//! What ends a search before its end.
+
+/// What ended a search before its end.
+#[derive(Clone, Copy, Debug, PartialEq, Eq)]
+pub enum SearchBound {
+    /// As many worlds were found as were asked for.
+    States,
+    /// The seconds were over.
+    Seconds,
+    /// What it held took more than the megabytes that were asked for.
+    Memory,
+    /// Memory was refused.
+    Refused,
+}
+
+impl SearchBound {
+    /// It in words, which follow what was not reached.
+    pub fn words(self) -> &'static str {
+        match self {
+            SearchBound::States => "ended by --states",
+            SearchBound::Seconds => "ended by --seconds",
+            SearchBound::Memory => "ended by --memory",
+            SearchBound::Refused => "memory was refused",
+        }
+    }
+
+    /// Its name in objects.
+    pub fn json_name(self) -> &'static str {
+        match self {
+            SearchBound::States => "states",
+            SearchBound::Seconds => "seconds",
+            SearchBound::Memory => "memory",
+            SearchBound::Refused => "refused",
+        }
+    }
+}

@@ -1,0 +1,16 @@
+//! The search among all schedules of a program, and what it comes to, as values: its bounds, who watches it, and the ends
+//! that it found (docs/LAB_REFERENCE.md, "Every schedule").
+#![tactic(auto)]
+
+mod bounds;
+mod explored;
+mod searches;
+mod spaces;
+mod unkept;
+mod watching;
+
+pub use bounds::SearchBound;
+pub use explored::Explored;
+pub use searches::{ProgramSearch, SearchFault, explore_program};
+pub use unkept::Unkept;
+pub use watching::Console;

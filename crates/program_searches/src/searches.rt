@@ -1,0 +1,254 @@
+//! What is looked for among the schedules of a program, and what the search comes to.
+
+ghost use Rattle.std.specs.Prelude.{◌≡◌, ◌≤◌, ◌⊎◌, ◌↔◌, is_some, IsTrue, IsSome, IsNone, IfOk, None};
+ghost use Rattle.schedule_space.specs.Spaces.{IsComplete, HasAllEdges};
+ghost use Rattle.schedule_space.specs.Followed.{AllFollowed};
+ghost use Rattle.busy_streams.specs.Busy.{IsNeverBusy};
+ghost use Rattle.busy_streams.specs.BusySpaces.{HasAllWorlds};
+ghost use Rattle.schedule_verdicts.specs.KeptClaims.{AreKeptOnTheWay};
+ghost use Rattle.expectation_files.specs.Judged.{IsJudged};
+ghost use Rattle.schedule_verdicts.specs.NamedRegisters.{AreNamed};
+ghost use Rattle.schedule_verdicts.specs.RightSpaces.{IsFollowedForClaims, IsRightOnEachWay};
+ghost use Rattle.schedule_verdicts.specs.ShownClaims.{AreShown, IsRightThroughout, TellsOfClaims};
+
+use crate::bounds::SearchBound;
+use crate::explored::Explored;
+use crate::spaces::space_of;
+use crate::watching::{Console, Watcher};
+use busy_streams::{Busy, first_busy};
+use expectation_files::Requirements;
+use image_file::Image;
+use lab_requests::Bounds;
+use machine::LoadFault;
+use processor::Step;
+use program_rules::first_broken;
+use schedule_space::Space;
+use schedule_verdicts::{are_kept_on_the_way, first_unshown, is_right};
+use space_ends::{JudgedBy, space_ends};
+use std::alloc::{AllocError, Global};
+use std::io::{self, Write};
+use std::time::Clock;
+
+/// What is looked for among the schedules of a program.
+#[derive(Clone, Copy)]
+pub struct ProgramSearch<'a> {
+    /// What is required of the program.
+    pub required: &'a Requirements,
+    /// The schedule that all begin with.
+    pub begin: &'a [Step],
+    /// How far the search goes.
+    pub bounds: Bounds,
+    /// Whether all worlds are looked for, also where what is required needs fewer.
+    pub is_plain: bool,
+}
+
+impl ProgramSearch<'_> {
+    /// Whether it is to be judged by what was found: that is complete, something is required, the program keeps the rules,
+    /// each claim that has to hold of one world at least does, and no stream was found that loops alone.
+    fn judges(
+        &self,
+        image: &Image,
+        is_complete: bool,
+        unshown: Option<usize>,
+        busy: Option<Busy>,
+    ) -> bool
+        ensures { IsTrue result ↔ (IsTrue is_complete × IsJudged image.now self.now.required.now
+            × (unshown ≡ None) × (busy ≡ None)) }
+    {
+        is_complete && self.required.is_judged(image) && unshown.is_none() && busy.is_none()
+    }
+
+    /// The most worlds that are looked for: at least one.
+    pub(crate) fn most_worlds(&self) -> usize
+        ensures { 1 ≤ result }
+    {
+        self.bounds.worlds.max(1)
+    }
+
+    /// Whether all worlds are looked for: where it is asked for, and where no stream is to loop alone.
+    pub(crate) fn takes_all(&self) -> bool
+        ensures { IsSome self.now.required.now.never_busy → IsTrue result }
+    {
+        self.is_plain || self.required.never_busy().is_some()
+    }
+}
+
+/// Why a search was not begun, or gave up without an answer.
+#[derive(Debug, Drop)]
+pub enum SearchFault {
+    /// Memory was refused.
+    NoMemory,
+    /// The time is bounded, and the clock can't be read.
+    Clock(io::Error),
+}
+
+impl From<AllocError> for SearchFault {
+    fn from(_error: AllocError) -> SearchFault {
+        SearchFault::NoMemory
+    }
+}
+
+impl From<io::Error> for SearchFault {
+    fn from(error: io::Error) -> SearchFault {
+        SearchFault::Clock(error)
+    }
+}
+
+/// What a search among the schedules of a program comes to. It shows on the console how far it is.
+pub fn explore_program<'i, C: Clock, E: Write>(
+    alloc: Global,
+    image: &'i Image,
+    asked: &ProgramSearch<'_>,
+    console: &mut Console<'_, C, E>,
+) -> Result<Explored<'i>, SearchFault>
+    ensures right { IfOk result (λ e. let required = asked.now.required.now in IsTrue e.is_right
+        ↔ (IsTrue e.is_complete × IsJudged image.entry.now required
+        × IsRightThroughout image.entry.now asked.now.begin.now required.ends.items required.claims.items
+        (is_some required.never_busy))) }
+{
+    let mut watcher = Watcher::new(console, asked.bounds)?;
+    let found = explore_watched(alloc, image, asked, &mut watcher);
+    watcher.finish();
+    Ok(found?)
+}
+
+/// The same while it is watched.
+fn explore_watched<'i, C: Clock, E: Write>(
+    alloc: Global,
+    image: &'i Image,
+    asked: &ProgramSearch<'_>,
+    watcher: &mut Watcher<'_, '_, C, E>,
+) -> Result<Explored<'i>, AllocError>
+    ensures right { IfOk result (λ e. let required = asked.now.required.now in IsTrue e.is_right
+        ↔ (IsTrue e.is_complete × IsJudged image.entry.now required
+        × IsRightThroughout image.entry.now asked.now.begin.now required.ends.items required.claims.items
+        (is_some required.never_busy))) }
+{
+    match image.slim() {
+        0 | 1 => explore_on::<1, C, E>(alloc, image, asked, watcher),
+        2..=4 => explore_on::<4, C, E>(alloc, image, asked, watcher),
+        5..=16 => explore_on::<16, C, E>(alloc, image, asked, watcher),
+        _ => explore_on::<128, C, E>(alloc, image, asked, watcher),
+    }
+}
+
+/// The same on machines with room for `S` streams a processor.
+fn explore_on<'i, const S: usize, C: Clock, E: Write>(
+    alloc: Global,
+    image: &'i Image,
+    asked: &ProgramSearch<'_>,
+    watcher: &mut Watcher<'_, '_, C, E>,
+) -> Result<Explored<'i>, AllocError>
+    ensures right { IfOk result (λ e. let required = asked.now.required.now in IsTrue e.is_right
+        ↔ (IsTrue e.is_complete × IsJudged image.entry.now required
+        × IsRightThroughout image.entry.now asked.now.begin.now required.ends.items required.claims.items
+        (is_some required.never_busy))) }
+{
+    let (space, is_complete) = space_of::<S, C, E>(alloc, image, asked, watcher)?;
+    let required = asked.required;
+    let busy = busy_in::<S>(alloc, required, &space, is_complete)?;
+    let judged_by = JudgedBy {
+        expected: required.ends(),
+        claims: required.claims(),
+    };
+    let ends = space_ends::<S>(alloc, judged_by, &space, is_complete, busy)?;
+    let unshown = unshown_in::<S>(alloc, required, &space)?;
+    let is_judged = asked.judges(image, is_complete, unshown, busy);
+    let is_right = are_all_right::<S>(alloc, required, &space, is_judged)?;
+    Ok(Explored {
+        space,
+        is_complete,
+        bound: if is_complete { None } else { watcher.bound() },
+        is_of_all_worlds: asked.takes_all(),
+        ends,
+        broken_rule: first_broken(image, required.rules()),
+        unshown,
+        is_right,
+    })
+}
+
+/// The first of the claims, counted from 0, that have to hold of one world at least and that no world of a space shows, nor
+/// one on the way through its beginning.
+fn unshown_in<const S: usize>(
+    alloc: Global,
+    required: &Requirements,
+    space: &Space<'_>,
+) -> Result<Option<usize>, AllocError>
+    ensures shown { IfOk result (λ told. told ≡ None
+        → AreShown space.now.image space.now.begin required.now.claims.items) }
+    ensures only { IfOk result (λ told. TellsOfClaims space.now required.now.claims.items
+        → AreShown space.now.image space.now.begin required.now.claims.items → told ≡ None) }
+{
+    match first_unshown::<S>(alloc, space, required.claims()) {
+        Ok(unshown) => Ok(unshown),
+        Err(LoadFault::NoMemory | LoadFault::Streams) => Err(AllocError),
+    }
+}
+
+/// The first world of a space from which a stream loops alone, where none is to and the space has all worlds.
+fn busy_in<const S: usize>(
+    alloc: Global,
+    required: &Requirements,
+    space: &Space<'_>,
+    is_complete: bool,
+) -> Result<Option<Busy>, AllocError>
+    ensures asked { IfOk result (λ told. IsTrue is_complete → IsSome required.now.never_busy
+        → HasAllWorlds space.now → (told ≡ None) ↔ IsNeverBusy space.now.image space.now.begin) }
+    ensures unasked { IfOk result (λ told. IsNone required.now.never_busy → told ≡ None) }
+{
+    if !is_complete || required.never_busy().is_none() {
+        return Ok(None);
+    }
+    match first_busy::<S>(alloc, space) {
+        Ok(busy) => Ok(busy),
+        Err(LoadFault::NoMemory | LoadFault::Streams) => Err(AllocError),
+    }
+}
+
+/// Whether all that is required of a space is so, where it is judged: of its ends, of its worlds, and of those on the way
+/// through the steps that all its schedules begin with.
+fn are_all_right<const S: usize>(
+    alloc: Global,
+    required: &Requirements,
+    space: &Space<'_>,
+    is_judged: bool,
+) -> Result<bool, AllocError>
+    ensures judged { IfOk result (λ b. IsTrue b → IsTrue is_judged) }
+    ensures before { IfOk result (λ b. IsTrue b
+        → AreKeptOnTheWay space.now.image space.now.begin required.now.claims.items) }
+    ensures shown { IfOk result (λ b. IsTrue b → AreNamed required.now.ends.items space.now.live.names
+        → IsFollowedForClaims space.now required.now.claims.items
+        → IsRightOnEachWay space.now.image space.now.begin required.now.ends.items required.now.claims.items) }
+    ensures each_way { IfOk result (λ b. IsTrue b → IsComplete space.now
+        → IsRightOnEachWay space.now.image space.now.begin required.now.ends.items required.now.claims.items) }
+    ensures only { IfOk result (λ b. IsTrue is_judged
+        → (IsComplete space.now × HasAllEdges space.now) ⊎ AllFollowed space.now
+        → IsRightThroughout space.now.image space.now.begin required.now.ends.items required.now.claims.items
+        (is_some required.now.never_busy) → IsTrue b) }
+{
+    if !is_judged {
+        return Ok(false);
+    }
+    if !are_kept_before::<S>(alloc, required, space)? {
+        return Ok(false);
+    }
+    match is_right::<S>(alloc, space, required.ends(), required.claims()) {
+        Ok(right) => Ok(right),
+        Err(LoadFault::NoMemory | LoadFault::Streams) => Err(AllocError),
+    }
+}
+
+/// Whether all that is claimed holds on the way through the steps that all schedules of a space begin with.
+fn are_kept_before<const S: usize>(
+    alloc: Global,
+    required: &Requirements,
+    space: &Space<'_>,
+) -> Result<bool, AllocError>
+    ensures { IfOk result (λ b. IsTrue b
+        ↔ AreKeptOnTheWay space.now.image space.now.begin required.now.claims.items) }
+{
+    match are_kept_on_the_way::<S>(alloc, space.image(), space.begin(), required.claims()) {
+        Ok(are_kept) => Ok(are_kept),
+        Err(LoadFault::NoMemory | LoadFault::Streams) => Err(AllocError),
+    }
+}

@@ -1,0 +1,143 @@
+//! Who looks on at a search: its bounds of time and memory, and the line that tells how far it is.
+
+ghost use Rattle.std.specs.Prelude.{◌≡◌, IsSome, IsFalse};
+
+use crate::bounds::SearchBound;
+use lab_requests::Bounds;
+use schedule_space::{Bound, Watch};
+use std::io::{self, Write};
+use std::time::{Clock, Duration, Instant};
+
+/// How many bytes a megabyte has.
+const MEGABYTE: usize = 1_000_000;
+
+/// The clock, and where a search tells how far it is.
+#[derive(Drop)]
+pub struct Console<'a, C, E> {
+    /// The clock.
+    pub clock: &'a C,
+    /// Standard error.
+    pub errors: &'a mut E,
+    /// Whether that is a terminal: elsewhere nothing is told.
+    pub is_terminal: bool,
+}
+
+/// What looks on at one search, ends it at its bounds, and tells each second how far it is.
+#[derive(Drop)]
+pub(crate) struct Watcher<'w, 'c, C, E> {
+    console: &'w mut Console<'c, C, E>,
+    start: Option<Instant>,
+    most_time: Option<Duration>,
+    most_bytes: usize,
+    last_report: Option<Report>,
+    ended: Option<SearchBound>,
+}
+
+/// What was told last.
+#[derive(Clone, Copy)]
+struct Report {
+    at: Duration,
+    found: usize,
+}
+
+impl<'w, 'c, C: Clock, E: Write> Watcher<'w, 'c, C, E> {
+    /// Who looks on at a search of these bounds that begins now. The clock is read only where there is a bound of time or
+    /// a terminal; a fault where the first asks for it, and it can't be read.
+    pub(crate) fn new(
+        console: &'w mut Console<'c, C, E>,
+        bounds: Bounds,
+    ) -> Result<Watcher<'w, 'c, C, E>, io::Error> {
+        let start = match bounds.seconds {
+            Some(_) => Some(Instant::now(console.clock)?),
+            None if console.is_terminal => Instant::now(console.clock).ok(),
+            None => None,
+        };
+        Ok(Watcher {
+            console,
+            start,
+            most_time: bounds.seconds.map(|seconds| Duration::from_secs(seconds)),
+            most_bytes: match bounds.megabytes {
+                Some(megabytes) => megabytes.saturating_mul(MEGABYTE),
+                None => usize::MAX,
+            },
+            last_report: None,
+            ended: None,
+        })
+    }
+
+    /// Keeps what ended the search: that is known already where it is one of its own bounds.
+    pub(crate) fn end(&mut self, bound: Bound)
+        requires { bound ≡ Bound.Watch → IsSome self.old.ended }
+        ensures { IsSome self.new.ended }
+    {
+        match bound {
+            Bound::Worlds => self.ended = Some(SearchBound::States),
+            Bound::Memory => self.ended = Some(SearchBound::Refused),
+            Bound::Watch => {}
+        }
+    }
+
+    /// What ended the search before its end; None where nothing did.
+    pub(crate) fn bound(&self) -> Option<SearchBound>
+        ensures { result ≡ self.now.ended }
+    {
+        self.ended
+    }
+
+    /// Wipes what it has told.
+    pub(crate) fn finish(&mut self) {
+        if self.last_report.is_some() {
+            let _ = write!(self.console.errors, "\r\x1b[K");
+            let _ = self.console.errors.flush();
+        }
+    }
+
+    /// Whether the time is not over. Where it is not, tells each second how far the search is.
+    fn is_in_time(&mut self, found: usize, waiting: usize, bytes: usize) -> bool
+        ensures { IsFalse result → IsSome self.new.ended }
+    {
+        let Some(start) = self.start else {
+            return true;
+        };
+        // where the clock can't be read any more, the time may be over
+        let passed = start.elapsed(self.console.clock).unwrap_or(Duration::MAX);
+        if self.most_time.is_some_and(|most| passed >= most) {
+            self.ended = Some(SearchBound::Seconds);
+            return false;
+        }
+        self.report(passed, found, waiting, bytes);
+        true
+    }
+
+    /// Tells how far the search is, where a second has passed since it last did.
+    fn report(&mut self, passed: Duration, found: usize, waiting: usize, bytes: usize) {
+        let last = self.last_report.unwrap_or(Report {
+            at: Duration::ZERO,
+            found: 0,
+        });
+        let since = passed.saturating_sub(last.at);
+        if !self.console.is_terminal || since.as_secs() == 0 {
+            return;
+        }
+        self.last_report = Some(Report { at: passed, found });
+        let rate = found.saturating_sub(last.found) as u128 * 1000 / since.as_millis().max(1);
+        let megabytes = bytes / MEGABYTE;
+        let _ = write!(
+            self.console.errors,
+            "\r{found} states, {waiting} still to explore, {rate} a second, {megabytes} MB\x1b[K"
+        );
+        let _ = self.console.errors.flush();
+    }
+}
+
+impl<C: Clock, E: Write> Watch for Watcher<'_, '_, C, E> {
+    ghost HasEnded = { λ w. IsSome w.ended };
+
+    fn goes_on(&mut self, found: usize, waiting: usize, bytes: usize) -> bool {
+        if bytes > self.most_bytes {
+            self.ended = Some(SearchBound::Memory);
+            return false;
+        }
+        self.is_in_time(found, waiting, bytes)
+    }
+}

@@ -1,0 +1,20 @@
+//! The first world from which a stream loops alone, as an end.
+
+use crate::end_values::{SpaceEnd, SpaceEndKind};
+use crate::every_end::new_end;
+use busy_streams::Busy;
+use end_states::EndState;
+use schedule_space::Space;
+use std::alloc::{AllocError, Global};
+
+/// The world from which a stream loops alone, as an end, with the steps of the loop.
+pub(crate) fn busy_end(
+    alloc: Global,
+    space: &Space<'_>,
+    busy: Busy,
+) -> Result<SpaceEnd, AllocError> {
+    let state = EndState::empty(alloc);
+    let mut end = new_end(alloc, space, busy.place, SpaceEndKind::Busy, state)?;
+    end.cycle = vec![in alloc; busy.stream; busy.steps]?;
+    Ok(end)
+}

@@ -1,0 +1,129 @@
+//! What is known of the ends of all schedules.
+
+ghost use Rattle.std.specs.Prelude.{◌≡◌};
+
+use crate::going::{Going, GoingStream};
+use end_kinds::{EndKind, Status};
+use end_states::{EndJudgement, EndState};
+use processor::Step;
+use std::alloc::{AllocError, Global};
+
+/// What worlds of a space are.
+#[derive(Clone, Copy, Debug, PartialEq, Eq)]
+pub enum SpaceEndKind {
+    /// Ends of this kind; `Spinning` where no schedule from there comes to an end.
+    End(EndKind),
+    /// Worlds of which a claim does not hold.
+    Broken {
+        /// The place of the claim among all.
+        claim: usize,
+    },
+    /// The first world from which a stream loops by its own steps alone, where none is to.
+    Busy,
+}
+
+impl SpaceEndKind {
+    /// Its name in tables.
+    pub fn name(self) -> &'static str {
+        match self {
+            SpaceEndKind::End(kind) => kind.name(),
+            SpaceEndKind::Broken { .. } | SpaceEndKind::Busy => "broken",
+        }
+    }
+
+    /// Its name in JSON.
+    pub fn json_name(self) -> &'static str {
+        match self {
+            SpaceEndKind::End(kind) => kind.json_name(),
+            SpaceEndKind::Broken { .. } | SpaceEndKind::Busy => "broken",
+        }
+    }
+
+    /// Whether they are ends, or worlds from which none can be reached: not worlds that break a claim.
+    pub fn is_end(self) -> bool {
+        match self {
+            SpaceEndKind::End(_) => true,
+            SpaceEndKind::Broken { .. } | SpaceEndKind::Busy => false,
+        }
+    }
+}
+
+/// Ends of one line: they agree in their kind, in who waits, was stopped or goes on for ever, in the words that changed, and
+/// in the first expectation that they miss. Or the worlds of the space that break a claim.
+#[derive(Drop)]
+pub struct SpaceEnd {
+    /// The kind.
+    pub kind: SpaceEndKind,
+    /// The place of the first expectation that is missed; of a set that spins, by any of its worlds.
+    pub missed: Option<usize>,
+    /// The place of the first claim that is broken on the way of `schedule`, or of the one that these worlds break.
+    pub broken: Option<usize>,
+    /// Whether a trap that is not expected stopped a stream.
+    pub is_trapped: bool,
+    /// What each of these worlds shows; of a set that spins the first one, but for who waits; nothing of broken claims.
+    pub state: EndState,
+    /// The places of the worlds, in ascending order. In a search for ends each stands for all that differ from it in
+    /// registers and condition codes alone that do not matter.
+    pub places: Vec<usize>,
+    /// How many worlds on the way through the steps that all schedules begin with break the claim; 0 of other ends.
+    pub before: usize,
+    /// How many sets of worlds they are that no step leads out of: each world of an end is one by itself.
+    pub sets: usize,
+    /// From how many worlds of the space some schedule leads there.
+    pub sources: usize,
+    /// The schedule that leads to the first of the worlds.
+    pub schedule: Vec<Step>,
+    /// The steps of a cycle from the first world back to it, or to one for which it stands; empty where it does not loop.
+    pub cycle: Vec<Step>,
+    /// How the streams go on in a set that spins; none of other ends.
+    pub going: Vec<GoingStream>,
+    /// The byte addresses of the words that change in a set that spins; none of other ends.
+    pub changing: Vec<u64>,
+}
+
+impl SpaceEnd {
+    /// How the end is judged; None of worlds that break a claim.
+    pub fn judgement(&self) -> Option<EndJudgement> {
+        match self.kind {
+            SpaceEndKind::End(kind) => Some(EndJudgement {
+                kind,
+                missed: self.missed,
+                broken: self.broken,
+                is_trapped: self.is_trapped,
+            }),
+            SpaceEndKind::Broken { .. } | SpaceEndKind::Busy => None,
+        }
+    }
+
+    /// Whether it is as expected. Worlds that break a claim never are.
+    pub fn is_expected(&self) -> bool {
+        match self.judgement() {
+            Some(judgement) => judgement.is_expected(),
+            None => false,
+        }
+    }
+
+    /// What it means for the exit status.
+    pub fn status(&self) -> Status {
+        match self.judgement() {
+            Some(judgement) => judgement.status(),
+            None => Status::Unexpected,
+        }
+    }
+
+    /// How many worlds it has.
+    pub fn worlds(&self) -> usize {
+        self.places.len().saturating_add(self.before)
+    }
+
+    /// The streams that can go on in some world of a set that spins.
+    pub fn running(&self, alloc: Global) -> Result<Vec<Step>, AllocError> {
+        let mut running = Vec::new(alloc);
+        for stream in self.going.iter() {
+            if stream.going == Going::Runs {
+                running.push(stream.stream)?;
+            }
+        }
+        Ok(running)
+    }
+}

@@ -1,0 +1,116 @@
+//! The ends of a space.
+
+ghost use Rattle.std.specs.Prelude.{◌≡◌, IfOk, OnOk, map};
+ghost use Rattle.space_ends.specs.BrokenClaims.{value_of, HasBrokenEnds};
+
+use crate::broken_claims::add_broken;
+use crate::busy_ends::busy_end;
+use crate::end_values::{SpaceEnd, SpaceEndKind};
+use crate::place_ends::place_ends;
+use crate::sources::sources_of;
+use crate::spinning::add_spinning;
+use busy_streams::Busy;
+use claims::Claim;
+use end_states::EndState;
+use expectations::Expectation;
+use schedule_space::Space;
+use seed_verdicts::first_broken;
+use std::alloc::{AllocError, Global};
+
+/// What the ends of a space are judged by.
+#[derive(Clone, Copy)]
+pub struct JudgedBy<'a> {
+    /// What is expected of an end.
+    pub expected: &'a [Expectation],
+    /// What is claimed of all worlds, or of one at least.
+    pub claims: &'a [Claim],
+}
+
+/// The ends of a space in the order of their shortest schedules; then, where the space is complete, the sets of worlds that
+/// spin; then the first world from which a stream loops alone, where one is given; then the worlds that break claims, those
+/// of each claim as one, also those on the way through the steps that all its schedules begin with.
+pub fn space_ends<const S: usize>(
+    alloc: Global,
+    judged_by: JudgedBy<'_>,
+    space: &Space<'_>,
+    is_complete: bool,
+    busy: Option<Busy>,
+) -> Result<Vec<SpaceEnd>, AllocError>
+    ensures broken { IfOk result (λ ends. HasBrokenEnds space.now judged_by.claims.now (map value_of ends.items)) }
+{
+    let mut ends = place_ends::<S>(alloc, judged_by.expected, space)?;
+    if is_complete {
+        add_spinning::<S>(alloc, &mut ends, judged_by.expected, space)?;
+    }
+    if let Some(busy) = busy {
+        ends.push(busy_end(alloc, space, busy)?)?;
+    }
+    add_broken::<S>(alloc, &mut ends, judged_by.claims, space)?;
+    add_more::<S>(alloc, &mut ends, judged_by.claims, space)?;
+    Ok(ends)
+}
+
+/// Writes to each end from how many worlds some schedule leads there, and the first claim that is broken on its way.
+fn add_more<const S: usize>(
+    alloc: Global,
+    ends: &mut [SpaceEnd],
+    claims: &[Claim],
+    space: &Space<'_>,
+) -> Result<(), AllocError>
+    ensures { OnOk result (map value_of ends.new ≡ map value_of ends.old) }
+{
+    let sources = sources_of(alloc, space, ends)?;
+    for (index, end) in ends.iter_mut().enumerate() {
+        end.sources = sources.get(index).copied().unwrap_or(0);
+        if end.kind.is_end() && !claims.is_empty() {
+            end.broken = broken_on_way::<S>(alloc, space, &end.schedule, claims)?;
+        }
+    }
+    Ok(())
+}
+
+/// The place of the first claim that is broken on the way through a schedule.
+fn broken_on_way<const S: usize>(
+    alloc: Global,
+    space: &Space<'_>,
+    schedule: &[processor::Step],
+    claims: &[Claim],
+) -> Result<Option<usize>, AllocError> {
+    match first_broken::<S>(alloc, space.image(), schedule, claims) {
+        Ok(broken) => Ok(broken.map(|broken| broken.claim)),
+        Err(_) => Err(AllocError),
+    }
+}
+
+/// An end of this kind, of which this is the first world, and which shows this.
+pub(crate) fn new_end(
+    alloc: Global,
+    space: &Space<'_>,
+    place: usize,
+    kind: SpaceEndKind,
+    state: EndState,
+) -> Result<SpaceEnd, AllocError>
+    ensures kind { IfOk result (λ e. e.kind ≡ kind) }
+{
+    let mut places = Vec::new(alloc);
+    places.push(place)?;
+    let mut schedule = Vec::new(alloc);
+    if place < space.len() {
+        schedule = space.schedule(alloc, place)?;
+    }
+    Ok(SpaceEnd {
+        kind,
+        missed: None,
+        broken: None,
+        is_trapped: false,
+        state,
+        places,
+        before: 0,
+        sets: 1,
+        sources: 0,
+        schedule,
+        cycle: Vec::new(alloc),
+        going: Vec::new(alloc),
+        changing: Vec::new(alloc),
+    })
+}

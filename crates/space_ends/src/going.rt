@@ -1,0 +1,161 @@
+//! How the streams go on in a set of worlds, and which words change in it.
+
+use expectations::{Expectation, first_missed};
+use machine::Machine;
+use processor::Step;
+use schedule_space::{Space, machine_at};
+use std::alloc::{AllocError, Global};
+use tag_memory::Word;
+use waiting::{is_stuck, running_streams, wait_of};
+
+/// How a stream goes on in worlds.
+#[derive(Clone, Copy, Debug, PartialEq, Eq)]
+pub enum Going {
+    /// It can go on in some of them.
+    Runs,
+    /// It is stuck in each, and waits for the word at this byte address.
+    WaitsFor(u64),
+    /// It is stuck in each, and waits for one word or another.
+    Waits,
+}
+
+impl Going {
+    /// How it goes on in the worlds of both.
+    fn and(self, other: Going) -> Going {
+        if self == other {
+            return self;
+        }
+        if self == Going::Runs || other == Going::Runs {
+            return Going::Runs;
+        }
+        Going::Waits
+    }
+}
+
+/// A stream, and how it goes on.
+#[derive(Clone, Copy, Debug, PartialEq, Eq)]
+pub struct GoingStream {
+    /// The stream.
+    pub stream: Step,
+    /// How it goes on.
+    pub going: Going,
+}
+
+/// What is known of a set of worlds.
+#[derive(Drop)]
+pub(crate) struct WorldSet {
+    /// The streams that run in the first of them.
+    pub going: Vec<GoingStream>,
+    /// The place of the first expectation that one of them misses.
+    pub missed: Option<usize>,
+    /// For each word whether some two worlds differ in it.
+    is_changing: Vec<bool>,
+}
+
+impl WorldSet {
+    /// Of one world, a machine's.
+    fn of<const S: usize>(
+        alloc: Global,
+        machine: &Machine<'_, S>,
+        expected: &[Expectation],
+    ) -> Result<WorldSet, AllocError> {
+        let mut going = Vec::new(alloc);
+        for stream in &running_streams(alloc, machine)? {
+            going.push(GoingStream {
+                stream: *stream,
+                going: going_of(machine, *stream),
+            })?;
+        }
+        let words = machine.image().cells().len();
+        Ok(WorldSet {
+            going,
+            missed: first_missed(machine, expected),
+            is_changing: vec![in alloc; false; words]?,
+        })
+    }
+
+    /// Of a first world, a machine's, and of those at the other places.
+    pub(crate) fn over<const S: usize>(
+        alloc: Global,
+        space: &Space<'_>,
+        first: &Machine<'_, S>,
+        others: &[usize],
+        expected: &[Expectation],
+    ) -> Result<WorldSet, AllocError> {
+        let mut known = WorldSet::of(alloc, first, expected)?;
+        for place in others {
+            let other = machine_at::<S>(alloc, space, *place)?;
+            known.add(first, &other, expected);
+        }
+        Ok(known)
+    }
+
+    /// Also of another world than that of the first machine.
+    fn add<const S: usize>(
+        &mut self,
+        first: &Machine<'_, S>,
+        other: &Machine<'_, S>,
+        expected: &[Expectation],
+    ) {
+        for stream in self.going.iter_mut() {
+            stream.going = stream.going.and(going_of(other, stream.stream));
+        }
+        self.missed = earlier(self.missed, first_missed(other, expected));
+        mark_differing(first, other, &mut self.is_changing);
+    }
+
+    /// The byte addresses of the words in which some two of them differ.
+    pub(crate) fn changing_words(&self, alloc: Global) -> Result<Vec<u64>, AllocError> {
+        let mut changing = Vec::new(alloc);
+        for (index, is_marked) in self.is_changing.iter().enumerate() {
+            if *is_marked {
+                changing.push((index as u64).saturating_mul(8))?;
+            }
+        }
+        Ok(changing)
+    }
+}
+
+/// The lesser of two places, which may be missing.
+fn earlier(one: Option<usize>, other: Option<usize>) -> Option<usize> {
+    match (one, other) {
+        (Some(one), Some(other)) => Some(one.min(other)),
+        (None, place) | (place, None) => place,
+    }
+}
+
+/// How a stream goes on in one world.
+fn going_of<const S: usize>(machine: &Machine<'_, S>, stream: Step) -> Going {
+    if !is_stuck(machine, stream.p, stream.s) {
+        return Going::Runs;
+    }
+    match wait_of(machine, stream.p, stream.s) {
+        Some(wait) => Going::WaitsFor(wait.address),
+        None => Going::Waits,
+    }
+}
+
+/// Marks the words in which two machines differ.
+fn mark_differing<const S: usize>(
+    one: &Machine<'_, S>,
+    other: &Machine<'_, S>,
+    marks: &mut [bool],
+) {
+    for (index, mark) in marks.iter_mut().enumerate() {
+        let address = (index as u64).saturating_mul(8);
+        if !is_same(one.word(address), other.word(address)) {
+            *mark = true;
+        }
+    }
+}
+
+/// Whether both words have the same value and tags.
+fn is_same(one: Option<Word>, other: Option<Word>) -> bool {
+    match (one, other) {
+        (Some(one), Some(other)) => {
+            one.value() == other.value() && one.tag_number() == other.tag_number()
+        }
+        (None, None) => true,
+        (Some(_), None) | (None, Some(_)) => false,
+    }
+}
