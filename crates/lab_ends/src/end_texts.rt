@@ -1,63 +1,40 @@
-//! Ends in words.
+//! What an end shows, in words.
 
-use lab_texts::{
-    NumberStyle, ProgramNames, RunPieces, StoppedStream, TextWriter, push_changed_words,
-    put_part_of, stopped_streams,
-};
-use machine::Machine;
-use processor::Step;
+use end_states::{EndState, TrapStop, WaitingStream};
+use lab_texts::{Notation, ProgramNames, RunPieces, TextWriter, push_changed_words, put_part_of};
 use std::alloc::{AllocError, Global};
-use waiting::{running_streams, wait_of};
 
-/// What is said of a world at which a run ended.
-#[derive(Drop)]
-pub struct EndText {
-    /// Who was stopped, who waits, and the words that changed.
-    pub text: String,
-    /// The streams that a trap stopped, in the order of processor and stream.
-    pub stopped: Vec<StoppedStream>,
-}
-
-/// What is said of the world of a machine.
-pub fn end_text_of<const S: usize>(
+/// What an end shows, in words: who was stopped, who waits, and the words that changed.
+pub fn state_text(
     alloc: Global,
-    machine: &Machine<'_, S>,
-    names: &ProgramNames<'_>,
-    style: NumberStyle,
-) -> Result<EndText, AllocError> {
-    let stopped = stopped_streams(alloc, machine)?;
+    notation: Notation<'_, '_>,
+    state: &EndState,
+) -> Result<String, AllocError> {
     let mut text = String::new(alloc);
     let mut out = TextWriter::take(&mut text);
-    put_stopped(&mut out, &stopped);
-    put_waiting(&mut out, names, machine, &running_streams(alloc, machine)?);
+    put_stopped(&mut out, &state.stopped);
+    put_waiting(&mut out, notation.names, &state.waiting);
     out.give_back(&mut text)?;
-    push_changed_words(&mut text, names, style, machine)?;
-    Ok(EndText { text, stopped })
+    push_changed_words(&mut text, notation.names, notation.style, &state.changed)?;
+    Ok(text)
 }
 
 /// Adds who was stopped by which trap.
-fn put_stopped(out: &mut TextWriter, stopped: &[StoppedStream]) {
-    for found in stopped {
+pub(crate) fn put_stopped(out: &mut TextWriter, stopped: &[TrapStop]) {
+    for stop in stopped {
         put_part_of(out, 0, "");
-        out.put_stream(found.stream.p, found.stream.s);
+        out.put_stream(stop.stream.p, stop.stream.s);
         out.put(" by ");
-        out.put_trap(found.trap);
+        out.put_trap(stop.trap);
     }
 }
 
-/// Adds which of the streams that run wait for which word.
-fn put_waiting<const S: usize>(
-    out: &mut TextWriter,
-    names: &ProgramNames<'_>,
-    machine: &Machine<'_, S>,
-    running: &[Step],
-) {
-    for stream in running {
-        if let Some(wait) = wait_of(machine, stream.p, stream.s) {
-            put_part_of(out, 0, "");
-            out.put_stream(stream.p, stream.s);
-            out.put(" waits for ");
-            names.put_address(out, wait.address);
-        }
+/// Adds which streams wait for which word.
+fn put_waiting(out: &mut TextWriter, names: &ProgramNames<'_>, waiting: &[WaitingStream]) {
+    for stream in waiting {
+        put_part_of(out, 0, "");
+        out.put_stream(stream.stream.p, stream.stream.s);
+        out.put(" waits for ");
+        names.put_address(out, stream.address);
     }
 }
