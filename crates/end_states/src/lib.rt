@@ -8,6 +8,4 @@ mod states;
 
 pub use judgements::EndJudgement;
 pub use judging::{JudgedEnd, judged_end};
-pub use states::{
-    ChangedWord, EndState, TrapStop, WaitingStream, changed_words, end_state_of, trap_stops,
-};
+pub use states::{EndState, TrapStop, WaitingStream, end_state_of, trap_stops};
