@@ -132,7 +132,7 @@ verdict "the operation table, in docs/MACHINE.md (<) and in Row.antt (>)" < <(op
 verdict "what to trust" < <(python3 tests/trust --check 2>&1)
 verdict "promises that README.md names, and roots of what to trust" < <(python3 tests/trust --named 2>&1)
 verdict "counts that change with each row" < <(counts)
-verdict "words and sentences that are not plain" < <(python3 tests/plain_words.py 2>&1)
+verdict "words and sentences that are not plain, in documents and in code" < <(python3 tests/plain_words.py 2>&1)
 verdict "names that editors don't know" < <(tests/editors.sh | grep -v '^the syntax files')
 verdict "constants of the page" < <(python3 page/embed.py --check 2>&1)
 verdict "the cheat sheet and the pages of explain" < <(python3 docs/words/make.py --check 2>&1)
