@@ -134,6 +134,7 @@ verdict "promises that README.md names, and roots of what to trust" < <(python3 
 verdict "counts that change with each row" < <(counts)
 verdict "words and sentences that are not plain, in documents and in code" < <(python3 tests/plain_words.py 2>&1)
 verdict "names that editors don't know" < <(tests/editors.sh | grep -v '^the syntax files')
+verdict "what a trap means, in texts that differ" < <(python3 tests/trap_texts.py 2>&1)
 verdict "constants of the page" < <(python3 page/embed.py --check 2>&1)
 verdict "the cheat sheet and the pages of explain" < <(python3 docs/words/make.py --check 2>&1)
 verdict "completions and the man page of mta_lab" < <(python3 share/make --check 2>&1)
