@@ -89,8 +89,8 @@ fn is_met(kind: EndKind, end: &SpaceEnd) -> bool
 fn breaks_claim(end: &SpaceEnd, ends: &[SpaceEnd]) -> bool
     ensures { result ≡ breaks_claim ends.now end.now }
 {
-    match end.places.first() {
-        Some(place) => is_broken_at(*place, ends),
+    match end.places.first().copied() {
+        Some(place) => is_broken_at(place, ends),
         None => false,
     }
 }
