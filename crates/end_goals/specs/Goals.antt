@@ -42,7 +42,7 @@ is_deadlock (space_kind.End other) = false
 is_deadlock (space_kind.Broken claim) = false
 is_deadlock space_kind.Busy = false
 
--- whether some stream runs for ever
+-- whether some stream runs forever
 abbrev pub is_spinning : SpaceEndKind → Bool
 is_spinning (space_kind.End kind.Spinning) = true
 is_spinning (space_kind.End other) = false

@@ -36,7 +36,7 @@ pub enum EndGoal {
     Stopped,
     /// A deadlock.
     Deadlock,
-    /// Worlds in which some stream runs for ever.
+    /// Worlds in which some stream runs forever.
     Spinning,
     /// Worlds that break a claim.
     Broken,
@@ -174,7 +174,7 @@ fn is_deadlock(kind: SpaceEndKind) -> bool
     matches!(kind, SpaceEndKind::End(EndKind::Deadlock))
 }
 
-/// Whether some stream runs for ever.
+/// Whether some stream runs forever.
 fn is_spinning(kind: SpaceEndKind) -> bool
     ensures { result ≡ is_spinning kind }
 {
