@@ -2,7 +2,6 @@
 
 ghost use Rattle.std.specs.Prelude.{◌≡◌, IfOk};
 ghost use Rattle.seed_verdicts.specs.Seeds.{AreJudged};
-ghost use Rattle.seed_verdicts.specs.ShownBySeeds.{IsToldOfClaims};
 ghost use Rattle.judgements.specs.Cases.{seeds_of};
 ghost use Rattle.judgements.specs.Flaws.{kind_of_run};
 ghost use Rattle.judgements.specs.Right.{IsRightBySeeds};
@@ -12,16 +11,14 @@ use crate::case_judgements::{CaseJudgement, Reason, ShownRun};
 use crate::cases::AskedJudging;
 use crate::knowledge::Known;
 use crate::verdict_kinds::VerdictKind;
-use claims::Claim;
 use end_states::{JudgedEnd, judged_end};
 use expectation_files::Requirements;
 use image_file::Image;
 use image_machines::{by_room, loaded};
 use machine::LoadFault;
 use schedule_makers::{fair_length, seeded};
-use seed_verdicts::{
-    RunFlaw, SeedFlaw, Seeds, first_flaw, first_flaw_alone, first_unshown_by_seeds,
-};
+use seed_outcomes::{SeedOutcome, SurveySeeds, outcomes_of, unshown_by_seeds, worst_status};
+use seed_verdicts::{RunFlaw, SeedFlaw, Seeds, first_flaw, first_flaw_alone};
 use std::alloc::{AllocError, Global};
 use std::thread::Threads;
 
@@ -52,10 +49,41 @@ pub(crate) fn judged_by_seeds<X: Threads + Sync>(
         → IsRightBySeeds image.now required.now (seeds_of asked)) }
     ensures shown { IfOk result (λ j. IsShownBy image.now required.now (seeds_of asked) j) }
 {
-    match flaw_of(rt, alloc, asked, image, required)? {
-        Some(found) => judged_by_flaw(alloc, asked, image, required, found),
-        None => judged_flawless(alloc, asked.sampled(), image, required),
+    let judgement = match flaw_of(rt, alloc, asked, image, required)? {
+        Some(found) => judged_by_flaw(alloc, asked, image, required, found)?,
+        None => judged_flawless(alloc, asked.sampled(), image, required)?,
+    };
+    if !asked.counts_all {
+        return Ok(judgement);
     }
+    with_outcomes(rt, alloc, asked, image, required, judgement)
+}
+
+/// The same judgement with the outcomes of all seeds, those that most seeds come to first, and with the worst status over all
+/// of them.
+fn with_outcomes<X: Threads + Sync>(
+    rt: &X,
+    alloc: Global,
+    asked: AskedJudging,
+    image: &Image,
+    required: &Requirements,
+    judgement: CaseJudgement,
+) -> Result<CaseJudgement, AllocError>
+    ensures kind { IfOk result (λ j. j.kind ≡ judgement.kind) }
+    ensures reason { IfOk result (λ j. j.reason ≡ judgement.reason) }
+    ensures ends { IfOk result (λ j. j.ends ≡ judgement.ends) }
+{
+    let seeds = SurveySeeds {
+        first: 0,
+        count: asked.seeds,
+        most: asked.most,
+    };
+    let mut outcomes = outcomes_of(rt, alloc, image, required, seeds)?;
+    outcomes.sort_by_key(|outcome: &SeedOutcome| usize::MAX - outcome.runs)?;
+    let mut judgement = judgement;
+    judgement.status = judgement.status.worse(worst_status(&outcomes));
+    judgement.outcomes = outcomes;
+    Ok(judgement)
 }
 
 /// What is known of a program of which the run of each seed is right.
@@ -86,22 +114,6 @@ fn known_of(seeds: usize) -> Known {
     Known {
         seeds: Some(seeds),
         ..Known::NOTHING
-    }
-}
-
-/// The place of the first claim that has to hold of one world at least, and that the run of no seed shows.
-fn unshown_by_seeds(
-    alloc: Global,
-    image: &Image,
-    claims: &[Claim],
-    seeds: Seeds,
-) -> Result<Option<usize>, AllocError>
-    ensures { IfOk result (λ found. IsToldOfClaims image.now claims.now seeds found) }
-{
-    let found = by_room!(image, first_unshown_by_seeds(alloc, image, claims, seeds));
-    match found {
-        Ok(found) => Ok(found),
-        Err(LoadFault::NoMemory | LoadFault::Streams) => Err(AllocError),
     }
 }
 

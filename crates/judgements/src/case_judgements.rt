@@ -9,6 +9,7 @@ use end_kinds::Status;
 use end_states::JudgedEnd;
 use expectation_files::LineFault;
 use processor::Step;
+use seed_outcomes::SeedOutcome;
 use seed_verdicts::RunFlaw;
 use space_ends::{SpaceEnd, SpaceEndKind};
 use std::alloc::{AllocError, Global};
@@ -98,6 +99,8 @@ pub struct CaseJudgement {
     pub reason: Reason,
     /// The ends of all schedules that a search found; none where the runs of seeds decide.
     pub ends: Vec<SpaceEnd>,
+    /// The outcomes of the runs of all seeds, where they are asked for and decide; those that most seeds come to first.
+    pub outcomes: Vec<SeedOutcome>,
     /// What it means for the exit status: the worst over all ends that were found.
     pub status: Status,
 }
@@ -118,6 +121,7 @@ impl CaseJudgement {
             known,
             reason,
             ends: Vec::new(alloc),
+            outcomes: Vec::new(alloc),
             status: kind.status(),
         }
     }

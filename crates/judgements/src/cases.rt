@@ -42,6 +42,8 @@ pub struct AskedJudging {
     pub seeds: usize,
     /// The most steps of the run of each.
     pub most: usize,
+    /// Whether the outcomes of all seeds are counted too.
+    pub counts_all: bool,
     /// Whether the seeds of a case are shared among the processors.
     pub is_spread: bool,
 }
