@@ -2,6 +2,7 @@
 
 ghost use Rattle.std.specs.Prelude.{◌≡◌, ◌||◌, is_some};
 ghost use Rattle.end_kinds.specs.Statuses.{status_of};
+ghost use Rattle.end_states.specs.Judgements.{is_deadlock, is_expected, is_wrong};
 
 use end_kinds::{EndKind, Status, status_of};
 
@@ -21,8 +22,10 @@ pub struct EndJudgement {
 impl EndJudgement {
     /// Whether the end is as expected: it is no deadlock, no expectation is missed, no claim is broken on the way, and each
     /// trap that stopped a stream is expected.
-    pub fn is_expected(self) -> bool {
-        self.kind != EndKind::Deadlock && !self.is_wrong() && !self.is_trapped
+    pub fn is_expected(self) -> bool
+        ensures { result ≡ is_expected self }
+    {
+        !is_deadlock(self.kind) && !self.is_wrong() && !self.is_trapped
     }
 
     /// What the end means for the exit status.
@@ -34,8 +37,18 @@ impl EndJudgement {
 
     /// Whether an expectation is missed, or a claim is broken.
     fn is_wrong(self) -> bool
-        ensures { result ≡ (is_some self.missed || is_some self.broken) }
+        ensures { result ≡ is_wrong self }
     {
         self.missed.is_some() || self.broken.is_some()
+    }
+}
+
+/// Whether ends of this kind are deadlocks.
+fn is_deadlock(kind: EndKind) -> bool
+    ensures { result ≡ is_deadlock kind }
+{
+    match kind {
+        EndKind::Deadlock => true,
+        EndKind::Finished | EndKind::Stopped | EndKind::Spinning | EndKind::OutOfSteps => false,
     }
 }

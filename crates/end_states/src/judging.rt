@@ -1,8 +1,17 @@
 //! The end of a run, judged.
 
+ghost use Rattle.std.specs.Prelude.{◌≡◌, ◌↔◌, not, IfOk, IsTrue, IsFalse};
+ghost use Rattle.std.specs.List.{position};
+ghost use Rattle.end_kinds.specs.Ends.{IsKindOf};
+ghost use Rattle.expectations.specs.Meeting.{is_met};
+ghost use Rattle.schedule_space.specs.Fates.{IsFinished};
+ghost use Rattle.schedule_verdicts.specs.RightEnds.{AreTrapsExpected, IsRightEnd};
+ghost use Rattle.end_states.specs.EndStates.{IsEndState};
+ghost use Rattle.end_states.specs.Judgements.{is_expected};
+
 use crate::judgements::EndJudgement;
 use crate::states::{EndState, end_state_of};
-use end_kinds::end_kind_of;
+use end_kinds::{EndKind, end_kind_of};
 use expectations::{Expectation, first_missed};
 use machine::Machine;
 use schedule_verdicts::are_traps_expected;
@@ -22,7 +31,19 @@ pub fn judged_end<const S: usize>(
     alloc: Global,
     machine: &Machine<'_, S>,
     expected: &[Expectation],
-) -> Result<JudgedEnd, AllocError> {
+) -> Result<JudgedEnd, AllocError>
+    ensures kind { IfOk result (λ e. IsKindOf machine.now.image machine.now.world e.judgement.kind) }
+    ensures only { IfOk result (λ e. (kind : EndKind) → IsKindOf machine.now.image machine.now.world kind
+        → kind ≡ e.judgement.kind) }
+    ensures missed { IfOk result (λ e. e.judgement.missed
+        ≡ position (λ x. not (is_met machine.now.world x)) expected.now) }
+    ensures broken { IfOk result (λ e. e.judgement.broken ≡ None) }
+    ensures trapped { IfOk result (λ e. IsFalse e.judgement.is_trapped
+        ↔ AreTrapsExpected expected.now machine.now.world) }
+    ensures right { IfOk result (λ e. IsFinished machine.now.world
+        → IsTrue (is_expected e.judgement) ↔ IsRightEnd expected.now machine.now.world) }
+    ensures state { IfOk result (λ e. IsEndState machine.now e.state) }
+{
     Ok(JudgedEnd {
         judgement: EndJudgement {
             kind: end_kind_of(machine),

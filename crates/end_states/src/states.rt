@@ -1,5 +1,9 @@
 //! What the world shows at which a run ended.
 
+ghost use Rattle.std.specs.Prelude.{◌≡◌, ◌++◌, [], slice_get, IfOk, OnOk};
+ghost use Rattle.waiting.specs.Running.{streams_at};
+ghost use Rattle.end_states.specs.EndStates.{trap_of_status, trap_in, stops_from, trap_stops, waiting_streams, IsEndState};
+
 use changed_words::{ChangedWord, changed_words};
 use machine::Machine;
 use processor::Step;
@@ -38,7 +42,11 @@ pub struct EndState {
 
 impl EndState {
     /// That of an end which shows nothing.
-    pub fn empty(alloc: Global) -> EndState {
+    pub fn empty(alloc: Global) -> EndState
+        ensures stopped { result.stopped.items ≡ [] }
+        ensures waiting { result.waiting.items ≡ [] }
+        ensures changed { result.changed.items ≡ [] }
+    {
         EndState {
             stopped: Vec::new(alloc),
             waiting: Vec::new(alloc),
@@ -51,7 +59,9 @@ impl EndState {
 pub fn end_state_of<const S: usize>(
     alloc: Global,
     machine: &Machine<'_, S>,
-) -> Result<EndState, AllocError> {
+) -> Result<EndState, AllocError>
+    ensures state { IfOk result (λ e. IsEndState machine.now e) }
+{
     Ok(EndState {
         stopped: trap_stops(alloc, machine)?,
         waiting: waiting_streams(alloc, machine)?,
@@ -59,35 +69,70 @@ pub fn end_state_of<const S: usize>(
     })
 }
 
-/// The streams that a trap stopped.
+/// The streams that a trap stopped, in the order of processor and stream: all of them, and no other.
 pub fn trap_stops<const S: usize>(
     alloc: Global,
     machine: &Machine<'_, S>,
-) -> Result<Vec<TrapStop>, AllocError> {
+) -> Result<Vec<TrapStop>, AllocError>
+    ensures { IfOk result (λ v. v.items ≡ trap_stops machine.now.world) }
+{
     let mut stopped = Vec::new(alloc);
     for p in 0..machine.image().processors() {
-        for s in 0..machine.image().slim() {
-            let stream = Step {
-                p: p as u8,
-                s: s as u8,
-            };
-            if let Some(found) = machine.stream(stream.p, stream.s)
-                && let Status::Stopped(trap) = found.status()
-            {
-                stopped.push(TrapStop { stream, trap })?;
-            }
-        }
+        push_stops(machine, p as u8, &mut stopped)?;
     }
     Ok(stopped)
 }
 
-/// The streams that run and wait for a word.
+/// Adds those of processor `p`.
+fn push_stops<const S: usize>(
+    machine: &Machine<'_, S>,
+    p: u8,
+    stopped: &mut Vec<TrapStop>,
+) -> Result<(), AllocError>
+    ensures { OnOk result (stopped.new.items
+        ≡ stopped.old.items ++ stops_from p 0 (streams_at (slice_get machine.now.world.processors p))) }
+{
+    for s in 0..machine.image().slim() {
+        let stream = Step { p, s: s as u8 };
+        if let Some(trap) = trap_in(machine, stream) {
+            stopped.push(TrapStop { stream, trap })?;
+        }
+    }
+    Ok(())
+}
+
+/// The trap that stopped a stream, if it is there and one did.
+fn trap_in<const S: usize>(machine: &Machine<'_, S>, stream: Step) -> Option<TrapKind>
+    ensures { result ≡ trap_in machine.now.world stream }
+{
+    // It says that no stream that is used stands past the room.
+    let _image = machine.image();
+    match machine.stream(stream.p, stream.s) {
+        Some(found) => trap_of_status(found.status()),
+        None => None,
+    }
+}
+
+/// The trap that stopped a stream of this status, if one did.
+fn trap_of_status(status: Status) -> Option<TrapKind>
+    ensures { result ≡ trap_of_status status }
+{
+    match status {
+        Status::Stopped(trap) => Some(trap),
+        Status::Idle | Status::Running => None,
+    }
+}
+
+/// The streams that run and wait for a word, in the order of processor and stream: all of them, and no other.
 fn waiting_streams<const S: usize>(
     alloc: Global,
     machine: &Machine<'_, S>,
-) -> Result<Vec<WaitingStream>, AllocError> {
+) -> Result<Vec<WaitingStream>, AllocError>
+    ensures { IfOk result (λ v. v.items ≡ waiting_streams machine.now) }
+{
+    let running = running_streams(alloc, machine)?;
     let mut waiting = Vec::new(alloc);
-    for stream in &running_streams(alloc, machine)? {
+    for stream in &running {
         if let Some(wait) = wait_of(machine, stream.p, stream.s) {
             waiting.push(WaitingStream {
                 stream: *stream,

@@ -1,37 +1,43 @@
 //! The ends of a space as JSON.
 
-use end_kinds::EndKind;
-use lab_ends::{SpaceEnd, SpaceEndKind};
+use end_goals::EndCriteria;
+use lab_ends::EndWords;
 use lab_json::{List, Object, text_value};
 use processor::Step;
 use serde_json::Value;
+use space_ends::SpaceEnd;
 use std::alloc::{AllocError, Global};
 use trace_text::write_schedule;
+
+/// The ends of a page: what is known of each, and each in words.
+#[derive(Clone, Copy)]
+pub struct PageEnds<'a> {
+    /// What is known of each.
+    pub known: &'a [SpaceEnd],
+    /// Each in words, in the same order.
+    pub words: &'a [EndWords],
+}
 
 /// What ends are judged by.
 #[derive(Clone, Copy)]
 pub(crate) struct EndRequirements<'a> {
     /// What each end has to be, as it is written.
     pub expected: &'a [String],
-    /// Whether something is expected or claimed: without it no end is right or wrong.
-    pub is_judged: bool,
-    /// Whether the program keeps the rules for programs: of one that does not no end is right.
-    pub are_rules_kept: bool,
+    /// What decides besides whether one is right.
+    pub criteria: EndCriteria,
 }
 
 /// The ends as JSON; of each the schedule after so many steps that all schedules begin with.
 pub(crate) fn ends_json(
     alloc: Global,
-    ends: &[SpaceEnd],
+    ends: PageEnds<'_>,
     begin: usize,
     judging: EndRequirements<'_>,
 ) -> Result<Value, AllocError> {
     let mut values = List::new(alloc);
-    for end in ends {
-        let right = judging
-            .is_judged
-            .then_some(judging.are_rules_kept && is_right_end(end, ends));
-        values.put(end_json(alloc, end, right, begin, judging));
+    for (end, words) in ends.known.iter().zip(ends.words) {
+        let right = judging.criteria.verdict(end, ends.known);
+        values.put(end_json(alloc, end, words, right, begin, judging));
     }
     values.whole()
 }
@@ -40,6 +46,7 @@ pub(crate) fn ends_json(
 fn end_json(
     alloc: Global,
     end: &SpaceEnd,
+    words: &EndWords,
     right: Option<bool>,
     begin: usize,
     judging: EndRequirements<'_>,
@@ -47,14 +54,14 @@ fn end_json(
     let steps = end.schedule.get(begin..).unwrap_or(&[]);
     let mut fields = Object::new(alloc);
     fields.put_text("kind", end.kind.json_name());
-    fields.put_text("text", &end.text);
+    fields.put_text("text", &words.text);
     fields.put("right", Ok(right_value(right)));
     fields.put("missed", missed_value(alloc, end, judging));
     fields.put("states", numbers_json(alloc, &end.places));
     fields.put_number("sets", end.sets as u64);
     fields.put_number("shortest", steps.len() as u64);
     fields.put("schedule", schedule_text(alloc, steps));
-    fields.put("findings", findings_json(alloc, end));
+    fields.put("findings", findings_json(alloc, &words.finding));
     fields.whole()
 }
 
@@ -63,25 +70,6 @@ fn right_value(right: Option<bool>) -> Value {
     match right {
         Some(right) => Value::Bool(right),
         None => Value::Null,
-    }
-}
-
-/// Whether an end of a space with these ends is as everything that is expected says, and breaks no claim.
-pub fn is_right_end(end: &SpaceEnd, ends: &[SpaceEnd]) -> bool {
-    let is_end = match end.kind {
-        SpaceEndKind::End(EndKind::Finished | EndKind::Stopped) => true,
-        SpaceEndKind::End(_) | SpaceEndKind::Broken => false,
-    };
-    let is_met = end.missed.is_none() && !end.is_trapped;
-    is_end && is_met && !breaks_claim(end, ends)
-}
-
-/// Whether the first state of an end breaks a claim.
-fn breaks_claim(end: &SpaceEnd, ends: &[SpaceEnd]) -> bool {
-    match end.places.first() {
-        Some(place) => ends.iter().any(|other| other.kind == SpaceEndKind::Broken
-            && other.places.contains(place)),
-        None => false,
     }
 }
 
@@ -97,11 +85,11 @@ fn missed_value(
     }
 }
 
-/// The finding of an end's schedule, in a list.
-fn findings_json(alloc: Global, end: &SpaceEnd) -> Result<Value, AllocError> {
+/// The finding of an end's schedule, in a list; none if it is empty.
+fn findings_json(alloc: Global, finding: &str) -> Result<Value, AllocError> {
     let mut findings = List::new(alloc);
-    if !end.finding.is_empty() {
-        findings.put(text_value(alloc, &end.finding));
+    if !finding.is_empty() {
+        findings.put(text_value(alloc, finding));
     }
     findings.whole()
 }

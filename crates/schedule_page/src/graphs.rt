@@ -1,16 +1,17 @@
 //! The data of a page: a program, its states, the steps between them, and the ends that can still be reached.
 
 use crate::columns::{Column, column_of};
-use crate::ends::{EndRequirements, ends_json, schedule_text, texts_json};
+use crate::ends::{EndRequirements, PageEnds, ends_json, schedule_text, texts_json};
 use crate::numbers::number_of;
 use crate::page_tables::{HeldContents, PageTables};
 use crate::records::Records;
-use lab_ends::SpaceEnd;
+use end_goals::EndCriteria;
 use lab_json::{List, Object, RunTitle, head_value, stream_value};
 use lab_texts::ProgramNames;
 use processor::Step;
 use schedule_space::{Space, machine_at};
 use serde_json::Value;
+use space_ends::SpaceEnd;
 use space_graphs::ends_ahead;
 use state_tables::{NumberSets, depths_of, rows_of, sets_of, targets_of};
 use std::alloc::{AllocError, Global};
@@ -23,10 +24,8 @@ pub struct GraphNames<'a> {
     pub program: &'a str,
     /// What each end has to be and what is claimed, as it is written.
     pub expected: &'a [String],
-    /// Whether something is expected or claimed: without it no end is right or wrong.
-    pub is_judged: bool,
-    /// Whether the program keeps the rules for programs: of one that does not no end is right.
-    pub are_rules_kept: bool,
+    /// What decides besides the ends whether they are right.
+    pub criteria: EndCriteria,
     /// The place of the end that is the reader's first goal.
     pub goal: Option<usize>,
 }
@@ -39,11 +38,11 @@ pub fn graph_json<const S: usize>(
     text: &[u8],
     names: &ProgramNames<'_>,
     space: &Space<'_>,
-    ends: &[SpaceEnd],
+    ends: PageEnds<'_>,
 ) -> Result<String, AllocError> {
     let mut graph = head_of::<S>(alloc, asked, text, names, space)?;
     put_ends(alloc, &mut graph, asked, space, ends);
-    put_states::<S>(alloc, &mut graph, space, ends)?;
+    put_states::<S>(alloc, &mut graph, space, ends.known)?;
     graph.whole()?.to_string(alloc)
 }
 
@@ -91,12 +90,11 @@ fn put_ends(
     graph: &mut Object,
     asked: GraphNames<'_>,
     space: &Space<'_>,
-    ends: &[SpaceEnd],
+    ends: PageEnds<'_>,
 ) {
     let judging = EndRequirements {
         expected: asked.expected,
-        is_judged: asked.is_judged,
-        are_rules_kept: asked.are_rules_kept,
+        criteria: asked.criteria,
     };
     let begin = space.begin();
     graph.put("ends", ends_json(alloc, ends, begin.len(), judging));

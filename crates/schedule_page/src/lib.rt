@@ -13,6 +13,6 @@ mod parts;
 mod records;
 mod shared_states;
 
-pub use ends::is_right_end;
+pub use ends::PageEnds;
 pub use graphs::{GraphNames, graph_json};
 pub use pages::page_of_graph;

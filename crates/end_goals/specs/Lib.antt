@@ -1,0 +1,3 @@
+-- What public contracts promise: which ends are right, and which one is a first goal.
+pub mod RightEnds
+pub mod Goals

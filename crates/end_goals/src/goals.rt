@@ -1,0 +1,182 @@
+//! The first goal of a reader.
+
+ghost use Rattle.std.specs.Prelude.{◌≡◌, ◌==◌};
+ghost use Rattle.std.specs.List.{position};
+ghost use Rattle.end_goals.specs.Goals.{is_goal, place_of_goal, place_of_number, is_yes, is_no};
+ghost use Rattle.end_goals.specs.RightEnds.{is_breaking};
+ghost use Rattle.end_goals.specs.Goals.{is_finished, is_stopped, is_deadlock, is_spinning};
+
+use crate::right_ends::{EndCriteria, is_breaking};
+use end_kinds::EndKind;
+use space_ends::{SpaceEnd, SpaceEndKind};
+
+/// The words for goals, but for numbers.
+const NAMED: [EndGoal; 7] = [
+    EndGoal::Right,
+    EndGoal::Wrong,
+    EndGoal::Finished,
+    EndGoal::Stopped,
+    EndGoal::Deadlock,
+    EndGoal::Spinning,
+    EndGoal::Broken,
+];
+
+/// An end that a reader is to reach first: one of a number, or the first of its kind.
+#[derive(Clone, Copy, Debug, PartialEq, Eq)]
+pub enum EndGoal {
+    /// The end of this number, counted from 1.
+    Number(usize),
+    /// An end that is right.
+    Right,
+    /// An end at which no stream runs and none was stopped by a trap, and which is not right.
+    Wrong,
+    /// An end at which no stream runs and none was stopped by a trap.
+    Finished,
+    /// An end at which no stream runs and some was stopped by a trap.
+    Stopped,
+    /// A deadlock.
+    Deadlock,
+    /// Worlds in which some stream runs for ever.
+    Spinning,
+    /// Worlds that break a claim.
+    Broken,
+    /// A kind that no end is of.
+    Unknown,
+}
+
+impl EndGoal {
+    /// The goal that a word says: a number, or the name of a kind.
+    pub fn of_word(word: &str) -> EndGoal {
+        match word.parse::<usize>() {
+            Ok(number) => EndGoal::Number(number),
+            Err(_) => goal_named(word),
+        }
+    }
+
+    /// Whether a word is the name of the goal; a number is no name.
+    fn has_name(self, word: &str) -> bool {
+        match self {
+            EndGoal::Number(_) | EndGoal::Unknown => false,
+            EndGoal::Right => word == "right",
+            EndGoal::Wrong => word == "wrong",
+            EndGoal::Finished => word == EndKind::Finished.json_name(),
+            EndGoal::Stopped => word == EndKind::Stopped.json_name(),
+            EndGoal::Deadlock => word == EndKind::Deadlock.json_name(),
+            EndGoal::Spinning => word == EndKind::Spinning.json_name(),
+            EndGoal::Broken => word == SpaceEndKind::Busy.json_name(),
+        }
+    }
+
+    /// The place of the end that is the goal, among these: the one of its number, or the first that is one; None if there is
+    /// none.
+    pub fn place(self, ends: &[SpaceEnd], criteria: EndCriteria) -> Option<usize>
+        ensures { result ≡ place_of_goal self criteria ends.now }
+    {
+        match self {
+            EndGoal::Number(number) => place_of_number(number, ends.len()),
+            EndGoal::Unknown => None,
+            EndGoal::Right
+            | EndGoal::Wrong
+            | EndGoal::Finished
+            | EndGoal::Stopped
+            | EndGoal::Deadlock
+            | EndGoal::Spinning
+            | EndGoal::Broken => self.first_place(ends, criteria),
+        }
+    }
+
+    /// The place of the first end that is the goal, by what it is.
+    fn first_place(self, ends: &[SpaceEnd], criteria: EndCriteria) -> Option<usize>
+        ensures { result ≡ position (λ e. is_goal self criteria ends.now e) ends.now }
+    {
+        ends.iter().position(
+            |end: &SpaceEnd| -> bool
+                ensures { result ≡ is_goal self criteria ends.entry.now end.now }
+            { self.is_goal(end, ends, criteria) },
+        )
+    }
+
+    /// Whether an end, which is one of these, is the goal, by what it is.
+    fn is_goal(self, end: &SpaceEnd, ends: &[SpaceEnd], criteria: EndCriteria) -> bool
+        ensures { result ≡ is_goal self criteria ends.now end.now }
+    {
+        match self {
+            EndGoal::Number(_) | EndGoal::Unknown => false,
+            EndGoal::Right => is_yes(criteria.verdict(end, ends)),
+            EndGoal::Wrong => is_finished(end.kind) && is_no(criteria.verdict(end, ends)),
+            EndGoal::Finished => is_finished(end.kind),
+            EndGoal::Stopped => is_stopped(end.kind),
+            EndGoal::Deadlock => is_deadlock(end.kind),
+            EndGoal::Spinning => is_spinning(end.kind),
+            EndGoal::Broken => is_breaking(end.kind),
+        }
+    }
+}
+
+/// The goal of a name.
+fn goal_named(word: &str) -> EndGoal {
+    for goal in &NAMED {
+        if goal.has_name(word) {
+            return *goal;
+        }
+    }
+    EndGoal::Unknown
+}
+
+/// The place of a number that counts from 1, among so many; None if it is none of theirs.
+fn place_of_number(number: usize, count: usize) -> Option<usize>
+    ensures { result ≡ place_of_number number count }
+{
+    if number == 0 || number > count {
+        return None;
+    }
+    Some(number - 1)
+}
+
+/// Whether it is known, and so.
+fn is_yes(verdict: Option<bool>) -> bool
+    ensures { result ≡ is_yes verdict }
+{
+    match verdict {
+        Some(is_right) => is_right,
+        None => false,
+    }
+}
+
+/// Whether it is known, and not so.
+fn is_no(verdict: Option<bool>) -> bool
+    ensures { result ≡ is_no verdict }
+{
+    match verdict {
+        Some(is_right) => !is_right,
+        None => false,
+    }
+}
+
+/// Whether no stream runs, and none was stopped by a trap.
+fn is_finished(kind: SpaceEndKind) -> bool
+    ensures { result ≡ is_finished kind }
+{
+    matches!(kind, SpaceEndKind::End(EndKind::Finished))
+}
+
+/// Whether no stream runs, and some was stopped by a trap.
+fn is_stopped(kind: SpaceEndKind) -> bool
+    ensures { result ≡ is_stopped kind }
+{
+    matches!(kind, SpaceEndKind::End(EndKind::Stopped))
+}
+
+/// Whether it is a deadlock.
+fn is_deadlock(kind: SpaceEndKind) -> bool
+    ensures { result ≡ is_deadlock kind }
+{
+    matches!(kind, SpaceEndKind::End(EndKind::Deadlock))
+}
+
+/// Whether some stream runs for ever.
+fn is_spinning(kind: SpaceEndKind) -> bool
+    ensures { result ≡ is_spinning kind }
+{
+    matches!(kind, SpaceEndKind::End(EndKind::Spinning))
+}

@@ -1,0 +1,3 @@
+mod Stops
+mod Waits
+mod RightEnds

@@ -1,0 +1,22 @@
+-- When the end of a run is as expected.
+use Rattle.std.specs.Prelude.{Bool, true, false, not, ◌&&◌, ◌||◌, is_some}
+use Rattle.end_kinds.specs.declared.kinds.EndKind.{EndKind}
+use Rattle.end_kinds.specs.declared.kinds.EndKind.TheVariants as kind
+use Rattle.end_states.specs.declared.judgements.EndJudgement.{EndJudgement}
+
+-- whether ends of this kind are deadlocks
+abbrev pub is_deadlock : EndKind → Bool
+is_deadlock kind.Finished = false
+is_deadlock kind.Stopped = false
+is_deadlock kind.Deadlock = true
+is_deadlock kind.Spinning = false
+is_deadlock kind.OutOfSteps = false
+
+-- whether an expectation is missed, or a claim is broken
+abbrev pub is_wrong : EndJudgement → Bool
+is_wrong j = is_some j.missed || is_some j.broken
+
+-- Whether an end is as expected: it is no deadlock, no expectation is missed, no claim is broken on the way, and each trap
+-- that stopped a stream is expected.
+abbrev pub is_expected : EndJudgement → Bool
+is_expected j = not (is_deadlock j.kind) && not (is_wrong j) && not j.is_trapped

@@ -1,0 +1,31 @@
+//! What is required of a program, as it is written.
+
+use expectation_files::{NEVER_BUSY, Requirements, WrittenLine};
+use std::alloc::{AllocError, Global};
+
+/// What is expected of ends, and what is claimed, as it is written: first the lines on ends, in the order of the expectations.
+pub(crate) fn expected_texts(
+    alloc: Global,
+    required: &Requirements,
+) -> Result<Vec<String>, AllocError> {
+    let mut texts = Vec::new(alloc);
+    push_words(alloc, &mut texts, required.end_lines())?;
+    push_words(alloc, &mut texts, required.claim_lines())?;
+    if required.never_busy().is_some() {
+        texts.push(String::from_str(alloc, NEVER_BUSY)?)?;
+    }
+    push_words(alloc, &mut texts, required.rule_lines())?;
+    Ok(texts)
+}
+
+/// Adds the words of lines.
+fn push_words(
+    alloc: Global,
+    texts: &mut Vec<String>,
+    lines: &[WrittenLine],
+) -> Result<(), AllocError> {
+    for line in lines {
+        texts.push(String::from_str(alloc, &line.words)?)?;
+    }
+    Ok(())
+}

@@ -1,0 +1,12 @@
+//! The pages of programs that are at hand: the page of a run, and the page of all schedules (docs/PAGE.md, docs/PLAY.md).
+#![tactic(auto)]
+
+mod expected_texts;
+mod opened_pages;
+mod play_pages;
+mod played_programs;
+mod replays;
+
+pub use play_pages::{PlayPage, page_of_schedules, play_page};
+pub use played_programs::{PageChoices, PlayedProgram};
+pub use replays::replay_page;

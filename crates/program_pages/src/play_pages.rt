@@ -1,0 +1,147 @@
+//! The page on which the reader is the scheduler of a program.
+
+use crate::expected_texts::expected_texts;
+use crate::opened_pages::opened_after;
+use crate::played_programs::{PageChoices, PlayedProgram};
+use command_parts::LabFault;
+use end_goals::{EndCriteria, EndGoal};
+use image_machines::by_room;
+use lab_ends::words_of_ends;
+use lab_requests::MOST_PLAYED;
+use lab_texts::{Notation, NumberStyle};
+use program_searches::{Console, Explored, SearchBound, explore_program};
+use schedule_page::{GraphNames, PageEnds, graph_json, page_of_graph};
+use search_texts::search_fault;
+use std::alloc::{AllocError, Global};
+use std::io::Write;
+use std::time::Clock;
+
+/// What comes of a page of all schedules.
+#[derive(Drop)]
+pub enum PlayPage {
+    /// The page.
+    Written(String),
+    /// None: the program has more states than the page is to have.
+    TooManyStates,
+    /// None: no end is the one that the reader is to reach first.
+    NoSuchEnd,
+}
+
+/// The page on which the reader is the scheduler of a program from its start on; None if the program has more states than a
+/// page.
+pub fn play_page<C: Clock, E: Write>(
+    alloc: Global,
+    played: &PlayedProgram<'_, '_>,
+    console: &mut Console<'_, C, E>,
+) -> Result<Option<String>, LabFault> {
+    let choices = PageChoices {
+        begin: &[],
+        states: MOST_PLAYED,
+        goal: None,
+    };
+    match page_of_schedules(alloc, played, choices, console)? {
+        PlayPage::Written(page) => Ok(Some(page)),
+        PlayPage::TooManyStates | PlayPage::NoSuchEnd => Ok(None),
+    }
+}
+
+/// The page on which the reader is the scheduler of a program, of these choices.
+pub fn page_of_schedules<C: Clock, E: Write>(
+    alloc: Global,
+    played: &PlayedProgram<'_, '_>,
+    choices: PageChoices<'_>,
+    console: &mut Console<'_, C, E>,
+) -> Result<PlayPage, LabFault> {
+    let asked = choices.search(played.required);
+    let mut found = match explore_program(alloc, &played.program.image, &asked, console) {
+        Ok(found) => found,
+        Err(fault) => return Err(search_fault(alloc, fault)?),
+    };
+    if !found.is_complete {
+        return not_complete(found.bound);
+    }
+    // (a claim that only the given beginning breaks has no state on the page)
+    found.ends.retain(|end| !end.places.is_empty());
+    let criteria = EndCriteria::of(played.required, found.broken_rule, found.unshown);
+    let goal = match choices.goal {
+        Some(goal) => match goal.place(&found.ends, criteria) {
+            Some(place) => Some(place),
+            None => return Ok(PlayPage::NoSuchEnd),
+        },
+        None => None,
+    };
+    let judged = JudgedSearch {
+        found: &found,
+        criteria,
+        goal,
+    };
+    Ok(PlayPage::Written(page_text(alloc, played, judged)?))
+}
+
+/// What comes of a page where the search ended at a bound: it is only one of states.
+fn not_complete(bound: Option<SearchBound>) -> Result<PlayPage, LabFault> {
+    match bound {
+        Some(SearchBound::States) => Ok(PlayPage::TooManyStates),
+        Some(SearchBound::Seconds | SearchBound::Memory | SearchBound::Refused) | None => {
+            Err(LabFault::NoMemory)
+        }
+    }
+}
+
+/// All states of a program, and what its ends are to a reader.
+#[derive(Clone, Copy)]
+struct JudgedSearch<'f, 'i> {
+    /// The states, and their ends.
+    found: &'f Explored<'i>,
+    /// What decides besides the ends whether they are right.
+    criteria: EndCriteria,
+    /// The place of the end that is the first goal.
+    goal: Option<usize>,
+}
+
+/// The page.
+fn page_text(
+    alloc: Global,
+    played: &PlayedProgram<'_, '_>,
+    judged: JudgedSearch<'_, '_>,
+) -> Result<String, AllocError> {
+    let image = &played.program.image;
+    let graph = by_room!(image, graph_on(alloc, played, judged))?;
+    let graph = opened_after(alloc, graph, played.opened)?;
+    let name = played.called;
+    let title = format!(in alloc; "{name}, you are the scheduler")?;
+    page_of_graph(alloc, &title, &graph)
+}
+
+/// The data of the page, on machines with room for `S` streams a processor.
+fn graph_on<const S: usize>(
+    alloc: Global,
+    played: &PlayedProgram<'_, '_>,
+    judged: JudgedSearch<'_, '_>,
+) -> Result<String, AllocError> {
+    let JudgedSearch {
+        found,
+        criteria,
+        goal,
+    } = judged;
+    let required = played.required;
+    let expected = expected_texts(alloc, required)?;
+    let notation = Notation {
+        names: played.names,
+        style: NumberStyle::Decimal,
+    };
+    let image = &played.program.image;
+    let words = words_of_ends(alloc, notation, required, image, &found.ends)?;
+    let ends = PageEnds {
+        known: &found.ends,
+        words: &words,
+    };
+    let asked = GraphNames {
+        program: played.called,
+        expected: &expected,
+        criteria,
+        goal,
+    };
+    let text = &played.program.text;
+    graph_json::<S>(alloc, asked, text, played.names, &found.space, ends)
+}
