@@ -1,9 +1,9 @@
 //! Verdicts as the results that Gradescope reads.
 
 use crate::json_report::push_object;
-use crate::reports::JudgedSubmission;
+use crate::reports::ReportedRow;
 use crate::text_report::why_of;
-use crate::verdicts::VerdictKind;
+use judgements::VerdictKind;
 use lab_json::{List, Object};
 use plain_text::plain;
 use serde_json::Value;
@@ -12,19 +12,19 @@ use std::alloc::{AllocError, Global};
 /// The results of all submissions: a test with one point for each, in one object.
 pub(crate) fn gradescope_report(
     alloc: Global,
-    judgements: &[JudgedSubmission<'_>],
+    rows: &[ReportedRow<'_>],
 ) -> Result<String, AllocError> {
-    let results = results_value(alloc, judgements)?;
+    let results = results_value(alloc, rows)?;
     let mut out = String::new(alloc);
     push_object(alloc, &mut out, &results)?;
     Ok(out)
 }
 
 /// The object with the tests of all submissions.
-fn results_value(alloc: Global, judgements: &[JudgedSubmission<'_>]) -> Result<Value, AllocError> {
+fn results_value(alloc: Global, rows: &[ReportedRow<'_>]) -> Result<Value, AllocError> {
     let mut tests = List::new(alloc);
-    for judgement in judgements {
-        tests.put(test_value(alloc, judgement));
+    for reported in rows {
+        tests.put(test_value(alloc, reported));
     }
     let mut results = Object::new(alloc);
     results.put("tests", tests.whole());
@@ -32,25 +32,25 @@ fn results_value(alloc: Global, judgements: &[JudgedSubmission<'_>]) -> Result<V
 }
 
 /// The test that a submission is.
-fn test_value(alloc: Global, judgement: &JudgedSubmission<'_>) -> Result<Value, AllocError> {
-    let kind = judgement.verdict.kind;
+fn test_value(alloc: Global, reported: &ReportedRow<'_>) -> Result<Value, AllocError> {
+    let kind = reported.row.kind;
     let score: u64 = if kind == VerdictKind::Right { 1 } else { 0 };
     let mut test = Object::new(alloc);
-    test.put("name", name_value(alloc, judgement));
+    test.put("name", name_value(alloc, reported));
     test.put_number("score", score);
     test.put_number("max_score", 1);
-    test.put("output", output_value(alloc, judgement));
+    test.put("output", output_value(alloc, reported));
     test.whole()
 }
 
 /// The path of a submission, without control bytes.
-fn name_value(alloc: Global, judgement: &JudgedSubmission<'_>) -> Result<Value, AllocError> {
-    Ok(Value::String(plain(alloc, judgement.submission)?))
+fn name_value(alloc: Global, reported: &ReportedRow<'_>) -> Result<Value, AllocError> {
+    Ok(Value::String(plain(alloc, reported.submission)?))
 }
 
 /// What a submission is, and why, without control bytes.
-fn output_value(alloc: Global, judgement: &JudgedSubmission<'_>) -> Result<Value, AllocError> {
-    let word = judgement.verdict.kind.word();
-    let why = plain(alloc, &why_of(alloc, judgement)?)?;
+fn output_value(alloc: Global, reported: &ReportedRow<'_>) -> Result<Value, AllocError> {
+    let word = reported.row.kind.word();
+    let why = plain(alloc, &why_of(alloc, reported)?)?;
     Ok(Value::String(format!(in alloc; "{word}: {why}")?))
 }

@@ -1,7 +1,8 @@
 //! Verdicts as JSON ("JSON", docs/LAB_REFERENCE.md).
 
-use crate::reports::JudgedSubmission;
-use crate::verdicts::{CountedEnd, Known, Verdict, WishLine, Witness};
+use crate::reports::ReportedRow;
+use crate::rows::{CountedEnd, ReportLine, SourcePosition};
+use judgements::{Known, Witness};
 use lab_json::{List, Object, digits, line_value, text_value, turns_value};
 use serde_json::Value;
 use std::alloc::{AllocError, Global};
@@ -10,9 +11,9 @@ use std::alloc::{AllocError, Global};
 pub(crate) fn push_json(
     alloc: Global,
     out: &mut String,
-    judgement: &JudgedSubmission<'_>,
+    reported: &ReportedRow<'_>,
 ) -> Result<(), AllocError> {
-    let grade = grade_value(alloc, judgement)?;
+    let grade = grade_value(alloc, reported)?;
     push_object(alloc, out, &grade)
 }
 
@@ -28,18 +29,18 @@ pub(crate) fn push_object(
 }
 
 /// The object of a submission.
-fn grade_value(alloc: Global, judgement: &JudgedSubmission<'_>) -> Result<Value, AllocError> {
-    let verdict = judgement.verdict;
+fn grade_value(alloc: Global, reported: &ReportedRow<'_>) -> Result<Value, AllocError> {
+    let row = reported.row;
     let mut grade = Object::of_kind(alloc, "grade");
-    grade.put_text("submission", judgement.submission);
-    grade.put_text("verdict", verdict.kind.word());
-    grade.put("case", some_text_value(alloc, verdict.case.as_ref()));
-    put_known(alloc, &mut grade, verdict.known);
-    put_witness(alloc, &mut grade, &verdict.witness);
-    grade.put("missed", missed_value(alloc, verdict.missed.as_ref()));
-    grade.put("place", place_value(alloc, verdict));
-    grade.put("ends", ends_value(alloc, &verdict.ends));
-    grade.put("page", some_text_value(alloc, verdict.page.as_ref()));
+    grade.put_text("submission", reported.submission);
+    grade.put_text("verdict", row.kind.word());
+    grade.put("case", some_text_value(alloc, row.case.as_ref()));
+    put_known(alloc, &mut grade, row.known);
+    put_witness(alloc, &mut grade, &row.witness);
+    grade.put("missed", missed_value(alloc, row.missed.as_ref()));
+    grade.put("place", place_value(alloc, row.place));
+    grade.put("ends", ends_value(alloc, &row.ends));
+    grade.put("page", some_text_value(alloc, row.page.as_ref()));
     grade.whole()
 }
 
@@ -95,33 +96,22 @@ fn put_witness(alloc: Global, object: &mut Object, witness: &Witness) {
 }
 
 /// The line that is missed: its number and its words; null if none is.
-fn missed_value(alloc: Global, missed: Option<&WishLine>) -> Result<Value, AllocError> {
+fn missed_value(alloc: Global, missed: Option<&ReportLine>) -> Result<Value, AllocError> {
     match missed {
         Some(line) => line_value(alloc, line.number, &line.text),
         None => Ok(Value::Null),
     }
 }
 
-/// Where a source has its first fault: a list of the line and the column.
-fn place_value(alloc: Global, verdict: &Verdict) -> Result<Value, AllocError> {
-    if !verdict.kind.is_of_no_program() {
+/// Where a source has its first fault: a list of the line and the column; null where it has none.
+fn place_value(alloc: Global, place: Option<SourcePosition>) -> Result<Value, AllocError> {
+    let Some(position) = place else {
         return Ok(Value::Null);
-    }
-    let mut parts = verdict.words.split(':');
-    match (number_of(parts.next()), number_of(parts.next())) {
-        (Some(line), Some(column)) => {
-            let mut place = List::new(alloc);
-            place.put_number(line as u64);
-            place.put_number(column as u64);
-            place.whole()
-        }
-        _ => Ok(Value::Null),
-    }
-}
-
-/// The number that a text is.
-fn number_of(text: Option<&str>) -> Option<usize> {
-    text?.parse::<usize>().ok()
+    };
+    let mut place = List::new(alloc);
+    place.put_number(position.line as u64);
+    place.put_number(position.column as u64);
+    place.whole()
 }
 
 /// The ends that are counted.

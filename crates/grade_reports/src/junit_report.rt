@@ -1,33 +1,30 @@
 //! Verdicts as the XML of JUnit's reports.
 
-use crate::reports::JudgedSubmission;
+use crate::reports::ReportedRow;
 use crate::text_report::why_of;
-use crate::verdicts::VerdictKind;
+use judgements::VerdictKind;
 use plain_text::plain;
 use std::alloc::{AllocError, Global};
 
 /// The report of all submissions: a test suite with a test case for each.
-pub(crate) fn junit_report(
-    alloc: Global,
-    judgements: &[JudgedSubmission<'_>],
-) -> Result<String, AllocError> {
-    let tests = judgements.len();
-    let (failures, errors) = counts_of(judgements);
+pub(crate) fn junit_report(alloc: Global, rows: &[ReportedRow<'_>]) -> Result<String, AllocError> {
+    let tests = rows.len();
+    let (failures, errors) = counts_of(rows);
     let mut out = format!(in alloc;
         "<?xml version=\"1.0\" encoding=\"UTF-8\"?>\n<testsuites>\n<testsuite name=\"mta_lab grade\" tests=\"{tests}\" failures=\"{failures}\" errors=\"{errors}\">\n"
     )?;
-    for judgement in judgements {
-        push_case(alloc, &mut out, judgement)?;
+    for reported in rows {
+        push_case(alloc, &mut out, reported)?;
     }
     out.push_str("</testsuite>\n</testsuites>\n")?;
     Ok(out)
 }
 
 /// How many submissions are not right, and how many did not run.
-fn counts_of(judgements: &[JudgedSubmission<'_>]) -> (usize, usize) {
+fn counts_of(rows: &[ReportedRow<'_>]) -> (usize, usize) {
     let (mut failures, mut errors): (usize, usize) = (0, 0);
-    for judgement in judgements {
-        let kind = judgement.verdict.kind;
+    for reported in rows {
+        let kind = reported.row.kind;
         if kind.is_of_no_program() {
             errors = errors.saturating_add(1);
         } else if kind != VerdictKind::Right {
@@ -41,11 +38,11 @@ fn counts_of(judgements: &[JudgedSubmission<'_>]) -> (usize, usize) {
 fn push_case(
     alloc: Global,
     out: &mut String,
-    judgement: &JudgedSubmission<'_>,
+    reported: &ReportedRow<'_>,
 ) -> Result<(), AllocError> {
-    let kind = judgement.verdict.kind;
+    let kind = reported.row.kind;
     out.push_str("<testcase classname=\"mta_lab\" name=\"")?;
-    push_xml(alloc, out, judgement.submission)?;
+    push_xml(alloc, out, reported.submission)?;
     if kind == VerdictKind::Right {
         return out.push_str("\"/>\n");
     }
@@ -56,7 +53,7 @@ fn push_case(
     };
     let word = kind.word();
     write!(out, "\"><{element} type=\"{word}\" message=\"")?;
-    push_xml(alloc, out, &why_of(alloc, judgement)?)?;
+    push_xml(alloc, out, &why_of(alloc, reported)?)?;
     out.push_str("\"/></testcase>\n")
 }
 

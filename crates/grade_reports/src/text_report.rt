@@ -1,7 +1,8 @@
-//! Verdicts in words.
+//! Rows in words.
 
-use crate::reports::JudgedSubmission;
-use crate::verdicts::{CountedEnd, Known, Verdict, VerdictKind, WishLine, Witness};
+use crate::reports::ReportedRow;
+use crate::rows::{CountedEnd, GradeRow, ReportLine};
+use judgements::{Known, VerdictKind, Witness};
 use plain_text::{plain, push_plain};
 use processor::Step;
 use std::alloc::{AllocError, Global};
@@ -11,64 +12,61 @@ use trace_text::write_schedule;
 pub(crate) fn push_row(
     alloc: Global,
     out: &mut String,
-    judgement: &JudgedSubmission<'_>,
+    reported: &ReportedRow<'_>,
 ) -> Result<(), AllocError> {
-    let verdict = judgement.verdict;
-    push_plain(out, judgement.submission)?;
-    let word = verdict.kind.word();
+    let row = reported.row;
+    push_plain(out, reported.submission)?;
+    let word = row.kind.word();
     write!(out, "\t{word}\t")?;
-    push_plain(out, &why_of(alloc, judgement)?)?;
+    push_plain(out, &why_of(alloc, reported)?)?;
     out.push_str("\n")?;
-    push_ends(alloc, out, &verdict.ends)
+    push_ends(alloc, out, &row.ends)
 }
 
 /// Why a submission that was judged by so many cases is what it is said to be, in words without control bytes.
-pub fn reason_of(alloc: Global, verdict: &Verdict, cases: usize) -> Result<String, AllocError> {
-    let judgement = JudgedSubmission {
+pub fn reason_of(alloc: Global, row: &GradeRow, cases: usize) -> Result<String, AllocError> {
+    let reported = ReportedRow {
         submission: "",
-        verdict,
+        row,
         cases,
     };
-    plain(alloc, &why_of(alloc, &judgement)?)
+    plain(alloc, &why_of(alloc, &reported)?)
 }
 
 /// Why a submission is what it is said to be, in words, which may have control bytes of its comments.
-pub(crate) fn why_of(
-    alloc: Global,
-    judgement: &JudgedSubmission<'_>,
-) -> Result<String, AllocError> {
-    let verdict = judgement.verdict;
+pub(crate) fn why_of(alloc: Global, reported: &ReportedRow<'_>) -> Result<String, AllocError> {
+    let row = reported.row;
     let mut why = String::new(alloc);
-    if let Some(case) = &verdict.case {
+    if let Some(case) = &row.case {
         write!(why, "case {case}: ")?;
     }
-    match verdict.kind {
+    match row.kind {
         VerdictKind::Right | VerdictKind::NotDecided => {
-            push_known(&mut why, judgement)?;
-            push_unshown(&mut why, verdict)?;
+            push_known(&mut why, reported)?;
+            push_unshown(&mut why, row)?;
         }
-        VerdictKind::NotRead | VerdictKind::SourceFault => why.push_str(&verdict.words)?,
+        VerdictKind::NotRead | VerdictKind::SourceFault => why.push_str(&row.words)?,
         VerdictKind::Trap
         | VerdictKind::Deadlock
         | VerdictKind::Wrong
         | VerdictKind::RanOutOfSteps
-        | VerdictKind::Spins => push_shown(alloc, &mut why, verdict)?,
+        | VerdictKind::Spins => push_shown(alloc, &mut why, row)?,
     }
     Ok(why)
 }
 
 /// Adds what was looked at: `every schedule, 36 states`, `200 seeds`, or both, and of how many cases.
-fn push_known(why: &mut String, judgement: &JudgedSubmission<'_>) -> Result<(), AllocError> {
-    let known = judgement.verdict.known;
-    if judgement.cases > 0 && judgement.verdict.kind == VerdictKind::Right {
-        let cases = judgement.cases;
+fn push_known(why: &mut String, reported: &ReportedRow<'_>) -> Result<(), AllocError> {
+    let known = reported.row.known;
+    if reported.cases > 0 && reported.row.kind == VerdictKind::Right {
+        let cases = reported.cases;
         let some = if cases == 1 { "" } else { "s" };
         write!(why, "{cases} case{some}, ")?;
     }
     push_worlds(why, known)?;
     if let Some(seeds) = known.seeds {
-        let behind = if known.worlds.is_some() { ", and " } else { "" };
-        write!(why, "{behind}{seeds} seeds")?;
+        let between = if known.worlds.is_some() { ", and " } else { "" };
+        write!(why, "{between}{seeds} seeds")?;
     }
     Ok(())
 }
@@ -83,58 +81,60 @@ fn push_worlds(why: &mut String, known: Known) -> Result<(), AllocError> {
     } else {
         "some schedules"
     };
-    let comma = if known.ended.is_empty() { "" } else { ", " };
-    let ended = known.ended;
-    write!(why, "{which}, {worlds} states{comma}{ended}")
+    write!(why, "{which}, {worlds} states")?;
+    match known.bound {
+        Some(bound) => {
+            let ended = bound.words();
+            write!(why, ", {ended}")
+        }
+        None => Ok(()),
+    }
 }
 
 /// Adds the run that shows what is wrong, the line that it misses, its end, and the first finding on the way to it.
-fn push_shown(alloc: Global, why: &mut String, verdict: &Verdict) -> Result<(), AllocError> {
-    if let Witness::Seed(_) = &verdict.witness
-        && verdict.known.worlds.is_some()
+fn push_shown(alloc: Global, why: &mut String, row: &GradeRow) -> Result<(), AllocError> {
+    if let Witness::Seed(_) = &row.witness
+        && row.known.worlds.is_some()
     {
-        push_worlds(why, verdict.known)?;
+        push_worlds(why, row.known)?;
         why.push_str(", and ")?;
     }
-    if verdict.known.is_every && matches!(&verdict.witness, Witness::None) {
-        push_worlds(why, verdict.known)?;
-        return push_unshown(why, verdict);
+    if row.known.is_every && matches!(&row.witness, Witness::None) {
+        push_worlds(why, row.known)?;
+        return push_unshown(why, row);
     }
-    push_witness(alloc, why, &verdict.witness)?;
-    let mut between = if why.is_empty() || why.ends_with(": ") {
-        ""
-    } else {
-        ": "
-    };
-    if let Some(missed) = &verdict.missed
-        && !matches!(&verdict.witness, Witness::None)
+    push_witness(alloc, why, &row.witness)?;
+    let is_run = !matches!(&row.witness, Witness::None);
+    let mut between = if is_run { ": " } else { "" };
+    if let Some(missed) = &row.missed
+        && is_run
     {
         push_missed(why, between, missed)?;
         between = ": ";
     }
-    if !verdict.words.is_empty() {
+    if !row.words.is_empty() {
         why.push_str(between)?;
-        why.push_str(&verdict.words)?;
+        why.push_str(&row.words)?;
     }
-    if !verdict.finding.is_empty() {
+    if !row.finding.is_empty() {
         why.push_str("; ")?;
-        why.push_str(&verdict.finding)?;
+        why.push_str(&row.finding)?;
     }
     Ok(())
 }
 
 /// Adds the claim that nothing shows which was looked at, where there is one.
-fn push_unshown(why: &mut String, verdict: &Verdict) -> Result<(), AllocError> {
-    let Some(missed) = &verdict.missed else {
+fn push_unshown(why: &mut String, row: &GradeRow) -> Result<(), AllocError> {
+    let Some(missed) = &row.missed else {
         return Ok(());
     };
     push_missed(why, ": ", missed)?;
-    let words = verdict.words.as_str();
+    let words = row.words.as_str();
     write!(why, ": {words}")
 }
 
 /// Adds the line that is missed.
-fn push_missed(why: &mut String, between: &str, missed: &WishLine) -> Result<(), AllocError> {
+fn push_missed(why: &mut String, between: &str, missed: &ReportLine) -> Result<(), AllocError> {
     let line = missed.text.as_str();
     write!(why, "{between}not {line}")
 }

@@ -1,8 +1,8 @@
 //! Verdicts as fields that are apart by tabs.
 
-use crate::reports::JudgedSubmission;
+use crate::reports::ReportedRow;
 use crate::text_report::push_turns;
-use crate::verdicts::Witness;
+use judgements::Witness;
 use plain_text::push_plain;
 use std::alloc::{AllocError, Global};
 
@@ -12,24 +12,24 @@ use std::alloc::{AllocError, Global};
 pub(crate) fn push_tsv(
     alloc: Global,
     out: &mut String,
-    judgement: &JudgedSubmission<'_>,
+    reported: &ReportedRow<'_>,
 ) -> Result<(), AllocError> {
-    let verdict = judgement.verdict;
-    push_plain(out, judgement.submission)?;
-    let word = verdict.kind.word();
+    let row = reported.row;
+    push_plain(out, reported.submission)?;
+    let word = row.kind.word();
     write!(out, "\t{word}\t")?;
-    if let Some(case) = &verdict.case {
+    if let Some(case) = &row.case {
         push_plain(out, case)?;
     }
-    push_count(out, verdict.known.worlds)?;
-    push_count(out, verdict.known.seeds)?;
+    push_count(out, row.known.worlds)?;
+    push_count(out, row.known.seeds)?;
     out.push_str("\t")?;
-    match &verdict.witness {
+    match &row.witness {
         Witness::None => {}
         Witness::Seed(seed) => write!(out, "{seed}")?,
         Witness::Schedule(steps) => push_turns(alloc, out, steps)?,
     }
-    match &verdict.missed {
+    match &row.missed {
         Some(missed) => {
             let number = missed.number;
             write!(out, "\t{number}\t")?;
@@ -38,7 +38,7 @@ pub(crate) fn push_tsv(
         None => out.push_str("\t\t")?,
     }
     out.push_str("\t")?;
-    push_plain(out, &verdict.words)?;
+    push_plain(out, &row.words)?;
     out.push_str("\n")
 }
 

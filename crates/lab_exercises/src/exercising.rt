@@ -1,15 +1,15 @@
 //! The command `exercise`.
 
-use crate::advice::sentence_on;
+use crate::advice::{MistakeParts, sentence_on};
 use crate::folders::{Exercise, number_in, read_exercises};
 use crate::hints::push_hint;
 use crate::judging::{QUICK, THOROUGH, judge};
 use crate::listing::{push_line, widest};
-use crate::telling::push_told;
+use crate::telling::push_judgement;
 use command_parts::{CommandAnswer, Inputs, LabFault, Status};
-use lab_explorer::Console;
 use lab_requests::ExerciseRequest;
 use plain_text::plain;
+use program_searches::Console;
 use std::alloc::{AllocError, Global};
 use std::io::{Read, Write};
 use std::rt::Files;
@@ -103,16 +103,17 @@ fn tell<X: Threads + Sync + Clock, F: Files, R: Read, E: Write>(
     let judgement = judge(rt, alloc, inputs, exercise, THOROUGH, console)?;
     let mut out = String::new(alloc);
     if judgement.is_right() {
-        push_told(alloc, &mut out, exercise, &judgement, None)?;
+        push_judgement(alloc, &mut out, exercise, &judgement, None)?;
         push_next(alloc, &mut out, request, next)?;
     } else {
         let path = exercise.file(alloc, "advice")?;
         let advice = inputs.read(alloc, &path)?;
-        let sentence = sentence_on(&advice, judgement.verdict.kind.word(), &judgement.why);
-        push_told(alloc, &mut out, exercise, &judgement, sentence)?;
+        let mistake = MistakeParts::of(alloc, &judgement.row)?;
+        let sentence = sentence_on(&advice, &mistake);
+        push_judgement(alloc, &mut out, exercise, &judgement, sentence)?;
         push_hint_command(alloc, &mut out, request, exercise, 1)?;
     }
-    Ok(CommandAnswer::printed(alloc, out, judgement.verdict.status))
+    Ok(CommandAnswer::printed(alloc, out, judgement.row.status))
 }
 
 /// A hint of an exercise, by its number from 1.

@@ -2,10 +2,11 @@
 
 use crate::folders::Exercise;
 use command_parts::{Inputs, LabFault};
-use grade_reports::{Verdict, VerdictKind, reason_of};
-use lab_explorer::Console;
+use grade_reports::{GradeRow, reason_of};
+use judgements::VerdictKind;
 use lab_grades::grades_of;
 use lab_requests::{Bounds, GradeCases, GradeFormat, GradeRequest};
+use program_searches::Console;
 use std::alloc::Global;
 use std::io::{Read, Write};
 use std::rt::Files;
@@ -40,8 +41,8 @@ pub(crate) const QUICK: SearchLimits = SearchLimits {
 /// What is said of a program.
 #[derive(Drop)]
 pub(crate) struct Judgement {
-    /// The verdict.
-    pub verdict: Verdict,
+    /// What it is, and what shows it.
+    pub row: GradeRow,
     /// What was looked at, or what shows that it is not right, in words without control bytes.
     pub why: String,
 }
@@ -49,12 +50,12 @@ pub(crate) struct Judgement {
 impl Judgement {
     /// Whether it says that the program is right.
     pub(crate) fn is_right(&self) -> bool {
-        self.verdict.kind == VerdictKind::Right
+        self.row.kind == VerdictKind::Right
     }
 
     /// Whether it says that it is no program.
     pub(crate) fn is_source_fault(&self) -> bool {
-        self.verdict.kind == VerdictKind::SourceFault
+        self.row.kind == VerdictKind::SourceFault
     }
 }
 
@@ -89,9 +90,9 @@ pub(crate) fn judge<X: Threads + Sync + Clock, F: Files, R: Read, E: Write>(
         hexadecimal: false,
     };
     let mut grades = grades_of(rt, alloc, inputs, &request, console)?;
-    let Some(verdict) = grades.verdicts.pop() else {
+    let Some(row) = grades.rows.pop() else {
         return Err(LabFault::NoMemory);
     };
-    let why = reason_of(alloc, &verdict, grades.cases)?;
-    Ok(Judgement { verdict, why })
+    let why = reason_of(alloc, &row, grades.cases)?;
+    Ok(Judgement { row, why })
 }

@@ -32,6 +32,6 @@ pub(crate) fn push_line(
         let why = judgement.why.as_str();
         return write!(out, "  does not assemble: {why}\n");
     }
-    let verdict = judgement.verdict.kind.word();
+    let verdict = judgement.row.kind.word();
     write!(out, "  not yet: {verdict}\n")
 }

@@ -2,14 +2,15 @@
 
 use crate::folders::Exercise;
 use crate::judging::Judgement;
-use grade_reports::{Verdict, Witness};
+use grade_reports::GradeRow;
+use judgements::Witness;
 use plain_text::{plain, push_plain};
 use std::alloc::{AllocError, Global};
 use trace_text::write_schedule;
 
 /// Adds what is said of a program: the verdict, what shows it or what was looked at, the sentence on it, and commands that
 /// show the run.
-pub(crate) fn push_told(
+pub(crate) fn push_judgement(
     alloc: Global,
     out: &mut String,
     exercise: &Exercise,
@@ -18,7 +19,7 @@ pub(crate) fn push_told(
 ) -> Result<(), AllocError> {
     let path = plain(alloc, &exercise.path)?;
     let (number, title) = (exercise.number, exercise.title.as_str());
-    let (verdict, why) = (judgement.verdict.kind.word(), judgement.why.as_str());
+    let (verdict, why) = (judgement.row.kind.word(), judgement.why.as_str());
     write!(
         out,
         "exercise {number}, {title}: {verdict}\n{path}/start.asm: {why}\n"
@@ -30,7 +31,7 @@ pub(crate) fn push_told(
     if judgement.is_source_fault() {
         write!(out, "All messages: mta_lab check {path}/start.asm\n")?;
     }
-    push_commands(alloc, out, &path, &judgement.verdict)
+    push_commands(alloc, out, &path, &judgement.row)
 }
 
 /// Adds commands that show the run by which a program in the folder of this path is not right, if there is one.
@@ -38,9 +39,9 @@ fn push_commands(
     alloc: Global,
     out: &mut String,
     path: &str,
-    verdict: &Verdict,
+    row: &GradeRow,
 ) -> Result<(), AllocError> {
-    match &verdict.witness {
+    match &row.witness {
         Witness::None => return Ok(()),
         Witness::Schedule(steps) if steps.is_empty() => return Ok(()),
         Witness::Schedule(steps) => {
@@ -59,7 +60,7 @@ fn push_commands(
             "To look at this run:\n  mta_lab view {path}/start.asm --seed {seed}\n"
         )?,
     }
-    push_words_of_case(alloc, out, path, verdict)
+    push_words_of_case(alloc, out, path, row)
 }
 
 /// Adds that a run has the words of a case, if it has.
@@ -67,9 +68,9 @@ fn push_words_of_case(
     alloc: Global,
     out: &mut String,
     path: &str,
-    verdict: &Verdict,
+    row: &GradeRow,
 ) -> Result<(), AllocError> {
-    let Some(case) = &verdict.case else {
+    let Some(case) = &row.case else {
         return Ok(());
     };
     let case = plain(alloc, case)?;

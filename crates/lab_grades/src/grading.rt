@@ -1,15 +1,16 @@
 //! The command `grade`.
 
-use crate::cases::read_cases;
-use crate::judged::Grading;
+use crate::case_files::read_cases;
+use crate::judging::Grading;
 use crate::page_folder::PageFolder;
 use crate::side_by_side::{Graded, jobs_of, judge_all};
 use crate::submissions::read_submission;
 use command_parts::{CommandAnswer, Inputs, LabFault, Program, Status};
-use grade_reports::{Verdict, report_of};
-use lab_explorer::Console;
+use grade_reports::{GradeRow, report_of};
+use judgements::Case;
 use lab_requests::GradeRequest;
 use lab_texts::NumberStyle;
+use program_searches::Console;
 use std::alloc::Global;
 use std::io::{Read, Write};
 use std::rt::Files;
@@ -25,8 +26,8 @@ const MOST_BYTES: usize = 16_777_216;
 /// What is said of submissions.
 #[derive(Drop)]
 pub struct Grades {
-    /// The verdicts, in the order of the submissions.
-    pub verdicts: Vec<Verdict>,
+    /// Their rows, in the order of the submissions.
+    pub rows: Vec<GradeRow>,
     /// How many cases they were judged by; 0 if no case has a name.
     pub cases: usize,
     /// Why not all of their pages were written.
@@ -37,8 +38,8 @@ impl Grades {
     /// The worst status over all of them.
     pub fn status(&self) -> Status {
         let mut status = Status::Done;
-        for verdict in self.verdicts.iter() {
-            status = status.worse(verdict.status);
+        for row in self.rows.iter() {
+            status = status.worse(row.status);
         }
         status
     }
@@ -57,7 +58,7 @@ pub fn grade<X: Threads + Sync + Clock, F: Files, R: Read, E: Write>(
         alloc,
         request.format,
         &request.submissions,
-        &grades.verdicts,
+        &grades.rows,
         grades.cases,
     )?;
     let mut answer = CommandAnswer::printed(alloc, output, grades.status());
@@ -81,34 +82,37 @@ pub fn grades_of<X: Threads + Sync + Clock, F: Files, R: Read, E: Write>(
         style: style_of(request),
         jobs: jobs_of(rt, request),
     };
-    let verdicts = verdicts_on(rt, alloc, inputs, &grading, &mut pages, console)?;
+    let rows = rows_of(rt, alloc, inputs, &grading, &mut pages, console)?;
     Ok(Grades {
-        verdicts,
-        cases: cases.iter().filter(|case| case.name.is_some()).count(),
+        rows,
+        cases: cases
+            .iter()
+            .filter(|case: &&Case| case.name.is_some())
+            .count(),
         fault: pages.fault,
     })
 }
 
 /// What is said of each submission, in their order. Some are read, judged and let go before the next are read.
-fn verdicts_on<X: Threads + Sync + Clock, F: Files, R: Read, E: Write>(
+fn rows_of<X: Threads + Sync + Clock, F: Files, R: Read, E: Write>(
     rt: &X,
     alloc: Global,
     inputs: &mut Inputs<'_, F, R>,
     grading: &Grading<'_, '_>,
     pages: &mut PageFolder<'_>,
     console: &mut Console<'_, X, E>,
-) -> Result<Vec<Verdict>, LabFault> {
-    let mut verdicts = Vec::new(alloc);
+) -> Result<Vec<GradeRow>, LabFault> {
+    let mut rows = Vec::new(alloc);
     for _ in 0..grading.request.submissions.len() {
-        let judged = judge_some(rt, alloc, inputs, grading, verdicts.len(), console)?;
+        let judged = judge_some(rt, alloc, inputs, grading, rows.len(), console)?;
         if judged.is_empty() {
-            return Ok(verdicts);
+            return Ok(rows);
         }
         for graded in judged {
-            verdicts.push(pages.next_verdict(alloc, inputs, grading, graded, console)?)?;
+            rows.push(pages.next_row(alloc, inputs, grading, graded, console)?)?;
         }
     }
-    Ok(verdicts)
+    Ok(rows)
 }
 
 /// Some of the submissions, from a place on, read and judged; none if there are no more.
@@ -133,7 +137,7 @@ fn read_some<F: Files, R: Read>(
     inputs: &mut Inputs<'_, F, R>,
     request: &GradeRequest,
     place: usize,
-) -> Result<Vec<Result<Program, Verdict>>, LabFault> {
+) -> Result<Vec<Result<Program, GradeRow>>, LabFault> {
     let mut read = Vec::new(alloc);
     let mut bytes: usize = 0;
     for path in request.submissions.iter().skip(place).take(MOST_READ) {

@@ -1,17 +1,15 @@
 //! The command `grade`: submissions, judged by the same cases.
 #![tactic(auto)]
 
-mod cases;
-mod end_flaws;
-mod explored_grades;
+mod case_files;
+mod case_words;
 mod grading;
-mod judged;
 mod judging;
-mod missed_lines;
 mod page_folder;
 mod page_names;
-mod seed_ends;
-mod seed_grades;
+mod report_lines;
+mod row_ends;
+mod rows;
 mod side_by_side;
 mod submissions;
 mod verdict_pages;

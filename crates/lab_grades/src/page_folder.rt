@@ -1,14 +1,14 @@
 //! The folder into which the pages of submissions are written.
 
-use crate::judged::Grading;
+use crate::judging::Grading;
 use crate::page_names::page_names;
 use crate::side_by_side::Graded;
-use crate::verdict_pages::page_of_verdict;
+use crate::verdict_pages::page_of_row;
 use command_parts::{Inputs, LabFault, slash_after};
-use grade_reports::Verdict;
-use lab_explorer::Console;
+use grade_reports::GradeRow;
 use lab_requests::GradeRequest;
 use plain_text::stem_of;
+use program_searches::Console;
 use std::alloc::{AllocError, Global};
 use std::io::{Read, Write};
 use std::rt::Files;
@@ -21,7 +21,7 @@ pub(crate) struct PageFolder<'a> {
     folder: Option<&'a str>,
     /// What the page of each submission is called, in their order.
     names: Vec<String>,
-    /// The place of the submission of the next verdict.
+    /// The place of the submission of the next row.
     next: usize,
     /// Why no more pages are written.
     pub fault: Option<LabFault>,
@@ -56,21 +56,21 @@ impl<'a> PageFolder<'a> {
         }
     }
 
-    /// The verdict on the next submission, with its page, which is written.
-    pub(crate) fn next_verdict<F: Files, R: Read, C: Clock, E: Write>(
+    /// The row of the next submission, with its page, which is written.
+    pub(crate) fn next_row<F: Files, R: Read, C: Clock, E: Write>(
         &mut self,
         alloc: Global,
         inputs: &Inputs<'_, F, R>,
         grading: &Grading<'_, '_>,
         graded: Graded,
         console: &mut Console<'_, C, E>,
-    ) -> Result<Verdict, LabFault> {
+    ) -> Result<GradeRow, LabFault> {
         let mut graded = graded;
         self.add_page(alloc, inputs, grading, &mut graded, console)?;
-        Ok(graded.verdict)
+        Ok(graded.row)
     }
 
-    /// Writes the page of the next submission, if it has one, and takes its path into the verdict.
+    /// Writes the page of the next submission, if it has one, and takes its path into the row.
     fn add_page<F: Files, R: Read, C: Clock, E: Write>(
         &mut self,
         alloc: Global,
@@ -86,9 +86,9 @@ impl<'a> PageFolder<'a> {
         {
             let path = grading.request.submissions.get(place).copied();
             let called = stem_of(path.unwrap_or(""));
-            let page = page_of_verdict(alloc, grading, called, program, &graded.verdict, console)?;
+            let page = page_of_row(alloc, grading, called, program, &graded.row, console)?;
             if let Some(page) = page {
-                graded.verdict.page = self.written(alloc, inputs, folder, place, page)?;
+                graded.row.page = self.written(alloc, inputs, folder, place, page)?;
             }
         }
         Ok(())

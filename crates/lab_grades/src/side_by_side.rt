@@ -1,11 +1,10 @@
 //! Submissions judged side by side.
 
-use crate::judged::Grading;
-use crate::judging::verdict_on;
+use crate::judging::{Grading, row_on};
 use command_parts::{LabFault, Program};
-use grade_reports::Verdict;
-use lab_explorer::Console;
+use grade_reports::GradeRow;
 use lab_requests::GradeRequest;
+use program_searches::Console;
 use rayon::current_num_threads;
 use rayon::prelude::*;
 use std::alloc::{AllocError, Global};
@@ -29,7 +28,7 @@ pub(crate) struct Graded {
     /// Its program; None if it is none.
     pub program: Option<Program>,
     /// What is said of it.
-    pub verdict: Verdict,
+    pub row: GradeRow,
 }
 
 /// What is said of some submissions, in their order. The answer is that of one thread.
@@ -37,7 +36,7 @@ pub(crate) fn judge_all<X: Threads + Sync + Clock, E: Write>(
     rt: &X,
     alloc: Global,
     grading: &Grading<'_, '_>,
-    submissions: Vec<Result<Program, Verdict>>,
+    submissions: Vec<Result<Program, GradeRow>>,
     console: &mut Console<'_, X, E>,
 ) -> Result<Vec<Graded>, LabFault> {
     let judged = if grading.jobs <= 1 {
@@ -48,21 +47,21 @@ pub(crate) fn judge_all<X: Threads + Sync + Clock, E: Write>(
     in_order(alloc, submissions, judged)
 }
 
-/// What came of one job: of each of its submissions that are programs the verdict, or why the command gives up.
-type Judgements = Vec<Result<Verdict, LabFault>>;
+/// What came of one job: of each of its submissions that are programs the row, or why the command gives up.
+type JobRows = Vec<Result<GradeRow, LabFault>>;
 
 /// What is said of those that are programs, one after the other.
 fn judge_each<X: Threads + Sync + Clock, E: Write>(
     rt: &X,
     alloc: Global,
     grading: &Grading<'_, '_>,
-    submissions: &[Result<Program, Verdict>],
+    submissions: &[Result<Program, GradeRow>],
     console: &mut Console<'_, X, E>,
-) -> Result<Judgements, AllocError> {
+) -> Result<JobRows, AllocError> {
     let mut judged = Vec::new(alloc);
     for submission in submissions {
         if let Ok(program) = submission {
-            judged.push(verdict_on(rt, alloc, grading, program, console))?;
+            judged.push(row_on(rt, alloc, grading, program, console))?;
         }
     }
     Ok(judged)
@@ -73,15 +72,15 @@ fn judge_side_by_side<X: Threads + Sync + Clock>(
     rt: &X,
     alloc: Global,
     grading: &Grading<'_, '_>,
-    submissions: &[Result<Program, Verdict>],
-) -> Result<Judgements, AllocError> {
+    submissions: &[Result<Program, GradeRow>],
+) -> Result<JobRows, AllocError> {
     let parts = (0..grading.jobs)
         .into_par_iter()
-        .map(|job: usize| -> Result<Judgements, AllocError> {
+        .map(|job: usize| -> Result<JobRows, AllocError> {
             judge_part(rt, alloc, grading, job, submissions)
         })
         .with_min_len(1)
-        .collect::<Result<Vec<Judgements>, AllocError>>(rt, alloc);
+        .collect::<Result<Vec<JobRows>, AllocError>>(rt, alloc);
     match parts {
         Ok(Ok(parts)) => interleaved(alloc, parts, submissions.len()),
         Ok(Err(_)) | Err(_) => Err(AllocError),
@@ -94,8 +93,8 @@ fn judge_part<X: Threads + Sync + Clock>(
     alloc: Global,
     grading: &Grading<'_, '_>,
     job: usize,
-    submissions: &[Result<Program, Verdict>],
-) -> Result<Judgements, AllocError> {
+    submissions: &[Result<Program, GradeRow>],
+) -> Result<JobRows, AllocError> {
     let mut nowhere = sink();
     let mut console = Console {
         clock: rt,
@@ -107,7 +106,7 @@ fn judge_part<X: Threads + Sync + Clock>(
     for submission in submissions {
         if let Ok(program) = submission {
             if place % grading.jobs.max(1) == job {
-                judged.push(verdict_on(rt, alloc, grading, program, &mut console))?;
+                judged.push(row_on(rt, alloc, grading, program, &mut console))?;
             }
             place = place.saturating_add(1);
         }
@@ -116,11 +115,7 @@ fn judge_part<X: Threads + Sync + Clock>(
 }
 
 /// What the jobs said, in the order of the submissions, which are no more than `most`.
-fn interleaved(
-    alloc: Global,
-    parts: Vec<Judgements>,
-    most: usize,
-) -> Result<Judgements, AllocError> {
+fn interleaved(alloc: Global, parts: Vec<JobRows>, most: usize) -> Result<JobRows, AllocError> {
     let mut parts = parts;
     for part in parts.iter_mut() {
         part.reverse();
@@ -129,19 +124,19 @@ fn interleaved(
     let jobs = parts.len().max(1);
     for place in 0..most {
         if let Some(part) = parts.get_mut(place % jobs)
-            && let Some(verdict) = part.pop()
+            && let Some(row) = part.pop()
         {
-            judged.push(verdict)?;
+            judged.push(row)?;
         }
     }
     Ok(judged)
 }
 
-/// All submissions with their verdicts, in their order: those on programs, and what was said of the others already.
+/// All submissions with their rows, in their order: those on programs, and what was said of the others already.
 fn in_order(
     alloc: Global,
-    submissions: Vec<Result<Program, Verdict>>,
-    judged: Judgements,
+    submissions: Vec<Result<Program, GradeRow>>,
+    judged: JobRows,
 ) -> Result<Vec<Graded>, LabFault> {
     let mut judged = judged;
     judged.reverse();
@@ -154,20 +149,17 @@ fn in_order(
     Ok(all)
 }
 
-/// A submission with its verdict: of a program the last of these, which is taken out of them; None if there is none left.
+/// A submission with its row: of a program the last of these, which is taken out of them; None if there is none left.
 fn graded_as(
-    submission: Result<Program, Verdict>,
-    judged: &mut Judgements,
+    submission: Result<Program, GradeRow>,
+    judged: &mut JobRows,
 ) -> Result<Option<Graded>, LabFault> {
     match submission {
-        Err(verdict) => Ok(Some(Graded {
-            program: None,
-            verdict,
-        })),
+        Err(row) => Ok(Some(Graded { program: None, row })),
         Ok(program) => match judged.pop() {
-            Some(Ok(verdict)) => Ok(Some(Graded {
+            Some(Ok(row)) => Ok(Some(Graded {
                 program: Some(program),
-                verdict,
+                row,
             })),
             Some(Err(fault)) => Err(fault),
             None => Ok(None),

@@ -2,7 +2,8 @@
 
 use command_parts::{Inputs, LabFault, Program, ProgramFault, program_in};
 use fault_messages::{Message, Severity};
-use grade_reports::{Verdict, VerdictKind};
+use grade_reports::{GradeRow, SourcePosition};
+use judgements::VerdictKind;
 use std::alloc::{AllocError, Global};
 use std::io::Read;
 use std::rt::Files;
@@ -14,13 +15,13 @@ pub(crate) fn read_submission<F: Files, R: Read>(
     inputs: &mut Inputs<'_, F, R>,
     path: &str,
     refuses_links: bool,
-) -> Result<Result<Program, Verdict>, LabFault> {
+) -> Result<Result<Program, GradeRow>, LabFault> {
     if let Some(words) = refusal_of(alloc, inputs.files, path, refuses_links)? {
-        return Ok(Err(Verdict::of_no_program(alloc, VerdictKind::NotRead, words)));
+        return Ok(Err(GradeRow::of_no_program(alloc, VerdictKind::NotRead, words)));
     }
     let bytes = match inputs.read_or_why(alloc, path)? {
         Ok(bytes) => bytes,
-        Err(why) => return Ok(Err(Verdict::of_no_program(alloc, VerdictKind::NotRead, why))),
+        Err(why) => return Ok(Err(GradeRow::of_no_program(alloc, VerdictKind::NotRead, why))),
     };
     match program_in(alloc, bytes) {
         Ok(program) => Ok(Ok(program)),
@@ -64,8 +65,9 @@ fn is_link<F: Files>(files: &F, path: &str) -> bool {
 }
 
 /// What is said of a submission that is no program: the first error, as `8:9: no operation is called load.N`.
-fn source_fault(alloc: Global, messages: &[Message]) -> Result<Verdict, AllocError> {
+fn source_fault(alloc: Global, messages: &[Message]) -> Result<GradeRow, AllocError> {
     let mut words = String::new(alloc);
+    let mut place = None;
     let first = messages
         .iter()
         .find(|message: &&Message| message.severity == Severity::Error);
@@ -73,6 +75,9 @@ fn source_fault(alloc: Global, messages: &[Message]) -> Result<Verdict, AllocErr
         let (line, column) = (message.line, message.column);
         let what = message.words.as_str();
         write!(words, "{line}:{column}: {what}")?;
+        place = Some(SourcePosition { line, column });
     }
-    Ok(Verdict::of_no_program(alloc, VerdictKind::SourceFault, words))
+    let mut row = GradeRow::of_no_program(alloc, VerdictKind::SourceFault, words);
+    row.place = place;
+    Ok(row)
 }

@@ -1,15 +1,14 @@
 //! The pages of verdicts: runs that show that submissions are not right.
 
-use crate::cases::Case;
-use crate::judged::{Grading, requirements_for};
-use crate::judging::given_by;
+use crate::judging::{Grading, given_by};
 use command_parts::{LabFault, Program, made_by};
-use grade_reports::{Verdict, Witness};
-use lab_explorer::Console;
-use lab_pages::{PlayedProgram, play_page, replay_page};
+use grade_reports::GradeRow;
+use judgements::{Case, Witness, required_by};
 use lab_requests::Maker;
 use lab_texts::ProgramNames;
 use processor::Step;
+use program_pages::{PlayedProgram, play_page, replay_page};
+use program_searches::Console;
 use replay_page::{RunNames, RunVerdict};
 use std::alloc::{AllocError, Global};
 use std::io::Write;
@@ -20,18 +19,18 @@ const THAT_DECIDES: &str = "the schedule that decides";
 
 /// The page of the run that shows a verdict on a program that is called so; None if no run does, or if it has more steps than
 /// a page. Of a schedule it is the page of all schedules, which opens at its end, if they have no more states than a page.
-pub(crate) fn page_of_verdict<C: Clock, E: Write>(
+pub(crate) fn page_of_row<C: Clock, E: Write>(
     alloc: Global,
     grading: &Grading<'_, '_>,
     called: &str,
     program: &Program,
-    verdict: &Verdict,
+    row: &GradeRow,
     console: &mut Console<'_, C, E>,
 ) -> Result<Option<String>, LabFault> {
-    if matches!(&verdict.witness, Witness::None) {
+    if matches!(&row.witness, Witness::None) {
         return Ok(None);
     }
-    let Some(case) = case_of(grading, verdict) else {
+    let Some(case) = case_of(grading, row) else {
         return Ok(None);
     };
     let given = given_by(alloc, case, program)?;
@@ -41,12 +40,12 @@ pub(crate) fn page_of_verdict<C: Clock, E: Write>(
         program,
         case,
     };
-    page_by_case(alloc, grading, shown, verdict, console)
+    page_by_case(alloc, grading, shown, row, console)
 }
 
 /// The case that decides a verdict.
-fn case_of<'a>(grading: &Grading<'a, '_>, verdict: &Verdict) -> Option<&'a Case> {
-    grading.cases.iter().find(|case| case.name == verdict.case)
+fn case_of<'a>(grading: &Grading<'a, '_>, row: &GradeRow) -> Option<&'a Case> {
+    grading.cases.iter().find(|case| case.name == row.case)
 }
 
 /// A program that has a case's cells already.
@@ -65,17 +64,15 @@ fn page_by_case<C: Clock, E: Write>(
     alloc: Global,
     grading: &Grading<'_, '_>,
     shown: ShownProgram<'_>,
-    verdict: &Verdict,
+    row: &GradeRow,
     console: &mut Console<'_, C, E>,
 ) -> Result<Option<String>, LabFault> {
-    match &verdict.witness {
+    match &row.witness {
         Witness::None => Ok(None),
-        Witness::Seed(seed) => {
-            Ok(page_of_seed(alloc, grading.request.most, shown, verdict, *seed)?)
-        }
+        Witness::Seed(seed) => { Ok(page_of_seed(alloc, grading.request.most, shown, row, *seed)?) }
         Witness::Schedule(steps) => match page_of_all(alloc, shown, steps, console)? {
             Some(page) => Ok(Some(page)),
-            None => Ok(page_of_steps(alloc, shown, verdict, THAT_DECIDES, steps)?),
+            None => Ok(page_of_steps(alloc, shown, row, THAT_DECIDES, steps)?),
         },
     }
 }
@@ -85,20 +82,20 @@ fn page_of_seed(
     alloc: Global,
     most: usize,
     shown: ShownProgram<'_>,
-    verdict: &Verdict,
+    row: &GradeRow,
     seed: u64,
 ) -> Result<Option<String>, AllocError> {
     let maker = Maker::Random { seed };
     let made = made_by(alloc, &shown.program.image, maker, most)?;
     let schedule = format!(in alloc; "the random schedule of seed {seed}")?;
-    page_of_steps(alloc, shown, verdict, &schedule, &made.steps)
+    page_of_steps(alloc, shown, row, &schedule, &made.steps)
 }
 
 /// The page of the run by a schedule that is called so; None if it has more steps than a page.
 fn page_of_steps(
     alloc: Global,
     shown: ShownProgram<'_>,
-    verdict: &Verdict,
+    row: &GradeRow,
     schedule: &str,
     steps: &[Step],
 ) -> Result<Option<String>, AllocError> {
@@ -106,13 +103,13 @@ fn page_of_steps(
         program: shown.called,
         schedule,
     };
-    replay_page(alloc, names, judgement_of(verdict), shown.program, steps)
+    replay_page(alloc, names, page_verdict_of(row), shown.program, steps)
 }
 
 /// How a page says that the run is not right: by the line that it misses, where one says it.
-fn judgement_of(verdict: &Verdict) -> RunVerdict<'_> {
+fn page_verdict_of(row: &GradeRow) -> RunVerdict<'_> {
     RunVerdict::NotExpected {
-        missed: verdict.missed.as_ref().map(|line| line.text.as_str()),
+        missed: row.missed.as_ref().map(|line| line.text.as_str()),
     }
 }
 
@@ -124,7 +121,8 @@ fn page_of_all<C: Clock, E: Write>(
     console: &mut Console<'_, C, E>,
 ) -> Result<Option<String>, LabFault> {
     let names = ProgramNames::of(alloc, &shown.program.text)?;
-    let Ok(required) = requirements_for(alloc, shown.case, shown.program)? else {
+    let program = shown.program;
+    let Ok(required) = required_by(alloc, shown.case, &program.image, &program.text) else {
         return Ok(None);
     };
     let played = PlayedProgram {

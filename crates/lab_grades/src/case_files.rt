@@ -1,9 +1,10 @@
-//! The cases that submissions are judged by.
+//! The cases that submissions are judged by, read.
 
 use asm_text::AsmFault;
 use case_cells::{CellsFault, program_of_cells, read_cells};
 use command_parts::{Inputs, LabFault, folder_names, slash_after};
 use image_file::Image;
+use judgements::Case;
 use lab_requests::GradeCases;
 use plain_text::plain;
 use source_faults::check_source;
@@ -22,49 +23,32 @@ const LINES_OF_CELLS: &str =
 /// What is said of a file of cells that gives none.
 const NO_CELL: &str = "no cell is given here, so nothing replaces the submission's own";
 
-/// What submissions are judged by: cells, and what the end of a run with them has to be.
-#[derive(Drop)]
-pub(crate) struct Case {
-    /// Its name; None where it is the only one.
-    pub name: Option<String>,
-    /// The path of the file of expectations.
-    pub path: String,
-    /// Its text.
-    pub expected: Vec<u8>,
-    /// An image with the cells that take the place of a submission's own.
-    pub cells: Option<Image>,
-    /// The text of these cells; empty where there are none.
-    pub given: Vec<u8>,
+/// The case of a file of expectations, as the only one, without cells.
+fn case_of_file<F: Files, R: Read>(
+    alloc: Global,
+    inputs: &mut Inputs<'_, F, R>,
+    path: String,
+) -> Result<Case, LabFault> {
+    let expected = inputs.read(alloc, &path)?;
+    Ok(Case {
+        name: None,
+        path,
+        expected,
+        cells: None,
+        given: Vec::new(alloc),
+    })
 }
 
-impl Case {
-    /// The case of a file of expectations, as the only one, without cells.
-    fn of_file<F: Files, R: Read>(
-        alloc: Global,
-        inputs: &mut Inputs<'_, F, R>,
-        path: String,
-    ) -> Result<Case, LabFault> {
-        let expected = inputs.read(alloc, &path)?;
-        Ok(Case {
-            name: None,
-            path,
-            expected,
-            cells: None,
-            given: Vec::new(alloc),
-        })
-    }
-
-    /// Takes the cells of a file.
-    fn take_cells<F: Files, R: Read>(
-        &mut self,
-        alloc: Global,
-        inputs: &mut Inputs<'_, F, R>,
-        path: &str,
-    ) -> Result<(), LabFault> {
-        self.given = inputs.read(alloc, path)?;
-        self.cells = Some(cells_of(alloc, path, &self.given)?);
-        Ok(())
-    }
+/// Takes the cells of a file into a case.
+fn take_cells<F: Files, R: Read>(
+    alloc: Global,
+    inputs: &mut Inputs<'_, F, R>,
+    case: &mut Case,
+    path: &str,
+) -> Result<(), LabFault> {
+    case.given = inputs.read(alloc, path)?;
+    case.cells = Some(cells_of(alloc, path, &case.given)?);
+    Ok(())
 }
 
 /// The cases that are asked for, in the order of their names, one at least.
@@ -91,9 +75,9 @@ fn case_given<F: Files, R: Read>(
     expected: &str,
     given: Option<&str>,
 ) -> Result<Case, LabFault> {
-    let mut case = Case::of_file(alloc, inputs, String::from_str(alloc, expected)?)?;
+    let mut case = case_of_file(alloc, inputs, String::from_str(alloc, expected)?)?;
     if let Some(path) = given {
-        case.take_cells(alloc, inputs, path)?;
+        take_cells(alloc, inputs, &mut case, path)?;
     }
     Ok(case)
 }
@@ -121,9 +105,9 @@ fn case_of<F: Files, R: Read>(
 ) -> Result<Case, LabFault> {
     let slash = slash_after(folder);
     let expected = format!(in alloc; "{folder}{slash}{name}.expect")?;
-    let mut case = Case::of_file(alloc, inputs, expected)?;
+    let mut case = case_of_file(alloc, inputs, expected)?;
     let data = format!(in alloc; "{folder}{slash}{name}.data")?;
-    case.take_cells(alloc, inputs, &data)?;
+    take_cells(alloc, inputs, &mut case, &data)?;
     case.name = Some(String::from_str(alloc, name)?);
     Ok(case)
 }

@@ -1,0 +1,81 @@
+-- What ends and runs show against a submission.
+use Rattle.std.specs.Prelude.{◌≡◌, ℕ, Bool, true, false, List, Some, is_some, slice_get}
+use Rattle.end_kinds.specs.declared.kinds.EndKind.{EndKind}
+use Rattle.end_kinds.specs.declared.kinds.EndKind.TheVariants as kind
+use Rattle.space_ends.specs.declared.end_values.SpaceEnd.{SpaceEnd}
+use Rattle.space_ends.specs.declared.end_values.SpaceEndKind.{SpaceEndKind}
+use Rattle.space_ends.specs.declared.end_values.SpaceEndKind.TheVariants as space_end
+use Rattle.seed_verdicts.specs.declared.run_flaw.RunFlaw.{RunFlaw}
+use Rattle.seed_verdicts.specs.declared.run_flaw.RunFlaw.TheVariants as run_flaw
+use Rattle.judgements.specs.declared.end_flaws.EndFlaw.{EndFlaw}
+use Rattle.judgements.specs.declared.end_flaws.EndFlaw.TheVariants as flaw
+use Rattle.judgements.specs.declared.verdict_kinds.VerdictKind.{VerdictKind}
+use Rattle.judgements.specs.declared.verdict_kinds.VerdictKind.TheVariants as verdict
+
+-- what a submission is whose run has a flaw
+abbrev pub kind_of_run : RunFlaw → VerdictKind
+kind_of_run run_flaw.Trap = verdict.Trap
+kind_of_run run_flaw.Deadlock = verdict.Deadlock
+kind_of_run (run_flaw.Missed expectation) = verdict.Wrong
+kind_of_run (run_flaw.Broken taken claim) = verdict.Wrong
+kind_of_run run_flaw.OutOfSteps = verdict.RanOutOfSteps
+
+-- what a submission is of which an end of all schedules shows a flaw
+abbrev pub kind_of_end : EndFlaw → VerdictKind
+kind_of_end flaw.Trap = verdict.Trap
+kind_of_end flaw.Deadlock = verdict.Deadlock
+kind_of_end flaw.Wrong = verdict.Wrong
+kind_of_end flaw.Broken = verdict.Wrong
+kind_of_end flaw.Spinning = verdict.Spins
+
+abbrev pub is_deadlock_kind : EndKind → Bool
+is_deadlock_kind kind.Finished = false
+is_deadlock_kind kind.Stopped = false
+is_deadlock_kind kind.Deadlock = true
+is_deadlock_kind kind.Spinning = false
+is_deadlock_kind kind.OutOfSteps = false
+
+abbrev pub is_spinning_kind : EndKind → Bool
+is_spinning_kind kind.Finished = false
+is_spinning_kind kind.Stopped = false
+is_spinning_kind kind.Deadlock = false
+is_spinning_kind kind.Spinning = true
+is_spinning_kind kind.OutOfSteps = false
+
+abbrev pub is_deadlock : SpaceEndKind → Bool
+is_deadlock (space_end.End k) = is_deadlock_kind k
+is_deadlock (space_end.Broken claim) = false
+is_deadlock space_end.Busy = false
+
+abbrev pub is_spinning : SpaceEndKind → Bool
+is_spinning (space_end.End k) = is_spinning_kind k
+is_spinning (space_end.Broken claim) = false
+is_spinning space_end.Busy = false
+
+-- whether a claim does not hold of worlds, or a stream loops alone from one
+abbrev pub is_broken : SpaceEndKind → Bool
+is_broken (space_end.End k) = false
+is_broken (space_end.Broken claim) = true
+is_broken space_end.Busy = true
+
+-- whether an end shows a flaw
+abbrev pub shows : EndFlaw → SpaceEnd → Bool
+shows flaw.Trap end = end.is_trapped
+shows flaw.Deadlock end = is_deadlock end.kind
+shows flaw.Wrong end = is_some end.missed
+shows flaw.Broken end = is_broken end.kind
+shows flaw.Spinning end = is_spinning end.kind
+
+-- no end of a list shows a flaw
+abbrev pub NoneShows : List SpaceEnd → EndFlaw → Type 0
+NoneShows ends f = (k : ℕ) (end : SpaceEnd) → slice_get ends k ≡ Some end → shows f end ≡ false
+
+-- none shows any
+abbrev pub ShowNothing : List SpaceEnd → Type 0
+ShowNothing ends = (f : EndFlaw) → NoneShows ends f
+
+-- The end at this place of a list shows a flaw.
+pub record ShowsAt (ends : List SpaceEnd) (f : EndFlaw) (place : ℕ) : Type 0 where
+  pub end : SpaceEnd
+  pub there : slice_get ends place ≡ Some end
+  pub shows : shows f end ≡ true

@@ -1,0 +1,8 @@
+-- The promises, in the order of reading: clauses of public functions cite them.
+pub mod Severity
+pub mod Cases
+pub mod Right
+pub mod Flaws
+pub mod Missed
+pub mod Shown
+pub mod Verdicts

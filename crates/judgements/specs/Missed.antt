@@ -1,0 +1,50 @@
+-- Which line of a file of expectations is not met.
+use Rattle.std.specs.Prelude.{ℕ, List, Option, Some, None, slice_get}
+use Rattle.std.specs.Option.{option_map}
+use Rattle.space_ends.specs.declared.end_values.SpaceEnd.{SpaceEnd}
+use Rattle.space_ends.specs.declared.end_values.SpaceEndKind.{SpaceEndKind}
+use Rattle.space_ends.specs.declared.end_values.SpaceEndKind.TheVariants as space_end
+use Rattle.seed_verdicts.specs.declared.run_flaw.RunFlaw.{RunFlaw}
+use Rattle.seed_verdicts.specs.declared.run_flaw.RunFlaw.TheVariants as run_flaw
+use Rattle.judgements.specs.declared.case_judgements.MissedLine.{MissedLine}
+use Rattle.judgements.specs.declared.case_judgements.MissedLine.TheVariants as line
+use Rattle.judgements.specs.declared.case_judgements.Reason.{Reason}
+use Rattle.judgements.specs.declared.case_judgements.Reason.TheVariants as reason
+use Rattle.judgements.specs.declared.case_judgements.CaseJudgement.{CaseJudgement}
+
+-- the expectation at a place, as the line that says it
+abbrev pub expectation_at : Option ℕ → Option MissedLine
+expectation_at None = None
+expectation_at (Some place) = Some (line.End place)
+
+-- of an end of all schedules: the first expectation that it misses, or the line that its worlds break
+abbrev pub missed_at_end : SpaceEndKind → Option ℕ → Option MissedLine
+missed_at_end (space_end.End kind) missed = expectation_at missed
+missed_at_end (space_end.Broken claim) missed = Some (line.Claim claim)
+missed_at_end space_end.Busy missed = Some line.Busy
+
+-- of a run with a flaw: the claim that is broken on its way, or else the first expectation that its end misses
+abbrev pub missed_in_run : RunFlaw → Option ℕ → Option MissedLine
+missed_in_run run_flaw.Trap missed = expectation_at missed
+missed_in_run run_flaw.Deadlock missed = expectation_at missed
+missed_in_run (run_flaw.Missed expectation) missed = expectation_at missed
+missed_in_run (run_flaw.Broken taken claim) missed = Some (line.Claim claim)
+missed_in_run run_flaw.OutOfSteps missed = expectation_at missed
+
+abbrev pub missed_at : Option SpaceEnd → Option MissedLine
+missed_at None = None
+missed_at (Some end) = missed_at_end end.kind end.missed
+
+abbrev pub missed_for : List SpaceEnd → Reason → Option MissedLine
+missed_for ends reason.Looked = None
+missed_for ends (reason.Run run) = missed_in_run run.flaw run.end.judgement.missed
+missed_for ends (reason.End place) = missed_at (slice_get ends place)
+missed_for ends (reason.NoSchedule claim) = Some (line.Claim claim)
+missed_for ends (reason.NoRun claim) = Some (line.Claim claim)
+missed_for ends reason.NoRunCan = Some line.Busy
+missed_for ends (reason.Rule place) = Some (line.Rule place)
+missed_for ends (reason.Absent number fault) = Some (line.Absent number fault)
+
+-- the line that is not met by what decides
+abbrev pub missed_by : CaseJudgement → Option MissedLine
+missed_by j = missed_for j.ends.items j.reason

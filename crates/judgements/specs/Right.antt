@@ -1,0 +1,39 @@
+-- When a submission is right by a case.
+use Rattle.std.specs.Prelude.{◌≡◌, ℕ, List, [], Option, Some, None, Ok, is_some, IsNone}
+use Rattle.image_file.specs.ImageValue.{ImageValue}
+use Rattle.lab_requests.specs.declared.requests.Bounds.{Bounds}
+use Rattle.expectation_files.specs.Judged.{IsJudged}
+use Rattle.expectation_files.specs.Seen.{requirements_seen}
+use Rattle.expectation_files.specs.declared.requirements.Requirements.{Requirements}
+use Rattle.schedule_verdicts.specs.ShownClaims.{IsRightThroughout}
+use Rattle.seed_verdicts.specs.Seeds.{AreJudged}
+use Rattle.seed_verdicts.specs.ShownBySeeds.{AreShownBySeeds}
+use Rattle.seed_verdicts.specs.declared.run_flaw.Seeds.{Seeds}
+use Rattle.judgements.specs.Cases.{program_by, said_by, seeds_of}
+use Rattle.judgements.specs.declared.cases.Case.{Case}
+use Rattle.judgements.specs.declared.cases.AskedJudging.{AskedJudging}
+
+-- every schedule of a program is right
+abbrev pub IsRightBySchedules : ImageValue → Requirements → Type 0
+IsRightBySchedules image required =
+    IsRightThroughout image [] required.ends.items required.claims.items (is_some required.never_busy)
+
+-- The run of each seed is right, the runs show each claim that has to hold of one world at least, and it is not required
+-- that no stream loops alone, which no run shows.
+pub record IsRightBySeeds (image : ImageValue) (required : Requirements) (seeds : Seeds) : Type 0 where
+  pub judged : AreJudged image required.ends.items required.claims.items seeds None
+  pub shown : AreShownBySeeds image required.claims.items seeds
+  pub unasked : IsNone required.never_busy
+
+-- a program is right as it was asked: by every schedule, or by seeds
+abbrev pub IsRightAsAsked : Option Bounds → Seeds → ImageValue → Requirements → Type 0
+IsRightAsAsked (Some bounds) seeds image required = IsRightBySchedules image required
+IsRightAsAsked None seeds image required = IsRightBySeeds image required seeds
+
+-- A submission of this image and text is right by a case: what the case says of the program that it makes of the submission
+-- is something, that program keeps the rules, and it is right as it was asked.
+pub record IsRightCase (asked : AskedJudging) (image : ImageValue) (text : List ℕ) (case : Case) : Type 0 where
+  pub required : Requirements
+  pub said : said_by case (program_by image case) text ≡ Ok (requirements_seen required)
+  pub judged : IsJudged (program_by image case) required
+  pub right : IsRightAsAsked asked.explored (seeds_of asked) (program_by image case) required

@@ -1,0 +1,74 @@
+//! What is known of a submission by one case.
+
+ghost use Rattle.std.specs.Prelude.{◌≡◌, IsTrue, IfOk};
+ghost use Rattle.expectation_files.specs.Judged.{are_rules_kept};
+ghost use Rattle.judgements.specs.Cases.{seeds_of};
+ghost use Rattle.judgements.specs.Right.{IsRightAsAsked};
+ghost use Rattle.judgements.specs.Shown.{IsCaseJudged, IsShownBy};
+
+use crate::by_schedules::{JudgedProgram, judged_by_schedules};
+use crate::by_seeds::judged_by_seeds;
+use crate::case_judgements::{CaseJudgement, Reason};
+use crate::cases::{AskedJudging, Case, Submission, image_by};
+use crate::judge_faults::CaseFault;
+use crate::knowledge::Known;
+use crate::requirements::required_by;
+use crate::verdict_kinds::VerdictKind;
+use expectation_files::FileFault;
+use program_rules::first_broken;
+use program_searches::Console;
+use std::alloc::Global;
+use std::io::Write;
+use std::thread::Threads;
+use std::time::Clock;
+
+/// What is known of a submission with the cells of a case, by that case.
+pub(crate) fn judged_by_case<X: Threads + Sync, C: Clock, E: Write>(
+    rt: &X,
+    alloc: Global,
+    asked: AskedJudging,
+    case: &Case,
+    submission: Submission<'_>,
+    console: &mut Console<'_, C, E>,
+) -> Result<CaseJudgement, CaseFault>
+    ensures { IfOk result (λ j. IsCaseJudged asked submission.image.now submission.text.now case.now j) }
+{
+    let given = image_by(alloc, submission.image, case)?;
+    let image = given.as_ref().unwrap_or(submission.image);
+    match required_by(alloc, case, image, submission.text) {
+        Ok(required) => {
+            let required = &required;
+            judged_program(rt, alloc, asked, JudgedProgram { image, required }, console)
+        }
+        Err(FileFault::Line { line, fault }) if fault.kind.is_of_program() => {
+            let reason = Reason::Absent { line, fault };
+            Ok(CaseJudgement::plain(alloc, VerdictKind::Wrong, Known::NOTHING, reason))
+        }
+        Err(fault) => Err(CaseFault::of_file(fault)),
+    }
+}
+
+/// What is known of a program of which this is required: by the first rule of programs that it breaks, else by every
+/// schedule, if that is asked, else by random ones.
+fn judged_program<X: Threads + Sync, C: Clock, E: Write>(
+    rt: &X,
+    alloc: Global,
+    asked: AskedJudging,
+    judged: JudgedProgram<'_>,
+    console: &mut Console<'_, C, E>,
+) -> Result<CaseJudgement, CaseFault>
+    ensures right { IfOk result (λ j. j.kind ≡ VerdictKind.Right
+        → IsRightAsAsked asked.explored (seeds_of asked) judged.image.now judged.required.now) }
+    ensures kept { IfOk result (λ j. j.kind ≡ VerdictKind.Right
+        → IsTrue (are_rules_kept judged.image.now judged.required.now.rules.items)) }
+    ensures shown { IfOk result (λ j. IsShownBy judged.image.now judged.required.now (seeds_of asked) j) }
+{
+    if let Some(rule) = first_broken(judged.image, judged.required.rules()) {
+        let reason = Reason::Rule(rule);
+        return Ok(CaseJudgement::plain(alloc, VerdictKind::Wrong, Known::NOTHING, reason));
+    }
+    match asked.explored {
+        Some(bounds) => judged_by_schedules(rt, alloc, asked, bounds, judged, console),
+        None => Ok(judged_by_seeds(rt, alloc, asked, judged.image, judged.required)?),
+    }
+}

@@ -1,0 +1,137 @@
+//! What every schedule says of a submission.
+
+ghost use Rattle.std.specs.Prelude.{◌≡◌, IsTrue, IfOk};
+ghost use Rattle.image_file.specs.ImageValue.{ImageValue};
+ghost use Rattle.expectation_files.specs.declared.requirements.Requirements.{Requirements};
+ghost use Rattle.seed_verdicts.specs.declared.run_flaw.Seeds.{Seeds};
+ghost use Rattle.judgements.specs.Cases.{seeds_of};
+ghost use Rattle.judgements.specs.Right.{IsRightBySchedules};
+ghost use Rattle.judgements.specs.Shown.{IsShownBy, IsShownFor};
+
+use crate::by_seeds::judged_by_seeds;
+use crate::case_judgements::{CaseJudgement, Reason};
+use crate::cases::AskedJudging;
+use crate::end_flaws::first_end_flaw;
+use crate::judge_faults::CaseFault;
+use crate::knowledge::Known;
+use crate::verdict_kinds::VerdictKind;
+use expectation_files::Requirements;
+use image_file::Image;
+use lab_requests::Bounds;
+use program_searches::{Console, Explored, ProgramSearch, explore_program};
+use std::alloc::{AllocError, Global};
+use std::io::Write;
+use std::thread::Threads;
+use std::time::Clock;
+
+/// A program, and what is required of it.
+#[derive(Clone, Copy)]
+pub(crate) struct JudgedProgram<'a> {
+    /// Its image, with the cells of a case.
+    pub image: &'a Image,
+    /// What the case requires of it.
+    pub required: &'a Requirements,
+}
+
+/// What every schedule says of a program: the first that holds of any of its ends of a trap, a deadlock, a wrong end, a
+/// broken claim, a set of worlds that spin. Where none does, it is whether some schedule shows each claim that has to hold
+/// of one world at least. If the search has none of them and did not find all worlds, random schedules are tried: what they
+/// say, and where they say right, that it is not decided. The status is the worst over all.
+pub(crate) fn judged_by_schedules<X: Threads + Sync, C: Clock, E: Write>(
+    rt: &X,
+    alloc: Global,
+    asked: AskedJudging,
+    bounds: Bounds,
+    judged: JudgedProgram<'_>,
+    console: &mut Console<'_, C, E>,
+) -> Result<CaseJudgement, CaseFault>
+    ensures right { IfOk result (λ j. j.kind ≡ VerdictKind.Right
+        → IsRightBySchedules judged.image.now judged.required.now) }
+    ensures shown { IfOk result (λ j. IsShownBy judged.image.now judged.required.now (seeds_of asked) j) }
+{
+    let begin = Vec::new(alloc);
+    let search = ProgramSearch {
+        required: judged.required,
+        begin: &begin,
+        bounds,
+        is_plain: false,
+    };
+    let found = explore_program(alloc, judged.image, &search, console)?;
+    let is_shown = found.unshown.is_none();
+    let judgement = judged_by_search(alloc, found);
+    if judgement.kind != VerdictKind::NotDecided {
+        return Ok(judgement);
+    }
+    Ok(undecided(rt, alloc, asked, judged, judgement, is_shown)?)
+}
+
+/// What a search says of a program.
+fn judged_by_search(alloc: Global, found: Explored<'_>) -> CaseJudgement
+    ensures right { result.kind ≡ VerdictKind.Right → IsTrue found.is_right }
+    ensures shown { (image : ImageValue) (required : Requirements) (seeds : Seeds)
+        → IsShownBy image required seeds result }
+{
+    let known = known_of(&found);
+    let status = found.status();
+    let (kind, reason) = decided_by(&found);
+    let mut judgement = CaseJudgement::plain(alloc, kind, known, reason);
+    judgement.status = judgement.status.worse(status);
+    judgement.ends = found.ends;
+    judgement
+}
+
+/// What a program is by what a search found, and for which reason.
+fn decided_by(found: &Explored<'_>) -> (VerdictKind, Reason)
+    ensures right { result.0 ≡ VerdictKind.Right → IsTrue found.now.is_right }
+    ensures shown { (image : ImageValue) (required : Requirements) (seeds : Seeds)
+        → IsShownFor image required seeds found.now.ends.items result.0 result.1 }
+{
+    if let Some(flawed) = first_end_flaw(&found.ends) {
+        return (flawed.flaw.kind(), Reason::End(flawed.end));
+    }
+    if let Some(claim) = found.unkept().unshown {
+        return (VerdictKind::Wrong, Reason::NoSchedule { claim });
+    }
+    if found.is_right {
+        return (VerdictKind::Right, Reason::Looked);
+    }
+    (VerdictKind::NotDecided, Reason::Looked)
+}
+
+/// What a search found.
+fn known_of(found: &Explored<'_>) -> Known {
+    Known {
+        worlds: Some(found.worlds()),
+        is_every: found.is_complete,
+        bound: found.bound,
+        seeds: None,
+    }
+}
+
+/// What is known of a program of which a search did not decide: what random schedules say. Where `is_shown`, the search has
+/// shown each claim that has to hold of one world at least, and the one that no run shows is not named.
+fn undecided<X: Threads + Sync>(
+    rt: &X,
+    alloc: Global,
+    asked: AskedJudging,
+    judged: JudgedProgram<'_>,
+    searched: CaseJudgement,
+    is_shown: bool,
+) -> Result<CaseJudgement, AllocError>
+    ensures right { IfOk result (λ j. ¬ (j.kind ≡ VerdictKind.Right)) }
+    ensures shown { IfOk result (λ j. IsShownBy judged.image.now judged.required.now (seeds_of asked) j) }
+{
+    let mut judgement = judged_by_seeds(rt, alloc, asked, judged.image, judged.required)?;
+    if judgement.kind == VerdictKind::Right {
+        judgement.kind = VerdictKind::NotDecided;
+    }
+    if is_shown && judgement.kind == VerdictKind::NotDecided {
+        judgement.reason = Reason::Looked;
+    }
+    judgement.known = Known {
+        seeds: judgement.known.seeds,
+        ..searched.known
+    };
+    judgement.status = judgement.status.worse(searched.status);
+    Ok(judgement)
+}

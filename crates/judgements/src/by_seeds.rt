@@ -1,0 +1,211 @@
+//! What random schedules say of a submission.
+
+ghost use Rattle.std.specs.Prelude.{◌≡◌, IfOk};
+ghost use Rattle.seed_verdicts.specs.Seeds.{AreJudged};
+ghost use Rattle.judgements.specs.Cases.{seeds_of};
+ghost use Rattle.judgements.specs.Flaws.{kind_of_run};
+ghost use Rattle.judgements.specs.Right.{IsRightBySeeds};
+ghost use Rattle.judgements.specs.Shown.{IsShownBy};
+
+use crate::case_judgements::{CaseJudgement, Reason, ShownRun};
+use crate::cases::AskedJudging;
+use crate::knowledge::Known;
+use crate::verdict_kinds::VerdictKind;
+use end_states::{JudgedEnd, judged_end};
+use expectation_files::Requirements;
+use image_file::Image;
+use image_machines::{by_room, loaded};
+use machine::LoadFault;
+use schedule_makers::{fair_length, seeded};
+use seed_outcomes::{SeedOutcome, SurveySeeds, outcomes_of, unshown_by_seeds, worst_status};
+use seed_verdicts::{RunFlaw, SeedFlaw, Seeds, first_flaw, first_flaw_alone};
+use std::alloc::{AllocError, Global};
+use std::thread::Threads;
+
+impl AskedJudging {
+    /// The seeds that are tried.
+    pub(crate) fn sampled(self) -> Seeds
+        ensures { result ≡ seeds_of self }
+    {
+        Seeds {
+            first: 0,
+            count: self.seeds,
+            most: self.most,
+        }
+    }
+}
+
+/// What random schedules say of a program of which this is required: by the first seed whose run is not right, what is wrong
+/// with that run; where each is right, that it is right, or not decided, where none shows a claim that has to hold of one
+/// world at least, or no stream is to loop alone.
+pub(crate) fn judged_by_seeds<X: Threads + Sync>(
+    rt: &X,
+    alloc: Global,
+    asked: AskedJudging,
+    image: &Image,
+    required: &Requirements,
+) -> Result<CaseJudgement, AllocError>
+    ensures right { IfOk result (λ j. j.kind ≡ VerdictKind.Right
+        → IsRightBySeeds image.now required.now (seeds_of asked)) }
+    ensures shown { IfOk result (λ j. IsShownBy image.now required.now (seeds_of asked) j) }
+{
+    let judgement = match flaw_of(rt, alloc, asked, image, required)? {
+        Some(found) => judged_by_flaw(alloc, asked, image, required, found)?,
+        None => judged_flawless(alloc, asked.sampled(), image, required)?,
+    };
+    if !asked.counts_all {
+        return Ok(judgement);
+    }
+    with_outcomes(rt, alloc, asked, image, required, judgement)
+}
+
+/// The same judgement with the outcomes of all seeds, those that most seeds come to first, and with the worst status over all
+/// of them.
+fn with_outcomes<X: Threads + Sync>(
+    rt: &X,
+    alloc: Global,
+    asked: AskedJudging,
+    image: &Image,
+    required: &Requirements,
+    judgement: CaseJudgement,
+) -> Result<CaseJudgement, AllocError>
+    ensures kind { IfOk result (λ j. j.kind ≡ judgement.kind) }
+    ensures reason { IfOk result (λ j. j.reason ≡ judgement.reason) }
+    ensures ends { IfOk result (λ j. j.ends ≡ judgement.ends) }
+{
+    let seeds = SurveySeeds {
+        first: 0,
+        count: asked.seeds,
+        most: asked.most,
+    };
+    let mut outcomes = outcomes_of(rt, alloc, image, required, seeds)?;
+    outcomes.sort_by_key(|outcome: &SeedOutcome| usize::MAX - outcome.runs)?;
+    let mut judgement = judgement;
+    judgement.status = judgement.status.worse(worst_status(&outcomes));
+    judgement.outcomes = outcomes;
+    Ok(judgement)
+}
+
+/// What is known of a program of which the run of each seed is right.
+fn judged_flawless(
+    alloc: Global,
+    seeds: Seeds,
+    image: &Image,
+    required: &Requirements,
+) -> Result<CaseJudgement, AllocError>
+    requires { AreJudged image.now required.now.ends.items required.now.claims.items seeds None }
+    ensures right { IfOk result (λ j. j.kind ≡ VerdictKind.Right → IsRightBySeeds image.now required.now seeds) }
+    ensures shown { IfOk result (λ j. IsShownBy image.now required.now seeds j) }
+{
+    let known = known_of(seeds.count);
+    if let Some(claim) = unshown_by_seeds(alloc, image, required.claims(), seeds)? {
+        let reason = Reason::NoRun { claim };
+        return Ok(CaseJudgement::plain(alloc, VerdictKind::NotDecided, known, reason));
+    }
+    if required.never_busy().is_some() {
+        let reason = Reason::NoRunCan;
+        return Ok(CaseJudgement::plain(alloc, VerdictKind::NotDecided, known, reason));
+    }
+    Ok(CaseJudgement::plain(alloc, VerdictKind::Right, known, Reason::Looked))
+}
+
+/// So many seeds were tried.
+fn known_of(seeds: usize) -> Known {
+    Known {
+        seeds: Some(seeds),
+        ..Known::NOTHING
+    }
+}
+
+/// Of seeds the first whose run is not right, and what is wrong with it.
+fn flaw_of<X: Threads + Sync>(
+    rt: &X,
+    alloc: Global,
+    asked: AskedJudging,
+    image: &Image,
+    required: &Requirements,
+) -> Result<Option<SeedFlaw>, AllocError>
+    ensures { IfOk result (λ found. AreJudged
+        image.now required.now.ends.items required.now.claims.items (seeds_of asked) found) }
+{
+    let found = by_room!(image, flaw_on::<X>(rt, alloc, asked, image, required));
+    match found {
+        Ok(found) => Ok(found),
+        Err(LoadFault::NoMemory | LoadFault::Streams) => Err(AllocError),
+    }
+}
+
+/// The same on machines with room for `S` streams a processor.
+fn flaw_on<X: Threads + Sync, const S: usize>(
+    rt: &X,
+    alloc: Global,
+    asked: AskedJudging,
+    image: &Image,
+    required: &Requirements,
+) -> Result<Option<SeedFlaw>, LoadFault>
+    ensures { IfOk result (λ found. AreJudged
+        image.now required.now.ends.items required.now.claims.items (seeds_of asked) found) }
+{
+    let (ends, claims, seeds) = (required.ends(), required.claims(), asked.sampled());
+    if asked.is_spread {
+        first_flaw::<X, S>(rt, alloc, image, ends, claims, seeds)
+    } else {
+        first_flaw_alone::<S>(alloc, image, ends, claims, seeds)
+    }
+}
+
+/// What a submission is with such a run.
+fn kind_of(flaw: RunFlaw) -> VerdictKind
+    ensures { result ≡ kind_of_run flaw }
+{
+    match flaw {
+        RunFlaw::Trap => VerdictKind::Trap,
+        RunFlaw::Deadlock => VerdictKind::Deadlock,
+        RunFlaw::Missed { .. } | RunFlaw::Broken { .. } => VerdictKind::Wrong,
+        RunFlaw::OutOfSteps => VerdictKind::RanOutOfSteps,
+    }
+}
+
+/// What is known of a program with this flaw.
+fn judged_by_flaw(
+    alloc: Global,
+    asked: AskedJudging,
+    image: &Image,
+    required: &Requirements,
+    found: SeedFlaw,
+) -> Result<CaseJudgement, AllocError>
+    requires { AreJudged image.now required.now.ends.items required.now.claims.items (seeds_of asked) (Some found) }
+    ensures right { IfOk result (λ j. ¬ (j.kind ≡ VerdictKind.Right)) }
+    ensures shown { IfOk result (λ j. IsShownBy image.now required.now (seeds_of asked) j) }
+{
+    let end = by_room!(
+        image,
+        end_of_seed(alloc, asked, image, required, found.seed)
+    )?;
+    let status = end.judgement.status();
+    // (the seeds begin with 0)
+    let tried = (found.seed as usize).saturating_add(1);
+    let shown = ShownRun {
+        seed: found.seed,
+        flaw: found.flaw,
+        end,
+    };
+    let kind = kind_of(found.flaw);
+    let mut judgement = CaseJudgement::plain(alloc, kind, known_of(tried), Reason::Run(shown));
+    judgement.status = judgement.status.worse(status);
+    Ok(judgement)
+}
+
+/// The end of the run of a seed.
+fn end_of_seed<const S: usize>(
+    alloc: Global,
+    asked: AskedJudging,
+    image: &Image,
+    required: &Requirements,
+    seed: u64,
+) -> Result<JudgedEnd, AllocError> {
+    let mut machine = loaded::<S>(alloc, image)?;
+    let fair_steps = fair_length(alloc, &machine)?;
+    seeded(alloc, &mut machine, seed, fair_steps, asked.most)?;
+    judged_end(alloc, &machine, required.ends())
+}

@@ -1,0 +1,195 @@
+//! What is known of a submission by one case.
+
+ghost use Rattle.std.specs.Prelude.{◌≡◌, None, Some};
+ghost use Rattle.judgements.specs.Missed.{missed_at_end, missed_in_run, missed_by};
+
+use crate::knowledge::Known;
+use crate::verdict_kinds::VerdictKind;
+use end_kinds::Status;
+use end_states::JudgedEnd;
+use expectation_files::LineFault;
+use processor::Step;
+use seed_outcomes::SeedOutcome;
+use seed_verdicts::RunFlaw;
+use space_ends::{SpaceEnd, SpaceEndKind};
+use std::alloc::{AllocError, Global};
+
+/// The run of a seed that is not right.
+#[derive(Drop)]
+pub struct ShownRun {
+    /// The seed.
+    pub seed: u64,
+    /// What is wrong with the run.
+    pub flaw: RunFlaw,
+    /// Its end.
+    pub end: JudgedEnd,
+}
+
+/// What decides a verdict.
+#[derive(Drop)]
+pub enum Reason {
+    /// All that was looked at.
+    Looked,
+    /// The run of a seed.
+    Run(ShownRun),
+    /// The end at this place among those of all schedules.
+    End(usize),
+    /// That no schedule shows a claim which has to hold of one world at least.
+    NoSchedule {
+        /// The place of the first such claim among all.
+        claim: usize,
+    },
+    /// The same of the runs of all seeds, which says nothing of other schedules.
+    NoRun {
+        /// The place of the first such claim among all.
+        claim: usize,
+    },
+    /// That no stream is to loop alone, which no run can show.
+    NoRunCan,
+    /// The rule of programs at this place, which the program breaks.
+    Rule(usize),
+    /// That a line names what the program lacks.
+    Absent {
+        /// The line, counted from 1.
+        line: usize,
+        /// What the program lacks.
+        fault: LineFault,
+    },
+}
+
+/// What shows that a submission is not right.
+#[derive(Drop)]
+pub enum Witness {
+    /// Nothing, or nothing that runs.
+    None,
+    /// The run of a seed.
+    Seed(u64),
+    /// A run by these steps.
+    Schedule(Vec<Step>),
+}
+
+/// A line of a file of expectations that is not met, by its place among those of its kind.
+#[derive(Clone, Copy, Debug, PartialEq, Eq)]
+pub enum MissedLine {
+    /// An expectation of the end.
+    End(usize),
+    /// A claim.
+    Claim(usize),
+    /// The first line that says that no stream ever loops alone.
+    Busy,
+    /// A rule of programs.
+    Rule(usize),
+    /// The line of this number, from 1, which names what the program lacks.
+    Absent {
+        /// The number.
+        line: usize,
+        /// What the program lacks.
+        fault: LineFault,
+    },
+}
+
+/// What is known of a submission by one case.
+#[derive(Drop)]
+pub struct CaseJudgement {
+    /// What the submission is.
+    pub kind: VerdictKind,
+    /// What was looked at.
+    pub known: Known,
+    /// What decides it.
+    pub reason: Reason,
+    /// The ends of all schedules that a search found; none where the runs of seeds decide.
+    pub ends: Vec<SpaceEnd>,
+    /// The outcomes of the runs of all seeds, where they are asked for and decide; those that most seeds come to first.
+    pub outcomes: Vec<SeedOutcome>,
+    /// What it means for the exit status: the worst over all ends that were found.
+    pub status: Status,
+}
+
+impl CaseJudgement {
+    /// The judgement of this kind by what was looked at, for this reason, without ends.
+    pub(crate) fn plain(
+        alloc: Global,
+        kind: VerdictKind,
+        known: Known,
+        reason: Reason,
+    ) -> CaseJudgement
+        ensures kind { result.kind ≡ kind }
+        ensures reason { result.reason ≡ reason }
+    {
+        CaseJudgement {
+            kind,
+            known,
+            reason,
+            ends: Vec::new(alloc),
+            outcomes: Vec::new(alloc),
+            status: kind.status(),
+        }
+    }
+
+    /// What shows that the submission is not right.
+    pub fn witness(&self, alloc: Global) -> Result<Witness, AllocError> {
+        match &self.reason {
+            Reason::Run(run) => Ok(Witness::Seed(run.seed)),
+            Reason::End(place) => match self.ends.get(*place) {
+                Some(end) => Ok(Witness::Schedule(Vec::from_slice(alloc, &end.schedule)?)),
+                None => Ok(Witness::None),
+            },
+            Reason::Looked
+            | Reason::NoSchedule { .. }
+            | Reason::NoRun { .. }
+            | Reason::NoRunCan
+            | Reason::Rule(_)
+            | Reason::Absent { .. } => Ok(Witness::None),
+        }
+    }
+
+    /// The line that is not met: the first that the end misses which decides, or the one that is broken or not shown.
+    pub fn missed(&self) -> Option<MissedLine>
+        ensures { result ≡ missed_by self.now }
+    {
+        match &self.reason {
+            Reason::Looked => None,
+            Reason::Run(run) => missed_in(run.flaw, run.end.judgement.missed),
+            Reason::End(place) => match self.ends.get(*place) {
+                Some(end) => line_missed_by(end),
+                None => None,
+            },
+            Reason::NoSchedule { claim } | Reason::NoRun { claim } => {
+                Some(MissedLine::Claim(*claim))
+            }
+            Reason::NoRunCan => Some(MissedLine::Busy),
+            Reason::Rule(place) => Some(MissedLine::Rule(*place)),
+            Reason::Absent { line, fault } => Some(MissedLine::Absent {
+                line: *line,
+                fault: *fault,
+            }),
+        }
+    }
+}
+
+/// The line that a run with this flaw breaks, or that its end misses, which is that of the expectation at this place.
+fn missed_in(flaw: RunFlaw, missed: Option<usize>) -> Option<MissedLine>
+    ensures { result ≡ missed_in_run flaw missed }
+{
+    match flaw {
+        RunFlaw::Broken { claim, .. } => Some(MissedLine::Claim(claim)),
+        RunFlaw::Trap | RunFlaw::Deadlock | RunFlaw::Missed { .. } | RunFlaw::OutOfSteps => {
+            match missed {
+                Some(place) => Some(MissedLine::End(place)),
+                None => None,
+            }
+        }
+    }
+}
+
+/// The first line that an end of all schedules misses, or that its worlds break.
+pub fn line_missed_by(end: &SpaceEnd) -> Option<MissedLine>
+    ensures { result ≡ missed_at_end end.now.kind end.now.missed }
+{
+    match (end.kind, end.missed) {
+        (SpaceEndKind::End(_), Some(place)) => Some(MissedLine::End(place)),
+        (SpaceEndKind::End(_), None) => None,
+        (SpaceEndKind::Broken { claim }, _) => Some(MissedLine::Claim(claim)),
+        (SpaceEndKind::Busy, _) => Some(MissedLine::Busy),
+    }
+}

@@ -1,0 +1,59 @@
+//! What submissions are judged by.
+
+ghost use Rattle.std.specs.Prelude.{◌≡◌, IfOk};
+ghost use Rattle.std.specs.Option.{option_or};
+ghost use Rattle.judgements.specs.Cases.{image_by, given_image};
+
+use case_cells::with_cells_of;
+use image_file::Image;
+use lab_requests::Bounds;
+use std::alloc::{AllocError, Global};
+
+/// What submissions are judged by: cells, and what the end of a run with them has to be ("Cases", docs/FORMATS.md).
+#[derive(Drop)]
+pub struct Case {
+    /// Its name; None where it is the only one.
+    pub name: Option<String>,
+    /// The path of the file of expectations.
+    pub path: String,
+    /// Its text.
+    pub expected: Vec<u8>,
+    /// An image with the cells that take the place of a submission's own.
+    pub cells: Option<Image>,
+    /// The text of these cells; empty where there are none.
+    pub given: Vec<u8>,
+}
+
+/// A submission: a program.
+#[derive(Clone, Copy)]
+pub struct Submission<'a> {
+    /// The image, with the cells of its own.
+    pub image: &'a Image,
+    /// The text, which names its places.
+    pub text: &'a [u8],
+}
+
+/// How submissions are judged.
+#[derive(Clone, Copy, Debug)]
+pub struct AskedJudging {
+    /// Every schedule before seeds, and how far they are looked for, of each case.
+    pub explored: Option<Bounds>,
+    /// How many seeds, from 0 on.
+    pub seeds: usize,
+    /// The most steps of the run of each.
+    pub most: usize,
+    /// Whether the outcomes of all seeds are counted too.
+    pub counts_all: bool,
+    /// Whether the seeds of a case are shared among the processors.
+    pub is_spread: bool,
+}
+
+/// The image with a case's cells in place of its own; None where the case has none.
+pub fn image_by(alloc: Global, image: &Image, case: &Case) -> Result<Option<Image>, AllocError>
+    ensures { IfOk result (λ given. given ≡ given_image image.now case.now.cells) }
+{
+    match &case.cells {
+        Some(cells) => Ok(Some(with_cells_of(alloc, image, cells)?)),
+        None => Ok(None),
+    }
+}

@@ -1,0 +1,123 @@
+//! What an end of a submission can show against it.
+
+ghost use Rattle.std.specs.Prelude.{◌≡◌, MatchOption};
+ghost use Rattle.judgements.specs.Flaws.{kind_of_end, shows, is_deadlock, is_spinning, is_broken};
+ghost use Rattle.judgements.specs.Flaws.{NoneShows, ShowNothing, ShowsAt};
+
+use crate::verdict_kinds::VerdictKind;
+use end_kinds::EndKind;
+use space_ends::{SpaceEnd, SpaceEndKind};
+
+/// What an end of a submission can show against it.
+#[derive(Clone, Copy, Debug, PartialEq, Eq)]
+pub enum EndFlaw {
+    /// A trap that nobody expected stopped a stream.
+    Trap,
+    /// Nobody can go on.
+    Deadlock,
+    /// The end is not as expected.
+    Wrong,
+    /// A claim does not hold of some world on the way, or a stream loops alone where none is to.
+    Broken,
+    /// It can go on for ever.
+    Spinning,
+}
+
+impl EndFlaw {
+    /// What a submission is that shows it.
+    pub fn kind(self) -> VerdictKind
+        ensures { result ≡ kind_of_end self }
+    {
+        match self {
+            EndFlaw::Trap => VerdictKind::Trap,
+            EndFlaw::Deadlock => VerdictKind::Deadlock,
+            EndFlaw::Wrong | EndFlaw::Broken => VerdictKind::Wrong,
+            EndFlaw::Spinning => VerdictKind::Spins,
+        }
+    }
+
+    /// Whether an end shows it.
+    pub(crate) fn is_of(self, end: &SpaceEnd) -> bool
+        ensures { result ≡ shows self end.now }
+    {
+        match self {
+            EndFlaw::Trap => end.is_trapped,
+            EndFlaw::Deadlock => is_deadlock(end.kind),
+            EndFlaw::Wrong => end.missed.is_some(),
+            EndFlaw::Broken => is_broken(end.kind),
+            EndFlaw::Spinning => is_spinning(end.kind),
+        }
+    }
+}
+
+/// A flaw that an end of a list shows.
+#[derive(Clone, Copy, Debug)]
+pub(crate) struct FoundFlaw {
+    /// The flaw.
+    pub flaw: EndFlaw,
+    /// The place of the end.
+    pub end: usize,
+}
+
+/// The first of all flaws, in the order of their severity, that any of these ends shows, with the first such end; None if no
+/// end shows any.
+pub(crate) fn first_end_flaw(ends: &[SpaceEnd]) -> Option<FoundFlaw>
+    ensures { MatchOption result (ShowNothing ends.now) (λ f. ShowsAt ends.now f.flaw f.end) }
+{
+    found_of(ends, EndFlaw::Trap)
+        .or(found_of(ends, EndFlaw::Deadlock))
+        .or(found_of(ends, EndFlaw::Wrong))
+        .or(found_of(ends, EndFlaw::Broken))
+        .or(found_of(ends, EndFlaw::Spinning))
+}
+
+/// The first of these ends that shows a flaw.
+fn found_of(ends: &[SpaceEnd], flaw: EndFlaw) -> Option<FoundFlaw>
+    ensures { MatchOption result (NoneShows ends.now flaw)
+        (λ f. (f.flaw ≡ flaw) × ShowsAt ends.now flaw f.end) }
+{
+    for end in 0..ends.len() {
+        if flaw.is_of(&ends[end]) {
+            return Some(FoundFlaw { flaw, end });
+        }
+    }
+    None
+}
+
+/// Whether worlds are deadlocks.
+fn is_deadlock(kind: SpaceEndKind) -> bool
+    ensures { result ≡ is_deadlock kind }
+{
+    match kind {
+        SpaceEndKind::End(EndKind::Deadlock) => true,
+        SpaceEndKind::End(
+            EndKind::Finished | EndKind::Stopped | EndKind::Spinning | EndKind::OutOfSteps,
+        )
+        | SpaceEndKind::Broken { .. }
+        | SpaceEndKind::Busy => false,
+    }
+}
+
+/// Whether no schedule leads from worlds to an end.
+fn is_spinning(kind: SpaceEndKind) -> bool
+    ensures { result ≡ is_spinning kind }
+{
+    match kind {
+        SpaceEndKind::End(EndKind::Spinning) => true,
+        SpaceEndKind::End(
+            EndKind::Finished | EndKind::Stopped | EndKind::Deadlock | EndKind::OutOfSteps,
+        )
+        | SpaceEndKind::Broken { .. }
+        | SpaceEndKind::Busy => false,
+    }
+}
+
+/// Whether a claim does not hold of worlds, or a stream loops alone from one.
+fn is_broken(kind: SpaceEndKind) -> bool
+    ensures { result ≡ is_broken kind }
+{
+    match kind {
+        SpaceEndKind::End(_) => false,
+        SpaceEndKind::Broken { .. } | SpaceEndKind::Busy => true,
+    }
+}

@@ -1,0 +1,108 @@
+//! What is known of a submission by all cases.
+
+ghost use Rattle.std.specs.Prelude.{◌≡◌, ◌<◌, length, IfOk};
+ghost use Rattle.judgements.specs.Severity.{severity_of};
+ghost use Rattle.judgements.specs.Verdicts.{AreCasesJudged, AreRightCases, IsWorst, DecidesRight};
+
+use crate::by_case::judged_by_case;
+use crate::case_judgements::CaseJudgement;
+use crate::cases::{AskedJudging, Case, Submission};
+use crate::judge_faults::JudgeFault;
+use crate::knowledge::Known;
+use crate::verdict_kinds::VerdictKind;
+use end_kinds::Status;
+use program_searches::Console;
+use std::alloc::Global;
+use std::io::Write;
+use std::thread::Threads;
+use std::time::Clock;
+
+/// What is known of a submission by all cases.
+#[derive(Drop)]
+pub struct SubmissionJudgement {
+    /// What is known by each case, in their order, one at least.
+    pub cases: Vec<CaseJudgement>,
+    /// The place of the case that decides: the first of the most severe ones.
+    pub worst: usize,
+}
+
+impl SubmissionJudgement {
+    /// What is known by the case that decides.
+    pub fn deciding(&self) -> Option<&CaseJudgement> {
+        self.cases.get(self.worst)
+    }
+
+    /// What was looked at: of the case that decides, or of all together, where each is right.
+    pub fn known(&self) -> Known {
+        match self.deciding() {
+            Some(case) if case.kind == VerdictKind::Right => self.known_of_all(),
+            Some(case) => case.known,
+            None => Known::NOTHING,
+        }
+    }
+
+    /// What was looked at of all cases together.
+    fn known_of_all(&self) -> Known {
+        let mut known = Known::NOTHING;
+        for case in self.cases.iter() {
+            known = known.with(case.known);
+        }
+        known
+    }
+
+    /// What it means for the exit status: the worst over all cases.
+    pub fn status(&self) -> Status {
+        let mut status = Status::Done;
+        for case in self.cases.iter() {
+            status = status.worse(case.status);
+        }
+        status
+    }
+}
+
+/// What is known of a submission by all cases: each is judged, and the most severe one decides, the first of several. It is
+/// right only where it is right by each.
+pub fn judged_submission<X: Threads + Sync, C: Clock, E: Write>(
+    rt: &X,
+    alloc: Global,
+    asked: AskedJudging,
+    cases: &[Case],
+    submission: Submission<'_>,
+    console: &mut Console<'_, C, E>,
+) -> Result<SubmissionJudgement, JudgeFault>
+    ensures cases { IfOk result (λ j. AreCasesJudged
+        asked submission.image.now submission.text.now cases.now j.cases.items) }
+    ensures worst { IfOk result (λ j. IsWorst j.cases.items j.worst) }
+    ensures right { IfOk result (λ j. DecidesRight j.cases.items j.worst → AreRightCases
+        asked submission.image.now submission.text.now cases.now) }
+{
+    if cases.is_empty() {
+        return Err(JudgeFault::NoCase);
+    }
+    let mut judged = Vec::new(alloc);
+    for place in 0..cases.len() {
+        match judged_by_case(rt, alloc, asked, &cases[place], submission, console) {
+            Ok(judgement) => judged.push(judgement)?,
+            Err(fault) => return Err(fault.of_case(place)),
+        }
+    }
+    let worst = worst_of(&judged);
+    Ok(SubmissionJudgement {
+        cases: judged,
+        worst,
+    })
+}
+
+/// The place of the first of the most severe of some judgements.
+fn worst_of(cases: &[CaseJudgement]) -> usize
+    requires { 0 < length cases.now }
+    ensures { IsWorst cases.now result }
+{
+    let mut worst = 0;
+    for place in 1..cases.len() {
+        if cases[place].kind.severity() > cases[worst].kind.severity() {
+            worst = place;
+        }
+    }
+    worst
+}

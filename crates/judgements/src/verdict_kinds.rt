@@ -1,0 +1,90 @@
+//! What a submission is.
+
+ghost use Rattle.std.specs.Prelude.{◌≡◌};
+ghost use Rattle.judgements.specs.Severity.{severity_of};
+
+use end_kinds::Status;
+
+/// What a submission is ("Verdicts", docs/LAB.md).
+#[derive(Clone, Copy, Debug, PartialEq, Eq)]
+pub enum VerdictKind {
+    /// It can't be read.
+    NotRead,
+    /// It is no program.
+    SourceFault,
+    /// A trap that nobody expected stops a stream.
+    Trap,
+    /// Nobody can go on.
+    Deadlock,
+    /// An end is not as expected, or a claim does not hold.
+    Wrong,
+    /// A run has no end within the steps that it may have.
+    RanOutOfSteps,
+    /// It can go on for ever.
+    Spins,
+    /// The search came to its bound and found nothing wrong, and neither did seeds.
+    NotDecided,
+    /// All that was looked at is as it is required.
+    Right,
+}
+
+impl VerdictKind {
+    /// The word of the table.
+    pub fn word(self) -> &'static str {
+        match self {
+            VerdictKind::NotRead => "not read",
+            VerdictKind::SourceFault => "source fault",
+            VerdictKind::Trap => "trap",
+            VerdictKind::Deadlock => "deadlock",
+            VerdictKind::Wrong => "wrong",
+            VerdictKind::RanOutOfSteps => "ran out of steps",
+            VerdictKind::Spins => "spins",
+            VerdictKind::NotDecided => "not decided",
+            VerdictKind::Right => "right",
+        }
+    }
+
+    /// What it means for the exit status.
+    pub fn status(self) -> Status {
+        match self {
+            VerdictKind::NotRead | VerdictKind::SourceFault => Status::Fault,
+            VerdictKind::Deadlock => Status::Deadlock,
+            VerdictKind::Trap | VerdictKind::Wrong => Status::Unexpected,
+            VerdictKind::RanOutOfSteps | VerdictKind::Spins | VerdictKind::NotDecided => {
+                Status::OutOfSteps
+            }
+            VerdictKind::Right => Status::Done,
+        }
+    }
+
+    /// Whether it is said of a submission that did not run.
+    pub fn is_of_no_program(self) -> bool {
+        match self {
+            VerdictKind::NotRead | VerdictKind::SourceFault => true,
+            VerdictKind::Trap
+            | VerdictKind::Deadlock
+            | VerdictKind::Wrong
+            | VerdictKind::RanOutOfSteps
+            | VerdictKind::Spins
+            | VerdictKind::NotDecided
+            | VerdictKind::Right => false,
+        }
+    }
+
+    /// How severe it is: the greatest number of several cases decides.
+    pub fn severity(self) -> u8
+        ensures { result ≡ severity_of self }
+    {
+        match self {
+            VerdictKind::NotRead => 8,
+            VerdictKind::SourceFault => 7,
+            VerdictKind::Trap => 6,
+            VerdictKind::Deadlock => 5,
+            VerdictKind::Wrong => 4,
+            VerdictKind::Spins => 3,
+            VerdictKind::RanOutOfSteps => 2,
+            VerdictKind::NotDecided => 1,
+            VerdictKind::Right => 0,
+        }
+    }
+}

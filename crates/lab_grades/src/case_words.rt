@@ -1,0 +1,136 @@
+//! What decides a verdict, in words.
+
+use crate::report_lines::{CaseLines, absent_line};
+use command_parts::made_by;
+use expectation_files::{LineFault, line_of, word_of};
+use grade_reports::GradeRow;
+use image_file::Image;
+use image_machines::by_room;
+use judgements::{Case, CaseJudgement, Reason, ShownRun};
+use lab_ends::{first_finding, state_text, text_of_end};
+use lab_explorer::fault_words;
+use lab_requests::Maker;
+use lab_texts::{Notation, ProgramNames};
+use processor::Step;
+use space_ends::SpaceEnd;
+use std::alloc::{AllocError, Global};
+
+/// A program that a case makes of a submission, what the case requires of it, and how it is written.
+#[derive(Clone, Copy)]
+pub(crate) struct CaseNotation<'a, 't> {
+    /// Its image.
+    pub image: &'a Image,
+    /// What is required.
+    pub lines: CaseLines<'a>,
+    /// How it is written.
+    pub notation: Notation<'a, 't>,
+    /// The most steps of the run of a seed.
+    pub most: usize,
+}
+
+impl CaseNotation<'_, '_> {
+    /// Writes into a row what decides a judgement: the line that is not met, why, and the first finding.
+    pub(crate) fn add_reason(
+        self,
+        alloc: Global,
+        judgement: &CaseJudgement,
+        row: &mut GradeRow,
+    ) -> Result<(), AllocError> {
+        row.missed = self.lines.line_of(alloc, judgement.missed())?;
+        match &judgement.reason {
+            Reason::Looked | Reason::Absent { .. } => Ok(()),
+            Reason::Run(run) => self.add_run(alloc, run, row),
+            Reason::End(place) => match judgement.ends.get(*place) {
+                Some(end) => self.add_end(alloc, end, row),
+                None => Ok(()),
+            },
+            Reason::NoSchedule { .. } => row.words.push_str("no schedule has such a state"),
+            Reason::NoRun { .. } => row.words.push_str("no run has such a state"),
+            Reason::NoRunCan => row.words.push_str("a run cannot show it; use --explore"),
+            Reason::Rule(_) => self.add_rule(row),
+        }
+    }
+
+    /// Writes what the run of a seed shows.
+    fn add_run(self, alloc: Global, run: &ShownRun, row: &mut GradeRow) -> Result<(), AllocError> {
+        let maker = Maker::Random { seed: run.seed };
+        let made = made_by(alloc, self.image, maker, self.most)?;
+        row.words = state_text(alloc, self.notation, &run.end.state)?;
+        row.finding = self.finding(alloc, &made.steps)?;
+        Ok(())
+    }
+
+    /// Writes what an end of all schedules shows: nothing beside the line where its worlds break one.
+    fn add_end(self, alloc: Global, end: &SpaceEnd, row: &mut GradeRow) -> Result<(), AllocError> {
+        if end.kind.is_end() {
+            row.words = text_of_end(alloc, self.notation, self.lines.required, end)?;
+        }
+        row.finding = self.finding(alloc, &end.schedule)?;
+        Ok(())
+    }
+
+    /// The first finding of a run; empty where it has none.
+    fn finding(self, alloc: Global, steps: &[Step]) -> Result<String, AllocError> {
+        by_room!(
+            self.image,
+            finding_of(alloc, self.notation, self.image, steps)
+        )
+    }
+
+    /// Writes which rule of programs is broken.
+    fn add_rule(self, row: &mut GradeRow) -> Result<(), AllocError> {
+        let path = self.lines.case.path.as_str();
+        if let Some(rule) = &row.missed {
+            let line = rule.number;
+            let text = rule.text.as_str();
+            write!(row.words, "{path}:{line}: not {text}")?;
+        }
+        Ok(())
+    }
+}
+
+/// The first finding of a run, on machines with room for `S` streams a processor.
+fn finding_of<const S: usize>(
+    alloc: Global,
+    notation: Notation<'_, '_>,
+    image: &Image,
+    steps: &[Step],
+) -> Result<String, AllocError> {
+    first_finding::<S>(alloc, notation.names, notation.style, image, steps)
+}
+
+/// A line of a case that names what a submission lacks.
+#[derive(Clone, Copy)]
+pub(crate) struct AbsentLine<'a> {
+    /// The case.
+    pub case: &'a Case,
+    /// The number of the line, from 1.
+    pub line: usize,
+    /// What the submission lacks.
+    pub fault: LineFault,
+}
+
+/// Writes into a row that a program with this image and text lacks what a line names.
+pub(crate) fn add_absent(
+    alloc: Global,
+    absent: AbsentLine<'_>,
+    image: &Image,
+    text: &[u8],
+    row: &mut GradeRow,
+) -> Result<(), AllocError> {
+    let AbsentLine { case, line, fault } = absent;
+    let path = case.path.as_str();
+    let word = word_of(line_of(&case.expected, line), fault.word);
+    let own = ProgramNames::of(alloc, text)?;
+    let given = ProgramNames::of(alloc, &case.given)?;
+    let names = if names_words(&given) { &given } else { &own };
+    let reason = fault_words(alloc, fault.kind, word, image, names)?;
+    row.words = format!(in alloc; "{path}:{line}: {reason}")?;
+    row.missed = Some(absent_line(alloc, case, line)?);
+    Ok(())
+}
+
+/// Whether a text names some of its data words.
+fn names_words(names: &ProgramNames<'_>) -> bool {
+    names.data_lines().iter().any(|line| names.has_name((line.first as u64).saturating_mul(8)))
+}

@@ -1,0 +1,62 @@
+//! Lines of a file of expectations, as reports have them.
+
+use expectation_files::{NEVER_BUSY, Requirements, WrittenLine, written_line};
+use grade_reports::ReportLine;
+use judgements::{Case, MissedLine};
+use std::alloc::{AllocError, Global};
+
+/// What a case requires of a program.
+#[derive(Clone, Copy)]
+pub(crate) struct CaseLines<'a> {
+    /// The case.
+    pub case: &'a Case,
+    /// What was read of it.
+    pub required: &'a Requirements,
+}
+
+impl CaseLines<'_> {
+    /// The line that is not met, as reports have it; None where there is none.
+    pub(crate) fn line_of(
+        self,
+        alloc: Global,
+        missed: Option<MissedLine>,
+    ) -> Result<Option<ReportLine>, AllocError> {
+        let required = self.required;
+        match missed {
+            None => Ok(None),
+            Some(MissedLine::End(place)) => copy_of(alloc, required.end_lines().get(place)),
+            Some(MissedLine::Claim(place)) => copy_of(alloc, required.claim_lines().get(place)),
+            Some(MissedLine::Rule(place)) => copy_of(alloc, required.rule_lines().get(place)),
+            Some(MissedLine::Busy) => busy_line(alloc, required),
+            Some(MissedLine::Absent { line, .. }) => {
+                Ok(Some(absent_line(alloc, self.case, line)?))
+            }
+        }
+    }
+}
+
+/// The line of a case that names what a program lacks, by its number.
+pub(crate) fn absent_line(
+    alloc: Global,
+    case: &Case,
+    line: usize,
+) -> Result<ReportLine, AllocError> {
+    let written = written_line(alloc, &case.expected, line)?;
+    ReportLine::of(alloc, written.number, &written.words)
+}
+
+/// The first line that says that no stream ever loops alone; None where none does.
+fn busy_line(alloc: Global, required: &Requirements) -> Result<Option<ReportLine>, AllocError> {
+    match required.never_busy() {
+        Some(number) => Ok(Some(ReportLine::of(alloc, number, NEVER_BUSY)?)),
+        None => Ok(None),
+    }
+}
+
+/// A copy of a line, as reports have it.
+fn copy_of(alloc: Global, line: Option<&WrittenLine>) -> Result<Option<ReportLine>, AllocError> {
+    match line {
+        Some(line) => Ok(Some(ReportLine::of(alloc, line.number, &line.words)?)),
+        None => Ok(None),
+    }
+}

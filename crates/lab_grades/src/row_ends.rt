@@ -1,0 +1,79 @@
+//! The ends of a submission, counted, as reports have them.
+
+use crate::report_lines::CaseLines;
+use end_kinds::EndKind;
+use end_states::EndJudgement;
+use grade_reports::CountedEnd;
+use judgements::{CaseJudgement, MissedLine, Witness, line_missed_by};
+use lab_ends::{state_text, text_of_end};
+use lab_texts::Notation;
+use seed_outcomes::SeedOutcome;
+use space_ends::{SpaceEnd, SpaceEndKind};
+use std::alloc::{AllocError, Global};
+
+/// Adds the ends of a case: the outcomes of all seeds, where these decide, else the ends of all schedules.
+pub(crate) fn add_ends(
+    alloc: Global,
+    lines: CaseLines<'_>,
+    notation: Notation<'_, '_>,
+    judgement: &CaseJudgement,
+    ends: &mut Vec<CountedEnd>,
+) -> Result<(), AllocError> {
+    for outcome in judgement.outcomes.iter() {
+        ends.push(outcome_end(alloc, lines, notation, outcome)?)?;
+    }
+    for end in judgement.ends.iter() {
+        ends.push(counted_end(alloc, lines, notation, end)?)?;
+    }
+    Ok(())
+}
+
+/// An end, as one that is counted by its worlds.
+fn counted_end(
+    alloc: Global,
+    lines: CaseLines<'_>,
+    notation: Notation<'_, '_>,
+    end: &SpaceEnd,
+) -> Result<CountedEnd, AllocError> {
+    let schedule = Vec::from_slice(alloc, &end.schedule)?;
+    Ok(CountedEnd {
+        kind: kind_of(end.kind),
+        count: end.worlds(),
+        witness: Witness::Schedule(schedule),
+        text: text_of_end(alloc, notation, lines.required, end)?,
+        missed: lines.line_of(alloc, line_missed_by(end))?,
+    })
+}
+
+/// How worlds end; None where they break a claim.
+fn kind_of(kind: SpaceEndKind) -> Option<EndKind> {
+    match kind {
+        SpaceEndKind::End(kind) => Some(kind),
+        SpaceEndKind::Broken { .. } | SpaceEndKind::Busy => None,
+    }
+}
+
+/// The end that an outcome is.
+fn outcome_end(
+    alloc: Global,
+    lines: CaseLines<'_>,
+    notation: Notation<'_, '_>,
+    outcome: &SeedOutcome,
+) -> Result<CountedEnd, AllocError> {
+    Ok(CountedEnd {
+        kind: Some(outcome.judgement.kind),
+        count: outcome.runs,
+        witness: Witness::Seed(outcome.seed),
+        text: state_text(alloc, notation, &outcome.state)?,
+        missed: lines.line_of(alloc, missed_by(outcome.judgement))?,
+    })
+}
+
+/// The line that an outcome misses, or that its runs break.
+fn missed_by(judgement: EndJudgement) -> Option<MissedLine> {
+    match (judgement.missed, judgement.broken) {
+        (Some(place), _) => Some(MissedLine::End(place)),
+        (None, Some(claim)) => Some(MissedLine::Claim(claim)),
+        (None, None) => None,
+    }
+}
