@@ -9,7 +9,7 @@ ghost use Rattle.judgements.specs.Shown.{IsCaseJudged, IsShownBy};
 use crate::by_schedules::{JudgedProgram, judged_by_schedules};
 use crate::by_seeds::judged_by_seeds;
 use crate::case_judgements::{CaseJudgement, Reason};
-use crate::cases::{AskedJudging, Case, Submission, image_by};
+use crate::cases::{AskedJudging, Case, Submission, image_by, image_or};
 use crate::judge_faults::CaseFault;
 use crate::knowledge::Known;
 use crate::requirements::required_by;
@@ -34,7 +34,7 @@ pub(crate) fn judged_by_case<X: Threads + Sync, C: Clock, E: Write>(
     ensures { IfOk result (λ j. IsCaseJudged asked submission.image.now submission.text.now case.now j) }
 {
     let given = image_by(alloc, submission.image, case)?;
-    let image = given.as_ref().unwrap_or(submission.image);
+    let image = image_or(&given, submission.image);
     match required_by(alloc, case, image, submission.text) {
         Ok(required) => {
             let required = &required;

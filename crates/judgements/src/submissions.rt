@@ -99,9 +99,12 @@ fn worst_of(cases: &[CaseJudgement]) -> usize
     ensures { IsWorst cases.now result }
 {
     let mut worst = 0;
+    let mut most = cases[0].kind.severity();
     for place in 1..cases.len() {
-        if cases[place].kind.severity() > cases[worst].kind.severity() {
+        let severity = cases[place].kind.severity();
+        if severity > most {
             worst = place;
+            most = severity;
         }
     }
     worst
