@@ -32,11 +32,15 @@ all_right asked image text cases js place judged worst decides k case there =
   where
     within : k < length js
     within = let less = slice_get_within cases k case there in omega (arith, less, judged.count)
+
     j : CaseJudgement
     j = get_or js k worst.worst
+
     here : slice_get js k ≡ Some j
     here = slice_get-get_or js k worst.worst within
+
     kind : worst.worst.kind ≡ verdict.Right
     kind = ap (λ (x : CaseJudgement). x.kind) (same_Some worst.worst decides.0 (sym worst.there ∙ decides.1)) ∙ decides.2
+
     none : severity_of j.kind ≤ 0
     none = subst (λ (v : VerdictKind). severity_of j.kind ≤ severity_of v) kind (worst.most k j here)

@@ -31,7 +31,7 @@ pub(crate) fn judged_by_case<X: Threads + Sync, C: Clock, E: Write>(
     submission: Submission<'_>,
     console: &mut Console<'_, C, E>,
 ) -> Result<CaseJudgement, CaseFault>
-    ensures { IfOk result (λ j. IsCaseJudged asked submission.image.now submission.text.now case.now j) }
+    ensures { IfOk result (λ j. IsCaseJudged asked submission.entry.image.now submission.entry.text.now case.now j) }
 {
     let given = image_by(alloc, submission.image, case)?;
     let image = image_or(&given, submission.image);
@@ -58,10 +58,10 @@ fn judged_program<X: Threads + Sync, C: Clock, E: Write>(
     console: &mut Console<'_, C, E>,
 ) -> Result<CaseJudgement, CaseFault>
     ensures right { IfOk result (λ j. j.kind ≡ VerdictKind.Right
-        → IsRightAsAsked asked.explored (seeds_of asked) judged.image.now judged.required.now) }
+        → IsRightAsAsked asked.explored (seeds_of asked) judged.entry.image.now judged.entry.required.now) }
     ensures kept { IfOk result (λ j. j.kind ≡ VerdictKind.Right
-        → IsTrue (are_rules_kept judged.image.now judged.required.now.rules.items)) }
-    ensures shown { IfOk result (λ j. IsShownBy judged.image.now judged.required.now (seeds_of asked) j) }
+        → IsTrue (are_rules_kept judged.entry.image.now judged.entry.required.now.rules.items)) }
+    ensures shown { IfOk result (λ j. IsShownBy judged.entry.image.now judged.entry.required.now (seeds_of asked) j) }
 {
     if let Some(rule) = first_broken(judged.image, judged.required.rules()) {
         let reason = Reason::Rule(rule);
