@@ -1,5 +1,5 @@
 -- What a case makes of a submission, and what it requires of it.
-use Rattle.std.specs.Prelude.{ℕ, ◌==◌, if◌then◌else◌, List, length, Option, Some, None}
+use Rattle.std.specs.Prelude.{ℕ, ◌==◌, if◌then◌else◌, List, length, Option, Some, None, unwrap_or}
 use Rattle.image_file.specs.ImageValue.{ImageValue}
 use Rattle.source_places.specs.DataNames.{DataNameValue, data_names}
 use Rattle.source_places.specs.SourceLabels.{labels_of}
@@ -16,11 +16,7 @@ given_image image (Some cells) = Some (record image { cells = cells.cells })
 
 -- the program that a case makes of a submission: its own, with the case's cells in place of its own where the case has some
 abbrev pub program_by : ImageValue → Case → ImageValue
-program_by image case = unwrapped image (given_image image case.cells)
-  where
-    unwrapped : ImageValue → Option ImageValue → ImageValue
-    unwrapped image None = image
-    unwrapped image (Some given) = given
+program_by image case = unwrap_or (given_image image case.cells) image
 
 -- these names of data words, where there are some, else those
 abbrev pub names_or : List DataNameValue → List DataNameValue → List DataNameValue

@@ -32,24 +32,24 @@ pub record IsShownByRun (image : ImageValue) (required : Requirements) (seeds : 
     (run : ShownRun) : Type 0 where
   pub first : AreJudged image required.ends.items required.claims.items seeds
       (Some (record { seed = run.seed; flaw = run.flaw }))
-  pub kind : kind ≡ kind_of_run run.flaw
+  pub verdict : kind ≡ kind_of_run run.flaw
 
 -- An end of all schedules shows a flaw, and the verdict is that of this flaw.
 pub record IsShownByEnd (ends : List SpaceEnd) (kind : VerdictKind) (place : ℕ) : Type 0 where
   pub flaw : EndFlaw
   pub end : ShowsAt ends flaw place
-  pub kind : kind ≡ kind_of_end flaw
+  pub verdict : kind ≡ kind_of_end flaw
 
 -- The program of an image breaks a rule, the first of those that are required.
 pub record IsShownByRule (image : ImageValue) (required : Requirements) (kind : VerdictKind) (rule : ℕ) : Type 0 where
   pub first : position (λ r. not (is_kept image r)) required.rules.items ≡ Some rule
-  pub kind : kind ≡ verdict.Wrong
+  pub verdict : kind ≡ verdict.Wrong
 
 -- The runs of all seeds are right, and show each claim before this one, which none shows.
 pub record IsUnshownByRuns (image : ImageValue) (required : Requirements) (seeds : Seeds) (kind : VerdictKind)
     (claim : ℕ) : Type 0 where
   pub unshown : IsUnshownBySeeds image required.claims.items seeds claim
-  pub kind : kind ≡ verdict.NotDecided
+  pub verdict : kind ≡ verdict.NotDecided
 
 -- it is a verdict by what was looked at alone
 abbrev pub IsLooked : VerdictKind → Type 0

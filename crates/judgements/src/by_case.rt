@@ -9,7 +9,7 @@ ghost use Rattle.judgements.specs.Shown.{IsCaseJudged, IsShownBy};
 use crate::by_schedules::{JudgedProgram, judged_by_schedules};
 use crate::by_seeds::judged_by_seeds;
 use crate::case_judgements::{CaseJudgement, Reason};
-use crate::cases::{AskedJudging, Case, Submission, image_by};
+use crate::cases::{AskedJudging, Case, Submission, image_by, image_or};
 use crate::judge_faults::CaseFault;
 use crate::knowledge::Known;
 use crate::requirements::required_by;
@@ -31,10 +31,10 @@ pub(crate) fn judged_by_case<X: Threads + Sync, C: Clock, E: Write>(
     submission: Submission<'_>,
     console: &mut Console<'_, C, E>,
 ) -> Result<CaseJudgement, CaseFault>
-    ensures { IfOk result (λ j. IsCaseJudged asked submission.image.now submission.text.now case.now j) }
+    ensures { IfOk result (λ j. IsCaseJudged asked submission.entry.image.now submission.entry.text.now case.now j) }
 {
     let given = image_by(alloc, submission.image, case)?;
-    let image = given.as_ref().unwrap_or(submission.image);
+    let image = image_or(&given, submission.image);
     match required_by(alloc, case, image, submission.text) {
         Ok(required) => {
             let required = &required;
@@ -58,10 +58,10 @@ fn judged_program<X: Threads + Sync, C: Clock, E: Write>(
     console: &mut Console<'_, C, E>,
 ) -> Result<CaseJudgement, CaseFault>
     ensures right { IfOk result (λ j. j.kind ≡ VerdictKind.Right
-        → IsRightAsAsked asked.explored (seeds_of asked) judged.image.now judged.required.now) }
+        → IsRightAsAsked asked.explored (seeds_of asked) judged.entry.image.now judged.entry.required.now) }
     ensures kept { IfOk result (λ j. j.kind ≡ VerdictKind.Right
-        → IsTrue (are_rules_kept judged.image.now judged.required.now.rules.items)) }
-    ensures shown { IfOk result (λ j. IsShownBy judged.image.now judged.required.now (seeds_of asked) j) }
+        → IsTrue (are_rules_kept judged.entry.image.now judged.entry.required.now.rules.items)) }
+    ensures shown { IfOk result (λ j. IsShownBy judged.entry.image.now judged.entry.required.now (seeds_of asked) j) }
 {
     if let Some(rule) = first_broken(judged.image, judged.required.rules()) {
         let reason = Reason::Rule(rule);

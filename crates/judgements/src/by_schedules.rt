@@ -46,8 +46,8 @@ pub(crate) fn judged_by_schedules<X: Threads + Sync, C: Clock, E: Write>(
     console: &mut Console<'_, C, E>,
 ) -> Result<CaseJudgement, CaseFault>
     ensures right { IfOk result (λ j. j.kind ≡ VerdictKind.Right
-        → IsRightBySchedules judged.image.now judged.required.now) }
-    ensures shown { IfOk result (λ j. IsShownBy judged.image.now judged.required.now (seeds_of asked) j) }
+        → IsRightBySchedules judged.entry.image.now judged.entry.required.now) }
+    ensures shown { IfOk result (λ j. IsShownBy judged.entry.image.now judged.entry.required.now (seeds_of asked) j) }
 {
     let begin = Vec::new(alloc);
     let search = ProgramSearch {
@@ -67,7 +67,7 @@ pub(crate) fn judged_by_schedules<X: Threads + Sync, C: Clock, E: Write>(
 
 /// What a search says of a program.
 fn judged_by_search(alloc: Global, found: Explored<'_>) -> CaseJudgement
-    ensures right { result.kind ≡ VerdictKind.Right → IsTrue found.is_right }
+    ensures right { result.kind ≡ VerdictKind.Right → IsTrue found.entry.is_right }
     ensures shown { (image : ImageValue) (required : Requirements) (seeds : Seeds)
         → IsShownBy image required seeds result }
 {
@@ -119,7 +119,7 @@ fn undecided<X: Threads + Sync>(
     is_shown: bool,
 ) -> Result<CaseJudgement, AllocError>
     ensures right { IfOk result (λ j. ¬ (j.kind ≡ VerdictKind.Right)) }
-    ensures shown { IfOk result (λ j. IsShownBy judged.image.now judged.required.now (seeds_of asked) j) }
+    ensures shown { IfOk result (λ j. IsShownBy judged.entry.image.now judged.entry.required.now (seeds_of asked) j) }
 {
     let mut judgement = judged_by_seeds(rt, alloc, asked, judged.image, judged.required)?;
     if judgement.kind == VerdictKind::Right {

@@ -1,8 +1,7 @@
 //! What submissions are judged by.
 
-ghost use Rattle.std.specs.Prelude.{◌≡◌, IfOk};
-ghost use Rattle.std.specs.Option.{option_or};
-ghost use Rattle.judgements.specs.Cases.{image_by, given_image};
+ghost use Rattle.std.specs.Prelude.{◌≡◌, IfOk, unwrap_or};
+ghost use Rattle.judgements.specs.Cases.{given_image};
 
 use case_cells::with_cells_of;
 use image_file::Image;
@@ -55,5 +54,15 @@ pub fn image_by(alloc: Global, image: &Image, case: &Case) -> Result<Option<Imag
     match &case.cells {
         Some(cells) => Ok(Some(with_cells_of(alloc, image, cells)?)),
         None => Ok(None),
+    }
+}
+
+/// The image that is given, or else its own.
+pub(crate) fn image_or<'a>(given: &'a Option<Image>, own: &'a Image) -> &'a Image
+    ensures { result.now ≡ unwrap_or given.entry.now own.entry.now }
+{
+    match given {
+        Some(image) => image,
+        None => own,
     }
 }

@@ -71,10 +71,10 @@ pub fn judged_submission<X: Threads + Sync, C: Clock, E: Write>(
     console: &mut Console<'_, C, E>,
 ) -> Result<SubmissionJudgement, JudgeFault>
     ensures cases { IfOk result (λ j. AreCasesJudged
-        asked submission.image.now submission.text.now cases.now j.cases.items) }
+        asked submission.entry.image.now submission.entry.text.now cases.now j.cases.items) }
     ensures worst { IfOk result (λ j. IsWorst j.cases.items j.worst) }
     ensures right { IfOk result (λ j. DecidesRight j.cases.items j.worst → AreRightCases
-        asked submission.image.now submission.text.now cases.now) }
+        asked submission.entry.image.now submission.entry.text.now cases.now) }
 {
     if cases.is_empty() {
         return Err(JudgeFault::NoCase);
@@ -99,9 +99,12 @@ fn worst_of(cases: &[CaseJudgement]) -> usize
     ensures { IsWorst cases.now result }
 {
     let mut worst = 0;
+    let mut most = cases[0].kind.severity();
     for place in 1..cases.len() {
-        if cases[place].kind.severity() > cases[worst].kind.severity() {
+        let severity = cases[place].kind.severity();
+        if severity > most {
             worst = place;
+            most = severity;
         }
     }
     worst

@@ -1,0 +1,3 @@
+mod Worst
+mod Judged
+mod Right
