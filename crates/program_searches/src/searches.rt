@@ -1,6 +1,6 @@
 //! What is looked for among the schedules of a program, and what the search comes to.
 
-ghost use Rattle.std.specs.Prelude.{◌≡◌, ◌≤◌, ◌⊎◌, ◌↔◌, is_some, IsTrue, IsSome, IsNone, IfOk, None};
+ghost use Rattle.std.specs.Prelude.{◌≡◌, ◌≤◌, ◌⊎◌, ◌↔◌, is_some, IsTrue, IsSome, IsNone, IfSome, IfOk, IfErr, None};
 ghost use Rattle.schedule_space.specs.Spaces.{IsComplete, HasAllEdges};
 ghost use Rattle.schedule_space.specs.Followed.{AllFollowed};
 ghost use Rattle.busy_streams.specs.Busy.{IsNeverBusy};
@@ -9,9 +9,10 @@ ghost use Rattle.schedule_verdicts.specs.KeptClaims.{AreKeptOnTheWay};
 ghost use Rattle.expectation_files.specs.Judged.{IsJudged};
 ghost use Rattle.schedule_verdicts.specs.NamedRegisters.{AreNamed};
 ghost use Rattle.schedule_verdicts.specs.RightSpaces.{IsFollowedForClaims, IsRightOnEachWay};
-ghost use Rattle.schedule_verdicts.specs.ShownClaims.{AreShown, IsRightThroughout, TellsOfClaims};
+ghost use Rattle.schedule_verdicts.specs.ShownClaims.{AreShown, IsRightThroughout, IsUnshownAt, TellsOfClaims};
+ghost use Rattle.program_searches.specs.Bounds.{IsOfClock};
+ghost use Rattle.program_searches.specs.Searches.{most_worlds, takes_all, TellsRight, IsExplored};
 
-use crate::bounds::SearchBound;
 use crate::explored::Explored;
 use crate::spaces::space_of;
 use crate::watching::{Console, Watcher};
@@ -60,14 +61,15 @@ impl ProgramSearch<'_> {
 
     /// The most worlds that are looked for: at least one.
     pub(crate) fn most_worlds(&self) -> usize
-        ensures { 1 ≤ result }
+        ensures some { 1 ≤ result }
+        ensures is { result ≡ most_worlds self.now }
     {
         self.bounds.worlds.max(1)
     }
 
     /// Whether all worlds are looked for: where it is asked for, and where no stream is to loop alone.
     pub(crate) fn takes_all(&self) -> bool
-        ensures { IsSome self.now.required.now.never_busy → IsTrue result }
+        ensures { result ≡ takes_all self.now }
     {
         self.is_plain || self.required.never_busy().is_some()
     }
@@ -83,7 +85,9 @@ pub enum SearchFault {
 }
 
 impl From<AllocError> for SearchFault {
-    fn from(_error: AllocError) -> SearchFault {
+    fn from(_error: AllocError) -> SearchFault
+        ensures { result ≡ SearchFault.NoMemory }
+    {
         SearchFault::NoMemory
     }
 }
@@ -94,17 +98,17 @@ impl From<io::Error> for SearchFault {
     }
 }
 
-/// What a search among the schedules of a program comes to. It shows on the console how far it is.
+/// What a search among the schedules of a program comes to. It shows on the console how far it is. The clock is read only
+/// where the time is bounded, or where the console is a terminal; `SearchFault::Clock` only where it is bounded.
 pub fn explore_program<'i, C: Clock, E: Write>(
     alloc: Global,
     image: &'i Image,
     asked: &ProgramSearch<'_>,
     console: &mut Console<'_, C, E>,
 ) -> Result<Explored<'i>, SearchFault>
-    ensures right { IfOk result (λ e. let required = asked.now.required.now in IsTrue e.is_right
-        ↔ (IsTrue e.is_complete × IsJudged image.entry.now required
-        × IsRightThroughout image.entry.now asked.now.begin.now required.ends.items required.claims.items
-        (is_some required.never_busy))) }
+    ensures right { IfOk result (λ e. TellsRight image.entry.now asked.now e) }
+    ensures explored { IfOk result (λ e. IsExplored image.entry.now asked.now e) }
+    ensures clock { IfErr result (λ f. IsOfClock f → IsSome asked.now.bounds.seconds) }
 {
     let mut watcher = Watcher::new(console, asked.bounds)?;
     let found = explore_watched(alloc, image, asked, &mut watcher);
@@ -119,10 +123,7 @@ fn explore_watched<'i, C: Clock, E: Write>(
     asked: &ProgramSearch<'_>,
     watcher: &mut Watcher<'_, '_, C, E>,
 ) -> Result<Explored<'i>, AllocError>
-    ensures right { IfOk result (λ e. let required = asked.now.required.now in IsTrue e.is_right
-        ↔ (IsTrue e.is_complete × IsJudged image.entry.now required
-        × IsRightThroughout image.entry.now asked.now.begin.now required.ends.items required.claims.items
-        (is_some required.never_busy))) }
+    ensures { IfOk result (λ e. IsExplored image.entry.now asked.now e) }
 {
     match image.slim() {
         0 | 1 => explore_on::<1, C, E>(alloc, image, asked, watcher),
@@ -139,12 +140,10 @@ fn explore_on<'i, const S: usize, C: Clock, E: Write>(
     asked: &ProgramSearch<'_>,
     watcher: &mut Watcher<'_, '_, C, E>,
 ) -> Result<Explored<'i>, AllocError>
-    ensures right { IfOk result (λ e. let required = asked.now.required.now in IsTrue e.is_right
-        ↔ (IsTrue e.is_complete × IsJudged image.entry.now required
-        × IsRightThroughout image.entry.now asked.now.begin.now required.ends.items required.claims.items
-        (is_some required.never_busy))) }
+    ensures { IfOk result (λ e. IsExplored image.entry.now asked.now e) }
 {
-    let (space, is_complete) = space_of::<S, C, E>(alloc, image, asked, watcher)?;
+    let (space, bound) = space_of::<S, C, E>(alloc, image, asked, watcher)?;
+    let is_complete = bound.is_none();
     let required = asked.required;
     let busy = busy_in::<S>(alloc, required, &space, is_complete)?;
     let judged_by = JudgedBy {
@@ -158,7 +157,7 @@ fn explore_on<'i, const S: usize, C: Clock, E: Write>(
     Ok(Explored {
         space,
         is_complete,
-        bound: if is_complete { None } else { watcher.bound() },
+        bound,
         is_of_all_worlds: asked.takes_all(),
         ends,
         broken_rule: first_broken(image, required.rules()),
@@ -178,6 +177,7 @@ fn unshown_in<const S: usize>(
         → AreShown space.now.image space.now.begin required.now.claims.items) }
     ensures only { IfOk result (λ told. TellsOfClaims space.now required.now.claims.items
         → AreShown space.now.image space.now.begin required.now.claims.items → told ≡ None) }
+    ensures unshown { IfOk result (λ told. IfSome told (λ k. IsUnshownAt space.now required.now.claims.items k)) }
 {
     match first_unshown::<S>(alloc, space, required.claims()) {
         Ok(unshown) => Ok(unshown),
