@@ -1,7 +1,7 @@
 #!/usr/bin/env bash
 # build_facts.sh VERSION FOLDER NAME..: prints the file BUILD of a package: of which commit and by which kit the programs
-# of these names were built, what the tests said of that commit, and what the programs need. FOLDER has each of them as it
-# is packed, without its symbols.
+# of these names were built, what the tests said of that commit and how many there are, and what the programs need. FOLDER
+# has each of them as it is packed, without its symbols.
 set -euo pipefail
 cd "$(dirname "$0")/.."
 version=$1
@@ -40,6 +40,11 @@ verdict() {
   esac
 }
 
+# what the tree has of crates, cases and edits, a line each
+tests() {
+  tests/counts.sh | sed '1s/^/tests      /; 1!s/^/           /'
+}
+
 sum() {
   sha256sum <"$1" | cut -d ' ' -f 1
 }
@@ -62,6 +67,7 @@ commit     $commit
 sources    $(sources)
 built by   $(built_by)
 verdict    $(verdict)
+$(tests)
 $(programs "$@")
 processor  $processor
 C library  glibc $glibc or later

@@ -1,7 +1,7 @@
 #!/usr/bin/env bash
 # What can be seen before any proof, in seconds: the layout of code and definitions, texts that speak of what a reader has
-# not, links, headings that are cited, the counts and the kit's identity that README.md names, the version, the names of wrong bodies, those that
-# editors know, and that each must-fail edit can be applied. A line says what is not so; the last one counts the checks.
+# not, links, headings that are cited, the kit's identity and the promises that README.md names, the version, the names of
+# wrong bodies, those that editors know, and that each must-fail edit can be applied. A line says what is not so; the last one counts the checks.
 set -u
 cd "$(dirname "$0")/.." || exit 1
 passed=0
@@ -42,21 +42,11 @@ links() {
   done
 }
 
-# named WHAT COUNT: README.md says just this count of such things
-named() {
-  grep -qE "(^|[^0-9,])$2 $1" README.md || echo "README.md does not say '$2 $1'"
-}
-
-edits() { find crates -path "*/$1/*.edit" | wc -l; }
-crates() { grep -cE '^[a-z]' crates.txt; }
-rows() { find tests/cases -name '*.tsv' -print0 | xargs -0 cat | grep -cvE '^(#|$)'; }
-transcripts() { find tests/cases -name '*.case' | wc -l; }
+# counts: of crates, cases and edits, which README.md has not, since they change with each row; and those that BUILD would
+# have, where nothing is counted
 counts() {
-  named "crates" "$(crates)"
-  named "in \`must-fail/\`" "$(edits must-fail)"
-  named "in \`edits/\`" "$(edits edits)"
-  named "rows of tables" "$(rows)"
-  named "transcripts" "$(transcripts)"
+  grep -nE '[0-9]+ (crates|rows of tables|transcripts|(are )?in `(must-fail|edits)/`)' README.md | sed 's/^/README.md:/'
+  tests/counts.sh 2>&1 | grep -vE '^[1-9][0-9]* '
 }
 
 # kit: the logic in which all is proved; kits of other names have the same
@@ -140,9 +130,11 @@ verdict "documents of crates" < <(about_crates)
 verdict "wrong bodies without a name" < <(wrong_bodies)
 verdict "the operation table, in docs/MACHINE.md (<) and in Row.antt (>)" < <(operation_table)
 verdict "what to trust" < <(python3 tests/trust --check 2>&1)
-verdict "counts" < <(counts)
-verdict "words and sentences that are not plain" < <(python3 tests/plain_words.py 2>&1)
+verdict "promises that README.md names, and roots of what to trust" < <(python3 tests/trust --named 2>&1)
+verdict "counts that change with each row" < <(counts)
+verdict "words and sentences that are not plain, in documents and in code" < <(python3 tests/plain_words.py 2>&1)
 verdict "names that editors don't know" < <(tests/editors.sh | grep -v '^the syntax files')
+verdict "what a trap means, in texts that differ" < <(python3 tests/trap_texts.py 2>&1)
 verdict "constants of the page" < <(python3 page/embed.py --check 2>&1)
 verdict "the cheat sheet and the pages of explain" < <(python3 docs/words/make.py --check 2>&1)
 verdict "completions and the man page of mta_lab" < <(python3 share/make --check 2>&1)

@@ -2,11 +2,13 @@
 """How plain documents for people are: words that the glossary of plain words replaces, the length of sentences, and the
 reading ease by Flesch.
 
-  plain_words.py            says what is not plain in the documents that are held to it
+  plain_words.py            says what is not plain in the documents that are held to it, and in the code of crates that are
   plain_words.py FILE..     says it of these files, and their reading ease
+  plain_words.py --clean    names the crates of the lab whose code could be held to it, and is not yet
 
 Of man pages, of the help texts of mta_lab and of advice on exercises only the words are looked for; of the crates'
-README.md, of tasks and of hints all.
+README.md, of tasks and of hints all. Of code some of the words are: in comments that document, and in the names of
+functions, fields and types.
 
 A sentence is at most 30 words long, and a document's reading ease is at least 60: 206.835 - 1.015 * words a sentence
 - 84.6 * syllables a word. Code doesn't count, nor do tables and headings, but for their words; a name in backquotes
@@ -17,6 +19,10 @@ import os
 import re
 import sys
 
+sys.dont_write_bytecode = True
+
+import crates
+
 ROOT = os.path.dirname(os.path.dirname(os.path.abspath(__file__)))
 HELD = ("README.md", "CONTRIBUTING.md", "docs/TUTORIAL.md", "docs/CHEAT_SHEET.md",
         "docs/WRITING_PROGRAMS.md", "docs/LAB.md", "docs/LAB_REFERENCE.md", "docs/GRADING.md", "docs/PAGE.md",
@@ -26,26 +32,48 @@ HELD = ("README.md", "CONTRIBUTING.md", "docs/TUTORIAL.md", "docs/CHEAT_SHEET.md
 HELD_TOO = ("crates/*/README.md", "exercises/*/task.md", "exercises/*/hints.md")
 WORDS_ALONE = ("share/man/man1/*.1", "crates/lab_command_line/src/help.rt", "crates/lab_command_line/src/*arguments.rt",
                "exercises/*/advice")
+# the crates of the lab whose code has none of the words of OF_CODE_TOO, and rooms that are built without them: of these some
+# may not be there yet. A crate that gets rid of the words is added (--clean).
+HELD_CODE = (
+    # who waits, and every schedule
+    "stream_waits", "same_futures", "dead_registers", "agreeing_ends", "terminal_components", "busy_streams",
+    # what is expected, and how programs end
+    "expectations", "end_states", "space_ends", "expectation_messages",
+    # what the lab shows
+    "image_machines", "space_graphs", "program_pages",
+    # its commands, and what decides for them
+    "lab_command_line", "output_files", "program_searches", "judgements", "lab_views", "lab_pages", "lab_surveys",
+    "lab_adapter",
+)
 EASE, LONGEST = 60, 30
-# a word that readers stumble over, and what to write
-PLAIN = (
+# a word that readers stumble over, and what to write: those that code has not either, and those of documents alone
+OF_CODE_TOO = (
     (r"\bbehind\b", "after, next to"),
     (r"\b(tells|told|telling)\b", "reports, shows, says"),
-    (r"\ba way leads\b|\bways lead\b", "can reach"),
     (r"\b(goes|go|going) round\b", "loops"),
-    (r"\bstandstills?\b", "deadlock"),
-    (r"\blooked at\b", "explored"),
     (r"\bhands? out\b|\bgives? (it )?back\b|\b(given|giving it) back\b", "returns, releases"),
     (r"\bwish(es|ed)?\b", "requires"),
     (r"\breckon(s|ed)?\b", "computes"),
-    (r"\b(exactly|only) where\b", "exactly if, only if"),
-    (r"\bnobody (runs|can go on|else)\b", "no stream"),
     (r"\bto and fro\b", "forward and back"),
     (r"\bfor ever\b", "forever"),
     (r"\bstrong sets?\b", "sets of states that cannot be left"),
     (r"\bone behind the other\b", "one after the other"),
+)
+PLAIN = (
+    *OF_CODE_TOO,
+    (r"\ba way leads\b|\bways lead\b", "can reach"),
+    (r"\bstandstills?\b", "deadlock"),
+    (r"\blooked at\b", "explored"),
+    (r"\b(exactly|only) where\b", "exactly if, only if"),
+    (r"\bnobody (runs|can go on|else)\b", "no stream"),
     (r"\bwhere (it|they|there|this|that|no|a|an|the) (is|are|has|have|says?|can)\b", "if"),
 )
+
+# a word of a name in code, and what to write
+OF_NAMES = ((r"behind", "after, next"), (r"tell|tells|told|telling", "report, show, say, known, found"),
+            (r"wish|wishes|wished", "expectation, required"))
+# a function, a field or a parameter on a line of its own, a type
+NAMES = re.compile(r"\bfn (\w+)|^\s*(?:pub(?:\([\w: ]+\))? )?([a-z]\w*): |\b(?:struct|enum|trait|type) (\w+)")
 
 # what the core's own documents call a state (docs/GLOSSARY.md, "The field's words")
 WORLD = (r"\b[Ww]orlds?\b", "state")
@@ -91,7 +119,7 @@ def ease(sentences):
 
 def named(pattern):
     """The files of a pattern, by their paths from the root."""
-    return sorted(os.path.relpath(path, ROOT) for path in glob.glob(f"{ROOT}/{pattern}"))
+    return sorted(os.path.relpath(path, ROOT) for path in glob.glob(f"{ROOT}/{pattern}", recursive=True))
 
 
 def is_of_the_core(path):
@@ -115,6 +143,41 @@ def words_at_fault(path, lines):
                 yield f"{path}:{number}: '{found[0]}': write {plain}"
 
 
+def name_at_fault(name):
+    """The first word of a name in code that is not plain, and what to write; None where all are."""
+    for word in re.findall(r"[A-Z]?[a-z]+", name):
+        for pattern, plain in OF_NAMES:
+            if re.fullmatch(pattern, word.lower()):
+                return word, plain
+    return None
+
+
+def code_at_fault(crate):
+    """What is not plain in the documenting comments and the names of a crate's sources; nothing where it is not there."""
+    for path in named(f"crates/{crate}/src/**/*.rt"):
+        with open(f"{ROOT}/{path}", encoding="utf-8") as file:
+            lines = file.read().splitlines()
+        for number, line in enumerate(lines, 1):
+            comment = re.match(r"\s*//[/!](.*)", line)
+            text = re.sub(r"`[^`]*`", "", comment[1]) if comment else ""
+            for pattern, plain in OF_CODE_TOO:
+                for found in re.finditer(pattern, text, re.I):
+                    yield f"{path}:{number}: '{found[0]}': write {plain}"
+            for found in NAMES.finditer(re.sub(r"//.*", "", line)):
+                if fault := name_at_fault(name := next(filter(None, found.groups()))):
+                    yield f"{path}:{number}: the name '{name}' has '{fault[0]}': write {fault[1]}"
+
+
+def clean_crates():
+    """The crates of the lab whose code is plain, and that are not held to it."""
+    uses = {name: used for _, listed in crates.parts() for name, used in listed}
+    core = crates.needed_by("mta_sim", uses)
+    for heading, listed in crates.parts():
+        for name, _ in listed if heading != "Tests" else ():
+            if name not in core and name not in HELD_CODE and not any(code_at_fault(name)):
+                yield name
+
+
 def faults_of(path):
     """What is not plain in a document, a line each."""
     lines = text_of(f"{ROOT}/{path}")
@@ -128,6 +191,9 @@ def faults_of(path):
 
 
 def main():
+    if sys.argv[1:] == ["--clean"]:
+        print(*clean_crates(), sep="\n")
+        return
     for path in sys.argv[1:] or (*HELD, *(path for pattern in HELD_TOO for path in named(pattern))):
         for fault in faults_of(path):
             print(fault)
@@ -135,6 +201,9 @@ def main():
             print(f"{path}: a reading ease of {ease(list(sentences_of(text_of(f'{ROOT}/{path}')))):.0f}")
     for path in () if sys.argv[1:] else [path for pattern in WORDS_ALONE for path in named(pattern)]:
         for fault in words_at_fault(path, words_of_file(path)):
+            print(fault)
+    for crate in () if sys.argv[1:] else HELD_CODE:
+        for fault in code_at_fault(crate):
             print(fault)
 
 

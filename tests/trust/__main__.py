@@ -1,7 +1,7 @@
 #!/usr/bin/env python3
 """What a reader has to trust: follows the words of contracts to their definitions. Without an argument it writes
 out/TRUST.md, or the file that is named; with --check it writes out/TRUST.md too, and says what that page lacks or says
-wrong; with --unreached it names the definitions of specs/ that no public contract reaches; with --unsaid those that the
+wrong; with --named it compares its roots with what README.md and docs/PROMISES.md name; with --unreached it names the definitions of specs/ that no public contract reaches; with --unsaid those that the
 page has no sentence for, since no comment stands above them. Needs Python 3, and rt for the logic's name."""
 
 import sys
@@ -16,6 +16,7 @@ STARTED = os.getcwd()
 
 import document
 import layout
+import named
 import reach
 import sources
 import specs
@@ -39,9 +40,15 @@ def write(path=PAGE):
 def check():
     write()
     with open(PAGE, encoding="utf-8") as page:
-        faults = list(whole.faults(page.read(), logic(), document.ROOTS))
+        faults = list(whole.faults(page.read(), logic(), map(document.shown, document.ROOTS)))
     for fault in faults:
         print(f"{PAGE}: {fault}")
+    return 1 if faults else 0
+
+
+def compare():
+    faults = list(named.faults())
+    print(*faults, sep="\n", end="\n" if faults else "")
     return 1 if faults else 0
 
 
@@ -64,7 +71,7 @@ def unsaid():
 
 if __name__ == "__main__":
     asked = sys.argv[1:] or [PAGE]
-    commands = {"--check": check, "--unreached": unreached, "--unsaid": unsaid}
+    commands = {"--check": check, "--named": compare, "--unreached": unreached, "--unsaid": unsaid}
     if len(asked) != 1 or asked[0].startswith("-") and asked[0] not in commands:
-        raise SystemExit("one of --check, --unreached, --unsaid, or the file that is written [out/TRUST.md]")
+        raise SystemExit("one of --check, --named, --unreached, --unsaid, or the file that is written [out/TRUST.md]")
     sys.exit(commands[asked[0]]() if asked[0] in commands else write(os.path.join(STARTED, asked[0])))

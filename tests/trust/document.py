@@ -6,12 +6,25 @@ import layout
 import reach
 import sources
 
-# the headline's first half, its second half, what stands below and above them, and every schedule; then what the lab says
-# by contracts: whether every schedule is right, and what a search says of it, how a run ends and who waits, sets that no
-# link leaves, findings
-ROOTS = ("Machine::run", "one_machine", "threaded", "run_tool", "explore", "explore_ends", "is_right", "explore_program",
-         "end_kind_of", "waits_of", "circle_of", "terminal_roots", "shortest_cycle", "lost_updates", "unread_stores", "torn_reads")
-HEADLINE = ("one_machine", "threaded")
+# the contracts that README.md's list of what is proved rests on, each by its crate; docs/PROMISES.md has them with their
+# clauses ("What README.md names"), and named.py compares the two
+ROOTS = (
+    # mta_sim: the headline's first half, its second half, what stands below and above them
+    "machine Machine::run", "mta_engines one_machine", "memory_lock threaded", "mta_sim run_tool",
+    # every schedule: what a search has, how a run ends and who waits, what stands on a search
+    "schedule_space explore", "schedule_space explore_ends", "end_kinds end_kind_of", "stream_waits waits_of",
+    "stream_waits circle_of", "space_graphs ends_ahead", "busy_streams first_busy", "terminal_components terminal_roots",
+    "terminal_components shortest_cycle",
+    # what is expected, and whether it is so
+    "expectation_files read_requirements", "expectations is_met", "claims Claim::holds", "claims Claim::is_shown",
+    "program_rules is_kept",
+    # runs: what went wrong in one, where two differ
+    "run_findings lost_updates", "run_findings unread_stores", "run_findings torn_reads", "run_findings Findings::of",
+    "whole_runs first_difference",
+    # seeds, and verdicts
+    "schedule_survey survey", "seed_verdicts first_flaw", "seed_verdicts first_unshown_by_seeds", "schedule_verdicts is_right",
+    "lab_explorer explore_program", "lab_grades sampled_verdict", "lab_grades explored_verdict")
+HEADLINE = ("mta_engines one_machine", "memory_lock threaded")
 
 INTRODUCTION = """\
 # What to trust
@@ -42,11 +55,17 @@ are.
 """
 
 
-def root(name):
-    found = sources.functions_named(name)
+def root(named):
+    """The function of a crate that a root names, "CRATE PATH". One that its crate does not give out has a contract too."""
+    found = sources.functions_named(*named.split())
     if len(found) != 1:
-        raise SystemExit(f"{name}: {len(found)} public functions have this name")
+        raise SystemExit(f"{named}: {len(found)} functions have this name")
     return found[0]
+
+
+def shown(named):
+    """A root as the page shows it: by its path, which no other root has."""
+    return named.split()[1]
 
 
 def sentence(comment):
@@ -80,8 +99,9 @@ def table(heads, rows):
 def sum_table(reaches, functions):
     heads = ("root", "definitions", "lines", "files", "types of src", "lines", "files")
     rows = [(f"`{name}`", *map("{:,}".format, sums(found))) for name, found in reaches.items()]
-    both = reach.of([functions[name] for name in HEADLINE])
-    rows.append((" and ".join(f"`{name}`" for name in HEADLINE) + ", the headline", *map("{:,}".format, sums(both))))
+    headline = [shown(named) for named in HEADLINE]
+    both = reach.of([functions[name] for name in headline])
+    rows.append((" and ".join(f"`{name}`" for name in headline) + ", the headline", *map("{:,}".format, sums(both))))
     return table(heads, rows)
 
 
@@ -94,7 +114,7 @@ def section(name, function, reaches, listed):
     if old:
         lines += textwrap.wrap(f"{old} of the {len(mine)} definitions and types that it reaches stand under the roots "
                                f"above, where a row names it; these are the others.", 120)
-    later = [other for other in reaches if ROOTS.index(other) > ROOTS.index(name)]
+    later = list(reaches)[list(reaches).index(name) + 1:]
     file, rows = None, []
     heads = ("line", "definition", "what it is") + (("also reached from",) if later else ())
     for (where, word), (line, _, comment, kind) in new + [((None, None), (0, 0, "", ""))]:
@@ -104,8 +124,8 @@ def section(name, function, reaches, listed):
             file, rows = where, []
         if where:
             also = [f"`{other}`" for other in later if (where, word) in listed_keys(reaches[other])]
-            shown = f"{kind} `{word}`".strip()
-            rows.append((line, shown, sentence(comment)) + ((", ".join(also) or "none",) if later else ()))
+            entry = f"{kind} `{word}`".strip()
+            rows.append((line, entry, sentence(comment)) + ((", ".join(also) or "none",) if later else ()))
     listed.update(key for key, _ in new)
     return lines
 
@@ -128,7 +148,9 @@ def kit_part(reaches):
 
 
 def document(logic):
-    functions = {name: root(name) for name in ROOTS}
+    functions = {shown(named): root(named) for named in ROOTS}
+    if len(functions) < len(ROOTS):
+        raise SystemExit("two roots have one path")
     reaches = {name: reach.of([function]) for name, function in functions.items()}
     with open("HANDLES", encoding="utf-8") as text:
         handles = text.read().strip()

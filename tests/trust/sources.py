@@ -61,6 +61,18 @@ def block(lines, at, closing):
     return "\n".join(lines[at:end + 1])
 
 
+def contract(lines, at):
+    """A function from this line to where its body begins, or to the semicolon of one that has none."""
+    indent, end, depth = re.match(" *", lines[at])[0], at, 0
+    while end + 1 < len(lines):
+        line = re.sub(r"\s*//.*", "", lines[end])
+        depth += line.count("{") - line.count("}")
+        if line.endswith(("{", "}")) and not line.startswith(indent + " ") or line.endswith(";") and depth == 0:
+            break
+        end += 1
+    return "\n".join(lines[at:end + 1])
+
+
 class Source:
     """A file in src/."""
 
@@ -100,9 +112,7 @@ class Source:
                 comment = []
 
     def add_function(self, lines, at, owner, function, is_of_trait):
-        indent = " " * (len(lines[at]) - len(lines[at].lstrip()))
-        text = block(lines, at, lambda end: end == indent + "{" or end.endswith(("{", "}", ";")) and not re.match(
-            r"\s*(requires|ensures)\b", end) and end.startswith(indent) and not end.startswith(indent + "     "))
+        text = contract(lines, at)
         is_public = function.group(1) == "pub " or is_of_trait and owner is not None
         self.functions.append(Function(self, owner, is_public, function.group(2), at + 1, text))
 
@@ -177,6 +187,6 @@ def public_functions():
                     yield function
 
 
-def functions_named(path):
-    return [f for crate in layout.CRATES for file in layout.source_files(crate) for f in source(file).functions
-            if f.path == path and f.is_public]
+def functions_named(crate, path):
+    """The functions of a crate with this path, also those that it does not give out."""
+    return [f for file in layout.source_files(crate) for f in source(file).functions if f.path == path]

@@ -2,8 +2,8 @@
 
 use crate::end_pages::FoundProgram;
 use command_parts::{Inputs, LabFault};
-use lab_ends::SpaceEnd;
 use lab_requests::ExploreRequest;
+use space_ends::SpaceEnd;
 use std::alloc::Global;
 use std::io::Read;
 use std::rt::Files;

@@ -1,13 +1,13 @@
 //! The pages of the runs that lead to ends.
 
-use crate::expectation_texts::push_expected;
-use crate::explored_objects::is_as_expected;
-use crate::searches::Explored;
 use command_parts::{Inputs, LabFault, Program};
 use expectation_files::Requirements;
-use lab_ends::{SpaceEnd, SpaceEndKind};
+use lab_ends::broken_line;
 use plain_text::stem_of;
+use program_searches::Explored;
 use replay_page::{MOST_STEPS, RunNames, RunVerdict, page_of_run};
+use search_texts::push_expected;
+use space_ends::SpaceEnd;
 use std::alloc::{AllocError, Global};
 use std::io::Read;
 use std::rt::Files;
@@ -22,7 +22,7 @@ pub(crate) struct FoundProgram<'a> {
     /// What is required of it.
     pub required: &'a Requirements,
     /// What the search among its schedules came to.
-    pub found: &'a Explored,
+    pub found: &'a Explored<'a>,
 }
 
 impl FoundProgram<'_> {
@@ -95,7 +95,7 @@ impl FoundProgram<'_> {
         let required = self.required;
         if required.is_nothing() {
             RunVerdict::NotJudged
-        } else if is_as_expected(end) && self.found.broken_rule.is_none() {
+        } else if end.is_expected() && self.found.broken_rule.is_none() {
             RunVerdict::Expected
         } else if missed.is_empty() {
             RunVerdict::NotExpected { missed: None }
@@ -108,12 +108,16 @@ impl FoundProgram<'_> {
 
     /// The line that an end does not meet: a claim that is broken, an expectation, or a rule of programs; empty where none is.
     fn missed_words(self, alloc: Global, end: &SpaceEnd) -> Result<String, AllocError> {
-        if end.kind == SpaceEndKind::Broken {
-            return String::from_str(alloc, &end.text);
+        if let Some(line) = broken_line(self.required, end.kind) {
+            return String::from_str(alloc, line.words);
         }
         let mut words = String::new(alloc);
         if let Some(place) = end.missed {
             push_expected(&mut words, self.required, place)?;
+        } else if let Some(place) = end.broken
+            && let Some(said) = self.required.claim_lines().get(place)
+        {
+            words.push_str(&said.words)?;
         } else if let Some(place) = self.found.broken_rule
             && let Some(said) = self.required.rule_lines().get(place)
         {

@@ -1,15 +1,13 @@
 //! What is said of a search as objects (docs/LAB_REFERENCE.md, "JSON").
 
-use crate::expected_lines::ExpectedLines;
-use crate::searches::Explored;
-use crate::watching::SearchBound;
 use command_parts::push_object;
-use end_kinds::EndKind;
 use image_file::Image;
-use lab_ends::{SpaceEnd, SpaceEndKind};
-use lab_json::{Fields, List, Object, object_of, put_run, stream_value, text_value, turns_value};
+use lab_json::{Fields, List, Object, object_of, put_run, stream_value, turns_value};
 use processor::Step;
+use program_searches::Explored;
+use search_texts::{ExpectedLines, bound_value};
 use serde_json::Value;
+use space_ends::SpaceEnd;
 use std::alloc::{AllocError, Global};
 
 /// Adds the objects of a search among the schedules of an image: how much was found, and each end.
@@ -17,8 +15,8 @@ pub(crate) fn push_objects(
     alloc: Global,
     out: &mut String,
     image: &Image,
-    lines: ExpectedLines,
-    found: &Explored,
+    lines: ExpectedLines<'_>,
+    found: &Explored<'_>,
 ) -> Result<(), AllocError> {
     push_object(alloc, out, &search_value(alloc, found)?)?;
     for end in found.ends.iter() {
@@ -29,32 +27,15 @@ pub(crate) fn push_objects(
 }
 
 /// How much was found.
-fn search_value(alloc: Global, found: &Explored) -> Result<Value, AllocError> {
+fn search_value(alloc: Global, found: &Explored<'_>) -> Result<Value, AllocError> {
     let mut search = Object::of_kind(alloc, "search");
-    search.put_number("worlds", found.worlds as u64);
-    search.put_number("steps", found.steps as u64);
+    search.put_number("worlds", found.worlds() as u64);
+    search.put_number("steps", found.steps() as u64);
     search.put("complete", Ok(Value::from(found.is_complete)));
     search.put("plain", Ok(Value::from(found.is_of_all_worlds)));
-    search.put_number("begin", found.begin as u64);
+    search.put_number("begin", found.begin() as u64);
     search.put("bound", bound_value(alloc, found.bound));
     search.whole()
-}
-
-/// Puts what ended a search as `bound`; null where nothing did.
-pub fn put_bound(
-    alloc: Global,
-    fields: &mut Fields,
-    bound: Option<SearchBound>,
-) -> Result<(), AllocError> {
-    serde_json::put(fields, alloc, "bound", bound_value(alloc, bound)?)
-}
-
-/// What ended a search; null where nothing did.
-fn bound_value(alloc: Global, bound: Option<SearchBound>) -> Result<Value, AllocError> {
-    match bound {
-        Some(bound) => text_value(alloc, bound.json_name()),
-        None => Ok(Value::Null),
-    }
 }
 
 /// What is said of the run to an end.
@@ -69,8 +50,8 @@ fn run_fields(alloc: Global, image: &Image, end: &SpaceEnd) -> Result<Fields, Al
 fn end_value(
     alloc: Global,
     fields: Fields,
-    lines: ExpectedLines,
-    found: &Explored,
+    lines: ExpectedLines<'_>,
+    found: &Explored<'_>,
     end: &SpaceEnd,
 ) -> Result<Value, AllocError> {
     let mut object = Object::of(alloc, fields);
@@ -79,18 +60,18 @@ fn end_value(
     object.put_number("sets", end.sets as u64);
     object.put_number("from", end.sources as u64);
     object.put("shortest", Ok(shortest_value(found, end)));
-    object.put("expected", Ok(Value::from(is_as_expected(end))));
+    object.put("expected", Ok(Value::from(end.is_expected())));
     object.put("missed", lines.missed_value(alloc, end.missed));
     object.put("claim", lines.broken_value(alloc, end));
     object.put("schedule", turns_value(alloc, &end.schedule));
     object.put("round", turns_value(alloc, &end.cycle));
-    object.put("running", streams_value(alloc, &end.running));
+    object.put("running", running_value(alloc, end));
     object.put("changing", addresses_value(alloc, &end.changing));
     object.whole()
 }
 
 /// How many steps a shortest schedule to an end has; null where it is not known.
-fn shortest_value(found: &Explored, end: &SpaceEnd) -> Value {
+fn shortest_value(found: &Explored<'_>, end: &SpaceEnd) -> Value {
     if found.is_shortest(end) {
         Value::from(end.schedule.len())
     } else {
@@ -98,12 +79,9 @@ fn shortest_value(found: &Explored, end: &SpaceEnd) -> Value {
     }
 }
 
-/// Whether an end is as expected. Nobody expects a deadlock, whatever else its words hold.
-pub(crate) fn is_as_expected(end: &SpaceEnd) -> bool {
-    match end.kind {
-        SpaceEndKind::Broken | SpaceEndKind::End(EndKind::Deadlock) => false,
-        SpaceEndKind::End(_) => end.missed.is_none() && !end.is_trapped,
-    }
+/// The streams that can go on in a set that spins, by their names.
+fn running_value(alloc: Global, end: &SpaceEnd) -> Result<Value, AllocError> {
+    streams_value(alloc, &end.running(alloc)?)
 }
 
 /// Streams, by their names.

@@ -1,17 +1,18 @@
 //! What is said of a search: its head and its ends, in words or as objects.
 
-use crate::end_columns::{EndCells, EndColumns, end_line};
-use crate::expectation_texts::push_expected;
-use crate::expected_lines::ExpectedLines;
 use crate::explored_objects::push_objects;
-use crate::searches::Explored;
-use crate::unkept::{push_unkept, push_unkept_objects};
 use command_parts::CommandAnswer;
 use end_kinds::EndKind;
 use expectation_files::Requirements;
 use image_file::Image;
-use lab_ends::{SpaceEnd, SpaceEndKind};
+use lab_ends::{EndWords, words_of_ends};
+use lab_texts::Notation;
 use plain_text::push_plain;
+use program_searches::Explored;
+use search_texts::{
+    EndCells, EndColumns, ExpectedLines, end_line, push_expected, push_unkept, push_unkept_objects,
+};
+use space_ends::{SpaceEnd, SpaceEndKind};
 use std::alloc::{AllocError, Global};
 use trace_text::write_schedule;
 
@@ -24,14 +25,16 @@ pub(crate) fn answer_of(
     is_json: bool,
     image: &Image,
     required: &Requirements,
-    found: &Explored,
+    notation: Notation<'_, '_>,
+    found: &Explored<'_>,
 ) -> Result<CommandAnswer, AllocError> {
     let mut output = String::new(alloc);
     if is_json {
         push_objects(alloc, &mut output, image, ExpectedLines { required }, found)?;
         push_unkept_objects(alloc, &mut output, required, found.unkept())?;
     } else {
-        push_lines(alloc, &mut output, required, found)?;
+        let words = words_of_ends(alloc, notation, required, image, &found.ends)?;
+        push_lines(alloc, &mut output, required, found, &words)?;
     }
     Ok(CommandAnswer::printed(alloc, output, found.status()))
 }
@@ -41,7 +44,8 @@ fn push_lines(
     alloc: Global,
     out: &mut String,
     required: &Requirements,
-    found: &Explored,
+    found: &Explored<'_>,
+    words: &[EndWords],
 ) -> Result<(), AllocError> {
     push_head_line(out, found)?;
     push_unkept(out, required, found.unkept(), true)?;
@@ -49,14 +53,15 @@ fn push_lines(
     if !found.ends.is_empty() {
         columns.push_names(out)?;
     }
-    for end in found.ends.iter() {
-        push_end_line(alloc, out, columns, required, found, end)?;
+    for (end, words) in found.ends.iter().zip(words) {
+        let cells = EndLine { found, end, words };
+        cells.push(alloc, out, columns, required)?;
     }
     Ok(())
 }
 
 /// The columns of the ends that a search found.
-fn columns_of(alloc: Global, found: &Explored) -> Result<EndColumns, AllocError> {
+fn columns_of(alloc: Global, found: &Explored<'_>) -> Result<EndColumns, AllocError> {
     let mut columns = EndColumns::named("states", "reached in");
     for end in found.ends.iter() {
         let kind = kind_words(alloc, end)?;
@@ -71,9 +76,9 @@ fn columns_of(alloc: Global, found: &Explored) -> Result<EndColumns, AllocError>
 }
 
 /// Adds how much was found, in words.
-pub(crate) fn push_head_line(out: &mut String, found: &Explored) -> Result<(), AllocError> {
-    let worlds = found.worlds;
-    let steps = found.steps;
+pub(crate) fn push_head_line(out: &mut String, found: &Explored<'_>) -> Result<(), AllocError> {
+    let worlds = found.worlds();
+    let steps = found.steps();
     let which = schedules_of(found);
     let some_worlds = plural(worlds);
     let some_steps = plural(steps);
@@ -99,8 +104,8 @@ pub(crate) fn push_head_line(out: &mut String, found: &Explored) -> Result<(), A
 }
 
 /// Of which schedules a search tells.
-fn schedules_of(found: &Explored) -> &'static str {
-    match (found.is_complete, found.begin) {
+fn schedules_of(found: &Explored<'_>) -> &'static str {
+    match (found.is_complete, found.begin()) {
         (true, 0) => "every schedule",
         (true, _) => "every schedule that begins so",
         (false, 0) => "some schedules",
@@ -113,29 +118,42 @@ fn plural(count: usize) -> &'static str {
     if count == 1 { "" } else { "s" }
 }
 
-/// Adds the line of an end.
-fn push_end_line(
-    alloc: Global,
-    out: &mut String,
-    columns: EndColumns,
-    required: &Requirements,
-    found: &Explored,
-    end: &SpaceEnd,
-) -> Result<(), AllocError> {
-    let kind = kind_words(alloc, end)?;
-    let reached = reached_words(alloc, found, end)?;
-    let cells = EndCells {
-        count: end.worlds(),
-        kind: &kind,
-        reached: &reached,
-    };
-    columns.push_cells(out, cells)?;
-    push_plain(out, &end.text)?;
-    push_missed(out, required, end)?;
-    end_line(out)?;
-    columns.push_note(out, &end.finding)?;
-    columns.push_note(out, &end.cycle_words)?;
-    columns.push_note(out, &broken_words(alloc, end)?)
+/// An end that a search found, as a line shows it.
+#[derive(Clone, Copy)]
+struct EndLine<'f, 'i> {
+    /// The search.
+    found: &'f Explored<'i>,
+    /// The end.
+    end: &'f SpaceEnd,
+    /// It in words.
+    words: &'f EndWords,
+}
+
+impl EndLine<'_, '_> {
+    /// Adds the line.
+    fn push(
+        self,
+        alloc: Global,
+        out: &mut String,
+        columns: EndColumns,
+        required: &Requirements,
+    ) -> Result<(), AllocError> {
+        let EndLine { found, end, words } = self;
+        let kind = kind_words(alloc, end)?;
+        let reached = reached_words(alloc, found, end)?;
+        let cells = EndCells {
+            count: end.worlds(),
+            kind: &kind,
+            reached: &reached,
+        };
+        columns.push_cells(out, cells)?;
+        push_plain(out, &words.text)?;
+        push_missed(out, required, end, &words.text)?;
+        end_line(out)?;
+        columns.push_note(out, &words.finding)?;
+        columns.push_note(out, &words.cycle)?;
+        columns.push_note(out, &broken_words(alloc, end)?)
+    }
 }
 
 /// The kind of an end, and of how many sets it is where worlds spin.
@@ -150,7 +168,11 @@ fn kind_words(alloc: Global, end: &SpaceEnd) -> Result<String, AllocError> {
 }
 
 /// In how many steps an end is reached, and from how many worlds.
-fn reached_words(alloc: Global, found: &Explored, end: &SpaceEnd) -> Result<String, AllocError> {
+fn reached_words(
+    alloc: Global,
+    found: &Explored<'_>,
+    end: &SpaceEnd,
+) -> Result<String, AllocError> {
     let steps = end.schedule.len();
     let sources = end.sources;
     let some_steps = plural(steps);
@@ -166,7 +188,7 @@ fn reached_words(alloc: Global, found: &Explored, end: &SpaceEnd) -> Result<Stri
 /// The schedule that breaks a claim, where one is broken after some step, as `by 0 0 3, 1 0 2`; empty of other ends.
 fn broken_words(alloc: Global, end: &SpaceEnd) -> Result<String, AllocError> {
     let mut words = String::new(alloc);
-    if end.kind != SpaceEndKind::Broken || end.schedule.is_empty() {
+    if end.kind.is_end() || end.schedule.is_empty() {
         return Ok(words);
     }
     let schedule = write_schedule(alloc, &end.schedule)?;
@@ -186,11 +208,12 @@ fn push_missed(
     out: &mut String,
     required: &Requirements,
     end: &SpaceEnd,
+    text: &str,
 ) -> Result<(), AllocError> {
     if required.ends().is_empty() || !end.is_trapped && end.missed.is_none() {
         return Ok(());
     }
-    push_missed_head(out, &end.text)?;
+    push_missed_head(out, text)?;
     match end.missed {
         Some(place) => {
             out.push_str(": ")?;

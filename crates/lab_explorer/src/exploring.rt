@@ -3,15 +3,15 @@
 use crate::end_folders::{make_folders, write_folders};
 use crate::end_pages::FoundProgram;
 use crate::explored_text::answer_of;
-use crate::graphs::write_graph;
+use crate::graphs::{GraphedSearch, write_graph};
 use crate::reading::requirements_of;
-use crate::searches::{SpaceSearch, explore_program};
-use crate::watching::{Console, Watcher};
 use command_parts::{CommandAnswer, Inputs, LabFault, Program, read_program, read_steps, style_of};
 use expectation_files::Requirements;
 use lab_requests::ExploreRequest;
-use lab_texts::ProgramNames;
+use lab_texts::{Notation, ProgramNames};
 use processor::Step;
+use program_searches::{Console, ProgramSearch, explore_program};
+use search_texts::search_fault;
 use std::alloc::Global;
 use std::io::{Read, Write};
 use std::rt::Files;
@@ -29,21 +29,32 @@ pub fn show_every_end<C: Clock, F: Files, R: Read, E: Write>(
     let required = requirements_asked(alloc, inputs, request.expected, &program)?;
     let begin = begin_asked(alloc, inputs, request, &program)?;
     let made = make_folders(alloc, inputs, request);
-    let mut watcher = Watcher::new(alloc, console, request.bounds)?;
     let asked = search_asked(request, &required, &begin);
-    let found = explore_program(alloc, &program, &names, &asked, &mut watcher);
-    watcher.finish();
-    let found = found?;
+    let found = match explore_program(alloc, &program.image, &asked, console) {
+        Ok(found) => found,
+        Err(fault) => return Err(search_fault(alloc, fault)?),
+    };
+    let image = &program.image;
+    let notation = Notation {
+        names: &names,
+        style: style_of(request.shown),
+    };
     let is_json = request.shown.json;
-    let mut answer = answer_of(alloc, is_json, &program.image, &required, &found)?;
-    let told = FoundProgram {
+    let mut answer = answer_of(alloc, is_json, image, &required, notation, &found)?;
+    let shown = FoundProgram {
         path: request.program,
         program: &program,
         required: &required,
         found: &found,
     };
-    let kept = write_folders(alloc, inputs, request, made, told);
-    let drawn = write_graph(alloc, inputs, request.dot, &found);
+    let kept = write_folders(alloc, inputs, request, made, shown);
+    let graphed = GraphedSearch {
+        found: &found,
+        required: &required,
+        notation,
+        image,
+    };
+    let drawn = write_graph(alloc, inputs, request.dot, graphed);
     answer.fault = kept.and(drawn).err();
     Ok(answer)
 }
@@ -80,13 +91,11 @@ fn search_asked<'a>(
     request: &ExploreRequest,
     required: &'a Requirements,
     begin: &'a [Step],
-) -> SpaceSearch<'a> {
-    SpaceSearch {
+) -> ProgramSearch<'a> {
+    ProgramSearch {
         required,
         begin,
-        most: request.bounds.worlds,
+        bounds: request.bounds,
         is_plain: request.is_plain,
-        is_drawn: request.dot.is_some(),
-        style: style_of(request.shown),
     }
 }

@@ -2,6 +2,7 @@
 #![tactic(auto)]
 
 mod coverage;
+mod outcome_words;
 mod survey_objects;
 mod surveying;
 

@@ -1,13 +1,13 @@
 //! What is said of a survey as objects (docs/LAB_REFERENCE.md, "JSON").
 
 use command_parts::{Program, made_by, push_object};
-use end_kinds::EndKind;
 use expectation_files::Requirements;
-use lab_ends::SpaceEnd;
-use lab_explorer::{ExpectedLines, Explored, put_bound};
+use lab_ends::BrokenLine;
 use lab_json::{Fields, Object, digits, line_value, object_of, put_run};
 use lab_requests::Maker;
+use program_searches::Explored;
 use rayon::prelude::*;
+use search_texts::{ExpectedLines, put_bound};
 use seed_outcomes::SeedOutcome;
 use serde_json::Value;
 use std::alloc::{AllocError, Global};
@@ -80,13 +80,11 @@ fn outcome_value(
     let mut fields = object_of(alloc, "outcome")?;
     put_run_of(alloc, &mut fields, surveyed, outcome)?;
     let mut object = Object::of(alloc, fields);
-    object.put_text("end", outcome.kind.json_name());
+    object.put_text("end", outcome.judgement.kind.json_name());
     object.put_number("runs", outcome.runs as u64);
     object.put("seed", digits(alloc, outcome.seed));
     object.put_number("steps", outcome.steps as u64);
-    // (nobody expects a deadlock)
-    let is_as_expected = outcome.is_as_expected() && outcome.kind != EndKind::Deadlock;
-    object.put("expected", Ok(Value::from(is_as_expected)));
+    object.put("expected", Ok(Value::from(outcome.judgement.is_expected())));
     object.whole()
 }
 
@@ -100,8 +98,8 @@ fn put_run_of(
     let image = &surveyed.program.image;
     let maker = Maker::Random { seed: outcome.seed };
     let lines = surveyed.lines();
-    lines.put_missed(alloc, fields, outcome.missed)?;
-    lines.put_claim(alloc, fields, outcome.broken)?;
+    lines.put_missed(alloc, fields, outcome.judgement.missed)?;
+    lines.put_claim(alloc, fields, outcome.judgement.broken)?;
     let made = made_by(alloc, image, maker, surveyed.most)?;
     put_run(alloc, fields, image, &made.steps)
 }
@@ -112,6 +110,7 @@ pub(crate) fn broken_words<'w>(
     outcome: &SeedOutcome,
 ) -> Option<&'w str> {
     let line = outcome
+        .judgement
         .broken
         .and_then(|place| required.claim_lines().get(place))?;
     Some(line.words.as_str())
@@ -121,10 +120,10 @@ pub(crate) fn broken_words<'w>(
 pub(crate) fn push_broken_object(
     alloc: Global,
     out: &mut String,
-    broken: &SpaceEnd,
+    broken: BrokenLine<'_>,
 ) -> Result<(), AllocError> {
     let mut object = Object::of_kind(alloc, "broken");
-    object.put("claim", line_value(alloc, broken.line, &broken.text));
+    object.put("claim", line_value(alloc, broken.number, broken.words));
     push_object(alloc, out, &object.whole()?)
 }
 
@@ -132,7 +131,7 @@ pub(crate) fn push_broken_object(
 pub(crate) fn push_coverage(
     alloc: Global,
     out: &mut String,
-    found: &Explored,
+    found: &Explored<'_>,
     ends: usize,
     met: usize,
 ) -> Result<(), AllocError> {
@@ -141,7 +140,7 @@ pub(crate) fn push_coverage(
     let mut object = Object::of(alloc, fields);
     object.put_number("ends", ends as u64);
     object.put_number("met", met as u64);
-    object.put_number("worlds", found.worlds as u64);
+    object.put_number("worlds", found.worlds() as u64);
     object.put("complete", Ok(Value::from(found.is_complete)));
     push_object(alloc, out, &object.whole()?)
 }

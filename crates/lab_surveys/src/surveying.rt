@@ -1,17 +1,19 @@
 //! The command `survey`.
 
 use crate::coverage::push_every_schedule;
+use crate::outcome_words::{OutcomeWords, words_of_outcomes};
 use crate::survey_objects::{SurveyInput, broken_words, push_outcome_objects};
 use command_parts::{CommandAnswer, Inputs, LabFault, read_program, style_of};
 use expectation_files::Requirements;
-use lab_explorer::{
-    Console, EndCells, EndColumns, Explored, SpaceSearch, Unkept, Watcher, end_line,
-    explore_program, push_expected, push_unkept, push_unkept_objects, requirements_of,
-};
+use lab_explorer::requirements_of;
 use lab_requests::{Bounds, SurveyRequest};
-use lab_texts::{NumberStyle, ProgramNames};
+use lab_texts::{Notation, ProgramNames};
 use plain_text::push_plain;
 use program_rules::first_broken;
+use program_searches::{Console, Explored, ProgramSearch, Unkept, explore_program};
+use search_texts::{
+    EndCells, EndColumns, end_line, push_expected, push_unkept, push_unkept_objects, search_fault,
+};
 use seed_outcomes::{SeedOutcome, SurveySeeds, outcomes_of, unshown_by_seeds, worst_status};
 use seed_verdicts::Seeds;
 use std::alloc::{AllocError, Global};
@@ -59,17 +61,21 @@ fn survey_of<X: Threads + Sync, C: Clock, E: Write>(
         first: request.first,
         count: request.seeds,
         most: request.most,
-        style: style_of(request.shown),
     };
     let image = &surveyed.program.image;
-    let mut outcomes = outcomes_of(rt, alloc, image, names, surveyed.required, seeds)?;
+    let mut outcomes = outcomes_of(rt, alloc, image, surveyed.required, seeds)?;
     outcomes.sort_by_key(|outcome: &SeedOutcome| usize::MAX - outcome.runs)?;
     let is_json = request.shown.json;
     let mut output = String::new(alloc);
     if is_json {
         push_outcome_objects(rt, alloc, &mut output, surveyed, &outcomes)?;
     } else {
-        push_outcomes(alloc, &mut output, surveyed.required, &outcomes)?;
+        let notation = Notation {
+            names,
+            style: style_of(request.shown),
+        };
+        let words = words_of_outcomes(rt, alloc, surveyed, notation, &outcomes)?;
+        push_outcomes(alloc, &mut output, surveyed.required, &outcomes, &words)?;
     }
     let status = worst_status(&outcomes);
     let Some(bounds) = request.explored else {
@@ -78,7 +84,7 @@ fn survey_of<X: Threads + Sync, C: Clock, E: Write>(
         let status = status.worse(unkept.status(false));
         return Ok(CommandAnswer::printed(alloc, output, status));
     };
-    let found = every_end(alloc, surveyed, names, seeds.style, bounds, console)?;
+    let found = every_end(alloc, surveyed, bounds, console)?;
     push_whole(alloc, &mut output, is_json, surveyed, found.unkept(), true)?;
     push_every_schedule(alloc, &mut output, is_json, surveyed, &found, &outcomes)?;
     Ok(CommandAnswer::printed(alloc, output, status.worse(found.status())))
@@ -129,6 +135,7 @@ fn push_outcomes(
     out: &mut String,
     required: &Requirements,
     outcomes: &[SeedOutcome],
+    words: &[OutcomeWords],
 ) -> Result<(), AllocError> {
     let mut columns = EndColumns::named("runs", "first by");
     for outcome in outcomes {
@@ -138,8 +145,13 @@ fn push_outcomes(
     if !outcomes.is_empty() {
         columns.push_names(out)?;
     }
-    for outcome in outcomes {
-        push_outcome(alloc, out, columns, required, outcome)?;
+    for (outcome, words) in outcomes.iter().zip(words) {
+        let seed = seed_words(alloc, outcome)?;
+        columns.push_cells(out, cells_of(outcome, &seed))?;
+        push_plain(out, words.text.as_str())?;
+        push_judgement(out, required, outcome, &words.text)?;
+        end_line(out)?;
+        columns.push_note(out, words.finding.as_str())?;
     }
     Ok(())
 }
@@ -154,49 +166,29 @@ fn seed_words(alloc: Global, outcome: &SeedOutcome) -> Result<String, AllocError
 fn cells_of<'a>(outcome: &SeedOutcome, seed: &'a str) -> EndCells<'a> {
     EndCells {
         count: outcome.runs,
-        kind: outcome.kind.name(),
+        kind: outcome.judgement.kind.name(),
         reached: seed,
     }
 }
 
 /// The ends of every schedule of a program.
-fn every_end<C: Clock, E: Write>(
+fn every_end<'s, C: Clock, E: Write>(
     alloc: Global,
-    surveyed: SurveyInput,
-    names: &ProgramNames<'_>,
-    style: NumberStyle,
+    surveyed: SurveyInput<'s>,
     bounds: Bounds,
     console: &mut Console<'_, C, E>,
-) -> Result<Explored, LabFault> {
+) -> Result<Explored<'s>, LabFault> {
     let begin = Vec::new(alloc);
-    let asked = SpaceSearch {
+    let asked = ProgramSearch {
         required: surveyed.required,
         begin: &begin,
-        most: bounds.worlds,
+        bounds,
         is_plain: false,
-        is_drawn: false,
-        style,
     };
-    let mut watcher = Watcher::new(alloc, console, bounds)?;
-    let found = explore_program(alloc, surveyed.program, names, &asked, &mut watcher);
-    watcher.finish();
-    Ok(found?)
-}
-
-/// Adds the line of an outcome, which is judged where something is expected.
-fn push_outcome(
-    alloc: Global,
-    out: &mut String,
-    columns: EndColumns,
-    required: &Requirements,
-    outcome: &SeedOutcome,
-) -> Result<(), AllocError> {
-    let seed = seed_words(alloc, outcome)?;
-    columns.push_cells(out, cells_of(outcome, &seed))?;
-    push_plain(out, outcome.text.as_str())?;
-    push_judgement(out, required, outcome)?;
-    end_line(out)?;
-    columns.push_note(out, outcome.finding.as_str())
+    match explore_program(alloc, &surveyed.program.image, &asked, console) {
+        Ok(found) => Ok(found),
+        Err(fault) => Err(search_fault(alloc, fault)?),
+    }
 }
 
 /// Adds that an outcome is not as expected, and the first line that it misses, or that is broken on the way.
@@ -204,14 +196,19 @@ fn push_judgement(
     out: &mut String,
     required: &Requirements,
     outcome: &SeedOutcome,
+    text: &str,
 ) -> Result<(), AllocError> {
+    let judgement = outcome.judgement;
     let is_judged = !required.ends().is_empty() || !required.claims().is_empty();
-    if !is_judged || outcome.is_as_expected() {
+    let is_flawed = judgement.missed.is_some()
+        || judgement.broken.is_some()
+        || judgement.is_trapped;
+    if !is_judged || !is_flawed {
         return Ok(());
     }
-    out.push_str(if outcome.text.is_empty() { "" } else { "   " })?;
+    out.push_str(if text.is_empty() { "" } else { "   " })?;
     out.push_str("NOT as expected")?;
-    if let Some(place) = outcome.missed {
+    if let Some(place) = judgement.missed {
         out.push_str(": ")?;
         return push_expected(out, required, place);
     }

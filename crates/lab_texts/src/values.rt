@@ -72,7 +72,7 @@ pub(crate) fn trap_words(trap: TrapKind) -> &'static str {
     match trap {
         TrapKind::Program => "the pc is past the program's end",
         TrapKind::Illegal => "the word is no instruction",
-        TrapKind::Create => "no slot is left",
+        TrapKind::Create => "every reserved stream is in use",
         TrapKind::Pointer => "no reference may use this pointer",
         TrapKind::Align => "the address is no multiple of 8",
         TrapKind::Range => "there is no word at the address",

@@ -8,13 +8,14 @@ use lab_checks::{assemble_file, check, explain, lay_out, make_schedule, show_wor
 use lab_command_line::read_lab_command;
 use lab_debugger::{Screen, debug};
 use lab_exercises::exercise;
-use lab_explorer::{Console, show_every_end};
+use lab_explorer::show_every_end;
 use lab_grades::grade;
 use lab_pages::{write_page, write_picture, write_play_page};
 use lab_requests::{Colours, LabCommand};
 use lab_surveys::survey;
 use lab_views::{compare, view};
 use plain_text::{plain, push_plain};
+use program_searches::Console;
 use std::alloc::{AllocError, Global};
 use std::convert::AsStr;
 use std::fmt::Display;

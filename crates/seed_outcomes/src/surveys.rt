@@ -1,17 +1,13 @@
 //! The outcomes of seeds.
 
-use crate::findings::add_findings;
 use crate::outcomes::{SeedOutcome, add_outcome};
 use crate::parts::{part_size, parts_of};
 use crate::world_groups::{SeedGroup, groups_of_seeds};
 use claims::Claim;
-use end_kinds::end_kind_of;
+use end_states::{EndJudgement, JudgedEnd, judged_end};
 use expectation_files::Requirements;
-use expectations::first_missed;
 use image_file::Image;
 use image_machines::{by_room, loaded};
-use lab_ends::{end_text_of, is_expected_trap};
-use lab_texts::{NumberStyle, ProgramNames};
 use machine::{LoadFault, Machine};
 use processor::Step;
 use rayon::prelude::*;
@@ -24,7 +20,7 @@ use std::thread::Threads;
 /// How many seeds are shared out among threads at once: so many that those which are done first wait for little.
 const AT_ONCE: usize = 131_072;
 
-/// Which seeds are run, for how many steps at most, and how their ends are told.
+/// Which seeds are run, and for how many steps at most.
 #[derive(Clone, Copy)]
 pub struct SurveySeeds {
     /// The first seed.
@@ -33,28 +29,22 @@ pub struct SurveySeeds {
     pub count: usize,
     /// The most steps of each schedule.
     pub most: usize,
-    /// How the numbers of their ends are told.
-    pub style: NumberStyle,
 }
 
-/// A program, how the schedule of a seed is made of it, and how its end is told.
+/// A program, and how the schedule of a seed is made of it.
 #[derive(Drop)]
-pub(crate) struct Surveyed<'a, 't> {
+pub(crate) struct Surveyed<'a> {
     /// The program.
     pub image: &'a Image,
-    /// The names of its places.
-    pub names: &'a ProgramNames<'t>,
     /// What is required of it.
     pub required: &'a Requirements,
     /// How many steps the program's fair run has.
     pub fair_steps: usize,
     /// The most steps of a schedule.
     pub most: usize,
-    /// How the numbers of ends are told.
-    pub style: NumberStyle,
 }
 
-impl Surveyed<'_, '_> {
+impl Surveyed<'_> {
     /// Takes the steps of the schedule of a seed, which was made for this machine at its start.
     pub(crate) fn take_seed<const S: usize>(
         &self,
@@ -71,33 +61,26 @@ pub fn outcomes_of<X: Threads + Sync>(
     rt: &X,
     alloc: Global,
     image: &Image,
-    names: &ProgramNames<'_>,
     required: &Requirements,
     seeds: SurveySeeds,
 ) -> Result<Vec<SeedOutcome>, AllocError> {
-    by_room!(
-        image,
-        outcomes_on::<X>(rt, alloc, image, names, required, seeds)
-    )
+    by_room!(image, outcomes_on::<X>(rt, alloc, image, required, seeds))
 }
 
 /// The same on machines with room for `S` streams a processor.
-fn outcomes_on<'a, 't, X: Threads + Sync, const S: usize>(
+fn outcomes_on<X: Threads + Sync, const S: usize>(
     rt: &X,
     alloc: Global,
-    image: &'a Image,
-    names: &'a ProgramNames<'t>,
-    required: &'a Requirements,
+    image: &Image,
+    required: &Requirements,
     seeds: SurveySeeds,
 ) -> Result<Vec<SeedOutcome>, AllocError> {
     let fair_steps = fair_length(alloc, &loaded::<S>(alloc, image)?)?;
     let surveyed = Surveyed {
         image,
-        names,
         required,
         fair_steps,
         most: seeds.most,
-        style: seeds.style,
     };
     let mut outcomes = Vec::new(alloc);
     for begin in (0..seeds.count).step_by(AT_ONCE) {
@@ -107,7 +90,6 @@ fn outcomes_on<'a, 't, X: Threads + Sync, const S: usize>(
         };
         add_some::<X, S>(rt, alloc, &surveyed, some, &mut outcomes)?;
     }
-    add_findings::<X, S>(rt, alloc, &surveyed, &mut outcomes)?;
     Ok(outcomes)
 }
 
@@ -115,7 +97,7 @@ fn outcomes_on<'a, 't, X: Threads + Sync, const S: usize>(
 fn add_some<X: Threads + Sync, const S: usize>(
     rt: &X,
     alloc: Global,
-    surveyed: &Surveyed<'_, '_>,
+    surveyed: &Surveyed<'_>,
     seeds: SeedRange,
     outcomes: &mut Vec<SeedOutcome>,
 ) -> Result<(), AllocError> {
@@ -132,7 +114,7 @@ fn add_some<X: Threads + Sync, const S: usize>(
 fn outcomes_of_groups<X: Threads + Sync, const S: usize>(
     rt: &X,
     alloc: Global,
-    surveyed: &Surveyed<'_, '_>,
+    surveyed: &Surveyed<'_>,
     groups: &[SeedGroup],
 ) -> Result<Vec<Vec<SeedOutcome>>, AllocError> {
     let size = part_size(rt, groups.len());
@@ -154,7 +136,7 @@ fn outcomes_of_groups<X: Threads + Sync, const S: usize>(
 /// The outcomes of groups, each once.
 fn outcomes_of_part<const S: usize>(
     alloc: Global,
-    surveyed: &Surveyed<'_, '_>,
+    surveyed: &Surveyed<'_>,
     groups: &[SeedGroup],
 ) -> Result<Vec<SeedOutcome>, AllocError> {
     let mut outcomes = Vec::new(alloc);
@@ -168,32 +150,24 @@ fn outcomes_of_part<const S: usize>(
 /// The outcome of so many ends that are the same world: the schedule of a seed that leads there is run again.
 fn outcome_of<const S: usize>(
     alloc: Global,
-    surveyed: &Surveyed<'_, '_>,
+    surveyed: &Surveyed<'_>,
     seed: u64,
     runs: usize,
 ) -> Result<SeedOutcome, AllocError> {
     let mut machine = loaded::<S>(alloc, surveyed.image)?;
     let made = surveyed.take_seed(alloc, &mut machine, seed)?;
-    let words = end_text_of(alloc, &machine, surveyed.names, surveyed.style)?;
-    let is_trapped = words.stopped.iter().any(|stream| !is_expected_trap(
-        surveyed.required.ends(),
-        stream,
-    ));
+    let required = surveyed.required;
+    let JudgedEnd { judgement, state } = judged_end(alloc, &machine, required.ends())?;
+    let broken = broken_by::<S>(alloc, surveyed.image, &made.steps, required.claims())?;
     Ok(SeedOutcome {
-        kind: end_kind_of(&machine),
-        text: words.text,
-        missed: first_missed(&machine, surveyed.required.ends()),
-        broken: broken_by::<S>(
-            alloc,
-            surveyed.image,
-            &made.steps,
-            surveyed.required.claims(),
-        )?,
-        is_trapped,
+        judgement: EndJudgement {
+            broken,
+            ..judgement
+        },
+        state,
         seed,
         steps: made.steps.len(),
         runs,
-        finding: String::new(alloc),
     })
 }
 

@@ -21,7 +21,7 @@ pub(crate) struct SeedGroup {
 pub(crate) fn groups_of_seeds<X: Threads + Sync, const S: usize>(
     rt: &X,
     alloc: Global,
-    surveyed: &Surveyed<'_, '_>,
+    surveyed: &Surveyed<'_>,
     seeds: SeedRange,
 ) -> Result<Vec<SeedGroup>, AllocError> {
     if !surveyed.required.claims().is_empty() {

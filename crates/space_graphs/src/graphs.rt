@@ -5,8 +5,9 @@ use crate::legend::push_legend;
 use crate::paths::taken_edges;
 use crate::sets::groups_of;
 use crate::worlds::{push_steps, push_worlds};
-use lab_ends::SpaceEnd;
+use lab_ends::EndWords;
 use schedule_space::Space;
+use space_ends::SpaceEnd;
 use std::alloc::{AllocError, Global};
 
 /// The most worlds that are drawn.
@@ -18,16 +19,21 @@ const SETTINGS: &str = "digraph worlds {
   edge [fontname=\"sans-serif\"];
 ";
 
-/// The worlds of a space with its ends as a graph in the DOT language: each world with its number, from 1, and the numbers
+/// The worlds of a space with its ends, which have these words, as a graph in the DOT language: each world with its number, from 1, and the numbers
 /// of the ends that can still be reached, by which it is coloured; the first with a double line, those of ends as boxes
 /// with the kind; the steps with their streams, those of the ends' schedules bold.
-pub fn graph_of(alloc: Global, space: &Space<'_>, ends: &[SpaceEnd]) -> Result<String, AllocError> {
+pub fn graph_of(
+    alloc: Global,
+    space: &Space<'_>,
+    ends: &[SpaceEnd],
+    words: &[EndWords],
+) -> Result<String, AllocError> {
     let ahead = ends_ahead(alloc, space, ends)?;
     let groups = groups_of(alloc, &ahead)?;
     let edges = space.edges();
     let taken = taken_edges(alloc, edges, space.begin().len(), ends)?;
     let mut out = String::from_str(alloc, SETTINGS)?;
-    push_legend(alloc, &mut out, ends, &ahead, &groups)?;
+    push_legend(alloc, &mut out, ends, words, &ahead, &groups)?;
     push_worlds(alloc, &mut out, ends, &ahead, &groups)?;
     push_steps(&mut out, edges, &taken)?;
     out.push_str("}\n")?;

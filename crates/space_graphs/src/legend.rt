@@ -2,7 +2,8 @@
 
 use crate::sets::{Groups, colour, numbers_of};
 use crate::texts::{push_ahead, push_shown};
-use lab_ends::SpaceEnd;
+use lab_ends::EndWords;
+use space_ends::SpaceEnd;
 use std::alloc::{AllocError, Global};
 
 /// Adds the ends in words, and a colour for each group of worlds.
@@ -10,12 +11,13 @@ pub(crate) fn push_legend(
     alloc: Global,
     out: &mut String,
     ends: &[SpaceEnd],
+    words: &[EndWords],
     ahead: &[Vec<usize>],
     groups: &Groups,
 ) -> Result<(), AllocError> {
     out.push_str("  subgraph cluster_legend {\n    label=\"ends\";\n    node [shape=box];\n")?;
-    for (index, end) in ends.iter().enumerate() {
-        push_end(alloc, out, index.saturating_add(1), end)?;
+    for (index, (end, words)) in ends.iter().zip(words).enumerate() {
+        push_end(alloc, out, index.saturating_add(1), end, &words.text)?;
     }
     for (group, first) in groups.firsts.iter().enumerate() {
         let fill = colour(group);
@@ -32,12 +34,13 @@ fn push_end(
     out: &mut String,
     number: usize,
     end: &SpaceEnd,
+    text: &str,
 ) -> Result<(), AllocError> {
     let kind = end.kind.name();
     write!(out, "    e{number} [label=\"{number}: {kind}")?;
-    if !end.text.is_empty() {
+    if !text.is_empty() {
         out.push_str("\\n")?;
-        push_shown(alloc, out, &end.text)?;
+        push_shown(alloc, out, text)?;
     }
     out.push_str("\", fillcolor=\"white\"];\n")
 }

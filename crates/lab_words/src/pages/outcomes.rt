@@ -1,17 +1,17 @@
 //! Pages of `explain`: docs/words/outcomes.txt. Made by docs/words/make.py.
 
 pub(crate) const TEXT: &str = r"= 1 PROGRAM
-Trap 1, PROGRAM: the stream went past the end of the program.
+Trap 1, PROGRAM: the pc is past the program's end.
 
 What to do: end the stream by QUIT, or look which SKIP or JUMP goes too far.
 
 = 2 ILLEGAL
-Trap 2, ILLEGAL: the word spells no instruction.
+Trap 2, ILLEGAL: the word is no instruction.
 
 What to do: .word adds an instruction; for data write .data.
 
 = 3 TRAP3 CREATE
-Trap 3, CREATE: no reserved stream is free.
+Trap 3, CREATE: every reserved stream is in use.
 
 What to do: RESERVE first, and CREATE at most as many streams as it granted. .slim bounds them.
 
@@ -21,28 +21,28 @@ Trap 4, POINTER: no reference may use this pointer. A bit of 48 to 58 is set, or
 What to do: look at what the base register holds. A large or negative number is no address.
 
 = 5 ALIGN
-Trap 5, ALIGN: the address is not a multiple of 8.
+Trap 5, ALIGN: the address is no multiple of 8.
 
 What to do: an address counts bytes. SHL r2, r1, 3 makes the address of word number r1.
 
 = 6 RANGE
-Trap 6, RANGE: there is no word at this address.
+Trap 6, RANGE: there is no word at the address.
 
 What to do: a displacement counts words (LOAD.N r1, r0, 8 reads [64]). Add data lines, or mend the address.
 
 = 7 TRAP0
-Trap 7, TRAP0: the trap0 bit of the word is set. Mask bit 0 and bit 62 of the pointer disable it.
+Trap 7, TRAP0: the word's trap0 bit is set. Mask bit 0 and bit 62 of the pointer disable it.
 
 = 8 TRAP1
-Trap 8, TRAP1: the trap1 bit of the word is set. Mask bit 1 and bit 63 of the pointer disable it.
+Trap 8, TRAP1: the word's trap1 bit is set. Mask bit 1 and bit 63 of the pointer disable it.
 
 = 9 FORWARD
-Trap 9, FORWARD: too many words forward this reference, one to the next.
+Trap 9, FORWARD: forwarded too often. Too many words forward this reference, one to the next.
 
 What to do: look for a circle of forwarding words. Tag 2 in .data says that a word forwards.
 
 = 10 TRAP10
-Trap 10, BLOCKED: the reference was blocked more often than .retry allows. Mask bit 2 disables it.
+Trap 10, BLOCKED: tried too often. The reference was blocked more often than .retry allows. Mask bit 2 disables it.
 
 = DONE
 Outcome DONE: the step did all that its word says.

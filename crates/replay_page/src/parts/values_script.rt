@@ -7,15 +7,15 @@ const NO_HANDLER = 4294967295;
 const TRAPS = [
   "",
   "PROGRAM: the pc is past the program's end",
-  "ILLEGAL: the word spells no instruction",
+  "ILLEGAL: the word is no instruction",
   "CREATE: every reserved stream is in use",
-  "POINTER: no reference may use the pointer",
+  "POINTER: no reference may use this pointer",
   "ALIGN: the address is no multiple of 8",
   "RANGE: there is no word at the address",
-  "TRAP0: the word's trap0 bit",
-  "TRAP1: the word's trap1 bit",
+  "TRAP0: the word's trap0 bit is set",
+  "TRAP1: the word's trap1 bit is set",
   "FORWARD: forwarded too often",
-  "BLOCKED: a reference was blocked too often",
+  "BLOCKED: tried too often",
 ];
 const trapName = (trap) => (TRAPS[trap] ?? `trap ${trap}`).split(":")[0];
 

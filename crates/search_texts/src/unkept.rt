@@ -1,8 +1,9 @@
-//! What is required of a program as a whole, and is not so.
+//! What is required of a program as a whole, and is not so, in words.
 
-use command_parts::{Status, push_object};
+use command_parts::push_object;
 use expectation_files::{NEVER_BUSY, Requirements, WrittenLine};
 use lab_json::{Object, line_value};
+use program_searches::Unkept;
 use serde_json::Value;
 use std::alloc::{AllocError, Global};
 

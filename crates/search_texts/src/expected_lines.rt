@@ -1,9 +1,10 @@
 //! Which line of a file says what an end misses, or what a world breaks.
 
 use expectation_files::{Requirements, WrittenLine};
-use lab_ends::{SpaceEnd, SpaceEndKind};
+use lab_ends::broken_line;
 use lab_json::{Fields, line_value};
 use serde_json::Value;
+use space_ends::SpaceEnd;
 use std::alloc::{AllocError, Global};
 
 /// The lines of a file that says what is expected, by what was read of them; none where there is no file.
@@ -36,20 +37,21 @@ impl ExpectedLines<'_> {
     }
 
     /// The line of the expectation at a place; null where there is none.
-    pub(crate) fn missed_value(
-        self,
-        alloc: Global,
-        missed: Option<usize>,
-    ) -> Result<Value, AllocError> {
+    pub fn missed_value(self, alloc: Global, missed: Option<usize>) -> Result<Value, AllocError> {
         let line = missed.and_then(|place| self.required.end_lines().get(place));
         value_of_line(alloc, line)
     }
 
-    /// The line that worlds of an end break; null where they break none.
-    pub(crate) fn broken_value(self, alloc: Global, end: &SpaceEnd) -> Result<Value, AllocError> {
-        match end.kind {
-            SpaceEndKind::Broken => line_value(alloc, end.line, &end.text),
-            SpaceEndKind::End(_) => Ok(Value::Null),
+    /// The claim that is broken on the way to an end, or the line that its worlds break; null where they break none.
+    pub fn broken_value(self, alloc: Global, end: &SpaceEnd) -> Result<Value, AllocError> {
+        match broken_line(self.required, end.kind) {
+            Some(line) => line_value(alloc, line.number, line.words),
+            None => {
+                let line = end
+                    .broken
+                    .and_then(|place| self.required.claim_lines().get(place));
+                value_of_line(alloc, line)
+            }
         }
     }
 }

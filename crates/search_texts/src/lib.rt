@@ -1,0 +1,18 @@
+//! What several commands say of searches and their ends: columns, the lines of files of expectations, what is not so of the
+//! program as a whole, bounds and faults (docs/LAB_REFERENCE.md, "Texts", "JSON").
+#![tactic(auto)]
+
+mod bounds;
+mod end_columns;
+mod expectation_texts;
+mod expected_lines;
+mod search_faults;
+mod unkept;
+mod widths;
+
+pub use bounds::{bound_value, put_bound};
+pub use end_columns::{EndCells, EndColumns, end_line};
+pub use expectation_texts::push_expected;
+pub use expected_lines::ExpectedLines;
+pub use search_faults::search_fault;
+pub use unkept::{push_unkept, push_unkept_objects};
