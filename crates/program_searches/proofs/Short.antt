@@ -30,7 +30,7 @@ both false b is = cc
 -- a search, and an end whose schedule is that of a place of its space
 module _ (image : ImageValue) (asked : ProgramSearch) (e : Explored) (end : SpaceEnd) (place : ℕ)
     (x : IsExplored image asked e) (below : place < count e.space) (at : IsEndAt e.space end.kind place)
-    (own : end.schedule.items ≡ schedule_of e.space place) (ts : List Step)
+    (own : length end.schedule.items ≤ length (schedule_of e.space place)) (ts : List Step)
     (leads : run image (asked.begin.now ++ ts) ≡ world_of e.space place) where
   here : run e.space.image (e.space.begin ++ ts) ≡ world_of e.space place
   here = ap (λ i. run i (e.space.begin ++ ts)) x.image ∙ ap (λ b. run image (b ++ ts)) x.begin ∙ leads
@@ -40,8 +40,8 @@ module _ (image : ImageValue) (asked : ProgramSearch) (e : Explored) (end : Spac
 
   by_space : length (schedule_of e.space place) ≤ length (e.space.begin ++ ts) → IsShort
   by_space short =
-      subst (λ b. length end.schedule.items ≤ length (b ++ ts)) x.begin
-      (subst (λ s. length s ≤ length (e.space.begin ++ ts)) (sym own) short)
+      let same : length (e.space.begin ++ ts) ≡ length (asked.begin.now ++ ts) = ap (λ b. length (b ++ ts)) x.begin in
+      omega (arith, own)
 
   of_all : e.is_of_all_worlds ≡ true → IsShort
   of_all on = by_space (x.searched.shortest (sym x.all_worlds ∙ on) place below ts here)
@@ -82,7 +82,7 @@ module _ (image : ImageValue) (asked : ProgramSearch) (e : Explored) (end : Spac
 
 pub none_is_shorter : (image : ImageValue) (asked : ProgramSearch) (e : Explored) (end : SpaceEnd) (place : ℕ)
     → IsExplored image asked e → IsTrue (is_shortest e end) → place < count e.space → IsEndAt e.space end.kind place
-    → end.schedule.items ≡ schedule_of e.space place
+    → length end.schedule.items ≤ length (schedule_of e.space place)
     → (ts : List Step) → run image (asked.begin.now ++ ts) ≡ world_of e.space place
     → length end.schedule.items ≤ length (asked.begin.now ++ ts)
 none_is_shorter image asked e end place x is below at own ts leads = short image asked e end place x below at own ts leads is

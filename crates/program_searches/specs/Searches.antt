@@ -1,5 +1,5 @@
 -- What a search among the schedules of a program comes to.
-use Rattle.std.specs.Prelude.{◌≡◌, ◌≤◌, ◌↔◌, ℕ, max, Bool, not, ◌||◌, IsTrue, IsFalse, Option, Some, None, is_some, IfSome, map}
+use Rattle.std.specs.Prelude.{◌≡◌, ◌≤◌, ◌↔◌, ℕ, max, Bool, not, ◌||◌, IsTrue, IsFalse, Option, Some, None, is_some, IfSome, [], map}
 use Rattle.std.specs.List.{position}
 use Rattle.image_file.specs.ImageValue.{ImageValue}
 use Rattle.schedule_space.specs.Spaces.{SpaceValue, count, IsComplete, IsShortest, StandAlone}
@@ -13,6 +13,8 @@ use Rattle.program_rules.specs.Keeping.{is_kept}
 use Rattle.expectation_files.specs.Judged.{IsJudged}
 use Rattle.expectation_files.specs.declared.requirements.Requirements.{Requirements}
 use Rattle.space_ends.specs.BrokenClaims.{value_of, HasBrokenEnds}
+use Rattle.space_ends.specs.EndsOfSpace.{ends_in, AreEndsOf}
+use Rattle.space_ends.specs.Spinning.{spinning_in, AreSpinning}
 use Rattle.program_searches.specs.declared.bounds.SearchBound.{SearchBound}
 use Rattle.program_searches.specs.declared.bounds.SearchBound.TheVariants as bound
 use Rattle.program_searches.specs.declared.explored.Explored.{Explored}
@@ -68,9 +70,9 @@ TellsRight image asked e =
     (is_some asked.required.now.never_busy))
 
 -- What a search among the schedules of a program came to.
-pub record IsExplored (image : ImageValue) (asked : ProgramSearch) (e : Explored) : Type 0 where
+pub record IsExplored (i : ImageValue) (asked : ProgramSearch) (e : Explored) : Type 0 where
   -- The space is one of the image.
-  pub image : e.space.image ≡ image
+  pub image : e.space.image ≡ i
   -- All its schedules begin with the steps that were given.
   pub begin : e.space.begin ≡ asked.begin.now
   -- It is said whether all worlds were looked for.
@@ -81,13 +83,19 @@ pub record IsExplored (image : ImageValue) (asked : ProgramSearch) (e : Explored
   pub bound : (e.bound ≡ None) ↔ IsTrue e.is_complete
   -- A complete one has all ends: for each world at which a schedule ends one of the space stands.
   pub complete : IsTrue e.is_complete → HasAllEnds e.space
+  -- Each place of the space at which a run ends is listed once, with what it misses and a shortest schedule of its line.
+  pub ends : AreEndsOf e.space asked.required.now.ends.items (ends_in e.ends.items)
+  -- Of a complete search those are listed that can reach no end.
+  pub spinning : IsTrue e.is_complete → AreSpinning e.space (spinning_in e.ends.items)
+  -- Of another one none is.
+  pub unknown : IsFalse e.is_complete → spinning_in e.ends.items ≡ []
   -- The last of its ends are those of the claims that are broken, with the worlds that break them.
   pub broken : HasBrokenEnds e.space asked.required.now.claims.items (map value_of e.ends.items)
   -- The rule that is reported is the first one that the program breaks.
-  pub rule : e.broken_rule ≡ position (λ r. not (is_kept image r)) asked.required.now.rules.items
+  pub rule : e.broken_rule ≡ position (λ r. not (is_kept i r)) asked.required.now.rules.items
   -- The claim that is reported as unshown is shown by no world of the space, and each earlier one is shown.
   pub unshown : IfSome e.unshown (λ k. IsUnshownAt e.space asked.required.now.claims.items k)
   -- If none is reported, each is shown.
   pub shown : e.unshown ≡ None → AreShown e.space.image e.space.begin asked.required.now.claims.items
   -- It is right exactly if all that is required is so.
-  pub right : TellsRight image asked e
+  pub right : TellsRight i asked e

@@ -3,7 +3,7 @@ use Rattle.std.specs.Prelude.{ℕ, nat_le, Bool, true, false, ◌&&◌, ◌||◌
 use Rattle.end_kinds.specs.Statuses.{badness}
 use Rattle.end_kinds.specs.declared.statuses.Status.{Status}
 use Rattle.end_kinds.specs.declared.statuses.Status.TheVariants as status
-use Rattle.space_ends.specs.EndStatuses.{end_status}
+use Rattle.space_ends.specs.Judging.{end_status}
 use Rattle.program_searches.specs.declared.explored.Explored.{Explored}
 use Rattle.program_searches.specs.declared.unkept.Unkept.{Unkept}
 

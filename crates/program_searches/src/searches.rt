@@ -1,4 +1,33 @@
 //! What is looked for among the schedules of a program, and what the search comes to.
+//!
+//! **What is kept.** `Explored` owns the space that was found, the ends of it, and five answers: whether the search is
+//! complete, what ended it, the first rule that is broken, the first claim that none shows, and whether all is right. They
+//! are made once, in `explore_on`, of values alone; whoever prints them decides nothing more.
+//!
+//! **Two searches.** All worlds are looked for if that is asked for, and if no stream is to loop alone: a space of fewer
+//! worlds says nothing of that. Otherwise `explore_ends` looks for what is needed: it names each register at which an
+//! expectation looks, and each place at which a claim looks. So ends and claims are judged by few worlds, and the verdict
+//! is that of every schedule.
+//!
+//! **Which invariant.** `IsSearched` ties the space to what ended the search, not to a flag beside it. `is_complete` is
+//! made of the bound, so that the two can't disagree. The watcher keeps which of its own two bounds it has ended a search
+//! by (`IsWatched`); `schedule_space` says of a search that the watch ended that it has (`HasEnded`). So a search that
+//! was ended by its number of worlds is never said to have been ended by its time, nor the other way about.
+//!
+//! **Why it is safe.** A bound by worlds comes with a world that the space lacks (`IsFull`). A bound by time or memory
+//! comes with none: the search may have all worlds by then, and is said not to be complete all the same. So what is said
+//! of a complete search holds of every schedule, and of another one only what its worlds show: its ends are ends, a broken
+//! claim is broken; that a claim is shown by none, or that something spins, is not said. `right` is false unless the
+//! search is complete.
+//!
+//! **Shortest schedules.** A search of all worlds finds each by a shortest schedule, complete or not. A search for ends
+//! leaves out steps: of an end its schedule is a shortest one only if it is complete, of a world on the way never, unless
+//! no more steps lead there than those with which all schedules begin (`is_shortest`).
+//!
+//! **What was tried.** To say that a bound is named exactly if worlds are missing: no clause can, for time and memory. A
+//! promise that a bound by seconds comes only if seconds are bounded: the search changes the watcher in ways that its
+//! contract does not follow, so this is tested. The watcher was once made by each caller, with a texts' error; it is made
+//! here now, so that `SearchFault::Clock` can be promised to come only where the time is bounded.
 
 ghost use Rattle.std.specs.Prelude.{◌≡◌, ◌≤◌, ◌⊎◌, ◌↔◌, is_some, IsTrue, IsSome, IsNone, IfSome, IfOk, IfErr, None};
 ghost use Rattle.schedule_space.specs.Spaces.{IsComplete, HasAllEdges};

@@ -83,8 +83,8 @@ fn ended_by<'i, C: Clock, E: Write>(
     watcher: &Watcher<'_, '_, C, E>,
 ) -> (Space<'i>, Option<SearchBound>)
     requires { bound_in exploration ≡ Some Bound.Watch → IsWatched watcher.now.ended }
-    ensures space { result.0 ≡ space_in exploration }
-    ensures bound { IsBoundBy (bound_in exploration) result.1 }
+    ensures space { result.0 ≡ space_in exploration.entry }
+    ensures bound { IsBoundBy (bound_in exploration.entry) result.1 }
 {
     match exploration {
         Exploration::Complete(space) => (space, None),

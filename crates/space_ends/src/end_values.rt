@@ -1,10 +1,9 @@
 //! What is known of the ends of all schedules.
 
 ghost use Rattle.std.specs.Prelude.{◌≡◌};
-ghost use Rattle.space_ends.specs.EndStatuses.{end_status};
 
 use crate::going::{Going, GoingStream};
-use end_kinds::{EndKind, Status, status_of};
+use end_kinds::{EndKind, Status};
 use end_states::{EndJudgement, EndState};
 use processor::Step;
 use std::alloc::{AllocError, Global};
@@ -105,13 +104,10 @@ impl SpaceEnd {
     }
 
     /// What it means for the exit status.
-    pub fn status(&self) -> Status
-        ensures { result ≡ end_status self.now }
-    {
-        let is_wrong = self.missed.is_some() || self.broken.is_some();
-        match self.kind {
-            SpaceEndKind::End(kind) => status_of(kind, is_wrong, self.is_trapped),
-            SpaceEndKind::Broken { .. } | SpaceEndKind::Busy => Status::Unexpected,
+    pub fn status(&self) -> Status {
+        match self.judgement() {
+            Some(judgement) => judgement.status(),
+            None => Status::Unexpected,
         }
     }
 

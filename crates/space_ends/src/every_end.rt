@@ -36,7 +36,7 @@ pub fn space_ends<const S: usize>(
     is_complete: bool,
     busy: Option<Busy>,
 ) -> Result<Vec<SpaceEnd>, AllocError>
-    ensures broken { IfOk result (λ ends. HasBrokenEnds space.now judged_by.entry.claims.now (map value_of ends.items)) }
+    ensures broken { IfOk result (λ ends. HasBrokenEnds space.now judged_by.claims.now (map value_of ends.items)) }
 {
     let mut ends = place_ends::<S>(alloc, judged_by.expected, space)?;
     if is_complete {

@@ -1,7 +1,7 @@
 -- What is left gives the worst of all.
 use Rattle.std.proofs.Common.{◌≡◌, drop}
 use Rattle.std.specs.Prelude.{map}
-use Rattle.space_ends.specs.EndStatuses.{end_status}
+use Rattle.space_ends.specs.Judging.{end_status}
 use Rattle.program_searches.specs.Statuses.{worst, status_of_bound}
 use Rattle.program_searches.proofs.explored.Explored.status.Given as goal
 
