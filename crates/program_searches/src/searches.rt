@@ -26,8 +26,8 @@
 //!
 //! **What was tried.** To say that a bound is named exactly if worlds are missing: no clause can, for time and memory. A
 //! promise that a bound by seconds comes only if seconds are bounded: the search changes the watcher in ways that its
-//! contract does not follow, so this is tested. The watcher was once made by each caller, with a texts' error; it is made
-//! here now, so that `SearchFault::Clock` can be promised to come only where the time is bounded.
+//! contract does not follow, so this is tested. The watcher was made by each caller before; it is made here, so
+//! that `SearchFault::Clock` is promised to come only if the time is bounded.
 
 ghost use Rattle.std.specs.Prelude.{◌≡◌, ◌≤◌, ◌⊎◌, ◌↔◌, is_some, IsTrue, IsSome, IsNone, IfSome, IfOk, IfErr, None};
 ghost use Rattle.schedule_space.specs.Spaces.{IsComplete, HasAllEdges};
@@ -142,7 +142,10 @@ pub fn explore_program<'i, C: Clock, E: Write>(
     let mut watcher = Watcher::new(console, asked.bounds)?;
     let found = explore_watched(alloc, image, asked, &mut watcher);
     watcher.finish();
-    Ok(found?)
+    match found {
+        Ok(found) => Ok(found),
+        Err(AllocError) => Err(SearchFault::NoMemory),
+    }
 }
 
 /// The same while it is watched.
