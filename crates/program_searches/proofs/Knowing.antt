@@ -6,12 +6,11 @@ use Rattle.claims.specs.Looking.{is_looked_at}
 use Rattle.claims.specs.declared.claim.Claim.{Claim}
 use Rattle.program_flow.specs.Tables.{is_named_by}
 use Rattle.expectations.specs.NamedRegisters.{is_register_named}
-use Rattle.schedule_space.specs.declared.watches.Bound.{Bound}
 use Rattle.schedule_space.specs.declared.watches.Bound.TheVariants as space
 use Rattle.schedule_space.specs.declared.explorations.Exploration.{Exploration}
 use Rattle.schedule_space.specs.declared.explorations.Exploration.TheVariants.{Complete, Bounded}
 use Rattle.schedule_space.specs.Spaces.{SpaceValue, count, IsComplete, HasAllEdges, IsDistinct, StandAlone, IsShortest}
-use Rattle.schedule_space.specs.Followed.{AllFollowed, HasAllEnds, HasShortestEnds, TellsWhetherAllEnd}
+use Rattle.schedule_space.specs.Followed.{AllFollowed, HasAllEnds}
 use Rattle.schedule_space.specs.Quiet.{AllFollowedQuietly}
 use Rattle.schedule_space.specs.Answers.{space_in, is_complete, bound_in, IsFull}
 use Rattle.schedule_space.proofs.Agreeing.{agree_same}
@@ -89,7 +88,7 @@ shown_by v claims places looked_at same reported quiet = record {
   quiet = quiet;
 }
 
--- names that tell each of the 32 registers at which expectations look
+-- names of each of the 32 registers at which expectations look
 pub names_known : (expected : List Expectation) (names found : List Bool) → found ≡ names
     → ((r : ℕ) → r < 32 → slice_index_or names r false ≡ is_register_named expected r) → AreNamed expected found
 names_known expected names found same reported = λ r below is.

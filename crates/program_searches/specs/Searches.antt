@@ -62,8 +62,8 @@ pub record IsSearched (asked : ProgramSearch) (v : SpaceValue) (ended : Option S
 
 -- It is right exactly if it is complete, something is required, the program keeps the rules, and all that is required is so
 -- of every schedule.
-abbrev pub TellsRight : ImageValue → ProgramSearch → Explored → Type 0
-TellsRight image asked e =
+abbrev pub SaysWhetherRight : ImageValue → ProgramSearch → Explored → Type 0
+SaysWhetherRight image asked e =
     IsTrue e.is_right
     ↔ (IsTrue e.is_complete × IsJudged image asked.required.now
     × IsRightThroughout image asked.begin.now asked.required.now.ends.items asked.required.now.claims.items
@@ -98,4 +98,4 @@ pub record IsExplored (i : ImageValue) (asked : ProgramSearch) (e : Explored) : 
   -- If none is reported, each is shown.
   pub shown : e.unshown ≡ None → AreShown e.space.image e.space.begin asked.required.now.claims.items
   -- It is right exactly if all that is required is so.
-  pub right : TellsRight i asked e
+  pub right : SaysWhetherRight i asked e

@@ -1,5 +1,5 @@
 -- The exit status that a search comes to.
-use Rattle.std.specs.Prelude.{ℕ, nat_le, Bool, true, false, ◌&&◌, ◌||◌, if◌then◌else◌, List, [], ◌∷◌, map, None, is_some}
+use Rattle.std.specs.Prelude.{nat_le, Bool, true, false, ◌&&◌, ◌||◌, if◌then◌else◌, List, [], ◌∷◌, map, None, is_some}
 use Rattle.end_kinds.specs.Statuses.{badness}
 use Rattle.end_kinds.specs.declared.statuses.Status.{Status}
 use Rattle.end_kinds.specs.declared.statuses.Status.TheVariants as status

@@ -40,7 +40,7 @@ ghost use Rattle.schedule_verdicts.specs.NamedRegisters.{AreNamed};
 ghost use Rattle.schedule_verdicts.specs.RightSpaces.{IsFollowedForClaims, IsRightOnEachWay};
 ghost use Rattle.schedule_verdicts.specs.ShownClaims.{AreShown, IsRightThroughout, IsUnshownAt, TellsOfClaims};
 ghost use Rattle.program_searches.specs.Bounds.{IsOfClock};
-ghost use Rattle.program_searches.specs.Searches.{most_worlds, takes_all, TellsRight, IsExplored};
+ghost use Rattle.program_searches.specs.Searches.{most_worlds, takes_all, SaysWhetherRight, IsExplored};
 
 use crate::explored::Explored;
 use crate::spaces::space_of;
@@ -135,7 +135,7 @@ pub fn explore_program<'i, C: Clock, E: Write>(
     asked: &ProgramSearch<'_>,
     console: &mut Console<'_, C, E>,
 ) -> Result<Explored<'i>, SearchFault>
-    ensures right { IfOk result (λ e. TellsRight image.entry.now asked.now e) }
+    ensures right { IfOk result (λ e. SaysWhetherRight image.entry.now asked.now e) }
     ensures explored { IfOk result (λ e. IsExplored image.entry.now asked.now e) }
     ensures clock { IfErr result (λ f. IsOfClock f → IsSome asked.now.bounds.seconds) }
 {
@@ -205,11 +205,11 @@ fn unshown_in<const S: usize>(
     required: &Requirements,
     space: &Space<'_>,
 ) -> Result<Option<usize>, AllocError>
-    ensures shown { IfOk result (λ told. told ≡ None
+    ensures shown { IfOk result (λ found. found ≡ None
         → AreShown space.now.image space.now.begin required.now.claims.items) }
-    ensures only { IfOk result (λ told. TellsOfClaims space.now required.now.claims.items
-        → AreShown space.now.image space.now.begin required.now.claims.items → told ≡ None) }
-    ensures unshown { IfOk result (λ told. IfSome told (λ k. IsUnshownAt space.now required.now.claims.items k)) }
+    ensures only { IfOk result (λ found. TellsOfClaims space.now required.now.claims.items
+        → AreShown space.now.image space.now.begin required.now.claims.items → found ≡ None) }
+    ensures unshown { IfOk result (λ found. IfSome found (λ k. IsUnshownAt space.now required.now.claims.items k)) }
 {
     match first_unshown::<S>(alloc, space, required.claims()) {
         Ok(unshown) => Ok(unshown),
@@ -224,9 +224,9 @@ fn busy_in<const S: usize>(
     space: &Space<'_>,
     is_complete: bool,
 ) -> Result<Option<Busy>, AllocError>
-    ensures asked { IfOk result (λ told. IsTrue is_complete → IsSome required.now.never_busy
-        → HasAllWorlds space.now → (told ≡ None) ↔ IsNeverBusy space.now.image space.now.begin) }
-    ensures unasked { IfOk result (λ told. IsNone required.now.never_busy → told ≡ None) }
+    ensures asked { IfOk result (λ found. IsTrue is_complete → IsSome required.now.never_busy
+        → HasAllWorlds space.now → (found ≡ None) ↔ IsNeverBusy space.now.image space.now.begin) }
+    ensures unasked { IfOk result (λ found. IsNone required.now.never_busy → found ≡ None) }
 {
     if !is_complete || required.never_busy().is_none() {
         return Ok(None);

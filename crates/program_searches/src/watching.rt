@@ -1,4 +1,4 @@
-//! Who looks on at a search: its bounds of time and memory, and the line that tells how far it is.
+//! Who looks on at a search: its bounds of time and memory, and the line that shows how far it is.
 
 ghost use Rattle.std.specs.Prelude.{◌≡◌, IsSome, IsFalse, IfErr};
 ghost use Rattle.program_searches.specs.Bounds.{IsWatched};
@@ -12,18 +12,18 @@ use std::time::{Clock, Duration, Instant};
 /// How many bytes a megabyte has.
 const MEGABYTE: usize = 1_000_000;
 
-/// The clock, and where a search tells how far it is.
+/// The clock, and where a search shows how far it is.
 #[derive(Drop)]
 pub struct Console<'a, C, E> {
     /// The clock.
     pub clock: &'a C,
     /// Standard error.
     pub errors: &'a mut E,
-    /// Whether that is a terminal: elsewhere nothing is told.
+    /// Whether that is a terminal: elsewhere nothing is shown.
     pub is_terminal: bool,
 }
 
-/// What looks on at one search, ends it at its bounds, and tells each second how far it is.
+/// What looks on at one search, ends it at its bounds, and shows each second how far it is.
 #[derive(Drop)]
 pub(crate) struct Watcher<'w, 'c, C, E> {
     console: &'w mut Console<'c, C, E>,
@@ -34,7 +34,7 @@ pub(crate) struct Watcher<'w, 'c, C, E> {
     ended: Option<SearchBound>,
 }
 
-/// What was told last.
+/// What was shown last.
 #[derive(Clone, Copy)]
 struct Report {
     at: Duration,
@@ -75,7 +75,7 @@ impl<'w, 'c, C: Clock, E: Write> Watcher<'w, 'c, C, E> {
         self.ended
     }
 
-    /// Wipes what it has told.
+    /// Wipes what it has shown.
     pub(crate) fn finish(&mut self) {
         if self.last_report.is_some() {
             let _ = write!(self.console.errors, "\r\x1b[K");
@@ -83,7 +83,7 @@ impl<'w, 'c, C: Clock, E: Write> Watcher<'w, 'c, C, E> {
         }
     }
 
-    /// Whether the time is not over. Where it is not, tells each second how far the search is.
+    /// Whether the time is not over. Where it is not, shows each second how far the search is.
     fn is_in_time(&mut self, found: usize, waiting: usize, bytes: usize) -> bool
         ensures { IsFalse result → IsWatched self.new.ended }
     {
@@ -100,7 +100,7 @@ impl<'w, 'c, C: Clock, E: Write> Watcher<'w, 'c, C, E> {
         true
     }
 
-    /// Tells how far the search is, where a second has passed since it last did.
+    /// Shows how far the search is, where a second has passed since it last did.
     fn report(&mut self, passed: Duration, found: usize, waiting: usize, bytes: usize) {
         let last = self.last_report.unwrap_or(Report {
             at: Duration::ZERO,

@@ -1,6 +1,6 @@
 use Rattle.std.specs.Prelude.{IsTrue, None, List, map, not}
 use Rattle.std.specs.List.{position}
-use Rattle.std.proofs.Common.{◌≡◌, sym, ap, ◌∙◌, subst, inl, inr, is_some, rules}
+use Rattle.std.proofs.Common.{◌≡◌, sym, ap, ◌∙◌, subst, inl, inr, is_some}
 use Rattle.claims.specs.declared.claim.Claim.{Claim}
 use Rattle.expectations.specs.declared.expectation.Expectation.{Expectation}
 use Rattle.program_rules.specs.Keeping.{is_kept}
