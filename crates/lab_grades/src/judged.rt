@@ -9,8 +9,8 @@ use expectation_files::{
     FileFault, KnownNames, LineFault, Requirements, line_of, read_requirements, word_of,
     written_line,
 };
+use expectation_messages::{fault_words, file_fault};
 use grade_reports::{Known, Verdict, VerdictKind, WishLine};
-use lab_explorer::{fault_words, file_fault};
 use lab_requests::GradeRequest;
 use lab_texts::{NumberStyle, ProgramNames};
 use source_places::{DataName, SourceLabel, SourcePlaces};

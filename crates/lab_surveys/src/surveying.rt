@@ -4,9 +4,10 @@ use crate::coverage::push_every_schedule;
 use crate::survey_objects::{SurveyInput, broken_words, push_outcome_objects};
 use command_parts::{CommandAnswer, Inputs, LabFault, read_program, style_of};
 use expectation_files::Requirements;
+use expectation_messages::requirements_of;
 use lab_explorer::{
     Console, EndCells, EndColumns, Explored, SpaceSearch, Unkept, Watcher, end_line,
-    explore_program, push_expected, push_unkept, push_unkept_objects, requirements_of,
+    explore_program, push_expected, push_unkept, push_unkept_objects,
 };
 use lab_requests::{Bounds, SurveyRequest};
 use lab_texts::{NumberStyle, ProgramNames};
