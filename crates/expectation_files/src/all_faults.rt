@@ -99,6 +99,7 @@ fn is_of_form(fault: FileFault) -> bool
 }
 
 /// These faults; where there is none, that the text says nothing is one.
+#[tactic(auto, using(crate::proofs::AllFaults::kept_ok, crate::proofs::AllFaults::kept_line, crate::proofs::AllFaults::kept_some, crate::proofs::AllFaults::added_empty))]
 fn with_empty(
     alloc: Global,
     names: KnownNames<'_, '_, '_>,
@@ -108,14 +109,17 @@ fn with_empty(
 ) -> Result<Vec<FileFault>, AllocError>
     ensures { IfOk result (λ v. v.items ≡ or_empty (file_said (names_in names.entry) image.now text.now) faults.items) }
 {
-    if faults.is_empty() {
-        match read_requirements(alloc, names, image, text) {
-            Ok(_) | Err(FileFault::Line { .. }) => {}
-            Err(FileFault::Empty) => faults.push(FileFault::Empty)?,
-            Err(FileFault::NoMemory) => return Err(AllocError),
-        }
+    if !faults.is_empty() {
+        return Ok(faults);
     }
-    Ok(faults)
+    match read_requirements(alloc, names, image, text) {
+        Ok(_) | Err(FileFault::Line { .. }) => Ok(faults),
+        Err(FileFault::Empty) => {
+            faults.push(FileFault::Empty)?;
+            Ok(faults)
+        }
+        Err(FileFault::NoMemory) => Err(AllocError),
+    }
 }
 
 /// An image with all streams that images can have: 16 processors with 128 each, one program word and one data word. A file that
