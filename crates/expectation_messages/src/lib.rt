@@ -7,5 +7,5 @@ mod messages;
 mod reading;
 
 pub use fault_words::fault_words;
-pub use messages::expectation_messages;
+pub use messages::check_expectations;
 pub use reading::{file_fault, requirements_of};

@@ -16,7 +16,7 @@ use std::alloc::{AllocError, Global};
 pub(crate) const EMPTY: &str = "nothing is expected here, so nothing can be judged";
 
 /// What is wrong with a file of expectations, a message for each line with a fault. Without a program a name is no fault.
-pub fn expectation_messages(
+pub fn check_expectations(
     alloc: Global,
     text: &[u8],
     program: Option<&Program>,

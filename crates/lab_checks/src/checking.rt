@@ -7,7 +7,7 @@ use command_parts::{
     CommandAnswer, Inputs, LabFault, Program, SourceText, Status, check_loose_schedule, is_image,
     read_program,
 };
-use expectation_messages::expectation_messages;
+use expectation_messages::check_expectations;
 use fault_messages::{Message, Severity, push_message};
 use image_file::{ImageFault, read_image};
 use input_faults::image_fault_words;
@@ -54,10 +54,9 @@ pub fn check<F: Files, R: Read>(
 fn takes_program(request: &CheckRequest) -> bool {
     match request.kind {
         Some(kind) => is_of_program(kind),
-        None => request
-            .files
-            .iter()
-            .any(|path| kind_by_name(path).is_some_and(is_of_program)),
+        None => request.files.iter().any(|path| kind_by_name(path).is_some_and(|kind| is_of_program(
+            kind,
+        ))),
     }
 }
 
@@ -177,7 +176,7 @@ fn judge(
             })
         }
         FileKind::Expectations => {
-            let messages = expectation_messages(alloc, &bytes, program)?;
+            let messages = check_expectations(alloc, &bytes, program)?;
             Ok(CheckedFile {
                 text: bytes,
                 messages,
