@@ -39,7 +39,7 @@ _mta_lab_options() {
 # `folders`, or `text`; nothing, where the option takes no value
 _mta_lab_value() {
   case "$1 $2" in
-    *' --as') echo 'words source image schedule' ;;
+    *' --as') echo 'words source image schedule expectations' ;;
     *' --program' | 'schedule 2' | 'view 1' | 'debug 1' | 'compare 1' | 'survey 1' | 'explore 1' | 'grade '[0-9]* | \
       'page 1' | 'picture 1' | 'play 1') echo 'files .asm .image' ;;
     *' --color') echo 'words auto always never' ;;
@@ -57,7 +57,7 @@ _mta_lab_value() {
     'picture --out') echo 'files .svg' ;;
     'asm --out') echo 'files .image' ;;
     *' --goal') echo 'words right wrong deadlock stopped spinning broken' ;;
-    'check '[0-9]*) echo 'files .asm .image .schedule' ;;
+    'check '[0-9]*) echo 'files .asm .image .schedule .expect' ;;
     'fmt '[0-9]* | 'asm 1') echo 'files .asm' ;;
     'schedule 1') echo 'words rounds fair random' ;;
     'exercise 1') echo 'words 1 2 3 4 5 6 7 8 9 10 11 12 13' ;;

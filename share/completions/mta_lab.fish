@@ -1,5 +1,5 @@
 # completion of mta_lab for fish. Made by share/make of the table of commands in crates/lab_command_line
-complete -c mta_lab -f -n __fish_use_subcommand -a check -d 'Checks source texts, images and schedules'
+complete -c mta_lab -f -n __fish_use_subcommand -a check -d 'Checks source texts, images, schedules and files of expectations'
 complete -c mta_lab -f -n __fish_use_subcommand -a fmt -d 'Lays source texts out: labels, statements and comments in columns'
 complete -c mta_lab -f -n __fish_use_subcommand -a schedule -d 'Makes a schedule of a program, and prints it'
 complete -c mta_lab -f -n __fish_use_subcommand -a view -d 'Shows a run step by step, and how it ends'
@@ -19,17 +19,18 @@ complete -c mta_lab -f -n __fish_use_subcommand -a word -d 'Says what an instruc
 complete -c mta_lab -f -n __fish_use_subcommand -a new -d 'Writes a program to begin with, and what its ends have to be'
 
 # what the commands take
-complete -c mta_lab -n '__fish_seen_subcommand_from check view debug compare page picture' -f -k -a '(__fish_complete_suffix .asm; __fish_complete_suffix .image; __fish_complete_suffix .schedule)'
+complete -c mta_lab -n '__fish_seen_subcommand_from check' -f -k -a '(__fish_complete_suffix .asm; __fish_complete_suffix .image; __fish_complete_suffix .schedule; __fish_complete_suffix .expect)'
 complete -c mta_lab -n '__fish_seen_subcommand_from fmt asm' -f -k -a '(__fish_complete_suffix .asm)'
 complete -c mta_lab -n '__fish_seen_subcommand_from schedule' -f -a 'rounds fair random'
 complete -c mta_lab -n '__fish_seen_subcommand_from schedule survey explore grade play' -f -k -a '(__fish_complete_suffix .asm; __fish_complete_suffix .image)'
+complete -c mta_lab -n '__fish_seen_subcommand_from view debug compare page picture' -f -k -a '(__fish_complete_suffix .asm; __fish_complete_suffix .image; __fish_complete_suffix .schedule)'
 complete -c mta_lab -n '__fish_seen_subcommand_from dap word new' -f
 complete -c mta_lab -n '__fish_seen_subcommand_from exercise' -f -a '1 2 3 4 5 6 7 8 9 10 11 12 13'
 complete -c mta_lab -n '__fish_seen_subcommand_from explain' -f -a '.N normal .F future .S sync .T test full empty full/empty r0 t0 SSW status pointer ADD SUB MUL AND OR XOR ANDN SHL SHR SAR TALLY LTS LTU PTR stream processor schedule seed state race lost_update lost ALWAYS EQ NE LT GE LE GT GEU LEU GTU NEG POS OV NOV Z N C V JUMP SKIP CALL XCHG TSET TGET XGET XR RESERVE CREATE QUIT QUITP MASK NOP LIT LITH TLIT .entry .data .fill .word .slim .retry .trap .profile .chain E1 NotAscii E2 Unknown E3 Operand E4 Range E5 TwoWriters E6 LabelTwice E7 LabelMissing E8 Directive E9 Limit E10 NoMemory 101 102 103 104 105 106 107 108 109 110 111 112 113 114 LOAD STORE FADD TAGGET TAGSET PURGE 1 PROGRAM 2 ILLEGAL 3 TRAP3 4 TRAP4 POINTER 5 ALIGN 6 RANGE 7 TRAP0 8 TRAP1 9 FORWARD 10 TRAP10 DONE BLOCKED TRAPPED STOPPED SKIPPED deadlock spinning'
 
 # options
-complete -c mta_lab -n '__fish_seen_subcommand_from check' -l as -x -a 'source image schedule' -d 'all are of this kind: source, image or schedule'
-complete -c mta_lab -n '__fish_seen_subcommand_from check' -l program -r -k -a '(__fish_complete_suffix .asm; __fish_complete_suffix .image)' -d 'the schedules are of this program'
+complete -c mta_lab -n '__fish_seen_subcommand_from check' -l as -x -a 'source image schedule expectations' -d 'all are of this kind: source, image, schedule or expectations'
+complete -c mta_lab -n '__fish_seen_subcommand_from check' -l program -r -k -a '(__fish_complete_suffix .asm; __fish_complete_suffix .image)' -d 'the schedules and expectations are of this program'
 complete -c mta_lab -n '__fish_seen_subcommand_from check' -l strict -f -d 'warnings count as errors'
 complete -c mta_lab -n '__fish_seen_subcommand_from check view compare survey explore' -l json -f -d 'prints JSON, an object a line'
 complete -c mta_lab -n '__fish_seen_subcommand_from fmt' -l check -f -d 'writes nothing, and says which files would change'

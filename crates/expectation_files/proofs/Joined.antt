@@ -5,9 +5,10 @@ use Rattle.std.specs.Option.{option_or}
 use Rattle.std.proofs.Math.ListN.{replicate}
 use Rattle.expectations.specs.declared.expectation.Expectation.{Expectation}
 use Rattle.program_rules.specs.declared.program_rule.ProgramRule.{ProgramRule}
+use Rattle.expectation_files.specs.Words.{words_on, in_one_line}
 use Rattle.expectation_files.specs.ClaimLines.{ClaimValue}
 use Rattle.expectation_files.specs.Lines.{Nothing, End, Claimed, Rules, NeverBusy}
-use Rattle.expectation_files.specs.Files.{RequirementsValue, FileSaid, nothing_said, said_on, joined, in_front}
+use Rattle.expectation_files.specs.Files.{RequirementsValue, FileSaid, nothing_said, said_on, joined, in_front, texts_of_rules}
 
 or_none : (o : Option ℕ) → option_or o None ≡ o
 or_none None = refl
@@ -22,88 +23,112 @@ joined_nothing v =
     rw (
       append-nil v.ends,
       append-nil v.end_numbers,
+      append-nil v.end_texts,
       append-nil v.claims,
       append-nil v.claim_numbers,
+      append-nil v.claim_texts,
       append-nil v.rules,
       append-nil v.rule_numbers,
+      append-nil v.rule_texts,
       or_none v.never_busy,
     ) refl
 
-pub joined_end : (v : RequirementsValue) (e : Expectation) (k : ℕ) → joined v (said_on k (End e))
+pub joined_end : (v : RequirementsValue) (e : Expectation) (k : ℕ) (l : List ℕ) → joined v (said_on k l (End e))
     ≡ record {
       ends = v.ends ++ e ∷ [];
       end_numbers = v.end_numbers ++ k ∷ [];
+      end_texts = v.end_texts ++ in_one_line (words_on l) ∷ [];
       claims = v.claims;
       claim_numbers = v.claim_numbers;
+      claim_texts = v.claim_texts;
       rules = v.rules;
       rule_numbers = v.rule_numbers;
+      rule_texts = v.rule_texts;
       never_busy = v.never_busy;
     }
-joined_end v e k =
+joined_end v e k l =
     rw (
       append-nil v.claims,
       append-nil v.claim_numbers,
+      append-nil v.claim_texts,
       append-nil v.rules,
       append-nil v.rule_numbers,
+      append-nil v.rule_texts,
       or_none v.never_busy,
     ) refl
 
-pub joined_claim : (v : RequirementsValue) (c : ClaimValue) (k : ℕ) → joined v (said_on k (Claimed c))
+pub joined_claim : (v : RequirementsValue) (c : ClaimValue) (k : ℕ) (l : List ℕ) → joined v (said_on k l (Claimed c))
     ≡ record {
       ends = v.ends;
       end_numbers = v.end_numbers;
+      end_texts = v.end_texts;
       claims = v.claims ++ c ∷ [];
       claim_numbers = v.claim_numbers ++ k ∷ [];
+      claim_texts = v.claim_texts ++ in_one_line (words_on l) ∷ [];
       rules = v.rules;
       rule_numbers = v.rule_numbers;
+      rule_texts = v.rule_texts;
       never_busy = v.never_busy;
     }
-joined_claim v c k =
+joined_claim v c k l =
     rw (
       append-nil v.ends,
       append-nil v.end_numbers,
+      append-nil v.end_texts,
       append-nil v.rules,
       append-nil v.rule_numbers,
+      append-nil v.rule_texts,
       or_none v.never_busy,
     ) refl
 
-pub joined_rules : (v : RequirementsValue) (rs : List ProgramRule) (k : ℕ) → joined v (said_on k (Rules rs))
+pub joined_rules : (v : RequirementsValue) (rs : List ProgramRule) (k : ℕ) (l : List ℕ) → joined v (said_on k l (Rules rs))
     ≡ record {
       ends = v.ends;
       end_numbers = v.end_numbers;
+      end_texts = v.end_texts;
       claims = v.claims;
       claim_numbers = v.claim_numbers;
+      claim_texts = v.claim_texts;
       rules = v.rules ++ rs;
       rule_numbers = v.rule_numbers ++ replicate (length rs) k;
+      rule_texts = v.rule_texts ++ texts_of_rules (words_on l) (length rs);
       never_busy = v.never_busy;
     }
-joined_rules v rs k =
+joined_rules v rs k l =
     rw (
       append-nil v.ends,
       append-nil v.end_numbers,
+      append-nil v.end_texts,
       append-nil v.claims,
       append-nil v.claim_numbers,
+      append-nil v.claim_texts,
       or_none v.never_busy,
     ) refl
 
-pub joined_busy : (v : RequirementsValue) (k : ℕ) → joined v (said_on k NeverBusy)
+pub joined_busy : (v : RequirementsValue) (k : ℕ) (l : List ℕ) → joined v (said_on k l NeverBusy)
     ≡ record {
       ends = v.ends;
       end_numbers = v.end_numbers;
+      end_texts = v.end_texts;
       claims = v.claims;
       claim_numbers = v.claim_numbers;
+      claim_texts = v.claim_texts;
       rules = v.rules;
       rule_numbers = v.rule_numbers;
+      rule_texts = v.rule_texts;
       never_busy = option_or v.never_busy (Some k);
     }
-joined_busy v k =
+joined_busy v k l =
     rw (
       append-nil v.ends,
       append-nil v.end_numbers,
+      append-nil v.end_texts,
       append-nil v.claims,
       append-nil v.claim_numbers,
+      append-nil v.claim_texts,
       append-nil v.rules,
       append-nil v.rule_numbers,
+      append-nil v.rule_texts,
     ) refl
 
 joined_assoc : (v w u : RequirementsValue) → joined (joined v w) u ≡ joined v (joined w u)
@@ -111,10 +136,13 @@ joined_assoc v w u =
     rw (
       append_assoc v.ends w.ends u.ends,
       append_assoc v.end_numbers w.end_numbers u.end_numbers,
+      append_assoc v.end_texts w.end_texts u.end_texts,
       append_assoc v.claims w.claims u.claims,
       append_assoc v.claim_numbers w.claim_numbers u.claim_numbers,
+      append_assoc v.claim_texts w.claim_texts u.claim_texts,
       append_assoc v.rules w.rules u.rules,
       append_assoc v.rule_numbers w.rule_numbers u.rule_numbers,
+      append_assoc v.rule_texts w.rule_texts u.rule_texts,
       or_assoc v.never_busy w.never_busy u.never_busy,
     ) refl
 

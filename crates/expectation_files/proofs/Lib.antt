@@ -1,3 +1,9 @@
 mod WordCuts
 mod Joined
 mod TextRead
+mod Numbered
+mod Spans
+mod OneLine
+mod AllFaults
+mod BlankCuts
+mod Texts

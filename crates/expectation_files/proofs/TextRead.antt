@@ -20,7 +20,7 @@ pub at_fault : (ns : Names) (i : ImageValue) (v : RequirementsValue) (text bytes
 unfolding file_said
 at_fault ns i v text bytes line more n f found cut fault =
     ap unless_nothing (sym found ∙ ap (λ ls. in_front v (lines_said ns i n ls)) cut
-    ∙ ap (λ s. in_front v (on_line n s (lines_said ns i (n + 1) more))) fault)
+    ∙ ap (λ s. in_front v (on_line n line s (lines_said ns i (n + 1) more))) fault)
 
 -- a line that was not read
 pub at_unread : (ns : Names) (i : ImageValue) (v : RequirementsValue) (text bytes line : List ℕ) (more : List (List ℕ))
@@ -37,13 +37,13 @@ at_unread ns i v text bytes line more n unread.NoMemory r found cut said is none
 pub line_more : (ns : Names) (i : ImageValue) (v w : RequirementsValue) (text bytes line : List ℕ)
     (more : List (List ℕ)) (n : ℕ) (m : Meaning)
     → in_front v (lines_said ns i n (pieces 10 bytes)) ≡ lines_said ns i 1 (pieces 10 text)
-    → pieces 10 bytes ≡ line ∷ more → line_said ns i line ≡ Ok m → w ≡ joined v (said_on n m)
+    → pieces 10 bytes ≡ line ∷ more → line_said ns i line ≡ Ok m → w ≡ joined v (said_on n line m)
     → in_front w (lines_said ns i (n + 1) more) ≡ lines_said ns i 1 (pieces 10 text)
 line_more ns i v w text bytes line more n m found cut said added =
     let later = lines_said ns i (n + 1) more in
     ap (λ x. in_front x later) added
-    ∙ sym (in_front-in_front v (said_on n m) later)
-    ∙ sym (ap (λ s. in_front v (on_line n s later)) said)
+    ∙ sym (in_front-in_front v (said_on n line m) later)
+    ∙ sym (ap (λ s. in_front v (on_line n line s later)) said)
     ∙ sym (ap (λ ls. in_front v (lines_said ns i n ls)) cut)
     ∙ found
 

@@ -1,76 +1,112 @@
 -- What a file of expectations says.
-use Rattle.std.specs.Prelude.{◌≡◌, ℕ, ◌+◌, ◌==◌, ◌&&◌, Bool, if◌then◌else◌, List, [], ◌∷◌, ◌++◌, length, map}
+use Rattle.std.specs.Prelude.{◌≡◌, ℕ, zero, suc, ◌+◌, ◌==◌, ◌&&◌, ◌||◌, Bool, if◌then◌else◌, List, [], ◌∷◌, ◌++◌, length, map, codes}
 use Rattle.std.specs.Prelude.{Option, Some, None, is_some, not, Result, Ok, Err}
+use Rattle.std.specs.List.{slice_index_or}
 use Rattle.std.specs.Option.{option_or}
+use Rattle.std.specs.Str.{bytes_eq}
 use Rattle.std.proofs.Math.ListN.{replicate}
 use Rattle.text_parts.specs.Pieces.{pieces}
 use Rattle.image_file.specs.ImageValue.{ImageValue}
 use Rattle.expectations.specs.declared.expectation.Expectation.{Expectation}
 use Rattle.program_rules.specs.declared.program_rule.ProgramRule.{ProgramRule}
+use Rattle.expectation_files.specs.Words.{words_on, in_one_line}
 use Rattle.expectation_files.specs.Addresses.{Names}
 use Rattle.expectation_files.specs.ClaimLines.{ClaimValue}
 use Rattle.expectation_files.specs.Lines.{Meaning, Nothing, End, Claimed, Rules, NeverBusy, MeaningSaid, line_said}
 use Rattle.expectation_files.specs.declared.faults.FileFault.{FileFault}
 use Rattle.expectation_files.specs.declared.faults.FileFault.TheVariants as file
 
--- What lines say, in their order, each kind with the numbers of its lines; of the lines `never busy` the first one's number.
+-- What lines say, in their order, each kind with the numbers of its lines and with their words; of the lines `never busy` the
+-- first one's number.
 pub record RequirementsValue : Type 0 where
   pub ends : List Expectation
   pub end_numbers : List ℕ
+  pub end_texts : List (List ℕ)
   pub claims : List ClaimValue
   pub claim_numbers : List ℕ
+  pub claim_texts : List (List ℕ)
   pub rules : List ProgramRule
   pub rule_numbers : List ℕ
+  pub rule_texts : List (List ℕ)
   pub never_busy : Option ℕ
 
 abbrev pub nothing_said : RequirementsValue
 nothing_said = record {
   ends = [];
   end_numbers = [];
+  end_texts = [];
   claims = [];
   claim_numbers = [];
+  claim_texts = [];
   rules = [];
   rule_numbers = [];
+  rule_texts = [];
   never_busy = None;
 }
 
+-- whether a line that begins with this word names operations
+abbrev pub names_operations : List ℕ → Bool
+names_operations name = bytes_eq name (codes "forbid") || bytes_eq name (codes "require")
+
+-- the words that say the rule of this number, from 0, among the words of its line: of several operations that one alone
+abbrev pub words_of_rule : ℕ → List (List ℕ) → List (List ℕ)
+words_of_rule k [] = []
+words_of_rule k (name ∷ os) = if names_operations name then name ∷ slice_index_or os k [] ∷ [] else name ∷ os
+
+-- the texts of the first so many rules of a line with these words
+abbrev pub texts_of_rules : List (List ℕ) → ℕ → List (List ℕ)
+texts_of_rules ws zero = []
+texts_of_rules ws (suc k) = texts_of_rules ws k ++ in_one_line (words_of_rule k ws) ∷ []
+
 -- what the line of this number says
-abbrev pub said_on : ℕ → Meaning → RequirementsValue
-said_on k Nothing = nothing_said
-said_on k (End e) = record {
+abbrev pub said_on : ℕ → List ℕ → Meaning → RequirementsValue
+said_on k l Nothing = nothing_said
+said_on k l (End e) = record {
   ends = e ∷ [];
   end_numbers = k ∷ [];
+  end_texts = in_one_line (words_on l) ∷ [];
   claims = [];
   claim_numbers = [];
+  claim_texts = [];
   rules = [];
   rule_numbers = [];
+  rule_texts = [];
   never_busy = None;
 }
-said_on k (Claimed c) = record {
+said_on k l (Claimed c) = record {
   ends = [];
   end_numbers = [];
+  end_texts = [];
   claims = c ∷ [];
   claim_numbers = k ∷ [];
+  claim_texts = in_one_line (words_on l) ∷ [];
   rules = [];
   rule_numbers = [];
+  rule_texts = [];
   never_busy = None;
 }
-said_on k (Rules rs) = record {
+said_on k l (Rules rs) = record {
   ends = [];
   end_numbers = [];
+  end_texts = [];
   claims = [];
   claim_numbers = [];
+  claim_texts = [];
   rules = rs;
   rule_numbers = replicate (length rs) k;
+  rule_texts = texts_of_rules (words_on l) (length rs);
   never_busy = None;
 }
-said_on k NeverBusy = record {
+said_on k l NeverBusy = record {
   ends = [];
   end_numbers = [];
+  end_texts = [];
   claims = [];
   claim_numbers = [];
+  claim_texts = [];
   rules = [];
   rule_numbers = [];
+  rule_texts = [];
   never_busy = Some k;
 }
 
@@ -79,10 +115,13 @@ abbrev pub joined : RequirementsValue → RequirementsValue → RequirementsValu
 joined v w = record {
   ends = v.ends ++ w.ends;
   end_numbers = v.end_numbers ++ w.end_numbers;
+  end_texts = v.end_texts ++ w.end_texts;
   claims = v.claims ++ w.claims;
   claim_numbers = v.claim_numbers ++ w.claim_numbers;
+  claim_texts = v.claim_texts ++ w.claim_texts;
   rules = v.rules ++ w.rules;
   rule_numbers = v.rule_numbers ++ w.rule_numbers;
+  rule_texts = v.rule_texts ++ w.rule_texts;
   never_busy = option_or v.never_busy w.never_busy;
 }
 
@@ -95,14 +134,14 @@ in_front v (Ok w) = Ok (joined v w)
 in_front v (Err f) = Err f
 
 -- what a line says in front of what the lines behind it say: its fault stands before theirs
-abbrev pub on_line : ℕ → MeaningSaid → FileSaid → FileSaid
-on_line k (Err f) later = Err (file.Line k f)
-on_line k (Ok m) later = in_front (said_on k m) later
+abbrev pub on_line : ℕ → List ℕ → MeaningSaid → FileSaid → FileSaid
+on_line k l (Err f) later = Err (file.Line k f)
+on_line k l (Ok m) later = in_front (said_on k l m) later
 
 -- what lines say of which the first has this number
 abbrev pub lines_said : Names → ImageValue → ℕ → List (List ℕ) → FileSaid
 lines_said names i k [] = Ok nothing_said
-lines_said names i k (l ∷ ls) = on_line k (line_said names i l) (lines_said names i (k + 1) ls)
+lines_said names i k (l ∷ ls) = on_line k l (line_said names i l) (lines_said names i (k + 1) ls)
 
 -- whether nothing is said
 abbrev pub is_nothing : RequirementsValue → Bool

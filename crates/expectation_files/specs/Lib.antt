@@ -1,5 +1,6 @@
 -- The promises, in the order of reading: clauses of public functions cite them.
 pub mod Words
+pub mod WordSpans
 pub mod Values
 pub mod Addresses
 pub mod WordLines
@@ -8,6 +9,8 @@ pub mod ClaimLines
 pub mod RuleLines
 pub mod Lines
 pub mod Files
+pub mod OfProgram
+pub mod Faults
 -- The aid: what the code holds of the words of a line, and of what was read.
 pub mod OperandsSeen
 pub mod Seen

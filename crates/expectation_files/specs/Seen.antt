@@ -43,9 +43,12 @@ abbrev pub requirements_seen : Requirements → RequirementsValue
 requirements_seen r = record {
   ends = r.ends.items;
   end_numbers = numbers_of r.end_lines.items;
+  end_texts = texts_of r.end_lines.items;
   claims = map claim_seen r.claims.items;
   claim_numbers = numbers_of r.claim_lines.items;
+  claim_texts = texts_of r.claim_lines.items;
   rules = r.rules.items;
   rule_numbers = numbers_of r.rule_lines.items;
+  rule_texts = texts_of r.rule_lines.items;
   never_busy = r.never_busy;
 }

@@ -1,6 +1,7 @@
 -- The words of a line.
-use Rattle.std.specs.Prelude.{ℕ, ◌==◌, Bool, nat_lt, ◌||◌, if◌then◌else◌, List, [], ◌∷◌, length, filter}
-use Rattle.std.specs.List.{slice_split}
+use Rattle.std.specs.Prelude.{ℕ, ◌==◌, Bool, nat_lt, ◌||◌, if◌then◌else◌, List, [], ◌∷◌, length, filter, map}
+use Rattle.std.specs.List.{slice_split, join_with_byte}
+use Rattle.std.specs.Str.{is_utf8}
 use Rattle.text_parts.specs.Pieces.{text_before}
 
 -- a blank is a space, a tab or a carriage return
@@ -27,3 +28,11 @@ words_on line = words_of (statement line)
 abbrev pub skip_blanks : List ℕ → List ℕ
 skip_blanks [] = []
 skip_blanks (b ∷ bytes) = if is_blank b then skip_blanks bytes else b ∷ bytes
+
+-- a word as text: nothing where its bytes are no UTF-8
+abbrev pub text_of : List ℕ → List ℕ
+text_of word = if is_utf8 word then word else []
+
+-- words as messages and reports repeat them: with one space between each two
+abbrev pub in_one_line : List (List ℕ) → List ℕ
+in_one_line words = join_with_byte 32 (map text_of words)

@@ -1,6 +1,7 @@
 //! What is wrong with a file of expectations.
 
 ghost use Rattle.std.specs.Prelude.{◌≡◌};
+ghost use Rattle.expectation_files.specs.OfProgram.{is_of_program};
 ghost use Rattle.expectation_files.specs.declared.faults.FileFault.TheVariants.{NoMemory};
 ghost use Rattle.expectation_files.specs.declared.faults.FileFault.TheVariants as file;
 ghost use Rattle.expectation_files.specs.declared.faults.LineFault.{LineFault};
@@ -78,7 +79,9 @@ pub enum LineFaultKind {
 
 impl LineFaultKind {
     /// Whether the line may be right of another program: it names what this one lacks.
-    pub fn is_of_program(self) -> bool {
+    pub fn is_of_program(self) -> bool
+        ensures { result ≡ is_of_program self }
+    {
         match self {
             LineFaultKind::Name
             | LineFaultKind::MissingWord

@@ -3,6 +3,7 @@
 #![tactic(auto)]
 
 mod addresses;
+mod all_faults;
 mod claim_lines;
 mod claim_streams;
 mod claim_tests;
@@ -14,12 +15,15 @@ mod requirements;
 mod rule_lines;
 mod values;
 mod word_lines;
+mod word_spans;
 mod words;
+mod written_lines;
 
 pub use addresses::KnownNames;
+pub use all_faults::{file_faults, form_faults, widest_image};
 pub use faults::{FileFault, LineFault, LineFaultKind, LineForm};
 pub use reading::read_requirements;
-pub use requirements::{
-    NEVER_BUSY, Requirements, WrittenLine, are_rules_kept, line_of, written_line,
-};
-pub use words::{WordSpan, word_of, word_span};
+pub use requirements::{NEVER_BUSY, Requirements, WrittenLine, are_rules_kept};
+pub use word_spans::{WordSpan, word_span};
+pub use words::word_of;
+pub use written_lines::{line_of, written_line};

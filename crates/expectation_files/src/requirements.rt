@@ -1,21 +1,19 @@
 //! What is required of a program.
 
-ghost use Rattle.std.specs.Prelude.{◌≡◌, ◌↔◌, ◌++◌, IfOk, OnOk, IsTrue};
+ghost use Rattle.std.specs.Prelude.{◌≡◌, ◌↔◌, OnOk, IsTrue};
 ghost use Rattle.expectation_files.specs.Judged.{IsJudged, are_rules_kept};
 ghost use Rattle.program_rules.specs.Keeping.{is_kept};
 ghost use Rattle.expectation_files.specs.Files.{nothing_said, said_on, joined, is_nothing};
-ghost use Rattle.expectation_files.specs.Seen.{requirements_seen, meaning_seen, numbers_of};
-ghost use Rattle.std.proofs.Math.ListN.{replicate};
+ghost use Rattle.expectation_files.specs.Seen.{requirements_seen, meaning_seen};
 ghost use Rattle.expectation_files.specs.Lines.{Rules};
 
 use crate::lines::LineMeaning;
-use crate::words::{next_word, statement_of};
+use crate::written_lines::{push_rule_lines, written};
 use claims::Claim;
 use expectations::Expectation;
 use image_file::Image;
 use program_rules::{ProgramRule, is_kept};
 use std::alloc::{AllocError, Global};
-use std::str;
 
 /// The words of the line that says that no stream ever loops alone.
 pub const NEVER_BUSY: &str = "never busy";
@@ -133,7 +131,7 @@ impl Requirements {
         meaning: LineMeaning,
     ) -> Result<(), AllocError>
         ensures { OnOk result (requirements_seen self.new
-            ≡ joined (requirements_seen self.old) (said_on number (meaning_seen meaning))) }
+            ≡ joined (requirements_seen self.old) (said_on number line.now (meaning_seen meaning))) }
     {
         match meaning {
             LineMeaning::Nothing => Ok(()),
@@ -163,7 +161,7 @@ impl Requirements {
         rules: &[ProgramRule],
     ) -> Result<(), AllocError>
         ensures { OnOk result (requirements_seen self.new
-            ≡ joined (requirements_seen self.old) (said_on number (Rules rules.now))) }
+            ≡ joined (requirements_seen self.old) (said_on number line.now (Rules rules.now))) }
     {
         self.rules.extend_from_slice(rules)?;
         push_rule_lines(alloc, &mut self.rule_lines, number, line, rules.len())
@@ -179,102 +177,4 @@ pub fn are_rules_kept(image: &Image, rules: &[ProgramRule]) -> bool
             ensures { result ≡ is_kept image.entry.now rule.now }
         { is_kept(image, *rule) },
     )
-}
-
-/// The words of the line of this number.
-fn written(alloc: Global, number: usize, line: &[u8]) -> Result<WrittenLine, AllocError>
-    ensures { IfOk result (λ l. l.number ≡ number) }
-{
-    let mut words = String::new(alloc);
-    push_words(&mut words, statement_of(line))?;
-    Ok(WrittenLine { number, words })
-}
-
-/// The line of this number of a text, from 1, as it was written; without words where the text has no such line.
-pub fn written_line(alloc: Global, text: &[u8], number: usize) -> Result<WrittenLine, AllocError>
-    ensures { IfOk result (λ l. l.number ≡ number) }
-{
-    let line = line_of(text, number);
-    written(alloc, number, line)
-}
-
-/// The line of this number of a text, from 1; empty where the text has no such line.
-pub fn line_of(text: &[u8], number: usize) -> &[u8] {
-    let before = number.saturating_sub(1);
-    text.split(|byte| *byte == b'\n').nth(before).unwrap_or(&[])
-}
-
-/// Adds the lines of so many rules that a line says.
-fn push_rule_lines(
-    alloc: Global,
-    lines: &mut Vec<WrittenLine>,
-    number: usize,
-    line: &[u8],
-    count: usize,
-) -> Result<(), AllocError>
-    ensures { OnOk result (numbers_of lines.new.items ≡ numbers_of lines.old.items ++ replicate count number) }
-{
-    for place in 0..count {
-        lines.push(written_rule(alloc, number, line, place)?)?;
-    }
-    Ok(())
-}
-
-/// The words that say the rule at a place of those of a line: all of them, but of several operations that one alone.
-fn written_rule(
-    alloc: Global,
-    number: usize,
-    line: &[u8],
-    place: usize,
-) -> Result<WrittenLine, AllocError>
-    ensures { IfOk result (λ l. l.number ≡ number) }
-{
-    let Some((name, rest)) = next_word(statement_of(line)) else {
-        return written(alloc, number, line);
-    };
-    if name != b"forbid".as_slice() && name != b"require".as_slice() {
-        return written(alloc, number, line);
-    }
-    let mut words = String::from_str(alloc, text_of(name))?;
-    push_word(&mut words, word_at(rest, place))?;
-    Ok(WrittenLine { number, words })
-}
-
-/// Adds the words of a text with a space between them.
-fn push_words(words: &mut String, text: &[u8]) -> Result<(), AllocError> {
-    let mut rest = text;
-    for _ in 0..text.len() {
-        let Some((word, after)) = next_word(rest) else {
-            return Ok(());
-        };
-        push_word(words, word)?;
-        rest = after;
-    }
-    Ok(())
-}
-
-/// Adds a word, after a space where something is there.
-fn push_word(words: &mut String, word: &[u8]) -> Result<(), AllocError> {
-    words.push_str(if words.is_empty() { "" } else { " " })?;
-    words.push_str(text_of(word))
-}
-
-/// The word at a place of a text, from 0; empty where it has fewer.
-fn word_at(text: &[u8], place: usize) -> &[u8] {
-    let mut rest = text;
-    for _ in 0..place {
-        match next_word(rest) {
-            Some((_, after)) => rest = after,
-            None => return &[],
-        }
-    }
-    match next_word(rest) {
-        Some((word, _)) => word,
-        None => &[],
-    }
-}
-
-/// A word as text; empty where it is none.
-fn text_of(word: &[u8]) -> &str {
-    str::from_utf8(word).unwrap_or("")
 }

@@ -1,8 +1,8 @@
-//! The words of a line, and where they stand.
+//! The words of a line.
 
 ghost use Rattle.std.specs.Prelude.{◌≡◌, ◌∷◌, [], MatchOption};
-ghost use Rattle.std.specs.List.{position};
-ghost use Rattle.expectation_files.specs.Words.{is_blank, skip_blanks, statement, words_of};
+ghost use Rattle.std.specs.List.{position, slice_index_or};
+ghost use Rattle.expectation_files.specs.Words.{is_blank, skip_blanks, statement, words_of, words_on, text_of};
 ghost use Rattle.expectation_files.specs.OperandsSeen.{AreOperands};
 
 use std::str;
@@ -79,7 +79,7 @@ fn without_first_blanks(bytes: &[u8]) -> &[u8]
 }
 
 /// Where the first blank stands.
-fn find_blank(text: &[u8]) -> Option<usize>
+pub(crate) fn find_blank(text: &[u8]) -> Option<usize>
     ensures { result ≡ position is_blank text.now }
 {
     text.iter().position(|b| is_blank(*b))
@@ -92,53 +92,36 @@ fn is_blank(byte: u8) -> bool
     byte == b' ' || byte == b'\t' || byte == b'\r'
 }
 
-/// Where a word of a line stands.
-#[derive(Clone, Copy, Debug, PartialEq, Eq)]
-pub struct WordSpan {
-    /// The column of its first byte, from 1.
-    pub column: usize,
-    /// How many bytes it has; 0 where the line has no such word, and the column is that after its last one.
-    pub width: usize,
-}
-
-/// Where the word of this number stands on a line, from 0 for the first one.
-pub fn word_span(line: &[u8], number: usize) -> WordSpan {
-    let statement = statement_of(line);
+/// The word of this number of a text, from 0 for the first one; empty where it has fewer.
+pub(crate) fn word_at(text: &[u8], number: usize) -> &[u8]
+    ensures { result.now ≡ slice_index_or (words_of text.now) number [] }
+{
     let mut left = number;
-    let mut first = None;
-    let mut end = 0;
-    for (place, byte) in statement.iter().enumerate() {
-        if is_blank(*byte) {
-            if first.is_some() && left == 0 {
-                break;
-            }
-            if first.is_some() {
-                left = left.saturating_sub(1);
-            }
-            first = None;
-        } else {
-            first.get_or_insert(place);
-            end = place.saturating_add(1);
+    let mut rest = text;
+    while let Some((word, following)) = next_word(rest) {
+        if left == 0 {
+            return word;
         }
+        left -= 1;
+        rest = following;
     }
-    match first {
-        Some(first) if left == 0 => WordSpan {
-            column: first.saturating_add(1),
-            width: end.saturating_sub(first),
-        },
-        _ => WordSpan {
-            column: end.saturating_add(1),
-            width: 0,
-        },
+    &[]
+}
+
+/// A word as text; empty where its bytes are no UTF-8.
+pub(crate) fn text_of(word: &[u8]) -> &str
+    ensures { result.now ≡ text_of word.now }
+{
+    match str::from_utf8(word) {
+        Ok(text) => text,
+        Err(_) => "",
     }
 }
 
-/// The word of this number on a line, from 0 for the first one; empty where the line has no such word, or it is no text.
-pub fn word_of(line: &[u8], number: usize) -> &str {
-    let span = word_span(line, number);
-    let from = span.column.saturating_sub(1);
-    let word = line
-        .get(from..from.saturating_add(span.width))
-        .unwrap_or(&[]);
-    str::from_utf8(word).unwrap_or("")
+/// The word of this number on a line, from 0 for the first one, as text; empty where the line has no such word, or its bytes
+/// are no UTF-8.
+pub fn word_of(line: &[u8], number: usize) -> &str
+    ensures { result.now ≡ text_of (slice_index_or (words_on line.now) number []) }
+{
+    text_of(word_at(statement_of(line), number))
 }

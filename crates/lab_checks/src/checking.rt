@@ -4,11 +4,12 @@ use crate::messages::push_message_object;
 use crate::names::add_names;
 use crate::slips::add_slips;
 use command_parts::{
-    CommandAnswer, Inputs, LabFault, SourceText, Status, check_loose_schedule, is_image,
+    CommandAnswer, Inputs, LabFault, Program, SourceText, Status, check_loose_schedule, is_image,
     read_program,
 };
+use expectation_messages::check_expectations;
 use fault_messages::{Message, Severity, push_message};
-use image_file::{Image, ImageFault, read_image};
+use image_file::{ImageFault, read_image};
 use input_faults::image_fault_words;
 use lab_requests::{CheckRequest, FileKind};
 use plain_text::plain;
@@ -22,14 +23,14 @@ pub fn check<F: Files, R: Read>(
     inputs: &mut Inputs<'_, F, R>,
     request: &CheckRequest,
 ) -> Result<CommandAnswer, LabFault> {
-    if request.program.is_some() && !has_schedule(request) {
+    if request.program.is_some() && !takes_program(request) {
         return Err(LabFault::Words(String::from_str(
             alloc,
-            "--program goes with schedules, and none is given",
+            "--program goes with schedules and files of expectations, and none is given",
         )?));
     }
     let program = match request.program {
-        Some(path) => Some(read_program(alloc, inputs, path)?.image),
+        Some(path) => Some(read_program(alloc, inputs, path)?),
         None => None,
     };
     let mut told = String::new(alloc);
@@ -49,11 +50,21 @@ pub fn check<F: Files, R: Read>(
     })
 }
 
-/// Whether some file is a schedule, as it was said or by its name.
-fn has_schedule(request: &CheckRequest) -> bool {
+/// Whether some file is checked for a program, as it was said or by its name.
+fn takes_program(request: &CheckRequest) -> bool {
     match request.kind {
-        Some(kind) => kind == FileKind::Schedule,
-        None => request.files.iter().any(|path| path.ends_with(".schedule")),
+        Some(kind) => is_of_program(kind),
+        None => request.files.iter().any(|path| kind_by_name(path).is_some_and(|kind| is_of_program(
+            kind,
+        ))),
+    }
+}
+
+/// Whether files of a kind are checked for a program.
+fn is_of_program(kind: FileKind) -> bool {
+    match kind {
+        FileKind::Schedule | FileKind::Expectations => true,
+        FileKind::Source | FileKind::Image => false,
     }
 }
 
@@ -62,7 +73,7 @@ fn check_file<F: Files, R: Read>(
     alloc: Global,
     inputs: &mut Inputs<'_, F, R>,
     request: &CheckRequest,
-    program: Option<&Image>,
+    program: Option<&Program>,
     path: &str,
     told: &mut String,
 ) -> Result<Status, LabFault> {
@@ -116,8 +127,18 @@ fn kind_of(said: Option<FileKind>, path: &str, bytes: &[u8]) -> FileKind {
     match said {
         Some(kind) => kind,
         None if is_image(bytes) => FileKind::Image,
-        None if path.ends_with(".schedule") => FileKind::Schedule,
-        None => FileKind::Source,
+        None => kind_by_name(path).unwrap_or(FileKind::Source),
+    }
+}
+
+/// The kind of a file by the end of its name; None where that says none.
+fn kind_by_name(path: &str) -> Option<FileKind> {
+    if path.ends_with(".schedule") {
+        Some(FileKind::Schedule)
+    } else if path.ends_with(".expect") {
+        Some(FileKind::Expectations)
+    } else {
+        None
     }
 }
 
@@ -135,7 +156,7 @@ fn judge(
     alloc: Global,
     kind: FileKind,
     bytes: Vec<u8>,
-    program: Option<&Image>,
+    program: Option<&Program>,
 ) -> Result<CheckedFile, LabFault> {
     match kind {
         FileKind::Source => {
@@ -147,7 +168,15 @@ fn judge(
             Ok(CheckedFile { text, messages })
         }
         FileKind::Schedule => {
-            let messages = check_loose_schedule(alloc, &bytes, program)?;
+            let image = program.map(|program| &program.image);
+            let messages = check_loose_schedule(alloc, &bytes, image)?;
+            Ok(CheckedFile {
+                text: bytes,
+                messages,
+            })
+        }
+        FileKind::Expectations => {
+            let messages = check_expectations(alloc, &bytes, program)?;
             Ok(CheckedFile {
                 text: bytes,
                 messages,

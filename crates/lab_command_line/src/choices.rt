@@ -4,10 +4,15 @@
 use lab_requests::{Colours, FileKind, GradeFormat};
 
 /// The words for the kinds of files that `check` judges.
-pub(crate) const KIND_WORDS: [&str; 3] = ["source", "image", "schedule"];
+pub(crate) const KIND_WORDS: [&str; 4] = ["source", "image", "schedule", "expectations"];
 
 /// The kinds.
-pub(crate) const KINDS: [FileKind; 3] = [FileKind::Source, FileKind::Image, FileKind::Schedule];
+pub(crate) const KINDS: [FileKind; 4] = [
+    FileKind::Source,
+    FileKind::Image,
+    FileKind::Schedule,
+    FileKind::Expectations,
+];
 
 /// The words for how the answer of `grade` is written.
 pub(crate) const FORMAT_WORDS: [&str; 5] = ["text", "tsv", "json", "junit", "gradescope"];

@@ -75,7 +75,7 @@ pub(crate) const COMMANDS: [CommandWords; 18] = [
     CommandWords {
         command: CommandName::Check,
         name: "check",
-        about: "Checks source texts, images and schedules",
+        about: "Checks source texts, images, schedules and files of expectations",
         long: help::CHECK,
         arguments: &CHECK_ARGUMENTS,
     },

@@ -13,17 +13,17 @@ use std::alloc::{AllocError, Global};
 pub(crate) const CHECK_ARGUMENTS: [Argument; 5] = [
     Argument(
         "FILE",
-        "source texts, images or schedules",
-        Form::Several(ValueKind::File(&[".asm", ".image", ".schedule"])),
+        "source texts, images, schedules or files of expectations",
+        Form::Several(ValueKind::File(&[".asm", ".image", ".schedule", ".expect"])),
     ),
     Argument(
         "as",
-        "all are of this kind: source, image or schedule",
+        "all are of this kind: source, image, schedule or expectations",
         Form::Option("KIND", ValueKind::OneOf(&KIND_WORDS), Presence::Free),
     ),
     Argument(
         "program",
-        "the schedules are of this program",
+        "the schedules and expectations are of this program",
         Form::Option("PROGRAM", PROGRAM_FILE, Presence::Free),
     ),
     Argument("strict", "warnings count as errors", Form::Flag(&[])),

@@ -20,12 +20,14 @@ Example:
   mta_lab view lock.asm --seed 7";
 
 pub(crate) const CHECK: &str = "\
-Judges source texts, images and schedules. Each message is a line FILE:LINE:COLUMN: error: WORDS.
-The source line follows, with a mark under the spot, and how to correct it. check also warns about
-what only mta_lab reads: letters beyond ASCII in comments, and * in schedules.
+Judges source texts, images, schedules and files of expectations. Each message is a line
+FILE:LINE:COLUMN: error: WORDS. The source line follows, with a mark under the spot, and how to
+correct it. check also warns about what only mta_lab reads: letters beyond ASCII in comments, and *
+in schedules. Each file is judged alone, schedules and expectations for a program with --program.
 
-Example:
-  mta_lab check lock.asm";
+Examples:
+  mta_lab check lock.asm
+  mta_lab check lock.expect --program lock.asm";
 
 pub(crate) const FMT: &str = "\
 Lays source texts out: labels in column 1, statements in column 9, comments in column 33, or 49

@@ -3,12 +3,12 @@
 use crate::report_lines::{CaseLines, absent_line};
 use command_parts::made_by;
 use expectation_files::{LineFault, line_of, word_of};
+use expectation_messages::fault_words;
 use grade_reports::GradeRow;
 use image_file::Image;
 use image_machines::by_room;
 use judgements::{Case, CaseJudgement, Reason, ShownRun};
 use lab_ends::{first_finding, state_text, text_of_end};
-use lab_explorer::fault_words;
 use lab_requests::Maker;
 use lab_texts::{Notation, ProgramNames};
 use processor::Step;

@@ -2,9 +2,9 @@
 
 use crate::rows::row_of;
 use command_parts::{LabFault, Program};
+use expectation_messages::file_fault;
 use grade_reports::GradeRow;
 use judgements::{AskedJudging, Case, JudgeFault, Submission, image_by, judged_submission};
-use lab_explorer::file_fault;
 use lab_requests::GradeRequest;
 use lab_texts::NumberStyle;
 use program_searches::{Console, SearchFault};

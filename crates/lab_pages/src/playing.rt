@@ -3,7 +3,7 @@
 use command_parts::{CommandAnswer, Inputs, LabFault, Program, read_program, read_steps};
 use end_goals::EndGoal;
 use expectation_files::Requirements;
-use lab_explorer::requirements_of;
+use expectation_messages::requirements_of;
 use lab_requests::PlayRequest;
 use lab_texts::ProgramNames;
 use plain_text::{plain, stem_of};

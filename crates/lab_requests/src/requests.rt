@@ -9,6 +9,8 @@ pub enum FileKind {
     Image,
     /// A schedule's text.
     Schedule,
+    /// A file of expectations.
+    Expectations,
 }
 
 /// A rule that makes schedules.
@@ -47,7 +49,7 @@ pub struct CheckRequest<'a> {
     pub files: Vec<&'a str>,
     /// The kind of all of them; None where each is told by its beginning and its name.
     pub kind: Option<FileKind>,
-    /// The program whose schedules these are.
+    /// The program whose schedules these are, and of which the expectations are.
     pub program: Option<&'a str>,
     /// Warnings count as errors.
     pub strict: bool,

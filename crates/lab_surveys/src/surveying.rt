@@ -5,7 +5,7 @@ use crate::outcome_words::{OutcomeWords, words_of_outcomes};
 use crate::survey_objects::{SurveyInput, broken_words, push_outcome_objects};
 use command_parts::{CommandAnswer, Inputs, LabFault, read_program, style_of};
 use expectation_files::Requirements;
-use lab_explorer::requirements_of;
+use expectation_messages::requirements_of;
 use lab_requests::{Bounds, SurveyRequest};
 use lab_texts::{Notation, ProgramNames};
 use plain_text::push_plain;

@@ -1,0 +1,113 @@
+//! What is wrong with a line of a file of expectations, in words.
+
+use expectation_files::{LineFaultKind, LineForm};
+use image_file::Image;
+use lab_texts::ProgramNames;
+use std::alloc::{AllocError, Global};
+
+/// The words with which lines begin.
+const FIRST_WORDS: &str =
+    "a line begins with word, words, sum, register, finished, stopped, always, never, some, entries, at most, forbid or require";
+
+/// Which byte addresses some memory has a word at.
+const ADDRESSES: &str = "no memory has a word at this address: multiples of 8 below 2097152";
+
+/// Which numbers are values.
+const NUMBERS: &str =
+    "this is no number of 64 bits; one with a sign, or with signed after it, is from -9223372036854775808 to 9223372036854775807";
+
+/// Which names operations have.
+const OPERATIONS: &str =
+    "no operation has this name: LOAD, STORE, FADD, ADD, JUMP and so on, with no suffix; NOP is none";
+
+/// Why no number is below the least one, or above the greatest.
+const BEYOND: &str =
+    "no number is so: without a sign none is below 0, or above 18446744073709551615; write +0, or signed after the number, to compare signed";
+
+/// Where the word `busy` stands.
+const BUSY: &str =
+    "busy comes after never alone, and nothing after it: never busy says that no stream can loop by its own steps alone";
+
+/// What is wrong with a word of a line, for a program with this image and these names.
+pub fn fault_words(
+    alloc: Global,
+    kind: LineFaultKind,
+    word: &str,
+    image: &Image,
+    names: &ProgramNames<'_>,
+) -> Result<String, AllocError> {
+    let words = match kind {
+        LineFaultKind::Name => return name_words(alloc, word, names),
+        LineFaultKind::MissingWord => return missing_word(alloc, image),
+        LineFaultKind::MissingStream => return missing_stream(alloc, image),
+        LineFaultKind::Place => return missing_place(alloc, image),
+        LineFaultKind::Form(form) => form_words(form),
+        LineFaultKind::Unknown => FIRST_WORDS,
+        LineFaultKind::Address => ADDRESSES,
+        LineFaultKind::Points => "a range is FIRST..LAST",
+        LineFaultKind::Range | LineFaultKind::PlaceRange => "the range ends before it begins",
+        LineFaultKind::Stream => "a stream is P.S, P 0 to 15 and S 0 to 127",
+        LineFaultKind::Register => "a register is r0 to r31",
+        LineFaultKind::Number => NUMBERS,
+        LineFaultKind::Trap => "a trap is a number from 1 to 10",
+        LineFaultKind::Count => "this is no number",
+        LineFaultKind::Operation => OPERATIONS,
+        LineFaultKind::Beyond => BEYOND,
+        LineFaultKind::Busy => BUSY,
+        LineFaultKind::Twice => "a stream is named twice",
+    };
+    String::from_str(alloc, words)
+}
+
+/// That no data word has this name, and which may be meant.
+fn name_words(alloc: Global, word: &str, names: &ProgramNames<'_>) -> Result<String, AllocError> {
+    let mut words = String::new(alloc);
+    names.push_no_address(alloc, &mut words, word)?;
+    Ok(words)
+}
+
+/// Which data words an image has.
+fn missing_word(alloc: Global, image: &Image) -> Result<String, AllocError> {
+    let last = (image.cells().len() - 1) * 8;
+    format!(in alloc;
+        "the program has no word at this address: its words stand at the multiples of 8 from 0 to {last}"
+    )
+}
+
+/// Which streams an image has.
+fn missing_stream(alloc: Global, image: &Image) -> Result<String, AllocError> {
+    let p = image.processors() - 1;
+    let s = image.slim() - 1;
+    format!(in alloc;
+        "the program has no such stream: a stream is P.S, P at most {p} and S at most {s}"
+    )
+}
+
+/// Which program words an image has, and how they are named.
+fn missing_place(alloc: Global, image: &Image) -> Result<String, AllocError> {
+    let last = image.program().len() - 1;
+    format!(in alloc;
+        "the program has no such address: write a label, an address after one as label+1, or a number from 0 to {last}"
+    )
+}
+
+/// The form of a line that begins so.
+fn form_words(form: LineForm) -> &'static str {
+    match form {
+        LineForm::Word => {
+            "a line about a word is word ADDRESS VALUE [full|empty], or word ADDRESS is|above|below word ADDRESS [+ NUMBER] [signed]"
+        }
+        LineForm::Words =>
+            "a line about the words of a range is words FIRST..LAST VALUE [full|empty]",
+        LineForm::Sum => "a line about a sum is sum FIRST..LAST VALUE",
+        LineForm::Register => "a line about a register is register P.S rN VALUE",
+        LineForm::Finished => "nothing follows finished",
+        LineForm::Stopped => "a line about a trap is stopped P.S TRAP",
+        LineForm::Claim => {
+            "after always, never or some comes word ADDRESS is VALUE, word ADDRESS above|below VALUE [signed], word ADDRESS full|empty, or at most N of P.S .. in FIRST..LAST"
+        }
+        LineForm::Entries => "a line about entries is entries N",
+        LineForm::MostWords => "a line about the size of the program is at most N words",
+        LineForm::Operations => "after forbid or require come names of operations",
+    }
+}

@@ -1,0 +1,11 @@
+//! Messages about files of expectations, and the one way by which a command reads one
+//! ("Files of expectations", docs/LAB_REFERENCE.md).
+#![tactic(auto)]
+
+mod fault_words;
+mod messages;
+mod reading;
+
+pub use fault_words::fault_words;
+pub use messages::check_expectations;
+pub use reading::{file_fault, requirements_of};

@@ -1,0 +1,115 @@
+//! Faults of files of expectations as messages.
+
+use crate::fault_words::fault_words;
+use command_parts::Program;
+use expectation_files::{
+    FileFault, KnownNames, LineFault, file_faults, form_faults, line_of, widest_image, word_of,
+    word_span,
+};
+use fault_messages::{Message, Severity, Spot};
+use image_file::Image;
+use lab_texts::ProgramNames;
+use source_places::SourcePlaces;
+use std::alloc::{AllocError, Global};
+
+/// Why a file that says nothing is refused.
+pub(crate) const EMPTY: &str = "nothing is expected here, so nothing can be judged";
+
+/// What is wrong with a file of expectations, a message for each line with a fault. Without a program a name is no fault.
+pub fn check_expectations(
+    alloc: Global,
+    text: &[u8],
+    program: Option<&Program>,
+) -> Result<Vec<Message>, AllocError> {
+    match program {
+        Some(program) => {
+            let places = SourcePlaces::of(alloc, &program.text)?;
+            let known = KnownNames {
+                words: places.data_names(),
+                labels: places.labels(),
+            };
+            let faults = file_faults(alloc, known, &program.image, text)?;
+            let names = ProgramNames::of(alloc, &program.text)?;
+            messages_of(alloc, text, &faults, &program.image, &names)
+        }
+        None => {
+            let faults = form_faults(alloc, text)?;
+            let image = widest_image(alloc)?;
+            let names = ProgramNames::of(alloc, &[])?;
+            messages_of(alloc, text, &faults, &image, &names)
+        }
+    }
+}
+
+/// The messages of the faults of a text, for a program with this image and these names.
+fn messages_of(
+    alloc: Global,
+    text: &[u8],
+    faults: &[FileFault],
+    image: &Image,
+    names: &ProgramNames<'_>,
+) -> Result<Vec<Message>, AllocError> {
+    let mut messages = Vec::new(alloc);
+    for fault in faults {
+        match *fault {
+            FileFault::Line { line, fault } => {
+                messages.push(message_on(alloc, text, line, fault, image, names)?)?;
+            }
+            FileFault::Empty => messages.push(empty_message(alloc)?)?,
+            FileFault::NoMemory => return Err(AllocError),
+        }
+    }
+    Ok(messages)
+}
+
+/// The message of a fault on a line, which marks the word that is wrong.
+pub(crate) fn message_on(
+    alloc: Global,
+    text: &[u8],
+    line: usize,
+    fault: LineFault,
+    image: &Image,
+    names: &ProgramNames<'_>,
+) -> Result<Message, AllocError> {
+    let bytes = line_of(text, line);
+    let span = word_span(bytes, fault.word);
+    let word = word_of(bytes, fault.word);
+    let spot = Spot {
+        line,
+        start: start_of(text, line),
+        column: span.column,
+        width: span.width.max(1),
+    };
+    Ok(error_at(spot, fault_words(alloc, fault.kind, word, image, names)?))
+}
+
+/// The message that a file says nothing.
+fn empty_message(alloc: Global) -> Result<Message, AllocError> {
+    Ok(error_at(Spot::FIRST, String::from_str(alloc, EMPTY)?))
+}
+
+/// An error in these words at a place.
+fn error_at(spot: Spot, words: String) -> Message {
+    Message {
+        severity: Severity::Error,
+        number: None,
+        line: spot.line,
+        column: spot.column,
+        width: spot.width,
+        words,
+        help: None,
+        start: spot.start,
+    }
+}
+
+/// How many bytes of a text stand before a line, which is counted from 1.
+fn start_of(text: &[u8], line: usize) -> usize {
+    let mut start: usize = 0;
+    for before in text
+        .split(|byte| *byte == b'\n')
+        .take(line.saturating_sub(1))
+    {
+        start = start.saturating_add(before.len()).saturating_add(1);
+    }
+    start.min(text.len())
+}
