@@ -2,7 +2,6 @@
 #![tactic(auto)]
 
 mod expected_texts;
-mod opened_pages;
 mod play_pages;
 mod played_programs;
 mod replays;

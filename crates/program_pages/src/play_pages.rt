@@ -1,7 +1,6 @@
 //! The page on which the reader is the scheduler of a program.
 
 use crate::expected_texts::expected_texts;
-use crate::opened_pages::opened_after;
 use crate::played_programs::{PageChoices, PlayedProgram};
 use command_parts::LabFault;
 use end_goals::{EndCriteria, EndGoal};
@@ -107,7 +106,6 @@ fn page_text(
 ) -> Result<String, AllocError> {
     let image = &played.program.image;
     let graph = by_room!(image, graph_on(alloc, played, judged))?;
-    let graph = opened_after(alloc, graph, played.opened)?;
     let name = played.called;
     let title = format!(in alloc; "{name}, you are the scheduler")?;
     page_of_graph(alloc, &title, &graph)
@@ -141,6 +139,7 @@ fn graph_on<const S: usize>(
         expected: &expected,
         criteria,
         goal,
+        opened: played.opened,
     };
     let text = &played.program.text;
     graph_json::<S>(alloc, asked, text, played.names, &found.space, ends)

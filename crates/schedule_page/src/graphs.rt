@@ -3,6 +3,7 @@
 use crate::columns::{Column, column_of};
 use crate::ends::{EndRequirements, PageEnds, ends_json, schedule_text, texts_json};
 use crate::numbers::number_of;
+use crate::opened::text_opened_after;
 use crate::page_tables::{HeldContents, PageTables};
 use crate::records::Records;
 use end_goals::EndCriteria;
@@ -17,7 +18,7 @@ use state_tables::{NumberSets, depths_of, rows_of, sets_of, targets_of};
 use std::alloc::{AllocError, Global};
 use text_parts::push_hexadecimal_16;
 
-/// What a page is called, and what it is judged by.
+/// What a page is called, what it is judged by, and where it opens.
 #[derive(Clone, Copy)]
 pub struct GraphNames<'a> {
     /// What the program is called.
@@ -28,6 +29,8 @@ pub struct GraphNames<'a> {
     pub criteria: EndCriteria,
     /// The place of the end that is the reader's first goal.
     pub goal: Option<usize>,
+    /// The steps after which the page opens; none where it opens at its first state.
+    pub opened: &'a [Step],
 }
 
 /// The data of a page of a program with this text, as JSON: of a space that has all states of it, and all ends, each of
@@ -43,7 +46,12 @@ pub fn graph_json<const S: usize>(
     let mut graph = head_of::<S>(alloc, asked, text, names, space)?;
     put_ends(alloc, &mut graph, asked, space, ends);
     put_states::<S>(alloc, &mut graph, space, ends.known)?;
-    graph.whole()?.to_string(alloc)
+    let graph = graph.whole()?;
+    if asked.opened.is_empty() {
+        graph.to_string(alloc)
+    } else {
+        text_opened_after(alloc, &graph, asked.opened)
+    }
 }
 
 /// The program, and the image's start.

@@ -7,6 +7,7 @@ mod contents;
 mod ends;
 mod graphs;
 mod numbers;
+mod opened;
 mod page_tables;
 mod pages;
 mod parts;
