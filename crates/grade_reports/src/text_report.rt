@@ -5,8 +5,8 @@ use crate::rows::{CountedEnd, GradeRow, ReportLine};
 use judgements::{Known, VerdictKind, Witness};
 use plain_text::{plain, push_plain};
 use processor::Step;
+use schedule_turns::turns_of;
 use std::alloc::{AllocError, Global};
-use trace_text::write_schedule;
 
 /// Adds the row of a submission, and a line for each of its ends, where they are counted.
 pub(crate) fn push_row(
@@ -152,16 +152,15 @@ fn push_witness(alloc: Global, why: &mut String, witness: &Witness) -> Result<()
     }
 }
 
-/// Adds the lines of a schedule, apart by commas.
+/// Adds the turns of a schedule, apart by commas.
 pub(crate) fn push_turns(
     alloc: Global,
     out: &mut String,
     steps: &[Step],
 ) -> Result<(), AllocError> {
-    let schedule = write_schedule(alloc, steps)?;
-    for (index, line) in schedule.trim().split('\n').enumerate() {
-        out.push_str(if index == 0 { "" } else { ", " })?;
-        out.push_str(line)?;
+    for (index, turn) in turns_of(alloc, steps)?.iter().enumerate() {
+        let comma = if index == 0 { "" } else { ", " };
+        write!(out, "{comma}{turn}")?;
     }
     Ok(())
 }

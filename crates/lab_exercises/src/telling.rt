@@ -5,8 +5,8 @@ use crate::judging::Judgement;
 use grade_reports::GradeRow;
 use judgements::Witness;
 use plain_text::{plain, push_plain};
+use schedule_turns::turns_of;
 use std::alloc::{AllocError, Global};
-use trace_text::write_schedule;
 
 /// Adds what is said of a program: the verdict, what shows it or what was looked at, the sentence on it, and commands that
 /// show the run.
@@ -45,10 +45,9 @@ fn push_commands(
         Witness::None => return Ok(()),
         Witness::Schedule(steps) if steps.is_empty() => return Ok(()),
         Witness::Schedule(steps) => {
-            let schedule = write_schedule(alloc, steps)?;
             out.push_str("To look at this run:\n  printf '")?;
-            for line in schedule.trim().split('\n') {
-                write!(out, "{line}\\n")?;
+            for turn in turns_of(alloc, steps)?.iter() {
+                write!(out, "{turn}\\n")?;
             }
             write!(
                 out,

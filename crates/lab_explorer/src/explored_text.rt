@@ -9,12 +9,12 @@ use lab_ends::{EndWords, words_of_ends};
 use lab_texts::Notation;
 use plain_text::push_plain;
 use program_searches::Explored;
+use schedule_turns::turns_of;
 use search_texts::{
     EndCells, EndColumns, ExpectedLines, end_line, push_expected, push_unkept, push_unkept_objects,
 };
 use space_ends::{SpaceEnd, SpaceEndKind};
 use std::alloc::{AllocError, Global};
-use trace_text::write_schedule;
 
 /// The most turns of a schedule that are shown with a claim that it breaks.
 const MOST_TURNS: usize = 40;
@@ -191,14 +191,13 @@ fn broken_words(alloc: Global, end: &SpaceEnd) -> Result<String, AllocError> {
     if end.kind.is_end() || end.schedule.is_empty() {
         return Ok(words);
     }
-    let schedule = write_schedule(alloc, &end.schedule)?;
-    for (index, line) in schedule.trim().split('\n').enumerate() {
+    for (index, turn) in turns_of(alloc, &end.schedule)?.iter().enumerate() {
         if index == MOST_TURNS {
             words.push_str(", ..")?;
             break;
         }
         words.push_str(if index == 0 { "by " } else { ", " })?;
-        words.push_str(line)?;
+        write!(words, "{turn}")?;
     }
     Ok(words)
 }
