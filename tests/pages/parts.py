@@ -10,6 +10,7 @@ import of_pairs
 import of_pictures
 import of_play
 import of_play_access
+import of_sentences
 import of_sizes
 import of_states
 import of_ways
@@ -26,6 +27,7 @@ ALL = {
     "play": of_play.part,
     "play_access": of_play_access.part,
     "ways": of_ways.part,
+    "sentences": of_sentences.part,
     "hostile": of_hostile.part,
     "sizes": of_sizes.part,
     "widths": of_widths.part,
