@@ -95,9 +95,16 @@ function distances() {
 }
 const toGo = distances();
 
+let isEndless = null; // once it is known
+
 /** Whether a schedule may go on forever: steps lead through some state again and again, or one that is done leads to
   its own state. Tries that are blocked are not steps that go on. */
 function runsForever() {
+  isEndless ??= hasLoop();
+  return isEndless;
+}
+
+function hasLoop() {
   const entries = new Int32Array(N);
   for (const to of leads) for (let w = 0; w < N; w++) if (to[w] !== w) entries[to[w]]++;
   const order = []; // the states that no cycle leads to

@@ -98,8 +98,8 @@ function classOf(set) {
   const all = set.map((e) => kinds[e]);
   if (all.length && all.every((kind) => kind === "deadlock")) return "dead";
   if (!isJudged) return all.length === 1 ? "plain" : "open";
-  if (all.every((kind) => kind === "right")) return "right";
-  return all.includes("right") ? "open" : "wrong";
+  const rights = set.filter((e) => data.ends[e].right).length; // also those that a trap stops as expected
+  return rights === set.length ? "right" : rights ? "open" : "wrong";
 }
 const classes = data.sets.map(classOf);
 const stateClass = (w) => classes[aheadOf[w]];

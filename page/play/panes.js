@@ -146,5 +146,6 @@ function showState() {
   const rest = shownWords.length - rows.length;
   byId("words").replaceChildren(html("h2", {}, "Words"), html("table", { "aria-label": "Words" },
     html("tbody", {}, ...rows)),
-    ...(rest > 0 ? [html("p", { class: "muted" }, `${rest} more that no step touches.`)] : []));
+    ...(rest > 0 ? [html("p", { class: "muted" }, `${rest} more${wordKeys.length > rows.length ? ""
+      : ` that no step ${begunSteps ? "from here on " : ""}touches`}.`)] : []));
 }

@@ -109,8 +109,10 @@ const FOUND_SHOWN = 3;
 function shortestFindings(end, isOwn) {
   return end.findings.slice(0, FOUND_SHOWN).map((finding) => {
     const [kind, ...rest] = finding.replace(/\s{2,}.*$/, "").split(": ");
+    const counted = begunSteps ? ` These steps count from the program’s start, ${steps(begunSteps)} before yours.`
+      : "";
     return html("li", {}, isOwn ? "" : "By a shortest schedule to this end: ", html("b", { class: "lost" }, kind),
-      `: ${rest.join(": ")}.`);
+      `: ${rest.join(": ")}.${counted}`);
   });
 }
 

@@ -13,6 +13,7 @@ import of_play_access
 import of_sentences
 import of_sizes
 import of_states
+import of_verdicts
 import of_ways
 import of_widths
 import tally
@@ -28,6 +29,7 @@ ALL = {
     "play_access": of_play_access.part,
     "ways": of_ways.part,
     "sentences": of_sentences.part,
+    "verdicts": of_verdicts.part,
     "hostile": of_hostile.part,
     "sizes": of_sizes.part,
     "widths": of_widths.part,

@@ -5,7 +5,7 @@ pub(crate) const TEXT: &str = r#"<!doctype html>
 <head>
 <meta charset="utf-8">
 <meta http-equiv="Content-Security-Policy"
- content="default-src 'none'; script-src 'sha256-VtMBqzX6V7HZQdWjeC/C1gDWqKtqDUgb+zylJ4X5MAE='; style-src 'sha256-xMTH7bl3EpXFTuJ46ptqNpF5t2RZDIjyB/xprwDh1Dk=';
+ content="default-src 'none'; script-src 'sha256-tOVTmqR8xHsqwk3LQ2OWu7goDBrlUfrpxezn8oXdPWU='; style-src 'sha256-xMTH7bl3EpXFTuJ46ptqNpF5t2RZDIjyB/xprwDh1Dk=';
  base-uri 'none'; form-action 'none'">
 <meta name="viewport" content="width=device-width, initial-scale=1">
 <meta name="color-scheme" content="light dark">
