@@ -4,23 +4,34 @@ function lead() {
   const running = names.filter((_, k) => runs(0, k));
   if (view.goal !== null) {
     return [html("b", {}, `${upper(goalText(view.goal))}.`),
-      ` Fewest steps: ${data.ends[view.goal].shortest}. You choose who takes the next step: press a button below or `
-      + "its number."];
+      ` Fewest steps${begunSteps ? " after those that are given" : ""}: ${data.ends[view.goal].shortest}. `
+      + "You choose who takes the next step: press a button below or its number."];
   }
   const n = data.ends.length;
-  const goods = data.ends.filter((end) => end.right).length;
-  const always = n > 1 ? "" : { spinning: " No schedule ends: it runs forever.",
-    deadlock: " Every schedule ends in a deadlock." }[data.ends[0].kind]
-    ?? " Every schedule that ends comes to the same end.";
-  const verdict = !isJudged ? always
-    : goods === n ? " Every schedule ends right: you can’t break it." : goods === 0
-      ? ` No schedule ends right (expected: ${expectedText()}).` : "";
-  const others = names.length > running.length ? " and starts others" : "";
+  const others = names.some((_, k) => !content(0, k).status) ? " and starts others" : "";
   const who = running.length === 1 ? `The stream ${running[0]} runs${others}`
     : `The streams ${and(running)} run at once`;
-  return [`${who}, and nothing says whose instruction comes next: you do. Press a button below, or its number. `
-    + "This page knows "
-    + `every schedule there is: they lead to ${count(N, "state", "states")} and ${count(n, "end", "ends")}.${verdict}`];
+  const given = begunSteps ? `The first ${steps(begunSteps)} of each schedule here ${begunSteps === 1 ? "is" : "are"} `
+    + "given. " : "";
+  if (!running.length) return [`${given}No stream runs any more.`];
+  return [`${given}${who}, and nothing says whose instruction comes next: you do. Press a button below, or its number. `
+    + `This page knows every schedule${begins || " there is"}: they lead to `
+    + `${count(N, "state", "states")} and ${count(n, "end", "ends")}.${verdictText()}`];
+}
+
+/** What holds of all schedules of the page. */
+function verdictText() {
+  const [n, goods] = [data.ends.length, data.ends.filter((end) => end.right).length];
+  if (isJudged && goods === 0) return ` No schedule${begins} ends right (expected: ${expectedText()}).`;
+  if (isJudged && goods < n) return "";
+  const ending = `${begins}${begins ? " and" : " that"} ends`;
+  if (isJudged) return runsForever() ? ` Every schedule${ending}, ends right.`
+    : ` Every schedule${begins} ends right: you can’t break it.`;
+  if (n > 1) return "";
+  const { kind } = data.ends[0];
+  if (kind === "spinning") return ` No schedule${begins} ends: it runs forever.`;
+  if (kind === "deadlock") return ` Every schedule${runsForever() ? `${ending},` : begins} ends in a deadlock.`;
+  return ` Every schedule${ending} comes to the same end.`;
 }
 
 const linkText = () => {

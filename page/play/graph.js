@@ -28,6 +28,9 @@ function unpack([width, text]) {
 }
 
 const N = data.counted.states;
+/** How many steps of the program come before state 0, and how the sentences about all schedules say so. */
+const begunSteps = data.begin.split("\n").reduce((sum, line) => sum + Number(line.split(" ")[2] ?? 0), 0);
+const begins = begunSteps ? " that begins so" : "";
 const names = data.streams;
 const sharedOf = unpack(data.states.shared); // of each state, what is shared
 const held = data.states.streams.map(unpack); // of each stream, what it holds in each state
@@ -91,6 +94,30 @@ function distances() {
   });
 }
 const toGo = distances();
+
+let isEndless = null; // once it is known
+
+/** Whether a schedule may go on forever: steps lead through some state again and again, or one that is done leads to
+  its own state. Tries that are blocked are not steps that go on. */
+function runsForever() {
+  isEndless ??= hasLoop();
+  return isEndless;
+}
+
+function hasLoop() {
+  const entries = new Int32Array(N);
+  for (const to of leads) for (let w = 0; w < N; w++) if (to[w] !== w) entries[to[w]]++;
+  const order = []; // the states that no cycle leads to
+  for (let w = 0; w < N; w++) if (!entries[w]) order.push(w);
+  for (let i = 0; i < order.length; i++) {
+    for (const to of leads) {
+      const v = to[order[i]];
+      if (v !== order[i] && --entries[v] === 0) order.push(v);
+    }
+  }
+  const isLoop = (w) => names.some((_, k) => leads[k][w] === w && runs(w, k) && recordOf(w, k)[0] !== "blocked");
+  return order.length < N || order.some(isLoop);
+}
 
 /** The streams of a shortest way from a state to an end. */
 function shortestWay(w, e) {

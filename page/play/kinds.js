@@ -10,16 +10,18 @@ const kinds = data.ends.map(kindOf);
 const rightEnds = data.ends.flatMap((end, e) => (end.right ? [e] : []));
 const isBad = (e) => kinds[e] === "wrong" || kinds[e] === "broken";
 
-/** [address, value before, value, was full, is full] of each word of a state that differs from the start. */
-const changedWords = (w) => [...wordMap(w)].map(([a, [value, tags]]) =>
-  [a, startWord(a)[0], value, startWord(a)[1] & 1, tags & 1]);
+/** [address, value before, value] of each word of a state that differs from the start. */
+const changedWords = (w) => [...wordMap(w)].map(([a, [value]]) => [a, startWord(a)[0], value]);
+const allTags = (tags) => [fullText(tags), ...["forward", "trap0", "trap1"].filter((_, bit) => tags & (2 << bit))]
+  .join(" ");
 
-/** Writes to each end what its first state holds: the words that changed, who waits for which word,
-  who was stopped. */
+/** Writes to each end what its first state holds: the words that changed, who waits for which word, who was stopped;
+  and the tags by which alone it differs from others. */
 function describeEnds() {
   for (const end of data.ends) {
     const w = end.states[0];
     end.words = changedWords(w);
+    end.tags = [];
     const running = names.map((name, k) => [name, k]).filter(([, k]) => runs(w, k));
     end.waiting = end.kind === "deadlock" ? running.map(([name, k]) => [name, recordOf(w, k)[4]
       ?? recordOf(w, k)[3]]) : [];
@@ -29,6 +31,45 @@ function describeEnds() {
     });
   }
   data.ends.forEach((end, e) => (end.label = end.kind === "broken" ? end.text : labelOf(end, e)));
+  separateLabels();
+}
+
+/** Writes to an end the tags of those words whose tags differ among it and others. */
+function noteTags(end, alike) {
+  const tagsIn = (other, a) => wordAt(other.states[0], a)[1];
+  const all = [...new Set(alike.flatMap((other) => other.words.map((word) => word[0])))].sort((a, b) => a - b);
+  const telling = all.filter((a) => new Set(alike.map((other) => tagsIn(other, a))).size > 1);
+  end.tags = telling.map((a) => [a, allTags(tagsIn(end, a))]);
+}
+
+/** Gives each end a label of its own: ends with the same one get the tags that differ, and those that still have the
+  same one a number. */
+function separateLabels() {
+  for (const alike of labelled()) {
+    for (const end of alike.filter((one) => !one.tags.length && one.kind !== "broken")) {
+      noteTags(end, alike);
+      end.label = withTags(end.label, end.tags.slice(0, 3));
+    }
+  }
+  for (const alike of labelled()) alike.forEach((end, i) => (end.label += ` (${i + 1})`));
+}
+
+/** The ends of each label that several have. */
+function labelled() {
+  const all = new Map();
+  for (const end of data.ends) all.set(end.label, [...(all.get(end.label) ?? []), end]);
+  return [...all.values()].filter((alike) => alike.length > 1);
+}
+
+/** A label with the tags of some words, each after the word's value where the label has it. */
+function withTags(label, tags) {
+  const parts = label.split(", ");
+  for (const [a, text] of tags) {
+    const at = parts.findIndex((part) => part.includes(`[${a}]=`));
+    if (at < 0) parts.push(`[${a}] ${text}`);
+    else parts[at] += ` ${text}`;
+  }
+  return parts.join(", ");
 }
 
 /** A short name that tells an end from the others of its kind: by words that differ between them,
@@ -38,13 +79,15 @@ function labelOf(end, e) {
   const valueIn = (other, a) => other.words.find((word) => word[0] === a)?.[2] ?? startWord(a)[0];
   const all = [...new Set(alike.flatMap((other) => other.words.map((word) => word[0])))].sort((a, b) => a - b);
   const telling = all.filter((a) => new Set(alike.map((other) => valueIn(other, a))).size > 1).slice(0, 3);
-  const told = telling.map((a) => `[${a}]=${valueIn(end, a)}`).join(", ");
   const who = end.waiting.map(([name]) => name).join(", ");
   const isByWho = new Set(alike.map((other) => JSON.stringify(other.waiting))).size > 1;
+  if (!telling.length && !(isByWho && who)) noteTags(end, alike);
+  const differing = telling.map((a) => `[${a}]=${valueIn(end, a)}`).join(", ")
+    || end.tags.slice(0, 3).map(([a, tags]) => `[${a}] ${tags}`).join(", ");
   const first = end.words.slice(0, 2).map((word) => `[${word[0]}]=${word[2]}`).join(", ");
-  if (end.kind === "finished") return told || `finished ${first}`.trim();
+  if (end.kind === "finished") return differing || `finished ${first}`.trim();
   const waits = isByWho && who ? [`${who} ${end.waiting.length > 1 ? "wait" : "waits"}`] : [];
-  const texts = [...waits, ...(told ? [told] : [])].join(", ");
+  const texts = [...waits, ...(differing ? [differing] : [])].join(", ");
   const number = !texts && alike.length > 1 ? ` ${alike.indexOf(data.ends[e]) + 1}` : "";
   return texts ? `${end.kind}: ${texts}` : `${end.kind}${number}`;
 }
@@ -55,8 +98,8 @@ function classOf(set) {
   const all = set.map((e) => kinds[e]);
   if (all.length && all.every((kind) => kind === "deadlock")) return "dead";
   if (!isJudged) return all.length === 1 ? "plain" : "open";
-  if (all.every((kind) => kind === "right")) return "right";
-  return all.includes("right") ? "open" : "wrong";
+  const rights = set.filter((e) => data.ends[e].right).length; // also those that a trap stops as expected
+  return rights === set.length ? "right" : rights ? "open" : "wrong";
 }
 const classes = data.sets.map(classOf);
 const stateClass = (w) => classes[aheadOf[w]];

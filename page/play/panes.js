@@ -86,9 +86,9 @@ function streamItems(now, before) {
   const order = (name) => (name[0] === "r" && name !== "retries" ? 0 : 100) + (parseInt(name.slice(1), 10) || 0);
   all.sort((a, b) => order(a) - order(b));
   return all.flatMap((name) => {
-    const say = (value) => (/^t\d$/.test(name) ? (value === String(NO_HANDLER) ? "no handler" : targetText(value))
-      : name === "codes" ? codesText(value) : number(value));
-    const [old, young] = [before[name] ?? "0", now[name] ?? "0"];
+    const isTarget = /^t\d$/.test(name);
+    const say = (value) => (isTarget ? targetText(value) : name === "codes" ? codesText(value) : number(value));
+    const [old, young] = isTarget ? [before[name], now[name]] : [before[name] ?? "0", now[name] ?? "0"];
     if (String(old) === String(young)) return [html("div", { "data-place": name, "data-value": young },
       html("dt", {}, name), html("dd", {}, say(young)))];
     return [html("div", { "data-place": name, "data-value": young }, html("dt", {}, name),
@@ -146,5 +146,6 @@ function showState() {
   const rest = shownWords.length - rows.length;
   byId("words").replaceChildren(html("h2", {}, "Words"), html("table", { "aria-label": "Words" },
     html("tbody", {}, ...rows)),
-    ...(rest > 0 ? [html("p", { class: "muted" }, `${rest} more that no step touches.`)] : []));
+    ...(rest > 0 ? [html("p", { class: "muted" }, `${rest} more${wordKeys.length > rows.length ? ""
+      : ` that no step ${begunSteps ? "from here on " : ""}touches`}.`)] : []));
 }

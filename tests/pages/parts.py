@@ -10,8 +10,10 @@ import of_pairs
 import of_pictures
 import of_play
 import of_play_access
+import of_sentences
 import of_sizes
 import of_states
+import of_verdicts
 import of_ways
 import of_widths
 import tally
@@ -26,6 +28,8 @@ ALL = {
     "play": of_play.part,
     "play_access": of_play_access.part,
     "ways": of_ways.part,
+    "sentences": of_sentences.part,
+    "verdicts": of_verdicts.part,
     "hostile": of_hostile.part,
     "sizes": of_sizes.part,
     "widths": of_widths.part,

@@ -27,8 +27,9 @@ function badgesAfter(w, to) {
 function showChoice(node, w, k) {
   const { pc } = content(w, k);
   const isIdle = leadsNowhere(w, k);
-  const effect = isBlocked(w, k) ? waitParts(recordOf(w, k), view.at) : isIdle ? ["changes nothing, forever"]
-    : joined(effectParts(w, k));
+  const asks = recordOf(w, k).length > 1; // then it may change something once another stream has changed the word
+  const effect = isBlocked(w, k) ? waitParts(recordOf(w, k), view.at)
+    : isIdle ? [`changes nothing${asks ? " now" : ", forever"}`] : joined(effectParts(w, k));
   if (isBlocked(w, k)) effect.push(isIdle ? ". A step now changes nothing." : ". A step counts one more try.");
   const isBadged = isAheadShown() && !isIdle && endsAhead(w).length > 1;
   const badges = isBadged ? badgesAfter(w, leads[k][w]) : [];
@@ -48,14 +49,15 @@ function showChoice(node, w, k) {
     html("span", { class: "badges" }, ...badges));
 }
 
-/** A stream's state in words: running, waits, stopped, has quit or has not begun. */
+/** A stream's state in words: running, waits, stopped, has quit or has not begun; idle where it may have quit in the
+  steps that are given. */
 function stateOf(k) {
   const w = here();
   const { status } = content(w, k);
   if (status === "running") return isBlocked(w, k) ? "waits" : "running";
   if (status) return status.split(" ")[0];
   const hasBegun = Array.from({ length: view.at + 1 }, (_, n) => n).some((n) => content(stateAt(n), k).status);
-  return hasBegun ? "has quit" : "not begun";
+  return hasBegun ? "has quit" : begunSteps ? "idle" : "not begun";
 }
 
 function showChoices() {
@@ -79,10 +81,10 @@ function showChoices() {
     ? ["what can still come after it"] : []));
   const group = (state) => names.filter((_, k) => stateOf(k) === state);
   const texts = [["has quit", "have quit"], ["stopped", "were stopped"],
-    ["not begun", "have not begun"]].flatMap(([one, many]) => {
+    ["not begun", "have not begun"], ["idle", "do not run"]].flatMap(([one, many]) => {
     const who = group(one);
     if (!who.length) return [];
-    const single = { stopped: "was stopped", "not begun": "has not begun" }[one] ?? one;
+    const single = { stopped: "was stopped", "not begun": "has not begun", idle: "does not run" }[one] ?? one;
     return [`${and(who)} ${who.length > 1 ? many : single}`];
   });
   byId("others").textContent = texts.length ? `${texts.join("; ")}.` : "";

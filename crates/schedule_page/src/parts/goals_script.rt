@@ -21,8 +21,8 @@ function goalText(e) {
 /** What the reader did who has reached a goal. */
 function wonText(e) {
   if (kinds[e] === "broken") return "the claim does not hold";
-  if (kinds[e] === "wrong") return data.ends[e].findings.some((text) => text.startsWith("lost update"))
-    ? "you lost an update" : "you made it go wrong";
+  if (kinds[e] === "wrong") return foundTo(view.at).some((finding) => finding.kind === "lost") ? "you lost an update"
+    : "you made it go wrong";
   if (kinds[e] === "deadlock") return "no stream can go on";
   return { right: "it ends right", stopped: "a trap stops it", spinning: "it never ends" }[kinds[e]] ?? label(e);
 }

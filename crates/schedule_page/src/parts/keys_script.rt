@@ -76,8 +76,9 @@ function listen() {
 }
 
 byId("program").textContent = cut(data.name, 80);
-byId("counted").textContent =
-  `with all its ${count(N, "state", "states")} and ${count(data.counted.steps, "step", "steps")} between them`;
+byId("counted").textContent = `with all ${begunSteps ? "" : "its "}${count(N, "state", "states")} `
+  + `${begunSteps ? `that it reaches after ${steps(begunSteps)} that are given, ` : ""}`
+  + `and ${count(data.counted.steps, "step", "steps")} between them`;
 makeChoices();
 makeSource();
 listen();

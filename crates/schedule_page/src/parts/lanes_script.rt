@@ -110,7 +110,7 @@ function wordLane(a, y, x, cell) {
   }
   drawnSteps().forEach(([k, i]) => {
     const record = recordOf(stateAt(i), k);
-    if (record.length < 2 || record[4] !== a) return;
+    if (record[0] !== "done" || record[4] !== a) return; // else it read and wrote nothing
     const [middle, low] = [x(i + 1), y + 32];
     const isRead = record[1] === "LOAD" || record[1] === "TAGGET";
     const mark = isRead ? svg("circle", { class: "meet reads", cx: middle - 8, cy: low, r: 3.5 })

@@ -162,8 +162,9 @@ function drawBands() {
 function showMap() {
   const isDrawn = N <= DRAWN;
   byId("map-title").textContent = isDrawn
-    ? `All ${count(N, "state", "states")} that any schedule reaches`
-    : `All ${count(N, "state", "states")}: how many there are after so many steps`;
+    ? `All ${count(N, "state", "states")} that any schedule${begins} reaches`
+    : `All ${count(N, "state", "states")}${begunSteps ? " after the steps that are given" : ""}: how many there are `
+      + "after so many steps";
   if (isDrawn) drawGraph();
   else drawBands();
   showLegend();

@@ -46,8 +46,8 @@ const stepButton = (n) => {
 
 function resultTitle(e) {
   const end = data.ends[e];
-  const values = end.words.filter(([, was, is]) => was !== is).slice(0, 4);
-  const text = values.length ? `: ${and(values.map(([a, , is]) => `${fullName(a)} is ${number(is)}`))}` : "";
+  const values = endWords(end, fullName);
+  const text = values.length ? `: ${and(values)}` : "";
   if (end.kind === "deadlock") {
     const who = end.waiting.map(([name]) => name);
     return `Deadlock: ${and(who)} wait${who.length > 1 ? "" : "s"} forever`;
@@ -75,7 +75,7 @@ function goalLine(e) {
   if (e !== view.goal) return [html("li", { class: "won" }, `Your goal is another: ${goalText(view.goal)}.`)];
   if (view.shown) return [html("li", {}, "This was shown to you. Now find a way yourself: start again.")];
   const helped = view.hints ? `, with ${count(view.hints, "hint", "hints")}` : "";
-  const how = view.at === fewest ? "the fewest that any schedule needs" : `the fewest are ${fewest}`;
+  const how = view.at === fewest ? `the fewest that any schedule${begins} needs` : `the fewest are ${fewest}`;
   const best = won.get(e);
   if (!view.hints && (best === undefined || view.at < best)) won.set(e, view.at);
   return [html("li", { class: "won" }, `${steps(view.at)}, ${how}${helped}.`)];
@@ -112,8 +112,10 @@ const FOUND_SHOWN = 3;
 function shortestFindings(end, isOwn) {
   return end.findings.slice(0, FOUND_SHOWN).map((finding) => {
     const [kind, ...rest] = finding.replace(/\s{2,}.*$/, "").split(": ");
+    const counted = begunSteps ? ` These steps count from the program’s start, ${steps(begunSteps)} before yours.`
+      : "";
     return html("li", {}, isOwn ? "" : "By a shortest schedule to this end: ", html("b", { class: "lost" }, kind),
-      `: ${rest.join(": ")}.`);
+      `: ${rest.join(": ")}.${counted}`);
   });
 }
 

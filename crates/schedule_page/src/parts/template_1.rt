@@ -5,7 +5,7 @@ pub(crate) const TEXT: &str = r#"<!doctype html>
 <head>
 <meta charset="utf-8">
 <meta http-equiv="Content-Security-Policy"
- content="default-src 'none'; script-src 'sha256-gp7e4v32DKdj4iuGaKEhGVo7D9PLrjn5WAnhwQrhn/g='; style-src 'sha256-xMTH7bl3EpXFTuJ46ptqNpF5t2RZDIjyB/xprwDh1Dk=';
+ content="default-src 'none'; script-src 'sha256-BzKqPZ88PtaZ2pbYQswvAbaGybPsuAFypA68dGRg5W8='; style-src 'sha256-xMTH7bl3EpXFTuJ46ptqNpF5t2RZDIjyB/xprwDh1Dk=';
  base-uri 'none'; form-action 'none'">
 <meta name="viewport" content="width=device-width, initial-scale=1">
 <meta name="color-scheme" content="light dark">

@@ -73,8 +73,8 @@ pub(crate) const TEXT: &str = r##"</style>
     <tr><td><kbd>x</kbd></td><td>hexadecimal or decimal numbers</td></tr>
     <tr><td><kbd>?</kbd></td><td>these keys</td></tr>
   </tbody></table>
-  <p>A click on a step of your way goes back to it; one on a state of the map goes there. Every schedule there is leads
-    only to places of the map, and what is crossed out can&rsquo;t be reached by any schedule from there on.</p>
+  <p>A click on a step of your way goes back to it; one on a state of the map goes there. Every schedule of the page
+    leads only to places of the map, and what is crossed out can&rsquo;t be reached by any schedule from there on.</p>
   <form method="dialog"><button>Close</button></form>
 </dialog>
 <dialog id="texts" aria-labelledby="texts-title">

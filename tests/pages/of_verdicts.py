@@ -1,0 +1,140 @@
+"""What the page of `mta_lab play` says of all schedules, of right and wrong, of the steps that `--from` gives, and of
+ends that differ in tags alone."""
+
+import pathlib
+import re
+
+import runs
+import tally
+
+
+def two(first, second, head=".data 0"):
+    """A program of two streams with these words."""
+    words = [f"{name}: {body[0]}" if not at else line for name, body in (("one", first), ("two", second))
+             for at, line in enumerate(body)]
+    return "\n".join([".entry one", ".entry two", *head.splitlines(), *words, ""])
+
+
+STORES = ("LIT r1, 1", "STORE.N r1, r0, 0", "QUIT")
+ADDS = ("LOAD.N r1, r0, 0", "ADD r1, r1, 1", "STORE.N r1, r0, 0", "QUIT")
+# a stream that reads a word until another one has stored there: by two words, or by one that leads to itself
+POLLS = ("LOAD.N r1, r0, 0", "ADD.T r2, r1, 0", "SKIP EQ, 0, -3", "QUIT")
+POLLS_BY_ONE = ("LOAD.N r1, r0, 0 | LTU.T r2, r1, 1 | SKIP NE, 0, -1", "QUIT")
+TAKES = ("LOAD.S r1, r0, 0", "QUIT")
+KNOWN = "This page knows every schedule"
+# what is expected, the schedule that all begin with, and what the page says of all schedules
+LEADS = {
+    "stores": (two(STORES, STORES), "word 0 1", "", "there is", "Every schedule ends right: you can\u2019t break it."),
+    "polls": (two(POLLS, STORES), "word 0 1", "", "there is", "Every schedule that ends, ends right."),
+    "polls_by_one": (two(POLLS_BY_ONE, STORES), "word 0 1", "", "there is", "Every schedule that ends, ends right."),
+    # a try that is blocked is no step that goes on
+    "takes": (two(TAKES, STORES, ".retry 3\n.data 0, 0"), "finished", "", "there is", ""),
+    "waits": (two(TAKES, STORES, ".data 0, 0"), "finished", "", "there is",
+              "Every schedule ends right: you can\u2019t break it."),
+    "wrong": (two(ADDS, ADDS), "word 0 3", "", "there is", "No schedule ends right (expected: \u201cword 0 3\u201d)."),
+    "begun_wrong": (two(ADDS, ADDS), "word 0 2", "0 0 1\n1 0 1\n", "that begins so",
+                    "No schedule that begins so ends right (expected: \u201cword 0 2\u201d)."),
+    "begun_right": (two(ADDS, ADDS), "word 0 2", "0 0 4\n", "that begins so",
+                    "Every schedule that begins so ends right: you can\u2019t break it."),
+    "begun_polls": (two(POLLS, STORES), "word 0 1", "0 0 1\n", "that begins so",
+                    "Every schedule that begins so and ends, ends right."),
+    "begun_plain": (two(STORES, STORES), "", "0 0 1\n", "that begins so",
+                    "Every schedule that begins so and ends comes to the same end."),
+    "deadlock": (two(TAKES, TAKES, ".data 0, 0"), "", "", "there is", "Every schedule ends in a deadlock."),
+    "polls_to_deadlock": (two((*POLLS[:3], "LOAD.S r1, r0, 1", "QUIT"), STORES, ".data 0\n.data 0, 0"), "", "",
+                          "there is", "Every schedule that ends, ends in a deadlock."),
+}
+
+
+def opened(page, name, text, expected="", begin=""):
+    """Opens the page of a program, of which this is expected, and of which the steps of a schedule are given."""
+    folder = pathlib.Path(page.folder)
+    source, expectation, schedule = (folder / f"{name}.{kind}" for kind in ("asm", "expect", "schedule"))
+    source.write_text(text)
+    expectation.write_text(f"{expected}\n")
+    schedule.write_text(begin)
+    words = [*(("--expect", str(expectation)) if expected else ()), *(("--from", str(schedule)) if begin else ())]
+    page.open(name, runs.played(page.folder, source, *words))
+
+
+# all texts of the page but its script
+TEXTS = """return [...document.body.children].filter((one) => one.tagName !== "SCRIPT").map((one) => one.textContent)
+  .join(" ")"""
+
+
+def leads(page):
+    """What the page says of all schedules, at its start and in its other texts."""
+    for name, (text, expected, begin, known, wanted) in LEADS.items():
+        opened(page, name, text, expected, begin)
+        lead = page.text("#lead")
+        tally.check(f"{name}: it says which schedules it knows", f"{KNOWN} {known}: they lead to" in lead, lead)
+        tally.check(f"{name}: what holds of all schedules", lead.endswith(f". {wanted}" if wanted else "s."), lead)
+        said = re.findall(r"(?:any|[Ee]very|[Nn]o) schedule (?!that begins so)\S+(?: \S+){3}", page.script(TEXTS))
+        tally.check(f"{name}: no other text says more", not begin or not said, said)
+        page.quiet(f"{name}: all schedules")
+
+
+# a stream starts another one, which takes the word and quits, and starts it again, when it waits for the word
+STARTS = """.slim 2
+.entry one
+.data 0
+one: TLIT t1, take
+RESERVE r2, r0
+LIT r3, 1
+RESERVE r2, r3
+CREATE t1, r0
+CREATE t1, r0
+QUIT
+take: LOAD.S r1, r0, 0
+QUITP
+"""
+
+
+def given(page):
+    """What the page says of what was done in the steps that are given: nothing that it can't know."""
+    opened(page, "given", STARTS, begin="0 0 5\n0 1 2\n")
+    tally.same("given: the stream that has quit in them", page.text("#others"), "0.1 does not run.")
+    page.press("1")
+    tally.same("given: the word that was emptied in them", page.text(".choice[data-stream='1'] .effect"),
+               "waits for [0] to be full, and it is empty where your way begins. A step now changes nothing.")
+
+
+def judged(page):
+    """What the page says of right and wrong: of a trap that is expected, and of a goal that is reached."""
+    opened(page, "expected_trap", two(ADDS, ("LOAD.N r1, r0, 9", "QUIT")), "stopped 1.0 6")
+    legend = page.text("#legend")
+    tally.check("expected_trap: all its states are right", "right" in legend and "wrong" not in legend, legend)
+    opened(page, "reached", two(ADDS, STORES), "word 0 2")
+    for streams, wanted in (((0, 1, 1, 0, 0), "you lost an update"), ((0, 0, 0, 1, 1), "you made it go wrong")):
+        page.script("setGoal(kinds.indexOf('wrong')); extend(0, arguments[0]); goTo(way.length)", [*streams, 0, 1])
+        tally.same(f"reached by {streams}", page.text("#result h2"), f"Goal reached: {wanted}")
+    opened(page, "given_finding", two(ADDS, ADDS), "word 0 2", "0 0 1\n")
+    page.script("setGoal(null); extend(0, shortestWay(0, kinds.indexOf('wrong'))); goTo(way.length)")
+    result = page.text("#result")
+    tally.check("given_finding: how its steps are counted",
+                "count from the program\u2019s start, 1 step before yours" in result, result)
+
+
+# two ends of the same values, of which one leaves the word full and the other one empty
+TAGGED = two(("STORE.N r0, r0, 0", "QUIT"), ("TAGSET r0, r0, 0", "QUIT"))
+
+
+def tagged(page):
+    """Ends that differ in tags alone."""
+    opened(page, "tagged", TAGGED)
+    tally.same("tagged: the ends' names", sorted(page.script("return data.ends.map((_, e) => label(e))")),
+               ["[0] empty", "[0] full"])
+    for end in (0, 1):
+        page.script("setGoal(null); extend(0, shortestWay(0, arguments[0])); goTo(way.length)", end)
+        wanted = page.script("return wordAt(here(), 0)[1] & 1 ? 'full' : 'empty'")
+        tally.check("tagged: the result says the tags", f"[0] is {wanted}" in page.text("#result h2"),
+                    page.text("#result h2"))
+
+
+def part(page):
+    if not runs.has_pages():
+        return
+    leads(page)
+    given(page)
+    judged(page)
+    tagged(page)
