@@ -1,3 +1,4 @@
 mod Worst
 mod Judged
 mod Right
+mod Shown

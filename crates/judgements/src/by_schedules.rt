@@ -49,10 +49,9 @@ pub(crate) fn judged_by_schedules<X: Threads + Sync, C: Clock, E: Write>(
         → IsRightBySchedules judged.entry.image.now judged.entry.required.now) }
     ensures shown { IfOk result (λ j. IsShownBy judged.entry.image.now judged.entry.required.now (seeds_of asked) j) }
 {
-    let begin = Vec::new(alloc);
     let search = ProgramSearch {
         required: judged.required,
-        begin: &begin,
+        begin: &[],
         bounds,
         is_plain: false,
     };
@@ -108,8 +107,8 @@ fn known_of(found: &Explored<'_>) -> Known {
     }
 }
 
-/// What is known of a program of which a search did not decide: what random schedules say. Where `is_shown`, the search has
-/// shown each claim that has to hold of one world at least, and the one that no run shows is not named.
+/// What is known of a program of which a search did not decide: what random schedules say, and all that was looked at. Where
+/// `is_shown`, the search has shown each claim that has to hold of one world at least.
 fn undecided<X: Threads + Sync>(
     rt: &X,
     alloc: Global,
@@ -121,17 +120,29 @@ fn undecided<X: Threads + Sync>(
     ensures right { IfOk result (λ j. ¬ (j.kind ≡ VerdictKind.Right)) }
     ensures shown { IfOk result (λ j. IsShownBy judged.entry.image.now judged.entry.required.now (seeds_of asked) j) }
 {
-    let mut judgement = judged_by_seeds(rt, alloc, asked, judged.image, judged.required)?;
-    if judgement.kind == VerdictKind::Right {
-        judgement.kind = VerdictKind::NotDecided;
-    }
-    if is_shown && judgement.kind == VerdictKind::NotDecided {
-        judgement.reason = Reason::Looked;
-    }
+    let sampled = judged_by_seeds(rt, alloc, asked, judged.image, judged.required)?;
+    let mut judgement = not_decided(sampled, is_shown);
     judgement.known = Known {
         seeds: judgement.known.seeds,
         ..searched.known
     };
     judgement.status = judgement.status.worse(searched.status);
     Ok(judgement)
+}
+
+/// The judgement by seeds of a program of which a search did not decide: it is not decided in place of right. Where
+/// `is_shown`, the search has shown each claim that has to hold of one world at least.
+fn not_decided(sampled: CaseJudgement, is_shown: bool) -> CaseJudgement
+    ensures right { ¬ (result.kind ≡ VerdictKind.Right) }
+    ensures shown { (image : ImageValue) (required : Requirements) (seeds : Seeds)
+        → IsShownBy image required seeds sampled → IsShownBy image required seeds result }
+{
+    let mut judgement = sampled;
+    if judgement.kind == VerdictKind::Right {
+        judgement.kind = VerdictKind::NotDecided;
+    }
+    if is_shown && judgement.kind == VerdictKind::NotDecided {
+        judgement.reason = Reason::Looked;
+    }
+    judgement
 }
