@@ -23,11 +23,10 @@ pub fn word_span(line: &[u8], number: usize) -> WordSpan
     ensures stands { result ≡ span_numbered (placed_words line.now) number }
     ensures word { take result.width (drop (result.column - 1) line.now) ≡ slice_index_or (words_on line.now) number [] }
 {
-    let statement = statement_of(line);
     let mut left = number;
     let mut before = 0;
     let mut end = 0;
-    let mut rest = Some(statement);
+    let mut rest = Some(statement_of(line));
     while let Some(text) = rest {
         let (piece, following) = cut_at_blank(text);
         let width = piece.len();

@@ -1,5 +1,5 @@
 use Rattle.std.proofs.Common.{◌≡◌, ℕ, ◌+◌, ◌-◌, ◌≤◌, true, false, eqb, List, [], ◌∷◌, length, take, drop, filter, min, Some, sym, ap, ◌∙◌}
-use Rattle.std.proofs.Common.{arith, length-take}
+use Rattle.std.proofs.Common.{arith, length-take, lt-ltb, le-ltb}
 use Rattle.std.proofs.lemmas.List.{drop-drop}
 use Rattle.std.specs.List.{slice_split, slice_index_or}
 use Rattle.std.specs.Option.{option_copied}
@@ -19,8 +19,8 @@ loop-rest-init c =
     record {
       stands = ap (λ s. span_after 0 (words_among (placed_from 0 (slice_split is_blank s))) c.args.number) e;
       word = ap (λ s. slice_index_or (filter is_word (slice_split is_blank s)) c.args.number []) e;
-      rest = λ r same. cc;
-      within = omega arith;
+      rest = λ r same. let is : c.statement_of.result.now ≡ r = cc in sym e ∙ is;
+      within = let long = ap length e in omega (arith, long);
       end = omega arith;
     }
 
@@ -30,7 +30,6 @@ returns-then-left-eq0-clause-word c =
     let k = c.loop-rest.left in
     let p = c.cut_at_blank.result.0.now in
     let t = c.in-Some.text.now in
-    let s = c.statement_of.result.now in
     let line = c.args.line.now in
     let ps = rest_between_blanks (option_copied c.cut_at_blank.result.1) in
     let all = filter is_word (slice_split is_blank t) in
@@ -39,14 +38,12 @@ returns-then-left-eq0-clause-word c =
     let left : rest_length (option_copied c.loop-rest.rest) ≡ length t + 1 = ap rest_length known in
     let short : length p ≡ min (length p) (length t) =
     sym (ap length c.cut_at_blank.ensures.piece) ∙ length-take (length p) t in
-    let same : length s ≡ length (statement line) = ap length c.statement_of.ensures in
     let bound = c.loop-rest.invariant.within in
-    let within : b + length p ≤ length (statement line) = omega (arith, bound, left, short, same) in
+    let within : b + length p ≤ length (statement line) = omega (arith, bound, left, short) in
     let first : all ≡ p ∷ filter is_word ps =
-    ap (filter is_word) c.cut_at_blank.ensures.pieces ∙ word_counts k p ps c.if-width-gt0.true in
+    ap (filter is_word) c.cut_at_blank.ensures.pieces ∙ word_counts k p ps (lt-ltb 0 (length p) c.if-width-gt0.true) in
     ap (λ n. take (length p) (drop n line)) column
     ∙ sym (in_statement (length p) b line within)
-    ∙ ap (λ x. take (length p) (drop b x)) (sym c.statement_of.ensures)
     ∙ ap (take (length p)) (c.loop-rest.invariant.rest t known)
     ∙ c.cut_at_blank.ensures.piece
     ∙ sym (at_first all (filter is_word ps) p k first c.if-left-eq0.true)
@@ -60,7 +57,7 @@ loop-rest-preserved c =
     let k = c.loop-rest.left in
     let p = c.cut_at_blank.result.0.now in
     let t = c.in-Some.text.now in
-    let s = c.statement_of.result.now in
+    let s = statement c.args.line.now in
     let ps = rest_between_blanks (option_copied c.cut_at_blank.result.1) in
     let all = filter is_word (slice_split is_blank t) in
     let pieces = c.cut_at_blank.ensures.pieces in
@@ -87,12 +84,12 @@ loop-rest-preserved c =
             ap (λ n. span_after n (words_among (placed_from (b + (length p + 1)) ps)) c.if-width-gt0.left) w.end-is
             ∙ ap (λ n. span_after (b + length p) (words_among (placed_from (b + (length p + 1)) ps)) n) w.left-is
             ∙ ap (λ n. span_after (b + length p) (words_among (placed_from n ps)) (k - 1)) further
-            ∙ word_before e b k p ps w.if-width-gt0.true w.if-left-eq0.false
+            ∙ word_before e b k p ps (lt-ltb 0 (length p) w.if-width-gt0.true) w.if-left-eq0.false
             ∙ was;
         word =
             ap (λ n. slice_index_or (filter is_word ps) n []) w.left-is
             ∙ after_first all (filter is_word ps) p k
-            (ap (filter is_word) pieces ∙ word_counts k p ps w.if-width-gt0.true) w.if-left-eq0.false
+            (ap (filter is_word) pieces ∙ word_counts k p ps (lt-ltb 0 (length p) w.if-width-gt0.true)) w.if-left-eq0.false
             ∙ counted;
         rest = drops;
         within = omega (arith, bound, left, counts);
@@ -103,11 +100,11 @@ loop-rest-preserved c =
             ap (λ n. span_after n (words_among (placed_from (b + (length p + 1)) ps)) c.if-width-gt0.left) w.end-is
             ∙ ap (λ n. span_after e (words_among (placed_from (b + (length p + 1)) ps)) n) w.left-is
             ∙ ap (λ n. span_after e (words_among (placed_from n ps)) k) further
-            ∙ no_word_here e b k p ps w.if-width-gt0.false
+            ∙ no_word_here e b k p ps (le-ltb 0 (length p) (omega (arith, w.if-width-gt0.false)))
             ∙ was;
         word =
             ap (λ n. slice_index_or (filter is_word ps) n []) w.left-is
-            ∙ no_word_counts k p ps w.if-width-gt0.false
+            ∙ no_word_counts k p ps (le-ltb 0 (length p) (omega (arith, w.if-width-gt0.false)))
             ∙ ap (λ xs. slice_index_or (filter is_word xs) k []) (sym pieces)
             ∙ counted;
         rest = drops;
