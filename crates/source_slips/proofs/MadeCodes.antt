@@ -1,7 +1,7 @@
 -- Codes that were not made, by a table of how many were.
-use Rattle.std.proofs.Common.{◌≡◌, ℕ, zero, suc, ◌<◌, ◌≤◌, ◌==◌, inl, inr, Bool, true, false, refl, ap, arith}
-use Rattle.std.proofs.Common.{if◌then◌else◌, Option, Some, None}
-use Rattle.std.specs.Prelude.{⊤}
+use Rattle.std.proofs.Common.{◌≡◌, ℕ, zero, suc, ◌<◌, ◌≤◌, ◌==◌, inl, inr, Bool, true, false, refl, sym, ap, arith}
+use Rattle.std.proofs.Common.{if◌then◌else◌, Option, Some, None, List, [], ◌∷◌, length}
+use Rattle.std.specs.Prelude.{⊤, slice_get}
 use Rattle.insn_word.specs.declared.insn.Insn.{Insn}
 use Rattle.image_file.specs.ImageValue.{ImageValue}
 use Rattle.stream_core.specs.declared.conditions.Code.{Code}
@@ -17,6 +17,11 @@ use Rattle.source_slips.proofs.MadeStreams.{codes_after}
 
 pub nothing : {X : Type 0} {x : X} → None ≡ Some x → ⊥
 nothing e = cc
+
+pub missing_past : {X : Type 0} (xs : List X) (k : ℕ) → slice_get xs k ≡ None → length xs ≤ k
+missing_past [] k e = omega arith
+missing_past (x ∷ xs) zero e = absurd (nothing (sym e))
+missing_past (x ∷ xs) (suc k) e = omega (arith, missing_past xs k e)
 
 -- from the code of number n on, the newest by 0, none was made
 abbrev pub NoneFrom : ℕ → Codes → Type 0

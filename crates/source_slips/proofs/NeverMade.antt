@@ -47,7 +47,8 @@ use Rattle.source_slips.specs.Places.{insn_of, insn_at}
 use Rattle.source_slips.specs.Codes.{IsNeverMade, AsksNoCode}
 use Rattle.source_slips.specs.Made.{AllowsBy, IsAimed, count_after, ControlLeads, WideAims, Leads, IsClosedTable}
 use Rattle.source_slips.specs.Made.{most_of, most_at, LeadsIf, LeadsWhere, AsksIf}
-use Rattle.source_slips.proofs.MadeCodes.{nothing, NoneFrom, none_at_start, none_after, StandsBy, GoesWith, allowed, allowed_any, most_is, no_insn, fetched_insn}
+use Rattle.source_slips.specs.MostCodes.{IsLeast, MostMade}
+use Rattle.source_slips.proofs.MadeCodes.{nothing, missing_past, NoneFrom, none_at_start, none_after, StandsBy, GoesWith, allowed, allowed_any, most_is, no_insn, fetched_insn}
 use Rattle.source_slips.proofs.MadeStreams.{codes_after, IsSteady, KeepsTo, IsLed, IsAiming, IsLedBy, started, trapped, lost_trapped, asked}
 
 inside : {u v : ProcessorValue} → Some u ≡ Some v → u ≡ v
@@ -59,11 +60,6 @@ there_same xs p x y got =
     let within = slice_get_within xs p x got in
     slice_get-get_or (set xs p y) p y (subst (λ n. p < n) (sym (length-set xs p y)) within)
     ∙ ap Some (get_or-set_same xs p y y within)
-
-missing_past : {X : Type 0} (xs : List X) (k : ℕ) → slice_get xs k ≡ None → length xs ≤ k
-missing_past [] k e = omega arith
-missing_past (x ∷ xs) zero e = absurd (nothing (sym e))
-missing_past (x ∷ xs) (suc k) e = omega (arith, missing_past xs k e)
 
 idle_streams : (n k : ℕ) → stream_at (replicate n idle) k ≡ idle
 idle_streams zero k = refl
@@ -379,3 +375,14 @@ module _ (image : ImageValue) (table : List (Option ℕ)) (anywhere : Option ℕ
       conditional = asks.1.0;
       never = never_from k n c.code at asks.1.1.1 asks.1.1.0;
     }
+
+  -- the same of all later codes, where no closed table says less
+  pub most_made : (k n : ℕ) → most_at table k ≡ Some n → IsLeast image table anywhere → MostMade image k n
+  most_made k n at least = record {
+    table = table;
+    anywhere = anywhere;
+    closed = closed;
+    least = least;
+    says = at;
+    none_later = λ c from below. never_from k n c at below from;
+  }

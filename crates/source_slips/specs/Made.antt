@@ -84,11 +84,11 @@ pub record ControlLeads (table : List (Option ℕ)) (anywhere : Option ℕ) (k n
   pub returns : Returns o → IsAimed table anywhere (next_pc k)
   pub handler : SetsHandler o c → ⊥
 
--- what a wide operation sets a target register to
+-- what a wide operation sets a target register to: also where no stream goes to one yet, with no code
 abbrev pub WideAims : List (Option ℕ) → Option ℕ → WideOp → ℕ → ℕ → Type 0
 WideAims table anywhere wide.Literal reg imm = ⊤
 WideAims table anywhere wide.LiteralHigh reg imm = ⊤
-WideAims table anywhere wide.TargetLiteral reg imm = IsAimed table anywhere imm × (reg ≡ 0 → ⊥)
+WideAims table anywhere wide.TargetLiteral reg imm = IsAimed table anywhere imm × (reg ≡ 0 → ⊥) × Allows table imm 0
 
 -- With n codes before it, an instruction at place k leads to what the table has.
 abbrev pub Leads : List (Option ℕ) → Option ℕ → ℕ → ℕ → Insn → Type 0

@@ -135,7 +135,9 @@ fn wide_aims(table: &[Option<u8>], anywhere: Option<u8>, op: WideOp, reg: u8, im
 {
     match op {
         WideOp::Literal | WideOp::LiteralHigh => true,
-        WideOp::TargetLiteral => reg != 0 && is_aimed(table, anywhere, imm),
+        WideOp::TargetLiteral => {
+            reg != 0 && is_aimed(table, anywhere, imm) && allows(table, imm, 0)
+        }
     }
 }
 

@@ -17,6 +17,7 @@ mod slips;
 mod spots;
 mod straight_ways;
 mod unmade;
+mod word_ways;
 
 pub use slips::source_slips;
 pub use spots::Slip;

@@ -166,7 +166,7 @@ fn past_skip(insn: &Insn, place: u32, count: usize) -> Option<u32>
 }
 
 /// The next place, if an instruction may go on there.
-fn next_place(insn: &Insn, place: u32) -> Option<u32>
+pub(crate) fn next_place(insn: &Insn, place: u32) -> Option<u32>
     ensures { IfSome result (GoesStraight insn.now place) }
 {
     match insn {

@@ -5,6 +5,7 @@ ghost use Rattle.insn_word.specs.declared.operations.Condition.TheVariants as co
 ghost use Rattle.source_slips.specs.Places.{insn_at};
 ghost use Rattle.source_slips.specs.Codes.{HasCondition, AsksNoCode};
 ghost use Rattle.source_slips.specs.Made.{AsksFrom, AsksIf};
+ghost use Rattle.source_slips.specs.MostCodes.{IsLeast, MostMade};
 
 use crate::closed_codes::{is_closed, most_at};
 use crate::made_codes::codes_made;
@@ -27,26 +28,30 @@ pub struct UnmadeCode {
 /// that a schedule leads to it has no bit. Not all such words are found: none where a trap handler, XCHG or TSET may go on
 /// anywhere with any codes. Only memory can be missing.
 pub fn unmade_codes(alloc: Global, image: &Image) -> Result<Vec<UnmadeCode>, AllocError>
-    ensures { IfOk result (λ found. All (λ u. AsksNoCode image.now u.place) found.items) }
+    ensures codes { IfOk result (λ found. All (λ u. AsksNoCode image.now u.place) found.items) }
+    ensures most { IfOk result (λ found. All (λ u. MostMade image.now u.place u.most) found.items) }
 {
     let program = ProgramWords::of(alloc, image)?;
     if program.goes_anywhere {
         return Ok(Vec::new(alloc));
     }
-    let Some(made) = codes_made(alloc, &program)? else {
+    let Some(made) = codes_made(alloc, image)? else {
         return Ok(Vec::new(alloc));
     };
     unmade_by(alloc, image, &made.most, made.anywhere)
 }
 
-/// The words that ask a code which is not made there by a table of how many are; none where the table lacks something.
+/// The words that ask a code which is not made there by a table of how many are at most; none where the table lacks
+/// something.
 fn unmade_by(
     alloc: Global,
     image: &Image,
     table: &[Option<u8>],
     anywhere: Option<u8>,
 ) -> Result<Vec<UnmadeCode>, AllocError>
-    ensures { IfOk result (λ found. All (λ u. AsksNoCode image.now u.place) found.items) }
+    requires { IsLeast image.now table.now anywhere }
+    ensures codes { IfOk result (λ found. All (λ u. AsksNoCode image.now u.place) found.items) }
+    ensures most { IfOk result (λ found. All (λ u. MostMade image.now u.place u.most) found.items) }
 {
     let mut found = Vec::new(alloc);
     if !is_closed(image, table, anywhere) {
