@@ -23,7 +23,7 @@ ROOTS = (
     "whole_runs first_difference",
     # seeds, and verdicts
     "schedule_survey survey", "seed_verdicts first_flaw", "seed_verdicts first_unshown_by_seeds", "schedule_verdicts is_right",
-    "lab_explorer explore_program", "lab_grades sampled_verdict", "lab_grades explored_verdict")
+    "program_searches explore_program", "lab_grades sampled_verdict", "lab_grades explored_verdict")
 HEADLINE = ("mta_engines one_machine", "memory_lock threaded")
 
 INTRODUCTION = """\

@@ -1,5 +1,8 @@
 //! What ends a search before its end.
 
+ghost use Rattle.std.specs.Prelude.{◌≡◌};
+ghost use Rattle.program_searches.specs.Bounds.{bound_words, bound_json_name};
+
 /// What ended a search before its end.
 #[derive(Clone, Copy, Debug, PartialEq, Eq)]
 pub enum SearchBound {
@@ -15,7 +18,9 @@ pub enum SearchBound {
 
 impl SearchBound {
     /// It in words, which follow what was not reached.
-    pub fn words(self) -> &'static str {
+    pub fn words(self) -> &'static str
+        ensures { result.now ≡ bound_words self }
+    {
         match self {
             SearchBound::States => "ended by --states",
             SearchBound::Seconds => "ended by --seconds",
@@ -25,7 +30,9 @@ impl SearchBound {
     }
 
     /// Its name in objects.
-    pub fn json_name(self) -> &'static str {
+    pub fn json_name(self) -> &'static str
+        ensures { result.now ≡ bound_json_name self }
+    {
         match self {
             SearchBound::States => "states",
             SearchBound::Seconds => "seconds",

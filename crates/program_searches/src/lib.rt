@@ -4,6 +4,7 @@
 
 mod bounds;
 mod explored;
+mod laws;
 mod searches;
 mod spaces;
 mod unkept;
@@ -11,6 +12,7 @@ mod watching;
 
 pub use bounds::SearchBound;
 pub use explored::Explored;
+pub use laws::no_schedule_to_it_is_shorter;
 pub use searches::{ProgramSearch, SearchFault, explore_program};
 pub use unkept::Unkept;
 pub use watching::Console;

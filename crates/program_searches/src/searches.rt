@@ -1,6 +1,35 @@
 //! What is looked for among the schedules of a program, and what the search comes to.
+//!
+//! **What is kept.** `Explored` owns the space that was found, the ends of it, and five answers: whether the search is
+//! complete, what ended it, the first rule that is broken, the first claim that none shows, and whether all is right. They
+//! are made once, in `explore_on`, of values alone; whoever prints them decides nothing more.
+//!
+//! **Two searches.** All worlds are looked for if that is asked for, and if no stream is to loop alone: a space of fewer
+//! worlds says nothing of that. Otherwise `explore_ends` looks for what is needed: it names each register at which an
+//! expectation looks, and each place at which a claim looks. So ends and claims are judged by few worlds, and the verdict
+//! is that of every schedule.
+//!
+//! **Which invariant.** `IsSearched` ties the space to what ended the search, not to a flag beside it. `is_complete` is
+//! made of the bound, so that the two can't disagree. The watcher keeps which of its own two bounds it has ended a search
+//! by (`IsWatched`); `schedule_space` says of a search that the watch ended that it has (`HasEnded`). So a search that
+//! was ended by its number of worlds is never said to have been ended by its time, nor the other way about.
+//!
+//! **Why it is safe.** A bound by worlds comes with a world that the space lacks (`IsFull`). A bound by time or memory
+//! comes with none: the search may have all worlds by then, and is said not to be complete all the same. So what is said
+//! of a complete search holds of every schedule, and of another one only what its worlds show: its ends are ends, a broken
+//! claim is broken; that a claim is shown by none, or that something spins, is not said. `right` is false unless the
+//! search is complete.
+//!
+//! **Shortest schedules.** A search of all worlds finds each by a shortest schedule, complete or not. A search for ends
+//! leaves out steps: of an end its schedule is a shortest one only if it is complete, of a world on the way never, unless
+//! no more steps lead there than those with which all schedules begin (`is_shortest`).
+//!
+//! **What was tried.** To say that a bound is named exactly if worlds are missing: no clause can, for time and memory. A
+//! promise that a bound by seconds comes only if seconds are bounded: the search changes the watcher in ways that its
+//! contract does not follow, so this is tested. The watcher was made by each caller before; it is made here, so
+//! that `SearchFault::Clock` is promised to come only if the time is bounded.
 
-ghost use Rattle.std.specs.Prelude.{◌≡◌, ◌≤◌, ◌⊎◌, ◌↔◌, is_some, IsTrue, IsSome, IsNone, IfOk, None};
+ghost use Rattle.std.specs.Prelude.{◌≡◌, ◌≤◌, ◌⊎◌, ◌↔◌, is_some, IsTrue, IsSome, IsNone, IfSome, IfOk, IfErr, None};
 ghost use Rattle.schedule_space.specs.Spaces.{IsComplete, HasAllEdges};
 ghost use Rattle.schedule_space.specs.Followed.{AllFollowed};
 ghost use Rattle.busy_streams.specs.Busy.{IsNeverBusy};
@@ -9,9 +38,10 @@ ghost use Rattle.schedule_verdicts.specs.KeptClaims.{AreKeptOnTheWay};
 ghost use Rattle.expectation_files.specs.Judged.{IsJudged};
 ghost use Rattle.schedule_verdicts.specs.NamedRegisters.{AreNamed};
 ghost use Rattle.schedule_verdicts.specs.RightSpaces.{IsFollowedForClaims, IsRightOnEachWay};
-ghost use Rattle.schedule_verdicts.specs.ShownClaims.{AreShown, IsRightThroughout, TellsOfClaims};
+ghost use Rattle.schedule_verdicts.specs.ShownClaims.{AreShown, IsRightThroughout, IsUnshownAt, TellsOfClaims};
+ghost use Rattle.program_searches.specs.Bounds.{IsOfClock};
+ghost use Rattle.program_searches.specs.Searches.{most_worlds, takes_all, SaysWhetherRight, IsExplored};
 
-use crate::bounds::SearchBound;
 use crate::explored::Explored;
 use crate::spaces::space_of;
 use crate::watching::{Console, Watcher};
@@ -60,14 +90,15 @@ impl ProgramSearch<'_> {
 
     /// The most worlds that are looked for: at least one.
     pub(crate) fn most_worlds(&self) -> usize
-        ensures { 1 ≤ result }
+        ensures some { 1 ≤ result }
+        ensures is { result ≡ most_worlds self.now }
     {
         self.bounds.worlds.max(1)
     }
 
     /// Whether all worlds are looked for: where it is asked for, and where no stream is to loop alone.
     pub(crate) fn takes_all(&self) -> bool
-        ensures { IsSome self.now.required.now.never_busy → IsTrue result }
+        ensures { result ≡ takes_all self.now }
     {
         self.is_plain || self.required.never_busy().is_some()
     }
@@ -83,7 +114,9 @@ pub enum SearchFault {
 }
 
 impl From<AllocError> for SearchFault {
-    fn from(_error: AllocError) -> SearchFault {
+    fn from(_error: AllocError) -> SearchFault
+        ensures { result ≡ SearchFault.NoMemory }
+    {
         SearchFault::NoMemory
     }
 }
@@ -94,22 +127,25 @@ impl From<io::Error> for SearchFault {
     }
 }
 
-/// What a search among the schedules of a program comes to. It shows on the console how far it is.
+/// What a search among the schedules of a program comes to. It shows on the console how far it is. The clock is read only
+/// where the time is bounded, or where the console is a terminal; `SearchFault::Clock` only where it is bounded.
 pub fn explore_program<'i, C: Clock, E: Write>(
     alloc: Global,
     image: &'i Image,
     asked: &ProgramSearch<'_>,
     console: &mut Console<'_, C, E>,
 ) -> Result<Explored<'i>, SearchFault>
-    ensures right { IfOk result (λ e. let required = asked.now.required.now in IsTrue e.is_right
-        ↔ (IsTrue e.is_complete × IsJudged image.entry.now required
-        × IsRightThroughout image.entry.now asked.now.begin.now required.ends.items required.claims.items
-        (is_some required.never_busy))) }
+    ensures right { IfOk result (λ e. SaysWhetherRight image.entry.now asked.now e) }
+    ensures explored { IfOk result (λ e. IsExplored image.entry.now asked.now e) }
+    ensures clock { IfErr result (λ f. IsOfClock f → IsSome asked.now.bounds.seconds) }
 {
     let mut watcher = Watcher::new(console, asked.bounds)?;
     let found = explore_watched(alloc, image, asked, &mut watcher);
     watcher.finish();
-    Ok(found?)
+    match found {
+        Ok(found) => Ok(found),
+        Err(AllocError) => Err(SearchFault::NoMemory),
+    }
 }
 
 /// The same while it is watched.
@@ -119,10 +155,7 @@ fn explore_watched<'i, C: Clock, E: Write>(
     asked: &ProgramSearch<'_>,
     watcher: &mut Watcher<'_, '_, C, E>,
 ) -> Result<Explored<'i>, AllocError>
-    ensures right { IfOk result (λ e. let required = asked.now.required.now in IsTrue e.is_right
-        ↔ (IsTrue e.is_complete × IsJudged image.entry.now required
-        × IsRightThroughout image.entry.now asked.now.begin.now required.ends.items required.claims.items
-        (is_some required.never_busy))) }
+    ensures { IfOk result (λ e. IsExplored image.entry.now asked.now e) }
 {
     match image.slim() {
         0 | 1 => explore_on::<1, C, E>(alloc, image, asked, watcher),
@@ -139,12 +172,10 @@ fn explore_on<'i, const S: usize, C: Clock, E: Write>(
     asked: &ProgramSearch<'_>,
     watcher: &mut Watcher<'_, '_, C, E>,
 ) -> Result<Explored<'i>, AllocError>
-    ensures right { IfOk result (λ e. let required = asked.now.required.now in IsTrue e.is_right
-        ↔ (IsTrue e.is_complete × IsJudged image.entry.now required
-        × IsRightThroughout image.entry.now asked.now.begin.now required.ends.items required.claims.items
-        (is_some required.never_busy))) }
+    ensures { IfOk result (λ e. IsExplored image.entry.now asked.now e) }
 {
-    let (space, is_complete) = space_of::<S, C, E>(alloc, image, asked, watcher)?;
+    let (space, bound) = space_of::<S, C, E>(alloc, image, asked, watcher)?;
+    let is_complete = bound.is_none();
     let required = asked.required;
     let busy = busy_in::<S>(alloc, required, &space, is_complete)?;
     let judged_by = JudgedBy {
@@ -158,7 +189,7 @@ fn explore_on<'i, const S: usize, C: Clock, E: Write>(
     Ok(Explored {
         space,
         is_complete,
-        bound: if is_complete { None } else { watcher.bound() },
+        bound,
         is_of_all_worlds: asked.takes_all(),
         ends,
         broken_rule: first_broken(image, required.rules()),
@@ -174,10 +205,11 @@ fn unshown_in<const S: usize>(
     required: &Requirements,
     space: &Space<'_>,
 ) -> Result<Option<usize>, AllocError>
-    ensures shown { IfOk result (λ told. told ≡ None
+    ensures shown { IfOk result (λ found. found ≡ None
         → AreShown space.now.image space.now.begin required.now.claims.items) }
-    ensures only { IfOk result (λ told. TellsOfClaims space.now required.now.claims.items
-        → AreShown space.now.image space.now.begin required.now.claims.items → told ≡ None) }
+    ensures only { IfOk result (λ found. TellsOfClaims space.now required.now.claims.items
+        → AreShown space.now.image space.now.begin required.now.claims.items → found ≡ None) }
+    ensures unshown { IfOk result (λ found. IfSome found (λ k. IsUnshownAt space.now required.now.claims.items k)) }
 {
     match first_unshown::<S>(alloc, space, required.claims()) {
         Ok(unshown) => Ok(unshown),
@@ -192,9 +224,9 @@ fn busy_in<const S: usize>(
     space: &Space<'_>,
     is_complete: bool,
 ) -> Result<Option<Busy>, AllocError>
-    ensures asked { IfOk result (λ told. IsTrue is_complete → IsSome required.now.never_busy
-        → HasAllWorlds space.now → (told ≡ None) ↔ IsNeverBusy space.now.image space.now.begin) }
-    ensures unasked { IfOk result (λ told. IsNone required.now.never_busy → told ≡ None) }
+    ensures asked { IfOk result (λ found. IsTrue is_complete → IsSome required.now.never_busy
+        → HasAllWorlds space.now → (found ≡ None) ↔ IsNeverBusy space.now.image space.now.begin) }
+    ensures unasked { IfOk result (λ found. IsNone required.now.never_busy → found ≡ None) }
 {
     if !is_complete || required.never_busy().is_none() {
         return Ok(None);

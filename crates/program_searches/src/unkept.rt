@@ -1,5 +1,8 @@
 //! What is required of a program as a whole, and is not so.
 
+ghost use Rattle.std.specs.Prelude.{◌≡◌};
+ghost use Rattle.program_searches.specs.Statuses.{status_of_unkept};
+
 use end_kinds::Status;
 
 /// What is required of a program as a whole, and is not so.
@@ -16,7 +19,9 @@ pub struct Unkept {
 impl Unkept {
     /// What it means for the exit status, by every schedule or by some runs: that no run shows a claim says nothing of other
     /// schedules.
-    pub fn status(self, is_of_every: bool) -> Status {
+    pub fn status(self, is_of_every: bool) -> Status
+        ensures { result ≡ status_of_unkept self is_of_every }
+    {
         if self.rule.is_some() || (is_of_every && self.unshown.is_some()) {
             Status::Unexpected
         } else if self.unshown.is_some() || self.undecided.is_some() {

@@ -1,28 +1,29 @@
-//! Who looks on at a search: its bounds of time and memory, and the line that tells how far it is.
+//! Who looks on at a search: its bounds of time and memory, and the line that shows how far it is.
 
-ghost use Rattle.std.specs.Prelude.{◌≡◌, IsSome, IsFalse};
+ghost use Rattle.std.specs.Prelude.{◌≡◌, IsSome, IsFalse, IfErr};
+ghost use Rattle.program_searches.specs.Bounds.{IsWatched};
 
 use crate::bounds::SearchBound;
 use lab_requests::Bounds;
-use schedule_space::{Bound, Watch};
+use schedule_space::Watch;
 use std::io::{self, Write};
 use std::time::{Clock, Duration, Instant};
 
 /// How many bytes a megabyte has.
 const MEGABYTE: usize = 1_000_000;
 
-/// The clock, and where a search tells how far it is.
+/// The clock, and where a search shows how far it is.
 #[derive(Drop)]
 pub struct Console<'a, C, E> {
     /// The clock.
     pub clock: &'a C,
     /// Standard error.
     pub errors: &'a mut E,
-    /// Whether that is a terminal: elsewhere nothing is told.
+    /// Whether that is a terminal: elsewhere nothing is shown.
     pub is_terminal: bool,
 }
 
-/// What looks on at one search, ends it at its bounds, and tells each second how far it is.
+/// What looks on at one search, ends it at its bounds, and shows each second how far it is.
 #[derive(Drop)]
 pub(crate) struct Watcher<'w, 'c, C, E> {
     console: &'w mut Console<'c, C, E>,
@@ -33,7 +34,7 @@ pub(crate) struct Watcher<'w, 'c, C, E> {
     ended: Option<SearchBound>,
 }
 
-/// What was told last.
+/// What was shown last.
 #[derive(Clone, Copy)]
 struct Report {
     at: Duration,
@@ -46,7 +47,9 @@ impl<'w, 'c, C: Clock, E: Write> Watcher<'w, 'c, C, E> {
     pub(crate) fn new(
         console: &'w mut Console<'c, C, E>,
         bounds: Bounds,
-    ) -> Result<Watcher<'w, 'c, C, E>, io::Error> {
+    ) -> Result<Watcher<'w, 'c, C, E>, io::Error>
+        ensures { IfErr result (λ _. IsSome bounds.seconds) }
+    {
         let start = match bounds.seconds {
             Some(_) => Some(Instant::now(console.clock)?),
             None if console.is_terminal => Instant::now(console.clock).ok(),
@@ -65,26 +68,14 @@ impl<'w, 'c, C: Clock, E: Write> Watcher<'w, 'c, C, E> {
         })
     }
 
-    /// Keeps what ended the search: that is known already where it is one of its own bounds.
-    pub(crate) fn end(&mut self, bound: Bound)
-        requires { bound ≡ Bound.Watch → IsSome self.old.ended }
-        ensures { IsSome self.new.ended }
-    {
-        match bound {
-            Bound::Worlds => self.ended = Some(SearchBound::States),
-            Bound::Memory => self.ended = Some(SearchBound::Refused),
-            Bound::Watch => {}
-        }
-    }
-
-    /// What ended the search before its end; None where nothing did.
+    /// Which of its own bounds ended the search; None where it has ended none.
     pub(crate) fn bound(&self) -> Option<SearchBound>
         ensures { result ≡ self.now.ended }
     {
         self.ended
     }
 
-    /// Wipes what it has told.
+    /// Wipes what it has shown.
     pub(crate) fn finish(&mut self) {
         if self.last_report.is_some() {
             let _ = write!(self.console.errors, "\r\x1b[K");
@@ -92,9 +83,9 @@ impl<'w, 'c, C: Clock, E: Write> Watcher<'w, 'c, C, E> {
         }
     }
 
-    /// Whether the time is not over. Where it is not, tells each second how far the search is.
+    /// Whether the time is not over. Where it is not, shows each second how far the search is.
     fn is_in_time(&mut self, found: usize, waiting: usize, bytes: usize) -> bool
-        ensures { IsFalse result → IsSome self.new.ended }
+        ensures { IsFalse result → IsWatched self.new.ended }
     {
         let Some(start) = self.start else {
             return true;
@@ -109,7 +100,7 @@ impl<'w, 'c, C: Clock, E: Write> Watcher<'w, 'c, C, E> {
         true
     }
 
-    /// Tells how far the search is, where a second has passed since it last did.
+    /// Shows how far the search is, where a second has passed since it last did.
     fn report(&mut self, passed: Duration, found: usize, waiting: usize, bytes: usize) {
         let last = self.last_report.unwrap_or(Report {
             at: Duration::ZERO,
@@ -131,7 +122,7 @@ impl<'w, 'c, C: Clock, E: Write> Watcher<'w, 'c, C, E> {
 }
 
 impl<C: Clock, E: Write> Watch for Watcher<'_, '_, C, E> {
-    ghost HasEnded = { λ w. IsSome w.ended };
+    ghost HasEnded = { λ w. IsWatched w.ended };
 
     fn goes_on(&mut self, found: usize, waiting: usize, bytes: usize) -> bool {
         if bytes > self.most_bytes {

@@ -1,55 +1,78 @@
-use Rattle.std.proofs.Common.{sym, subst, inl, inr, is_some, rules}
+use Rattle.std.specs.Prelude.{IsTrue, None, List, map, not}
+use Rattle.std.specs.List.{position}
+use Rattle.std.proofs.Common.{◌≡◌, sym, ap, ◌∙◌, subst, inl, inr, is_some}
+use Rattle.claims.specs.declared.claim.Claim.{Claim}
+use Rattle.expectations.specs.declared.expectation.Expectation.{Expectation}
+use Rattle.program_rules.specs.Keeping.{is_kept}
 use Rattle.schedule_verdicts.specs.RightSpaces.{IsRightOnEachWay}
-use Rattle.schedule_verdicts.specs.ShownClaims.{IsRightThroughout, TellsOfClaims}
-use Rattle.program_searches.proofs.Knowing.{none_found}
+use Rattle.schedule_verdicts.specs.ShownClaims.{IsRightThroughout}
+use Rattle.space_ends.specs.BrokenClaims.{value_of, HasBrokenEnds}
+use Rattle.space_ends.specs.EndsOfSpace.{ends_in, AreEndsOf}
+use Rattle.program_searches.proofs.Knowing.{known, taken, tells, all_ends, all_if_never_busy, none_if, if_none, none_found}
 use Rattle.program_searches.proofs.searches.explore_on.Goals as goal
 
 pub returns : goal.returns
-returns g c = record {
-  right =
-      let required = c.args.asked.now.required.now in
-      let expected = required.ends.items in
-      let claims = required.claims.items in
-      let alone = is_some required.never_busy in
-      let v = c.in_ok-space.space in
-      let image = c.in_ok-space.ensures.image in
-      let begin = c.in_ok-space.ensures.begin in
-      let found = c.in_ok-is_right.ensures in
-      let judged = c.judges-is_judged.ensures in
-      let busy = c.in_ok-busy.ensures in (
+returns g c =
+    let asked = c.args.asked.now in
+    let required = asked.required.now in
+    let expected = required.ends.items in
+    let claims = required.claims.items in
+    let alone = is_some required.never_busy in
+    let v = c.in_ok-space.space in
+    let b = c.in_ok-space.bound in
+    let s = c.in_ok-space.ensures.searched in
+    let image = c.in_ok-space.ensures.image in
+    let begin = c.in_ok-space.ensures.begin in
+    let none : IsTrue c.is_none-is_complete.result → b ≡ None = none_if b _ c.is_none-is_complete.ensures in
+    let found = c.in_ok-is_right.ensures in
+    let judged = c.judges-is_judged.ensures in
+    let busy = c.in_ok-busy.ensures in
+    record {
+      image = image;
+      begin = begin;
+      all_worlds = c.takes_all.ensures;
+      searched = s;
+      bound = (if_none b _ c.is_none-is_complete.ensures, none);
+      complete = λ on. all_ends asked v b s (none on);
+      ends =
+          subst (λ (es : List Expectation). AreEndsOf v es (ends_in c.in_ok-ends.ends.items)) c.ends.ensures
+          c.in_ok-ends.ensures.ends;
+      spinning = c.in_ok-ends.ensures.spinning;
+      unknown = c.in_ok-ends.ensures.unknown;
+      broken =
+          subst (λ (cs : List Claim). HasBrokenEnds v cs (map value_of c.in_ok-ends.ends.items)) c.claims.ensures
+          c.in_ok-ends.ensures.broken;
+      rule = c.first_broken.ensures ∙ ap (position (λ r. not (is_kept c.args.image.now r))) c.rules.ensures;
+      unshown = c.in_ok-unshown.ensures.unshown;
+      shown = c.in_ok-unshown.ensures.shown;
+      right = (
         λ yes.
             let so = judged.0 (found.judged yes) in
             let right : IsRightOnEachWay v.image v.begin expected claims =
-            elim (c.in_ok-space.ensures.known so.0) [
+            elim (known asked v b s (none so.0)) [
               | inl all ↦ found.each_way yes all
-              | inr shown ↦ found.shown yes shown.0 shown.1
+              | inr needed ↦ found.shown yes needed.0 needed.1
             ] in
             let here : IsRightThroughout v.image v.begin expected claims alone =
             record {
               right = right;
               before = found.before yes;
               shown = c.in_ok-unshown.ensures.shown so.2;
-              busy = λ some. (busy.asked so.0 some (c.in_ok-space.ensures.worlds so.0 some)).0 so.3;
+              busy = λ some. (busy.asked so.0 some (s.worlds (none so.0) (all_if_never_busy asked some))).0 so.3;
             } in (
               so.0,
               so.1,
-              subst (λ i. IsRightThroughout i c.args.asked.now.begin.now expected claims alone) image
+              subst (λ i. IsRightThroughout i asked.begin.now expected claims alone) image
                   (subst (λ ts. IsRightThroughout v.image ts expected claims alone) begin here),
             ),
         λ all.
             let right : IsRightThroughout v.image v.begin expected claims alone =
             subst (λ ts. IsRightThroughout v.image ts expected claims alone) (sym begin)
-            (subst (λ i. IsRightThroughout i c.args.asked.now.begin.now expected claims alone) (sym image) all.2) in
-            let tells : TellsOfClaims v claims =
-            elim (c.in_ok-space.ensures.known all.0) [
-              | inl whole ↦ inl whole
-              | inr shown ↦ inr shown.1
-            ] in
-            let none = c.in_ok-unshown.ensures.only tells right.shown in
-            let alone_none =
+            (subst (λ i. IsRightThroughout i asked.begin.now expected claims alone) (sym image) all.2) in
+            let no_claim = c.in_ok-unshown.ensures.only (tells asked v b s (none all.0)) right.shown in
+            let no_stream =
             none_found required.never_busy c.in_ok-busy.busy busy.unasked
-            (λ some. (busy.asked all.0 some (c.in_ok-space.ensures.worlds all.0 some)).1 (right.busy some)) in
-            found.only (judged.1 (all.0, all.1, none, alone_none))
-            (c.in_ok-space.ensures.taken all.0) right,
+            (λ some. (busy.asked all.0 some (s.worlds (none all.0) (all_if_never_busy asked some))).1 (right.busy some)) in
+            found.only (judged.1 (all.0, all.1, no_claim, no_stream)) (taken asked v b s (none all.0)) right,
       );
-}
+    }

@@ -1,0 +1,41 @@
+-- The exit status that a search comes to.
+use Rattle.std.specs.Prelude.{nat_le, Bool, true, false, ◌&&◌, ◌||◌, if◌then◌else◌, List, [], ◌∷◌, map, None, is_some}
+use Rattle.end_kinds.specs.Statuses.{badness}
+use Rattle.end_kinds.specs.declared.statuses.Status.{Status}
+use Rattle.end_kinds.specs.declared.statuses.Status.TheVariants as status
+use Rattle.space_ends.specs.Judging.{end_status}
+use Rattle.program_searches.specs.declared.explored.Explored.{Explored}
+use Rattle.program_searches.specs.declared.unkept.Unkept.{Unkept}
+
+-- the worse of two statuses
+abbrev pub worse : Status → Status → Status
+worse a b = if nat_le (badness b) (badness a) then a else b
+
+-- the worst of one and some others
+abbrev pub worst : Status → List Status → Status
+worst a [] = a
+worst a (b ∷ bs) = worst (worse a b) bs
+
+-- of a search that is complete, or that came to a bound
+abbrev pub status_of_bound : Bool → Status
+status_of_bound true = status.Done
+status_of_bound false = status.OutOfSteps
+
+-- of what is required of the program as a whole and is not so, by every schedule or by some runs
+abbrev pub status_of_unkept : Unkept → Bool → Status
+status_of_unkept u every =
+    if is_some u.rule || (every && is_some u.unshown) then status.Unexpected
+    else (if is_some u.unshown || is_some u.undecided then status.OutOfSteps else status.Done)
+
+-- what a search knows not to be so: of a claim that none shows only where it is complete
+abbrev pub unkept_in : Explored → Unkept
+unkept_in e = record {
+  rule = e.broken_rule;
+  unshown = if e.is_complete then e.unshown else None;
+  undecided = None;
+}
+
+-- the worst over the bound, the ends, and what is not so of the program as a whole
+abbrev pub status_of_search : Explored → Status
+status_of_search e =
+    worse (worst (status_of_bound e.is_complete) (map end_status e.ends.items)) (status_of_unkept (unkept_in e) true)
