@@ -4,4 +4,5 @@ use Rattle.judgements.proofs.by_case.broken_rule.Goals as goal
 
 pub returns-in-None-clause-kept : goal.returns-in-None-clause-kept
 returns-in-None-clause-kept c =
-    kept c.args.judged.image.now c.args.judged.required.now.rules.items (sym c.in-None.ensures)
+    let none = rw c.rules.ensures at c.in-None.ensures in
+    kept c.args.judged.image.now c.args.judged.required.now.rules.items (sym none)
