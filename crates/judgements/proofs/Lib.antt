@@ -1,4 +1,7 @@
 mod Worst
 mod Judged
+mod Flaws
 mod Right
 mod Shown
+mod ReadCases
+mod Pushed

@@ -1,6 +1,8 @@
 //! What is known of a submission by one case.
 
-ghost use Rattle.std.specs.Prelude.{◌≡◌, IsTrue, IfOk};
+ghost use Rattle.std.specs.Prelude.{◌≡◌, not, IsTrue, IfOk, IfNone};
+ghost use Rattle.std.specs.List.{position};
+ghost use Rattle.program_rules.specs.Keeping.{is_kept};
 ghost use Rattle.expectation_files.specs.Judged.{are_rules_kept};
 ghost use Rattle.judgements.specs.Cases.{seeds_of};
 ghost use Rattle.judgements.specs.Right.{IsRightAsAsked};
@@ -63,12 +65,24 @@ fn judged_program<X: Threads + Sync, C: Clock, E: Write>(
         → IsTrue (are_rules_kept judged.entry.image.now judged.entry.required.now.rules.items)) }
     ensures shown { IfOk result (λ j. IsShownBy judged.entry.image.now judged.entry.required.now (seeds_of asked) j) }
 {
-    if let Some(rule) = first_broken(judged.image, judged.required.rules()) {
+    if let Some(rule) = broken_rule(judged) {
         let reason = Reason::Rule(rule);
         return Ok(CaseJudgement::plain(alloc, VerdictKind::Wrong, Known::NOTHING, reason));
     }
     match asked.explored {
-        Some(bounds) => judged_by_schedules(rt, alloc, asked, bounds, judged, console),
+        Some(bounds) => Ok(judged_by_schedules(rt, alloc, asked, bounds, judged, console)?),
         None => Ok(judged_by_seeds(rt, alloc, asked, judged.image, judged.required)?),
+    }
+}
+
+/// The first rule of programs that a program breaks, among those that are required; None where it keeps all.
+fn broken_rule(judged: JudgedProgram<'_>) -> Option<usize>
+    ensures first { result ≡ position (λ r. not (is_kept judged.entry.image.now r)) judged.entry.required.now.rules.items }
+    ensures kept { IfNone result
+        (IsTrue (are_rules_kept judged.entry.image.now judged.entry.required.now.rules.items)) }
+{
+    match first_broken(judged.image, judged.required.rules()) {
+        Some(rule) => Some(rule),
+        None => None,
     }
 }

@@ -72,8 +72,8 @@ fn judged_by_search(alloc: Global, found: Explored<'_>) -> CaseJudgement
 {
     let known = known_of(&found);
     let status = found.status();
-    let (kind, reason) = decided_by(&found);
-    let mut judgement = CaseJudgement::plain(alloc, kind, known, reason);
+    let decided = decided_by(&found);
+    let mut judgement = CaseJudgement::plain(alloc, decided.0, known, decided.1);
     judgement.status = judgement.status.worse(status);
     judgement.ends = found.ends;
     judgement

@@ -61,20 +61,31 @@ pub(crate) struct FoundFlaw {
 
 /// The first of all flaws, in the order of their severity, that any of these ends shows, with the first such end; None if no
 /// end shows any.
+#[tactic(auto, using(crate::proofs::Flaws::none_shown))]
 pub(crate) fn first_end_flaw(ends: &[SpaceEnd]) -> Option<FoundFlaw>
     ensures { MatchOption result (ShowNothing ends.now) (λ f. ShowsAt ends.now f.flaw f.end) }
 {
-    found_of(ends, EndFlaw::Trap)
-        .or(found_of(ends, EndFlaw::Deadlock))
-        .or(found_of(ends, EndFlaw::Wrong))
-        .or(found_of(ends, EndFlaw::Broken))
-        .or(found_of(ends, EndFlaw::Spinning))
+    if let Some(found) = found_of(ends, EndFlaw::Trap) {
+        return Some(found);
+    }
+    if let Some(found) = found_of(ends, EndFlaw::Deadlock) {
+        return Some(found);
+    }
+    if let Some(found) = found_of(ends, EndFlaw::Wrong) {
+        return Some(found);
+    }
+    if let Some(found) = found_of(ends, EndFlaw::Broken) {
+        return Some(found);
+    }
+    if let Some(found) = found_of(ends, EndFlaw::Spinning) {
+        return Some(found);
+    }
+    None
 }
 
 /// The first of these ends that shows a flaw.
 fn found_of(ends: &[SpaceEnd], flaw: EndFlaw) -> Option<FoundFlaw>
-    ensures { MatchOption result (NoneShows ends.now flaw)
-        (λ f. (f.flaw ≡ flaw) × ShowsAt ends.now flaw f.end) }
+    ensures { MatchOption result (NoneShows ends.now flaw) (λ f. ShowsAt ends.now f.flaw f.end) }
 {
     for end in 0..ends.len() {
         if flaw.is_of(&ends[end]) {
