@@ -13,7 +13,6 @@ use Rattle.end_kinds.specs.declared.kinds.EndKind.{EndKind}
 use Rattle.end_kinds.specs.declared.kinds.EndKind.TheVariants as kind
 use Rattle.expectations.specs.Meeting.{is_met}
 use Rattle.expectations.specs.declared.expectation.Expectation.{Expectation}
-use Rattle.schedule_space.specs.Fates.{IsFinished}
 use Rattle.schedule_verdicts.specs.RightEnds.{AreTrapsExpected, IsRightEnd}
 use Rattle.end_states.specs.Judgements.{is_deadlock, is_expected}
 use Rattle.end_states.specs.declared.judgements.EndJudgement.{EndJudgement}
@@ -39,7 +38,7 @@ none_missed test xs all =
     (λ k d within. ap not (AllPass-from_list_all test xs all k d within)))
 
 -- where no stream runs it is no deadlock
-no_deadlock : (image : ImageValue) (w : World) (k : EndKind) → IsFinished w → IsKindOf image w k → is_deadlock k ≡ false
+no_deadlock : (image : ImageValue) (w : World) (k : EndKind) → ¬ (SomeRuns w) → IsKindOf image w k → is_deadlock k ≡ false
 no_deadlock image w kind.Finished finished is = refl
 no_deadlock image w kind.Stopped finished is = refl
 no_deadlock image w kind.Deadlock finished is = absurd (finished is.some)
@@ -56,7 +55,7 @@ parts false false false false e = (refl, refl)
 whole : (d m b t : Bool) → d ≡ false → m ≡ false → b ≡ false → t ≡ false → (not d && not (m || b) && not t) ≡ true
 whole d m b t no_d no_m no_b no_t = λ i. not (no_d i) && not (no_m i || no_b i) && not (no_t i)
 
-pub right : (image : ImageValue) (w : World) (expected : List Expectation) (j : EndJudgement) → IsFinished w
+pub right : (image : ImageValue) (w : World) (expected : List Expectation) (j : EndJudgement) → ¬ (SomeRuns w)
     → IsKindOf image w j.kind → j.missed ≡ position (λ x. not (is_met w x)) expected → j.broken ≡ None
     → (IsFalse j.is_trapped ↔ AreTrapsExpected expected w) → IsTrue (is_expected j) ↔ IsRightEnd expected w
 right image w expected j finished of_kind missed broken trapped = (

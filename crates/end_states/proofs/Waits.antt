@@ -1,5 +1,5 @@
 -- For which word a stream waits, and what is added for it.
-use Rattle.std.proofs.Common.{◌≡◌, ℕ, ◌+◌, ◌<◌, ◌≤◌, refl, sym, ap, ◌∙◌, subst, arith}
+use Rattle.std.proofs.Common.{◌≡◌, ℕ, ◌+◌, ◌<◌, ◌≤◌, true, false, refl, sym, ap, ◌∙◌, subst, arith}
 use Rattle.std.proofs.Common.{Option, Some, None, List, [], ◌∷◌, ◌++◌, length, drop, get_or, append_assoc, append-nil, add-one, drop-cons}
 use Rattle.std.proofs.lemmas.List.{drop_all}
 use Rattle.tag_memory.specs.Answer.{answer}
@@ -19,34 +19,38 @@ use Rattle.end_states.specs.declared.states.WaitingStream.{WaitingStream}
 pub waits_for : (m : MachineValue) (t : Step) (wait : Wait) → IsWaitOf m t wait → wait_address m t ≡ Some wait.address
 waits_for m t wait is = ap (wait_address_of m) is.asks ∙ ap blocked_address is.blocked
 
+apart : false ≡ true → ⊥
+apart e = cc
+
 -- one that asks nothing in vain waits for none
-pub waits_for_none : (m : MachineValue) (t : Step) → (IsAskedInVain m t → ⊥) → wait_address m t ≡ None
+pub waits_for_none : (m : MachineValue) (t : Step) → (IsAskedInVain m t → false ≡ true) → wait_address m t ≡ None
 waits_for_none m t never = by_need (next_in m t) refl where
   by_reply : (request : Request) (r : Reply) → next_in m t ≡ next.Ask request
       → (answer m.world.memory request).1 ≡ r → blocked_address r ≡ None
   by_reply request (reply.Done value) asks replied = refl
   by_reply request (reply.Blocked address) asks replied =
-      absurd (never (record { request = request; address = address; asks = asks; blocked = replied }))
+      absurd (apart (never (record { request = request; address = address; asks = asks; blocked = replied })))
   by_reply request (reply.Trap kind address) asks replied = refl
+
   by_need : (x : Next) → next_in m t ≡ x → wait_address_of m x ≡ None
   by_need next.Skip needs = refl
   by_need next.Local needs = refl
   by_need (next.Ask request) needs = by_reply request (answer m.world.memory request).1 needs refl
 
 -- one stream more: what is added is the word that it waits for, if it waits
-pub one_more : (m : MachineValue) (ts : List Step) (n : ℕ) (t : Step) (all done more : List WaitingStream)
-    → n < length ts → t ≡ get_or ts n t
-    → done ++ waiting_of m (drop n ts) ≡ all
-    → more ≡ done ++ waiting_stream t (wait_address m t)
+pub one_more : (m : MachineValue) (ts : List Step) (n : ℕ) (d : Step) (all done more : List WaitingStream)
+    → n < length ts → done ++ waiting_of m (drop n ts) ≡ all
+    → more ≡ done ++ waiting_stream (get_or ts n d) (wait_address m (get_or ts n d))
     → more ++ waiting_of m (drop (n + 1) ts) ≡ all
-one_more m ts n t all done more within here so_far is =
+one_more m ts n d all done more within so_far is =
+    let t = get_or ts n d in
     let rest = waiting_of m (drop (n + 1) ts) in
     let next : drop n ts ≡ t ∷ drop (n + 1) ts =
-    drop-cons ts n t within
-    ∙ ap (λ k. get_or ts n t ∷ drop k ts) (sym (add-one n))
-    ∙ ap (λ x. x ∷ drop (n + 1) ts) (sym here) in
-    ap (λ x. x ++ rest) is ∙ append_assoc done (waiting_stream t (wait_address m t)) rest
-    ∙ sym (ap (λ x. done ++ waiting_of m x) next) ∙ so_far
+    drop-cons ts n d within ∙ ap (λ (k : ℕ). t ∷ drop k ts) (sym (add-one n)) in
+    ap (λ (x : List WaitingStream). x ++ rest) is
+    ∙ append_assoc done (waiting_stream t (wait_address m t)) rest
+    ∙ sym (ap (λ (x : List Step). done ++ waiting_of m x) next)
+    ∙ so_far
 
 -- no stream is left
 pub all_looked_at : (m : MachineValue) (ts : List Step) (n : ℕ) (all done : List WaitingStream) → length ts ≤ n

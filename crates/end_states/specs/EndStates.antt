@@ -14,6 +14,7 @@ use Rattle.processor.specs.declared.steps.Next.TheVariants as next
 use Rattle.processor.specs.declared.steps.Step.{Step}
 use Rattle.machine.specs.MachineValue.{MachineValue, next_in}
 use Rattle.waiting.specs.Running.{streams_at, running_steps}
+use Rattle.changed_words.specs.Changed.{changed_words}
 use Rattle.end_states.specs.declared.states.EndState.{EndState}
 use Rattle.end_states.specs.declared.states.TrapStop.{TrapStop}
 use Rattle.end_states.specs.declared.states.WaitingStream.{WaitingStream}
@@ -86,7 +87,8 @@ waiting_of m (t ∷ ts) = waiting_stream t (wait_address m t) ++ waiting_of m ts
 abbrev pub waiting_streams : MachineValue → List WaitingStream
 waiting_streams m = waiting_of m (running_steps m.world)
 
--- What a state says of a machine: all streams that a trap stopped, and all that run and wait.
+-- What a state says of a machine: all streams that a trap stopped, all that run and wait, and all words that changed.
 pub record IsEndState (m : MachineValue) (state : EndState) : Type 0 where
   pub stopped : state.stopped.items ≡ trap_stops m.world
   pub waiting : state.waiting.items ≡ waiting_streams m
+  pub changed : state.changed.items ≡ changed_words m.image m.world.memory

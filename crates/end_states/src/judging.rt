@@ -4,7 +4,7 @@ ghost use Rattle.std.specs.Prelude.{◌≡◌, ◌↔◌, not, IfOk, IsTrue, IsF
 ghost use Rattle.std.specs.List.{position};
 ghost use Rattle.end_kinds.specs.Ends.{IsKindOf};
 ghost use Rattle.expectations.specs.Meeting.{is_met};
-ghost use Rattle.schedule_space.specs.Fates.{IsFinished};
+ghost use Rattle.waiting.specs.Stuck.{SomeRuns};
 ghost use Rattle.schedule_verdicts.specs.RightEnds.{AreTrapsExpected, IsRightEnd};
 ghost use Rattle.end_states.specs.EndStates.{IsEndState};
 ghost use Rattle.end_states.specs.Judgements.{is_expected};
@@ -40,7 +40,7 @@ pub fn judged_end<const S: usize>(
     ensures broken { IfOk result (λ e. e.judgement.broken ≡ None) }
     ensures trapped { IfOk result (λ e. IsFalse e.judgement.is_trapped
         ↔ AreTrapsExpected expected.now machine.now.world) }
-    ensures right { IfOk result (λ e. IsFinished machine.now.world
+    ensures right { IfOk result (λ e. (¬ (SomeRuns machine.now.world))
         → IsTrue (is_expected e.judgement) ↔ IsRightEnd expected.now machine.now.world) }
     ensures state { IfOk result (λ e. IsEndState machine.now e.state) }
 {

@@ -1,19 +1,17 @@
--- One place more, one claim more, and what is told of an end stays.
-use Rattle.std.proofs.Common.{◌≡◌, ℕ, zero, suc, ◌+◌, ◌<◌, ◌≤◌, ◌⊎◌, refl, sym, ap, ◌∙◌, arith, Bool, true, false}
+-- One place more, one claim more, and what is known of an end stays.
+use Rattle.std.proofs.Common.{◌≡◌, ℕ, zero, suc, ◌+◌, ◌<◌, ◌≤◌, refl, sym, ap, ◌∙◌, arith, Bool, true, false}
 use Rattle.std.proofs.Common.{List, [], ◌∷◌, ◌++◌, length, map, drop, get_or, cond, append_assoc, append-nil, add-one}
 use Rattle.std.proofs.Math.Seq.{drop-cons}
 use Rattle.std.proofs.Math.ListN.{drop_of_length-le}
 use Rattle.std.proofs.Common.{set}
-use Rattle.std.specs.Prelude.{◌==◌, ◌&&◌, min}
+use Rattle.std.specs.Prelude.{◌==◌, ◌&&◌}
 use Rattle.std.specs.List.{filter, range_with_len}
 use Rattle.std.proofs.lemmas.List.Elements.{filter-append}
 use Rattle.claims.specs.declared.claim.Claim.{Claim}
 use Rattle.schedule_space.specs.Spaces.{SpaceValue}
-use Rattle.std.proofs.lemmas.Bool.{cases_lt}
-use Rattle.std.proofs.Common.{inl, inr}
-use Rattle.std.proofs.lemmas.List.{map-append, length-map, get_or-map}
-use Rattle.lab_ends.specs.declared.every_end.SpaceEnd.{SpaceEnd}
-use Rattle.lab_ends.specs.BrokenClaims.{EndValue, value_of, broken_places, broken_before, broken_end, broken_end_of, broken_ends}
+use Rattle.std.proofs.lemmas.List.{map-append}
+use Rattle.space_ends.specs.declared.end_values.SpaceEnd.{SpaceEnd}
+use Rattle.space_ends.specs.BrokenClaims.{EndValue, value_of, broken_places, broken_before, broken_end, broken_end_of, broken_ends}
 
 -- one number more
 range-more : (a n k : ℕ) → a + n ≡ k → range_with_len a (suc n) ≡ range_with_len a n ++ k ∷ []
@@ -51,70 +49,48 @@ map-set_same f (y ∷ ys) zero x d same = ap (λ z. z ∷ map f ys) same
 map-set_same f (y ∷ ys) (suc i) x d same = ap (λ zs. f y ∷ zs) (map-set_same f ys i x d same)
 
 -- the rest of a list from a place on, by its next entry
-behind : {X : Type 0} (xs : List X) (i : ℕ) (x : X) → i < length xs → x ≡ get_or xs i x
+rest_from : {X : Type 0} (xs : List X) (i : ℕ) (x : X) → i < length xs → x ≡ get_or xs i x
     → drop i xs ≡ x ∷ drop (i + 1) xs
-behind xs i x below is =
+rest_from xs i x below is =
     drop-cons xs i x below
     ∙ ap (λ k. get_or xs i x ∷ drop k xs) (sym (add-one i))
     ∙ ap (λ y. y ∷ drop (i + 1) xs) (sym is)
 
--- the same of texts, as they are read
-text_behind : {X : Type 0} (read : X → List ℕ) (xs : List X) (i : ℕ) (x : X) (t : List ℕ) → i < length xs
-    → x ≡ get_or xs i x → t ≡ read x → drop i (map read xs) ≡ t ∷ drop (i + 1) (map read xs)
-text_behind read xs i x t below is said =
-    let long = length-map xs read in
-    behind (map read xs) i t (omega (arith, below, long)) (said ∙ ap read is ∙ sym (get_or-map read xs i x t below))
-
-pub claim_more : {X : Type 0} (read : X → List ℕ) (v : SpaceValue) (cs : List Claim) (xs : List X) (n : ℕ) (c : Claim)
-    (x : X) (t : List ℕ) (olds news firsts : List EndValue) → n < length cs → n < length xs → c ≡ get_or cs n c
-    → x ≡ get_or xs n x → t ≡ read x → news ≡ olds ++ broken_end_of v c t
-    → olds ++ broken_ends v (drop n cs) (drop n (map read xs)) ≡ firsts
-    → news ++ broken_ends v (drop (n + 1) cs) (drop (n + 1) (map read xs)) ≡ firsts
-claim_more read v cs xs n c x t olds news firsts of_claims of_texts claim text said added before =
-    let rest = broken_ends v (drop (n + 1) cs) (drop (n + 1) (map read xs)) in
+pub claim_more : (v : SpaceValue) (cs : List Claim) (n : ℕ) (c : Claim) (olds news firsts : List EndValue)
+    → n < length cs → c ≡ get_or cs n c → news ≡ olds ++ broken_end_of v n c
+    → olds ++ broken_ends v n (drop n cs) ≡ firsts → news ++ broken_ends v (n + 1) (drop (n + 1) cs) ≡ firsts
+claim_more v cs n c olds news firsts below claim added before =
+    let rest = broken_ends v (n + 1) (drop (n + 1) cs) in
     ap (λ es. es ++ rest) added
-    ∙ append_assoc olds (broken_end_of v c t) rest
-    ∙ sym (λ i. olds ++ broken_ends v (behind cs n c of_claims claim i) (text_behind read xs n x t of_texts text said i))
+    ∙ append_assoc olds (broken_end_of v n c) rest
+    ∙ sym (ap (λ xs. olds ++ broken_ends v n xs) (rest_from cs n c below claim))
     ∙ before
 
-without_texts : (v : SpaceValue) (cs : List Claim) → broken_ends v cs [] ≡ []
-without_texts v [] = refl
-without_texts v (c ∷ cs) = refl
-
-all_told : (v : SpaceValue) (cs : List Claim) (ts : List (List ℕ)) (n : ℕ) → min (length cs) (length ts) ≤ n
-    → broken_ends v (drop n cs) (drop n ts) ≡ []
-all_told v cs ts n past = by (cases_lt n (length cs)) where
-  by : (n < length cs) ⊎ (length cs ≤ n) → broken_ends v (drop n cs) (drop n ts) ≡ []
-  by (inl less) =
-      ap (broken_ends v (drop n cs)) (drop_of_length-le ts (omega (arith, past, less)))
-      ∙ without_texts v (drop n cs)
-  by (inr most) = ap (λ xs. broken_ends v xs (drop n ts)) (drop_of_length-le cs most)
-
-pub claims_end : (v : SpaceValue) (cs : List Claim) (ts : List (List ℕ)) (n : ℕ) (olds firsts : List EndValue)
-    → min (length cs) (length ts) ≤ n → olds ++ broken_ends v (drop n cs) (drop n ts) ≡ firsts → olds ≡ firsts
-claims_end v cs ts n olds firsts past all =
-    sym (append-nil olds) ∙ sym (ap (λ xs. olds ++ xs) (all_told v cs ts n past)) ∙ all
+pub claims_end : (v : SpaceValue) (cs : List Claim) (n : ℕ) (olds firsts : List EndValue) → length cs ≤ n
+    → olds ++ broken_ends v n (drop n cs) ≡ firsts → olds ≡ firsts
+claims_end v cs n olds firsts past all =
+    sym (append-nil olds) ∙ sym (ap (λ xs. olds ++ broken_ends v n xs) (drop_of_length-le cs past)) ∙ all
 
 -- a claim that is broken nowhere, and one that is
-pub broken_nowhere : (v : SpaceValue) (c : Claim) (text places before : List ℕ) (ends : List EndValue)
+pub broken_nowhere : (v : SpaceValue) (index : ℕ) (c : Claim) (places before : List ℕ) (ends : List EndValue)
     → places ≡ broken_places v c → before ≡ broken_before v c
-    → (length places == 0 && length before == 0) ≡ true → ends ≡ ends ++ broken_end_of v c text
-broken_nowhere v c text places before ends here way none =
+    → (length places == 0 && length before == 0) ≡ true → ends ≡ ends ++ broken_end_of v index c
+broken_nowhere v index c places before ends here way none =
     sym (append-nil ends)
-    ∙ ap (λ b. ends ++ cond b [] (broken_end text (broken_places v c) (length (broken_before v c)) ∷ [])) (sym none)
+    ∙ ap (λ b. ends ++ cond b [] (broken_end index (broken_places v c) (length (broken_before v c)) ∷ [])) (sym none)
     ∙ (λ i. ends
     ++ cond (length (here i) == 0 && length (way i) == 0) []
-    (broken_end text (broken_places v c) (length (broken_before v c)) ∷ []))
+    (broken_end index (broken_places v c) (length (broken_before v c)) ∷ []))
 
-pub broken_somewhere : (v : SpaceValue) (c : Claim) (text places before : List ℕ) (ends : List SpaceEnd) (e : SpaceEnd)
-    → places ≡ broken_places v c → before ≡ broken_before v c
+pub broken_somewhere : (v : SpaceValue) (index : ℕ) (c : Claim) (places before : List ℕ) (ends : List SpaceEnd)
+    (e : SpaceEnd) → places ≡ broken_places v c → before ≡ broken_before v c
     → (length places == 0 && length before == 0) ≡ false
-    → value_of e ≡ broken_end text places (length before)
-    → map value_of (ends ++ e ∷ []) ≡ map value_of ends ++ broken_end_of v c text
-broken_somewhere v c text places before ends e here way some is =
+    → value_of e ≡ broken_end index places (length before)
+    → map value_of (ends ++ e ∷ []) ≡ map value_of ends ++ broken_end_of v index c
+broken_somewhere v index c places before ends e here way some is =
     map-append value_of ends (e ∷ [])
     ∙ ap (λ x. map value_of ends ++ x ∷ []) is
-    ∙ ap (λ b. map value_of ends ++ cond b [] (broken_end text places (length before) ∷ [])) (sym some)
+    ∙ ap (λ b. map value_of ends ++ cond b [] (broken_end index places (length before) ∷ [])) (sym some)
     ∙ (λ i. map value_of ends
     ++ cond (length (here i) == 0 && length (way i) == 0) []
-    (broken_end text (here i) (length (way i)) ∷ []))
+    (broken_end index (here i) (length (way i)) ∷ []))

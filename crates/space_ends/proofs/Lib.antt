@@ -1,1 +1,4 @@
 mod Broken
+mod Listing
+mod Keeping
+mod Spins

@@ -1,3 +1,7 @@
--- The steps of a space as links, and the ends of claims that are broken.
+-- The steps of a space as links, the ends of claims that are broken, the ends at which runs end, those that spin, and when
+-- a listed end is as expected.
 pub mod Links
 pub mod BrokenClaims
+pub mod EndsOfSpace
+pub mod Spinning
+pub mod Judging

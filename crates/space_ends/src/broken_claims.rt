@@ -2,6 +2,8 @@
 
 ghost use Rattle.std.specs.Prelude.{◌≡◌, ◌++◌, IfOk, OnOk, length, map};
 ghost use Rattle.space_ends.specs.BrokenClaims.{broken_places, broken_before, broken_end, broken_end_of, broken_ends, value_of};
+ghost use Rattle.space_ends.specs.EndsOfSpace.{ends_in};
+ghost use Rattle.space_ends.specs.Spinning.{spinning_in};
 
 use crate::end_values::{SpaceEnd, SpaceEndKind};
 use crate::every_end::new_end;
@@ -18,8 +20,10 @@ pub(crate) fn add_broken<const S: usize>(
     claims: &[Claim],
     space: &Space<'_>,
 ) -> Result<(), AllocError>
-    ensures { OnOk result (map value_of ends.new.items ≡ map value_of ends.old.items
+    ensures broken { OnOk result (map value_of ends.new.items ≡ map value_of ends.old.items
         ++ broken_ends space.now 0 claims.now) }
+    ensures ends { OnOk result (ends_in ends.new.items ≡ ends_in ends.old.items) }
+    ensures spinning { OnOk result (spinning_in ends.new.items ≡ spinning_in ends.old.items) }
 {
     for index in 0..claims.len() {
         add_if_broken::<S>(alloc, ends, index, &claims[index], space)?;
@@ -35,8 +39,10 @@ fn add_if_broken<const S: usize>(
     claim: &Claim,
     space: &Space<'_>,
 ) -> Result<(), AllocError>
-    ensures { OnOk result (map value_of ends.new.items ≡ map value_of ends.old.items
+    ensures broken { OnOk result (map value_of ends.new.items ≡ map value_of ends.old.items
         ++ broken_end_of space.now index claim.now) }
+    ensures ends { OnOk result (ends_in ends.new.items ≡ ends_in ends.old.items) }
+    ensures spinning { OnOk result (spinning_in ends.new.items ≡ spinning_in ends.old.items) }
 {
     let places = places_that_break::<S>(alloc, claim, space)?;
     let before = breaks_before::<S>(alloc, claim, space)?;

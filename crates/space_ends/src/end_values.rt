@@ -1,6 +1,7 @@
 //! What is known of the ends of all schedules.
 
-ghost use Rattle.std.specs.Prelude.{◌≡◌};
+ghost use Rattle.std.specs.Prelude.{◌≡◌, IsTrue};
+ghost use Rattle.space_ends.specs.Judging.{is_end_kind, judgement_of, expected_end, end_status};
 
 use crate::going::{Going, GoingStream};
 use end_kinds::{EndKind, Status};
@@ -40,9 +41,21 @@ impl SpaceEndKind {
     }
 
     /// Whether they are ends, or worlds from which none can be reached: not worlds that break a claim.
-    pub fn is_end(self) -> bool {
+    pub fn is_end(self) -> bool
+        ensures { result ≡ is_end_kind self }
+    {
         match self {
             SpaceEndKind::End(_) => true,
+            SpaceEndKind::Broken { .. } | SpaceEndKind::Busy => false,
+        }
+    }
+
+    /// Whether they are ends of a kind.
+    pub(crate) fn is_end_of(self, kind: EndKind) -> bool
+        ensures { IsTrue result → self ≡ SpaceEndKind.End kind }
+    {
+        match self {
+            SpaceEndKind::End(found) => found == kind,
             SpaceEndKind::Broken { .. } | SpaceEndKind::Busy => false,
         }
     }
@@ -83,7 +96,9 @@ pub struct SpaceEnd {
 
 impl SpaceEnd {
     /// How the end is judged; None of worlds that break a claim.
-    pub fn judgement(&self) -> Option<EndJudgement> {
+    pub fn judgement(&self) -> Option<EndJudgement>
+        ensures { result ≡ judgement_of self.now }
+    {
         match self.kind {
             SpaceEndKind::End(kind) => Some(EndJudgement {
                 kind,
@@ -96,7 +111,9 @@ impl SpaceEnd {
     }
 
     /// Whether it is as expected. Worlds that break a claim never are.
-    pub fn is_expected(&self) -> bool {
+    pub fn is_expected(&self) -> bool
+        ensures { result ≡ expected_end self.now }
+    {
         match self.judgement() {
             Some(judgement) => judgement.is_expected(),
             None => false,
@@ -104,7 +121,9 @@ impl SpaceEnd {
     }
 
     /// What it means for the exit status.
-    pub fn status(&self) -> Status {
+    pub fn status(&self) -> Status
+        ensures { result ≡ end_status self.now }
+    {
         match self.judgement() {
             Some(judgement) => judgement.status(),
             None => Status::Unexpected,

@@ -1,7 +1,10 @@
 //! The ends of a space.
 
-ghost use Rattle.std.specs.Prelude.{◌≡◌, IfOk, OnOk, map};
+ghost use Rattle.std.specs.Prelude.{◌≡◌, ◌<◌, [], IfOk, OnOk, IsTrue, IsFalse, map};
+ghost use Rattle.schedule_space.specs.Spaces.{count, schedule_of};
 ghost use Rattle.space_ends.specs.BrokenClaims.{value_of, HasBrokenEnds};
+ghost use Rattle.space_ends.specs.EndsOfSpace.{listed_of, listed_at, ends_in, AreEndsOf};
+ghost use Rattle.space_ends.specs.Spinning.{spinning_in, AreSpinning};
 
 use crate::broken_claims::add_broken;
 use crate::busy_ends::busy_end;
@@ -13,6 +16,7 @@ use busy_streams::Busy;
 use claims::Claim;
 use end_states::EndState;
 use expectations::Expectation;
+use processor::Step;
 use schedule_space::Space;
 use seed_verdicts::first_broken;
 use std::alloc::{AllocError, Global};
@@ -36,18 +40,54 @@ pub fn space_ends<const S: usize>(
     is_complete: bool,
     busy: Option<Busy>,
 ) -> Result<Vec<SpaceEnd>, AllocError>
+    ensures ends { IfOk result (λ ends. AreEndsOf space.now judged_by.expected.now (ends_in ends.items)) }
+    ensures spinning { IfOk result (λ ends. IsTrue is_complete → AreSpinning space.now (spinning_in ends.items)) }
+    ensures unknown { IfOk result (λ ends. IsFalse is_complete → spinning_in ends.items ≡ []) }
     ensures broken { IfOk result (λ ends. HasBrokenEnds space.now judged_by.claims.now (map value_of ends.items)) }
 {
-    let mut ends = place_ends::<S>(alloc, judged_by.expected, space)?;
-    if is_complete {
-        add_spinning::<S>(alloc, &mut ends, judged_by.expected, space)?;
-    }
-    if let Some(busy) = busy {
-        ends.push(busy_end(alloc, space, busy)?)?;
-    }
+    let mut ends = unbroken_ends::<S>(alloc, judged_by.expected, space, is_complete)?;
+    add_busy(alloc, &mut ends, space, busy)?;
     add_broken::<S>(alloc, &mut ends, judged_by.claims, space)?;
     add_more::<S>(alloc, &mut ends, judged_by.claims, space)?;
     Ok(ends)
+}
+
+/// The ends that are places of a space, and where the space is complete, the sets of worlds that spin.
+fn unbroken_ends<const S: usize>(
+    alloc: Global,
+    expected: &[Expectation],
+    space: &Space<'_>,
+    is_complete: bool,
+) -> Result<Vec<SpaceEnd>, AllocError>
+    ensures ends { IfOk result (λ ends. AreEndsOf space.now expected.now (ends_in ends.items)) }
+    ensures spinning { IfOk result (λ ends. IsTrue is_complete → AreSpinning space.now (spinning_in ends.items)) }
+    ensures unknown { IfOk result (λ ends. IsFalse is_complete → spinning_in ends.items ≡ []) }
+{
+    let mut ends = place_ends::<S>(alloc, expected, space)?;
+    if !is_complete {
+        return Ok(ends);
+    }
+    add_spinning::<S>(alloc, &mut ends, expected, space)?;
+    Ok(ends)
+}
+
+/// Adds the world from which a stream loops alone, if one is given.
+fn add_busy(
+    alloc: Global,
+    ends: &mut Vec<SpaceEnd>,
+    space: &Space<'_>,
+    busy: Option<Busy>,
+) -> Result<(), AllocError>
+    ensures ends { OnOk result (ends_in ends.new.items ≡ ends_in ends.old.items) }
+    ensures spinning { OnOk result (spinning_in ends.new.items ≡ spinning_in ends.old.items) }
+{
+    match busy {
+        Some(busy) => {
+            ends.push(busy_end(alloc, space, busy)?)?;
+            Ok(())
+        }
+        None => Ok(()),
+    }
 }
 
 /// Writes to each end from how many worlds some schedule leads there, and the first claim that is broken on its way.
@@ -57,7 +97,8 @@ fn add_more<const S: usize>(
     claims: &[Claim],
     space: &Space<'_>,
 ) -> Result<(), AllocError>
-    ensures { OnOk result (map value_of ends.new ≡ map value_of ends.old) }
+    ensures values { OnOk result (map value_of ends.new ≡ map value_of ends.old) }
+    ensures listed { OnOk result (map listed_of ends.new ≡ map listed_of ends.old) }
 {
     let sources = sources_of(alloc, space, ends)?;
     for (index, end) in ends.iter_mut().enumerate() {
@@ -73,7 +114,7 @@ fn add_more<const S: usize>(
 fn broken_on_way<const S: usize>(
     alloc: Global,
     space: &Space<'_>,
-    schedule: &[processor::Step],
+    schedule: &[Step],
     claims: &[Claim],
 ) -> Result<Option<usize>, AllocError> {
     match first_broken::<S>(alloc, space.image(), schedule, claims) {
@@ -91,13 +132,12 @@ pub(crate) fn new_end(
     state: EndState,
 ) -> Result<SpaceEnd, AllocError>
     ensures kind { IfOk result (λ e. e.kind ≡ kind) }
+    ensures listed { IfOk result (λ e. place < count space.now
+        → listed_of e ≡ listed_at kind place (schedule_of space.now place)) }
 {
     let mut places = Vec::new(alloc);
     places.push(place)?;
-    let mut schedule = Vec::new(alloc);
-    if place < space.len() {
-        schedule = space.schedule(alloc, place)?;
-    }
+    let schedule = schedule_to(alloc, space, place)?;
     Ok(SpaceEnd {
         kind,
         missed: None,
@@ -113,4 +153,15 @@ pub(crate) fn new_end(
         going: Vec::new(alloc),
         changing: Vec::new(alloc),
     })
+}
+
+/// The schedule that leads to the world at a place, empty if there is none.
+fn schedule_to(alloc: Global, space: &Space<'_>, place: usize) -> Result<Vec<Step>, AllocError>
+    ensures { IfOk result (λ v. place < count space.now → v.items ≡ schedule_of space.now place) }
+{
+    if place < space.len() {
+        space.schedule(alloc, place)
+    } else {
+        Ok(Vec::new(alloc))
+    }
 }

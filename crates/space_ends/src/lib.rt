@@ -12,6 +12,8 @@ mod links;
 mod place_ends;
 mod sources;
 mod spinning;
+mod spinning_lines;
+mod spinning_sets;
 
 pub use end_values::{SpaceEnd, SpaceEndKind};
 pub use every_end::{JudgedBy, space_ends};

@@ -1,8 +1,15 @@
 //! The ends that are places of a space, those of one line together.
 
+ghost use Rattle.std.specs.Prelude.{◌≡◌, ℕ, ◌+◌, ◌<◌, [], length, map, slice_index_or, IfOk, IfSome, OnOk, IsTrue};
+ghost use Rattle.schedule_space.specs.Fates.{is_end};
+ghost use Rattle.schedule_space.specs.Spaces.{count, world_of, schedule_of};
+ghost use Rattle.schedule_space.specs.Reaching.{IsEnd};
+ghost use Rattle.space_ends.specs.EndsOfSpace.{listed_of, ends_in, with_place, first_listed, AreEndsBefore, AreEndsOf, IsJudgedSo};
+ghost use Rattle.space_ends.specs.Spinning.{spinning_in};
+
 use crate::end_values::{SpaceEnd, SpaceEndKind};
 use crate::every_end::new_end;
-use end_states::{JudgedEnd, judged_end};
+use end_states::{EndJudgement, JudgedEnd, judged_end};
 use expectations::Expectation;
 use schedule_space::{Fate, Space, machine_at};
 use std::alloc::{AllocError, Global};
@@ -13,14 +20,27 @@ pub(crate) fn place_ends<const S: usize>(
     alloc: Global,
     expected: &[Expectation],
     space: &Space<'_>,
-) -> Result<Vec<SpaceEnd>, AllocError> {
+) -> Result<Vec<SpaceEnd>, AllocError>
+    ensures ends { IfOk result (λ v. AreEndsOf space.now expected.now (ends_in v.items)) }
+    ensures spinning { IfOk result (λ v. spinning_in v.items ≡ []) }
+{
     let mut ends = Vec::new(alloc);
     for place in 0..space.len() {
-        if space.fate(place) != Fate::GoesOn {
+        if is_end(space.fate(place)) {
             add_place::<S>(alloc, &mut ends, expected, space, place)?;
         }
     }
     Ok(ends)
+}
+
+/// Whether nothing goes on from a world of this fate.
+fn is_end(fate: Fate) -> bool
+    ensures { result ≡ is_end fate }
+{
+    match fate {
+        Fate::Finished | Fate::Deadlock => true,
+        Fate::GoesOn => false,
+    }
 }
 
 /// Adds the end at a place.
@@ -30,32 +50,61 @@ fn add_place<const S: usize>(
     expected: &[Expectation],
     space: &Space<'_>,
     place: usize,
-) -> Result<(), AllocError> {
+) -> Result<(), AllocError>
+    ensures { OnOk result (place < count space.now → IsEnd space.now.image (world_of space.now place)
+        → AreEndsBefore space.now expected.now place (map listed_of ends.old.items)
+        → AreEndsBefore space.now expected.now (place + 1) (map listed_of ends.new.items)) }
+{
     let machine = machine_at::<S>(alloc, space, place)?;
     let judged = judged_end(alloc, &machine, expected)?;
     match index_of(ends, &judged) {
         Some(index) => {
-            let end = &mut ends[index];
-            end.sets = end.sets.saturating_add(1);
-            Ok(end.places.push(place)?)
+            push_place(&mut ends[index], place)?;
+            Ok(())
         }
-        None => Ok(ends.push(first_of_line(alloc, space, place, judged)?)?),
+        None => {
+            ends.push(first_of_line(alloc, space, place, judged)?)?;
+            Ok(())
+        }
     }
 }
 
+/// Adds a place to an end of its line.
+fn push_place(end: &mut SpaceEnd, place: usize) -> Result<(), AllocError>
+    ensures { OnOk result (listed_of end.new ≡ with_place (listed_of end.old) place) }
+{
+    end.sets = end.sets.saturating_add(1);
+    end.places.push(place)?;
+    Ok(())
+}
+
 /// The index of the end of whose line another one is.
-fn index_of(ends: &[SpaceEnd], judged: &JudgedEnd) -> Option<usize> {
-    ends.iter()
-        .position(|end: &SpaceEnd| is_of_line(end, judged))
+fn index_of(ends: &[SpaceEnd], judged: &JudgedEnd) -> Option<usize>
+    ensures { IfSome result (λ i. (i < length ends.now)
+        × ((d : SpaceEnd) → IsJudgedSo (listed_of (slice_index_or ends.now i d)) judged.now.judgement)) }
+{
+    for (index, end) in ends.iter().enumerate() {
+        if is_of_line(end, judged) {
+            return Some(index);
+        }
+    }
+    None
 }
 
 /// Whether an end that was judged is of the same line as a listed one.
-fn is_of_line(end: &SpaceEnd, judged: &JudgedEnd) -> bool {
-    let judgement = judged.judgement;
-    end.kind == SpaceEndKind::End(judgement.kind)
+fn is_of_line(end: &SpaceEnd, judged: &JudgedEnd) -> bool
+    ensures { IsTrue result → IsJudgedSo (listed_of end.now) judged.now.judgement }
+{
+    is_judged_so(end, judged.judgement) && end.state == judged.state
+}
+
+/// Whether a listed end is judged so.
+fn is_judged_so(end: &SpaceEnd, judgement: EndJudgement) -> bool
+    ensures { IsTrue result → IsJudgedSo (listed_of end.now) judgement }
+{
+    end.kind.is_end_of(judgement.kind)
         && end.missed == judgement.missed
         && end.is_trapped == judgement.is_trapped
-        && end.state == judged.state
 }
 
 /// The end at a place, the first of its line.
@@ -64,7 +113,10 @@ fn first_of_line(
     space: &Space<'_>,
     place: usize,
     judged: JudgedEnd,
-) -> Result<SpaceEnd, AllocError> {
+) -> Result<SpaceEnd, AllocError>
+    ensures { IfOk result (λ e. place < count space.now
+        → listed_of e ≡ first_listed judged.judgement place (schedule_of space.now place)) }
+{
     let JudgedEnd { judgement, state } = judged;
     let kind = SpaceEndKind::End(judgement.kind);
     let mut end = new_end(alloc, space, place, kind, state)?;

@@ -3,9 +3,9 @@ use Rattle.std.specs.Prelude.{not}
 use Rattle.claims.specs.Holding.{holds}
 use Rattle.schedule_space.specs.Spaces.{world_of}
 use Rattle.machine.specs.MachineValue.{MachineValue}
-use Rattle.lab_ends.proofs.Broken.{kept_more, left_more}
-use Rattle.lab_ends.proofs.broken_claims.places_that_break.Goals as goal
-use Rattle.lab_ends.proofs.broken_claims.places_that_break.Goals.{then-not-holds+in_ok-push, else-not-holds}
+use Rattle.space_ends.proofs.Broken.{kept_more, left_more}
+use Rattle.space_ends.proofs.broken_claims.places_that_break.Goals as goal
+use Rattle.space_ends.proofs.broken_claims.places_that_break.Goals.{then-not-holds+in_ok-push, else-not-holds}
 
 pub loop-place-preserved : goal.loop-place-preserved
 loop-place-preserved g c =
@@ -13,7 +13,7 @@ loop-place-preserved g c =
     let claim = c.args.claim.now in
     let place = c.loop-place.place in
     let found = c.loop-place.places.items in
-    let told : c.holds.result ≡ holds (world_of v place) claim =
+    let found_so : c.holds.result ≡ holds (world_of v place) claim =
     c.holds.ensures ∙ ap (λ (m : MachineValue). holds m.world claim) c.in_ok-machine.ensures in
     elim c.if-not-holds.branch [
       | then-not-holds+in_ok-push w ↦

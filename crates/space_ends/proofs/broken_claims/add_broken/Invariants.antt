@@ -1,0 +1,16 @@
+-- What was added, with what the other claims add, is what all add; the ends at which runs end and those that spin stay.
+use Rattle.std.proofs.Common.{◌≡◌, ◌++◌, map, drop}
+use Rattle.space_ends.specs.BrokenClaims.{broken_ends, value_of}
+use Rattle.space_ends.specs.EndsOfSpace.{ends_in}
+use Rattle.space_ends.specs.Spinning.{spinning_in}
+use Rattle.space_ends.proofs.broken_claims.add_broken.Given as goal
+
+abbrev pub invariant-loop-index : goal.invariant-loop-index
+invariant-loop-index g l =
+    record {
+      broken :
+          map value_of l.ends.items ++ broken_ends l.space l.index (drop l.index l.claims)
+          ≡ map value_of l.initial.ends.items ++ broken_ends l.space 0 l.claims;
+      ends : ends_in l.ends.items ≡ ends_in l.initial.ends.items;
+      spinning : spinning_in l.ends.items ≡ spinning_in l.initial.ends.items;
+    }

@@ -1,0 +1,42 @@
+use Rattle.std.proofs.Common.{◌≡◌, ◌+◌, ◌<◌, ◌∙◌, sym, subst, map, arith, true, false, Vec, Global, rules}
+use Rattle.schedule_space.specs.Spaces.{count, world_of}
+use Rattle.schedule_space.specs.Reaching.{IsEnd}
+use Rattle.space_ends.specs.EndsOfSpace.{listed_of, AreEndsBefore}
+use Rattle.space_ends.specs.declared.end_values.SpaceEnd.{SpaceEnd}
+use Rattle.space_ends.proofs.Listing.{none_yet, passed, all_places, none_spins, fate_ends, fate_goes_on}
+use Rattle.space_ends.proofs.place_ends.place_ends.Goals as goal
+use Rattle.space_ends.proofs.place_ends.place_ends.Goals.{then-is_end+in_ok-add_place, else-is_end}
+
+pub loop-place-init : goal.loop-place-init
+loop-place-init g c = none_yet c.args.space.now c.args.expected.now
+
+pub loop-place-preserved : goal.loop-place-preserved
+loop-place-preserved g c =
+    let v = c.args.space.now in
+    let expected = c.args.expected.now in
+    let place = c.loop-place.place in
+    let w = world_of v place in
+    elim c.if-is_end.branch [
+      | then-is_end+in_ok-add_place b ↦
+          let within : place < count v = first_of (search rules, grind arith) in
+          let ends = fate_ends v.image w c.fate.result c.fate.ensures (sym c.is_end.ensures ∙ b.if-is_end.true) in
+          subst (λ (xs : Vec SpaceEnd Global). AreEndsBefore v expected (place + 1) (map listed_of xs.items))
+          (sym b.ends-is) (b.in_ok-add_place.ensures within ends c.loop-place.invariant)
+      | else-is_end b ↦
+          let never = fate_goes_on v.image w c.fate.result c.fate.ensures (sym c.is_end.ensures ∙ b.if-is_end.false) in
+          subst (λ (xs : Vec SpaceEnd Global). AreEndsBefore v expected (place + 1) (map listed_of xs.items))
+          (sym b.ends-is) (passed v expected place (map listed_of c.loop-place.ends.items) c.loop-place.invariant never)
+    ]
+
+pub returns : goal.returns
+returns g c =
+    let v = c.args.space.now in
+    let all : c.loop-place.place ≡ count v = first_of (search rules, grind arith) in
+    record {
+      ends =
+          all_places v c.args.expected.now c.loop-place.place (map listed_of c.loop-place.ends.items)
+          c.len.ensures.in_order all c.loop-place.invariant;
+      spinning =
+          none_spins v c.args.expected.now c.loop-place.place (map listed_of c.loop-place.ends.items)
+          c.loop-place.invariant;
+    }

@@ -1,0 +1,7 @@
+-- No place so far is marked.
+use Rattle.std.specs.List.{All}
+use Rattle.space_ends.specs.Spinning.{IsUnmarked}
+use Rattle.space_ends.proofs.spinning_sets.places_without_end.Given as goal
+
+abbrev pub invariant-loop-place : goal.invariant-loop-place
+invariant-loop-place l = All (IsUnmarked l.can_end) l.places.items

@@ -1,0 +1,7 @@
+use Rattle.std.proofs.Common.{sym, ◌∙◌}
+use Rattle.space_ends.proofs.Spins.{some_unmarked, none_unmarked}
+use Rattle.space_ends.proofs.spinning_sets.spinning_sets.Goals as goal
+
+pub returns-then-can_all_end-clause-some : goal.returns-then-can_all_end-clause-some
+returns-then-can_all_end-clause-some c = λ some.
+    absurd (none_unmarked c.args.can_end.now (sym c.can_all_end.ensures ∙ c.if-can_all_end.true) some)

@@ -1,0 +1,65 @@
+//! Sets of worlds that spin, those of one line together.
+
+ghost use Rattle.std.specs.Prelude.{◌≡◌, ◌<◌, ◌++◌, List, Bool, length, slice_index_or, IfSome, IsTrue, OnOk};
+ghost use Rattle.std.specs.List.{All};
+ghost use Rattle.space_ends.specs.EndsOfSpace.{ends_in};
+ghost use Rattle.space_ends.specs.Spinning.{spinning_in, IsUnmarked, AreUnmarked};
+
+use crate::end_values::SpaceEnd;
+use crate::spinning::SPINNING;
+use end_kinds::EndKind;
+use std::alloc::AllocError;
+
+/// Adds a set of worlds, to the end of whose line it is.
+pub(crate) fn add_set(ends: &mut Vec<SpaceEnd>, set: SpaceEnd) -> Result<(), AllocError>
+    ensures ends { OnOk result (set.kind ≡ SPINNING → ends_in ends.new.items ≡ ends_in ends.old.items) }
+    ensures some { OnOk result (set.kind ≡ SPINNING → 0 < length (spinning_in ends.new.items)) }
+    ensures each { OnOk result (set.kind ≡ SPINNING → (marks : List Bool) → All (IsUnmarked marks) set.places.items
+        → AreUnmarked marks (spinning_in ends.old.items) → AreUnmarked marks (spinning_in ends.new.items)) }
+{
+    match line_of(ends, &set) {
+        Some(index) => {
+            extend_by(&mut ends[index], &set)?;
+            Ok(())
+        }
+        None => {
+            ends.push(set)?;
+            Ok(())
+        }
+    }
+}
+
+/// Adds the worlds of a set to an end of its line.
+fn extend_by(end: &mut SpaceEnd, set: &SpaceEnd) -> Result<(), AllocError>
+    ensures kind { OnOk result (end.new.kind ≡ end.old.kind) }
+    ensures places { OnOk result (end.new.places.items ≡ end.old.places.items ++ set.now.places.items) }
+{
+    end.sets = end.sets.saturating_add(1);
+    end.places.extend_from_slice(&set.places)?;
+    Ok(())
+}
+
+/// The index of the end of whose line a set is.
+fn line_of(ends: &[SpaceEnd], set: &SpaceEnd) -> Option<usize>
+    ensures { IfSome result (λ i. (i < length ends.now)
+        × ((d : SpaceEnd) → (slice_index_or ends.now i d).kind ≡ SPINNING)) }
+{
+    for (index, end) in ends.iter().enumerate() {
+        if is_of_line(end, set) {
+            return Some(index);
+        }
+    }
+    None
+}
+
+/// Whether a set that spins is of the same line as a listed end.
+fn is_of_line(end: &SpaceEnd, set: &SpaceEnd) -> bool
+    ensures { IsTrue result → end.now.kind ≡ SPINNING }
+{
+    end.kind.is_end_of(EndKind::Spinning)
+        && end.missed == set.missed
+        && end.is_trapped == set.is_trapped
+        && end.state == set.state
+        && end.going == set.going
+        && end.changing == set.changing
+}
