@@ -23,7 +23,7 @@ ROOTS = (
     "whole_runs first_difference",
     # seeds, and verdicts
     "schedule_survey survey", "seed_verdicts first_flaw", "seed_verdicts first_unshown_by_seeds", "schedule_verdicts is_right",
-    "program_searches explore_program", "judgements judged_submission")
+    "space_ends space_ends", "program_searches explore_program", "judgements judged_submission")
 HEADLINE = ("mta_engines one_machine", "memory_lock threaded")
 
 INTRODUCTION = """\

@@ -5,7 +5,7 @@ ghost use Rattle.judgements.specs.Severity.{severity_of};
 
 use end_kinds::Status;
 
-/// What a submission is ("Verdicts", docs/LAB.md).
+/// What a submission is ("Judging a class", docs/LAB_REFERENCE.md).
 #[derive(Clone, Copy, Debug, PartialEq, Eq)]
 pub enum VerdictKind {
     /// It can't be read.
