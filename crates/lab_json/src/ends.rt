@@ -1,10 +1,10 @@
 //! The end of a run.
 
-use crate::changed_words::put_words;
 use crate::fields::{Fields, object_of, put_text};
 use crate::findings::put_findings;
 use crate::streams::{put_streams, stream_value};
 use crate::values::Object;
+use crate::word_changes::put_words;
 use lab_texts::{RunEnd, StoppedStream, wanted_word};
 use machine::Machine;
 use processor::Step;

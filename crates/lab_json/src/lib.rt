@@ -3,7 +3,6 @@
 //! no value is a sentence.
 #![tactic(auto)]
 
-mod changed_words;
 mod differences;
 mod ends;
 mod fields;
@@ -16,6 +15,7 @@ mod steps;
 mod streams;
 mod turns;
 mod values;
+mod word_changes;
 
 pub use differences::{difference_value, parting_value};
 pub use ends::{end_part, end_value};

@@ -1,9 +1,9 @@
 //! What is said of a run beside its steps, where a command tells of many.
 
-use crate::changed_words::put_words;
 use crate::ends::put_end;
 use crate::fields::Fields;
 use crate::findings::put_findings;
+use crate::word_changes::put_words;
 use image_file::Image;
 use image_machines::{by_room, loaded};
 use lab_texts::end_of;

@@ -54,8 +54,9 @@ fn put_word_line(
     style: NumberStyle,
     word: ChangedWord,
 ) {
+    let address = word.address;
     put_word_change(out, names, style, word);
-    names.put_comment(out, word.address);
+    names.put_comment(out, address);
     out.put("\n");
 }
 
@@ -70,9 +71,10 @@ pub fn push_changed_words(
     let mut text = TextWriter::take(out);
     let mut last = None;
     for word in words {
-        put_between(&mut text, names, last, word.address);
+        let address = word.address;
+        put_between(&mut text, names, last, address);
         put_word_change(&mut text, names, style, *word);
-        last = Some(word.address);
+        last = Some(address);
     }
     match last {
         Some(address) if words.len() == 1 => put_remark(&mut text, names, address),
