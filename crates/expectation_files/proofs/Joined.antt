@@ -1,5 +1,5 @@
 -- What lines say, joined.
-use Rattle.std.proofs.Common.{◌≡◌, ℕ, List, [], ◌∷◌, ◌++◌, Option, Some, None, Ok, Err, length, refl, ap, sym, ◌∙◌}
+use Rattle.std.proofs.Common.{◌≡◌, ℕ, List, [], ◌∷◌, ◌++◌, Option, Some, None, Ok, Err, length, refl, ap, sym}
 use Rattle.std.proofs.Common.{append_assoc, append-nil}
 use Rattle.std.specs.Option.{option_or}
 use Rattle.std.proofs.Math.ListN.{replicate}
@@ -7,7 +7,7 @@ use Rattle.expectations.specs.declared.expectation.Expectation.{Expectation}
 use Rattle.program_rules.specs.declared.program_rule.ProgramRule.{ProgramRule}
 use Rattle.expectation_files.specs.Words.{words_on, in_one_line}
 use Rattle.expectation_files.specs.ClaimLines.{ClaimValue}
-use Rattle.expectation_files.specs.Lines.{Nothing, End, Claimed, Rules, NeverBusy}
+use Rattle.expectation_files.specs.Lines.{End, Claimed, Rules, NeverBusy}
 use Rattle.expectation_files.specs.Files.{RequirementsValue, FileSaid, nothing_said, said_on, joined, in_front, texts_of_rules}
 
 or_none : (o : Option ℕ) → option_or o None ≡ o

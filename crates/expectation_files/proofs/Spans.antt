@@ -1,13 +1,11 @@
 -- Where the words of a line stand, piece by piece.
-use Rattle.std.proofs.Common.{◌≡◌, ℕ, ◌+◌, ◌-◌, ◌<◌, ◌≤◌, Bool, true, false, cond, eqb, List, [], ◌∷◌, zero, suc, length, take, drop, Some}
-use Rattle.std.proofs.Common.{filter, min, refl, sym, ap, ◌∙◌, arith, length-take}
-use Rattle.std.specs.List.{slice_get, slice_index_or, position_or_len}
-use Rattle.std.proofs.lemmas.Bool.{eqb-true, eqb-false}
+use Rattle.std.proofs.Common.{◌≡◌, ℕ, ◌+◌, ◌-◌, ◌≤◌, true, false, cond, eqb, List, [], ◌∷◌, zero, suc, length, take, drop}
+use Rattle.std.proofs.Common.{filter, refl, sym, ap, ◌∙◌, arith, length-take}
+use Rattle.std.specs.List.{slice_index_or, position_or_len}
 use Rattle.std.proofs.lemmas.List.{drop-take, take-take}
 use Rattle.text_parts.specs.Pieces.{text_before}
 use Rattle.expectation_files.specs.Words.{is_word, statement}
-use Rattle.expectation_files.specs.WordSpans.{PlacedPiece, placed_from, words_among, span_after, span_of, end_after}
-use Rattle.expectation_files.specs.declared.word_spans.WordSpan.{WordSpan}
+use Rattle.expectation_files.specs.WordSpans.{PlacedPiece, placed_from, words_among, span_after}
 
 -- A piece that is no word.
 
@@ -34,26 +32,18 @@ word_first b p ps some =
     let this : PlacedPiece = record { before = b; bytes = p } in
     ap (λ t. cond t (this ∷ rest) rest) some
 
-span-next : (e k : ℕ) (w : PlacedPiece) (ws : List PlacedPiece) → eqb k 0 ≡ false
+span-next : (e k : ℕ) (w : PlacedPiece) (ws : List PlacedPiece) → (k ≡ 0 → ⊥)
     → span_after (w.before + length w.bytes) ws (k - 1) ≡ span_after e (w ∷ ws) k
-span-next e zero w ws some = absurd (eqb-false 0 0 some refl)
+span-next e zero w ws some = absurd (some refl)
 span-next e (suc k) w ws some =
     let same : suc k - 1 ≡ k = omega arith in ap (λ n. span_after (w.before + length w.bytes) ws n) same
-
--- it has the number
-pub word_here : (e b k : ℕ) (p : List ℕ) (ps : List (List ℕ)) → is_word p ≡ true → eqb k 0 ≡ true
-    → span_after e (words_among (placed_from b (p ∷ ps))) k ≡ record { column = b + 1; width = length p }
-word_here e b k p ps some first =
-    ap (λ ws. span_after e ws k) (word_first b p ps some)
-    ∙ ap (λ n. span_after e (record { before = b; bytes = p } ∷ words_among (placed_from (b + length p + 1) ps)) n)
-    (eqb-true k 0 first)
 
 pub word_counts : (k : ℕ) (p : List ℕ) (ps : List (List ℕ)) → is_word p ≡ true
     → filter is_word (p ∷ ps) ≡ p ∷ filter is_word ps
 word_counts k p ps some = let rest = filter is_word ps in ap (λ t. cond t (p ∷ rest) rest) some
 
 -- it stands before the one that has the number
-pub word_before : (e b k : ℕ) (p : List ℕ) (ps : List (List ℕ)) → is_word p ≡ true → eqb k 0 ≡ false
+pub word_before : (e b k : ℕ) (p : List ℕ) (ps : List (List ℕ)) → is_word p ≡ true → (k ≡ 0 → ⊥)
     → span_after (b + length p) (words_among (placed_from (b + length p + 1) ps)) (k - 1)
     ≡ span_after e (words_among (placed_from b (p ∷ ps))) k
 word_before e b k p ps some later =

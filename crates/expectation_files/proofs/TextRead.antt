@@ -1,5 +1,5 @@
 -- What the lines of a text say, from what was found in the first of them.
-use Rattle.std.proofs.Common.{◌≡◌, ℕ, ◌+◌, List, [], ◌∷◌, Ok, Err, true, false, cond, refl, ap, sym, ◌∙◌}
+use Rattle.std.proofs.Common.{◌≡◌, ℕ, ◌+◌, List, ◌∷◌, Ok, Err, true, false, cond, refl, ap, sym, ◌∙◌}
 use Rattle.text_parts.specs.Pieces.{pieces}
 use Rattle.image_file.specs.ImageValue.{ImageValue}
 use Rattle.expectation_files.specs.Addresses.{Names}

@@ -6,7 +6,7 @@ use Rattle.std.specs.Str.{bytes_eq}
 use Rattle.tag_memory.specs.Storage.{most_memory_words}
 use Rattle.text_parts.specs.Numbers.{up_to}
 use Rattle.text_parts.specs.Pieces.{text_before, text_after}
-use Rattle.text_parts.specs.Reading.{number_of_digits, number_of_text}
+use Rattle.text_parts.specs.Reading.{number_of_text}
 use Rattle.asm_line.specs.Text.{is_first}
 use Rattle.source_places.specs.SourceLabels.{LabelValue}
 use Rattle.source_places.specs.DataNames.{DataNameValue, is_called}

@@ -1,5 +1,5 @@
 -- All faults of a file of expectations.
-use Rattle.std.specs.Prelude.{ℕ, ◌+◌, Bool, true, false, not, List, [], ◌∷◌, ◌++◌, filter, Ok, Err}
+use Rattle.std.specs.Prelude.{ℕ, ◌+◌, Bool, true, not, List, [], ◌∷◌, ◌++◌, filter, Ok, Err}
 use Rattle.std.proofs.Math.ListN.{replicate}
 use Rattle.tag_memory.specs.Cell.{cell_of}
 use Rattle.text_parts.specs.Pieces.{pieces}

@@ -2,7 +2,6 @@
 use Rattle.std.specs.Prelude.{ℕ, Bool, false, if◌then◌else◌, List, [], ◌∷◌, codes, Result, Ok, Err}
 use Rattle.std.specs.Str.{bytes_eq}
 use Rattle.image_file.specs.ImageValue.{ImageValue}
-use Rattle.claims.specs.declared.claim.Scope.{Scope}
 use Rattle.claims.specs.declared.claim.Scope.TheVariants.{Always, Never, Once}
 use Rattle.expectations.specs.declared.expectation.Expectation.{Expectation}
 use Rattle.program_rules.specs.declared.program_rule.ProgramRule.{ProgramRule}

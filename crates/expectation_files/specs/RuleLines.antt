@@ -1,5 +1,5 @@
 -- What a line requires of a program alone.
-use Rattle.std.specs.Prelude.{ℕ, ◌+◌, if◌then◌else◌, List, [], ◌∷◌, ◌++◌, length, codes, Option, Some, None, Result, Ok, Err}
+use Rattle.std.specs.Prelude.{ℕ, ◌+◌, if◌then◌else◌, List, [], ◌∷◌, ◌++◌, length, codes, Option, Some, None, Result, Ok}
 use Rattle.std.specs.Str.{bytes_eq}
 use Rattle.program_rules.specs.Names.{operation_named}
 use Rattle.program_rules.specs.declared.program_rule.ProgramOperation.{ProgramOperation}

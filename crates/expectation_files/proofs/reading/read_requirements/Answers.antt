@@ -1,4 +1,4 @@
-use Rattle.std.proofs.Common.{◌≡◌, ◌+◌, ◌∙◌, ◌≤◌, sym, ap, Ok, Err, arith, rules}
+use Rattle.std.proofs.Common.{◌≡◌, ◌+◌, ◌∙◌, sym, ap, Ok, arith}
 use Rattle.std.specs.Option.{option_copied}
 use Rattle.text_parts.specs.Pieces.{pieces, rest_pieces, rest_length}
 use Rattle.expectation_files.specs.Files.{lines_said, in_front, nothing_said}
