@@ -53,14 +53,14 @@ abbrev pub missed_in : World → List Expectation → Option ℕ
 missed_in w expected = position (λ x. not (is_met w x)) expected
 
 -- A world at which a run ends is judged so.
-pub record IsJudgedAt (v : SpaceValue) (expected : List Expectation) (k : ℕ) (end_kind : EndKind) (missed : Option ℕ)
+pub record IsJudgedAt (v : SpaceValue) (expected : List Expectation) (k : ℕ) (end_kind : EndKind) (first : Option ℕ)
     (is_trapped : Bool) : Type 0 where
   -- a run ends there
   pub ends : IsEnd v.image (world_of v k)
   -- it is an end of this kind
   pub kind : IsKindOf v.image (world_of v k) end_kind
   -- this is the first expectation that it misses
-  pub missed : missed ≡ missed_in (world_of v k) expected
+  pub missed : first ≡ missed_in (world_of v k) expected
   -- no trap is reported exactly where each trap that stopped a stream is expected
   pub traps : IsFalse is_trapped ↔ AreTrapsExpected expected (world_of v k)
 

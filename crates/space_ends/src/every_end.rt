@@ -40,10 +40,10 @@ pub fn space_ends<const S: usize>(
     is_complete: bool,
     busy: Option<Busy>,
 ) -> Result<Vec<SpaceEnd>, AllocError>
-    ensures ends { IfOk result (λ ends. AreEndsOf space.now judged_by.expected.now (ends_in ends.items)) }
+    ensures ends { IfOk result (λ ends. AreEndsOf space.now judged_by.entry.expected.now (ends_in ends.items)) }
     ensures spinning { IfOk result (λ ends. IsTrue is_complete → AreSpinning space.now (spinning_in ends.items)) }
     ensures unknown { IfOk result (λ ends. IsFalse is_complete → spinning_in ends.items ≡ []) }
-    ensures broken { IfOk result (λ ends. HasBrokenEnds space.now judged_by.claims.now (map value_of ends.items)) }
+    ensures broken { IfOk result (λ ends. HasBrokenEnds space.now judged_by.entry.claims.now (map value_of ends.items)) }
 {
     let mut ends = unbroken_ends::<S>(alloc, judged_by.expected, space, is_complete)?;
     add_busy(alloc, &mut ends, space, busy)?;
