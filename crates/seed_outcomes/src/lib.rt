@@ -1,14 +1,18 @@
 //! Ends of the schedules of seeds, counted by what they show and how they are judged.
 #![tactic(auto)]
 
+mod adding;
 mod coverage;
 mod outcomes;
 mod parts;
+mod same_lines;
+mod seed_runs;
+mod statuses;
 mod surveys;
 mod unshown_claims;
-mod world_groups;
 
 pub use coverage::{is_met, is_reported};
-pub use outcomes::{SeedOutcome, worst_status};
+pub use outcomes::SeedOutcome;
+pub use statuses::worst_status;
 pub use surveys::{SurveySeeds, outcomes_of};
 pub use unshown_claims::unshown_by_seeds;

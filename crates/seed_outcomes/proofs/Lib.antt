@@ -1,0 +1,9 @@
+mod Shares
+mod SeedLists
+mod Places
+mod Lines
+mod Added
+mod Surveyed
+mod SeedParts
+mod Answered
+mod EqualTests

@@ -1,0 +1,62 @@
+-- What the run of a seed comes to.
+use Rattle.std.specs.Prelude.{◌≡◌, ◌↔◌, ℕ, List, Option, Some, None, length, not, IsFalse}
+use Rattle.std.specs.List.{position}
+use Rattle.image_file.specs.ImageValue.{ImageValue}
+use Rattle.processor.specs.declared.steps.Step.{Step}
+use Rattle.machine.specs.MachineValue.{MachineValue}
+use Rattle.schedule_makers.specs.Seeds.{rule_of_seed}
+use Rattle.schedule_makers.specs.Made.{IsMade}
+use Rattle.schedule_makers.specs.declared.made.MadeEnd.{MadeEnd}
+use Rattle.end_kinds.specs.Ends.{IsKindOf}
+use Rattle.expectations.specs.Meeting.{is_met}
+use Rattle.expectations.specs.declared.expectation.Expectation.{Expectation}
+use Rattle.claims.specs.declared.claim.Claim.{Claim}
+use Rattle.schedule_verdicts.specs.RightEnds.{AreTrapsExpected}
+use Rattle.schedule_verdicts.specs.KeptClaims.{AreKeptOnTheWay}
+use Rattle.seed_verdicts.specs.Seeds.{loaded}
+use Rattle.seed_verdicts.specs.RunFlaws.{IsFirstBroken}
+use Rattle.end_states.specs.EndStates.{IsEndState}
+use Rattle.end_states.specs.declared.judgements.EndJudgement.{EndJudgement}
+use Rattle.end_states.specs.declared.states.EndState.{EndState}
+use Rattle.seed_outcomes.specs.declared.seed_runs.Surveyed.{Surveyed}
+
+-- a program, what is expected of its ends, what is claimed of all its worlds, how many steps its fair run has, and the most
+-- steps of a run
+pub record SurveyedProgram : Type 0 where
+  pub image : ImageValue
+  pub expected : List Expectation
+  pub claims : List Claim
+  pub fair : ℕ
+  pub most : ℕ
+
+-- what a survey is of
+abbrev pub surveyed_program : Surveyed → SurveyedProgram
+surveyed_program s = record {
+  image = s.image.now;
+  expected = s.required.now.ends.items;
+  claims = s.required.now.claims.items;
+  fair = s.fair_steps;
+  most = s.most;
+}
+
+-- This is the first claim that is broken on the way through a schedule; or none is.
+abbrev pub IsBrokenClaim : ImageValue → List Step → List Claim → Option ℕ → Type 0
+IsBrokenClaim image ts claims None = AreKeptOnTheWay image ts claims
+IsBrokenClaim image ts claims (Some claim) = (taken : ℕ) × IsFirstBroken image ts claims taken claim
+
+-- The run by the schedule that is made by the rule of a seed has so many steps, is judged so, and shows this at its end.
+pub record IsSeedRun (p : SurveyedProgram) (seed steps : ℕ) (j : EndJudgement) (shown : EndState) : Type 0 where
+  pub machine : MachineValue
+  pub schedule : List Step
+  pub end : MadeEnd
+  pub made : IsMade (rule_of_seed seed p.fair) (loaded p.image) machine p.most schedule end
+  pub count : steps ≡ length schedule
+  pub kind : IsKindOf machine.image machine.world j.kind
+  pub missed : j.missed ≡ position (λ x. not (is_met machine.world x)) p.expected
+  pub broken : IsBrokenClaim p.image schedule p.claims j.broken
+  pub trapped : IsFalse j.is_trapped ↔ AreTrapsExpected p.expected machine.world
+  pub state : IsEndState machine shown
+
+-- The run of a seed is judged so and shows this, whatever its number of steps.
+abbrev pub EndsSo : SurveyedProgram → EndJudgement → EndState → ℕ → Type 0
+EndsSo p j shown seed = (steps : ℕ) × IsSeedRun p seed steps j shown
