@@ -22,7 +22,7 @@ ROOTS = (
     "run_findings lost_updates", "run_findings unread_stores", "run_findings torn_reads", "run_findings Findings::of",
     "whole_runs first_difference",
     # seeds, and verdicts
-    "schedule_survey survey", "seed_verdicts first_flaw", "seed_verdicts first_unshown_by_seeds", "schedule_verdicts is_right",
+    "seed_outcomes outcomes_of", "seed_verdicts first_flaw", "seed_verdicts first_unshown_by_seeds", "schedule_verdicts is_right",
     "space_ends space_ends", "program_searches explore_program", "judgements judged_submission")
 HEADLINE = ("mta_engines one_machine", "memory_lock threaded")
 
