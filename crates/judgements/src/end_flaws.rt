@@ -15,7 +15,7 @@ pub enum EndFlaw {
     Trap,
     /// Nobody can go on.
     Deadlock,
-    /// The end is not as expected.
+    /// The end is not as expected. Of a set that spins it is not asked.
     Wrong,
     /// A claim does not hold of some world on the way, or a stream loops alone where none is to.
     Broken,
@@ -43,7 +43,7 @@ impl EndFlaw {
         match self {
             EndFlaw::Trap => end.is_trapped,
             EndFlaw::Deadlock => is_deadlock(end.kind),
-            EndFlaw::Wrong => end.missed.is_some(),
+            EndFlaw::Wrong => end.missed.is_some() && !is_spinning(end.kind),
             EndFlaw::Broken => is_broken(end.kind),
             EndFlaw::Spinning => is_spinning(end.kind),
         }
