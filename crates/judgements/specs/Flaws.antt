@@ -1,5 +1,5 @@
 -- What ends and runs show against a submission.
-use Rattle.std.specs.Prelude.{◌≡◌, ◌&&◌, ℕ, Bool, true, false, not, List, Some, is_some, slice_get}
+use Rattle.std.specs.Prelude.{◌≡◌, ℕ, ◌&&◌, not, Bool, true, false, List, Some, is_some, slice_get}
 use Rattle.end_kinds.specs.declared.kinds.EndKind.{EndKind}
 use Rattle.end_kinds.specs.declared.kinds.EndKind.TheVariants as kind
 use Rattle.space_ends.specs.declared.end_values.SpaceEnd.{SpaceEnd}
@@ -58,7 +58,7 @@ is_broken (space_end.End k) = false
 is_broken (space_end.Broken claim) = true
 is_broken space_end.Busy = true
 
--- whether an end shows a flaw
+-- whether an end shows a flaw; of a set that spins it is not asked which expectation it misses
 abbrev pub shows : EndFlaw → SpaceEnd → Bool
 shows flaw.Trap end = end.is_trapped
 shows flaw.Deadlock end = is_deadlock end.kind

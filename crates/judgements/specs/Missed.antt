@@ -1,6 +1,8 @@
 -- Which line of a file of expectations is not met.
 use Rattle.std.specs.Prelude.{ℕ, List, Option, Some, None, slice_get}
 use Rattle.std.specs.Option.{option_map}
+use Rattle.end_kinds.specs.declared.kinds.EndKind.{EndKind}
+use Rattle.end_kinds.specs.declared.kinds.EndKind.TheVariants as kind
 use Rattle.space_ends.specs.declared.end_values.SpaceEnd.{SpaceEnd}
 use Rattle.space_ends.specs.declared.end_values.SpaceEndKind.{SpaceEndKind}
 use Rattle.space_ends.specs.declared.end_values.SpaceEndKind.TheVariants as space_end
@@ -17,9 +19,17 @@ abbrev pub expectation_at : Option ℕ → Option MissedLine
 expectation_at None = None
 expectation_at (Some place) = Some (line.End place)
 
+-- of an end of this kind the first expectation that it misses; none of a set that spins, which does not end
+abbrev pub missed_at_kind : EndKind → Option ℕ → Option MissedLine
+missed_at_kind kind.Finished missed = expectation_at missed
+missed_at_kind kind.Stopped missed = expectation_at missed
+missed_at_kind kind.Deadlock missed = expectation_at missed
+missed_at_kind kind.Spinning missed = None
+missed_at_kind kind.OutOfSteps missed = expectation_at missed
+
 -- of an end of all schedules: the first expectation that it misses, or the line that its worlds break
 abbrev pub missed_at_end : SpaceEndKind → Option ℕ → Option MissedLine
-missed_at_end (space_end.End kind) missed = expectation_at missed
+missed_at_end (space_end.End k) missed = missed_at_kind k missed
 missed_at_end (space_end.Broken claim) missed = Some (line.Claim claim)
 missed_at_end space_end.Busy missed = Some line.Busy
 

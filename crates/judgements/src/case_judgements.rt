@@ -1,11 +1,11 @@
 //! What is known of a submission by one case.
 
 ghost use Rattle.std.specs.Prelude.{◌≡◌, None, Some};
-ghost use Rattle.judgements.specs.Missed.{missed_at_end, missed_in_run, missed_by};
+ghost use Rattle.judgements.specs.Missed.{expectation_at, missed_at_end, missed_in_run, missed_by};
 
 use crate::knowledge::Known;
 use crate::verdict_kinds::VerdictKind;
-use end_kinds::Status;
+use end_kinds::{EndKind, Status};
 use end_states::JudgedEnd;
 use expectation_files::LineFault;
 use processor::Step;
@@ -174,22 +174,32 @@ fn missed_in(flaw: RunFlaw, missed: Option<usize>) -> Option<MissedLine>
     match flaw {
         RunFlaw::Broken { claim, .. } => Some(MissedLine::Claim(claim)),
         RunFlaw::Trap | RunFlaw::Deadlock | RunFlaw::Missed { .. } | RunFlaw::OutOfSteps => {
-            match missed {
-                Some(place) => Some(MissedLine::End(place)),
-                None => None,
-            }
+            expectation_at(missed)
         }
     }
 }
 
-/// The first line that an end of all schedules misses, or that its worlds break.
+/// The first line that an end of all schedules misses, or that its worlds break; None of a set that spins, which does not
+/// end.
 pub fn line_missed_by(end: &SpaceEnd) -> Option<MissedLine>
     ensures { result ≡ missed_at_end end.now.kind end.now.missed }
 {
-    match (end.kind, end.missed) {
-        (SpaceEndKind::End(_), Some(place)) => Some(MissedLine::End(place)),
-        (SpaceEndKind::End(_), None) => None,
-        (SpaceEndKind::Broken { claim }, _) => Some(MissedLine::Claim(claim)),
-        (SpaceEndKind::Busy, _) => Some(MissedLine::Busy),
+    match end.kind {
+        SpaceEndKind::End(EndKind::Spinning) => None,
+        SpaceEndKind::End(
+            EndKind::Finished | EndKind::Stopped | EndKind::Deadlock | EndKind::OutOfSteps,
+        ) => expectation_at(end.missed),
+        SpaceEndKind::Broken { claim } => Some(MissedLine::Claim(claim)),
+        SpaceEndKind::Busy => Some(MissedLine::Busy),
+    }
+}
+
+/// The expectation at a place, as the line that says it.
+fn expectation_at(missed: Option<usize>) -> Option<MissedLine>
+    ensures { result ≡ expectation_at missed }
+{
+    match missed {
+        Some(place) => Some(MissedLine::End(place)),
+        None => None,
     }
 }

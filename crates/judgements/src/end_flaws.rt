@@ -15,11 +15,11 @@ pub enum EndFlaw {
     Trap,
     /// Nobody can go on.
     Deadlock,
-    /// An end misses what is expected of it.
+    /// The end is not as expected. Of a set that spins it is not asked.
     Wrong,
     /// A claim does not hold of some world on the way, or a stream loops alone where none is to.
     Broken,
-    /// It can go on forever.
+    /// It can go on for ever.
     Spinning,
 }
 
