@@ -20,7 +20,7 @@ pub enum VerdictKind {
     Wrong,
     /// A run has no end within the steps that it may have.
     RanOutOfSteps,
-    /// It can go on for ever.
+    /// It can go on forever.
     Spins,
     /// The search came to its bound and found nothing wrong, and neither did seeds.
     NotDecided,

@@ -2,7 +2,7 @@
 use Rattle.std.proofs.Common.{◌≡◌, ℕ, zero, suc, ◌+◌, ◌<◌, ◌≤◌, Bool, true, false, refl, sym, ap, ◌∙◌, subst, cond, arith}
 use Rattle.std.proofs.Common.{List, [], ◌∷◌, ◌++◌, length, map, get_or, set, inl, inr, Option, length-append}
 use Rattle.std.specs.Prelude.{◌==◌, ◌⊎◌, slice_index}
-use Rattle.std.specs.List.{All, AllPairs, filter, sum_by, count_by}
+use Rattle.std.specs.List.{All, AllPairs, filter, count_by}
 use Rattle.std.proofs.lemmas.Bool.{cases_lt, ne_eqb, eq-eqb}
 use Rattle.std.specs.Prelude.{◌↔◌, IsFalse}
 use Rattle.std.proofs.lemmas.List.{get_or_default, get_or-map, length-map, map-append, map-set}
@@ -42,7 +42,7 @@ none_past [] n k all past = refl
 none_past (j ∷ js) n k all past =
     let below : j < n = all 0 j (omega arith) in
     let other : (j == k) ≡ false = ne_eqb j k (λ same. omega (arith, below, past, same)) in
-    let here : cond (j == k) 1 0 ≡ 0 = ap (λ (b : Bool). cond b 1 0) other in
+    let here : ◌≡◌ {A = ℕ} (cond (j == k) 1 0) 0 = ap (λ (b : Bool). cond b 1 0) other in
     let rest : times k js ≡ 0 = none_past js n k (All-tail (λ i. i < n) j js all) past in
     sum_by-cons (λ i. cond (i == k) 1 0) j js ∙ omega (arith, here, rest)
 
@@ -59,17 +59,17 @@ none_listed v expected n k (e ∷ es) all past =
 once_more : (v : SpaceValue) (expected : List Expectation) (n k total : ℕ) (ends : List ListedEnd)
     → AreEndsBefore v expected n ends → k < n + 1 → IsEnd v.image (world_of v k)
     → total ≡ times_listed k ends + cond (n == k) 1 0 → total ≡ 1
-once_more v expected n k total ends are within is_end sum = by (cases_lt k n) where
+once_more v expected n k total ends are within ends_there sum = by (cases_lt k n) where
   by : (k < n) ⊎ (n ≤ k) → total ≡ 1
   by (inl less) =
-      let before : times_listed k ends ≡ 1 = are.once k less is_end in
+      let before : times_listed k ends ≡ 1 = are.once k less ends_there in
       let other : (n == k) ≡ false = ne_eqb n k (λ same. omega (arith, less, same)) in
-      let here : cond (n == k) 1 0 ≡ 0 = ap (λ (b : Bool). cond b 1 0) other in
+      let here : ◌≡◌ {A = ℕ} (cond (n == k) 1 0) 0 = ap (λ (b : Bool). cond b 1 0) other in
       omega (arith, sum, before, here)
   by (inr most) =
       let before : times_listed k ends ≡ 0 = none_listed v expected n k ends are.each most in
       let same : n ≡ k = omega (arith, most, within) in
-      let here : cond (n == k) 1 0 ≡ 1 = ap (λ (b : Bool). cond b 1 0) (eq-eqb n k same) in
+      let here : ◌≡◌ {A = ℕ} (cond (n == k) 1 0) 1 = ap (λ (b : Bool). cond b 1 0) (eq-eqb n k same) in
       omega (arith, sum, before, here)
 
 -- One listed end.
@@ -140,10 +140,10 @@ passed v expected n ends are never = record {
   each = All-weaker (IsListedEnd v expected n) (IsListedEnd v expected (n + 1)) (later v expected n) ends are.each;
   once = λ k within ends_there.
       elim (cases_lt k n) [
-        | inl less ↦ are.once k less is_end
+        | inl less ↦ are.once k less ends_there
         | inr most ↦
             let same : k ≡ n = omega (arith, most, within) in
-            absurd (never (subst (λ (x : ℕ). IsEnd v.image (world_of v x)) same is_end))
+            absurd (never (subst (λ (x : ℕ). IsEnd v.image (world_of v x)) same ends_there))
       ];
 }
 
@@ -157,7 +157,7 @@ pushed v expected n ends j are judged = record {
       (All-weaker (IsListedEnd v expected n) (IsListedEnd v expected (n + 1)) (later v expected n) ends are.each)
       (started v expected n j judged);
   once = λ k within ends_there.
-      once_more v expected n k _ ends are within is_end
+      once_more v expected n k _ ends are within ends_there
       (sum_by_push (λ (x : ListedEnd). times k x.places) ends (first_listed j n (schedule_of v n)) ∙ omega arith);
 }
 
@@ -177,7 +177,7 @@ placed v expected n ends i e j are below is so judged = record {
       sum_by_push (λ x. cond (x == k) 1 0) e.places n in
       let same : times k (get_or ends i e).places ≡ times k e.places =
       ap (λ (x : ListedEnd). times k x.places) (sym is) in
-      once_more v expected n k _ ends are within is_end (omega (arith, changed, more, same));
+      once_more v expected n k _ ends are within ends_there (omega (arith, changed, more, same));
 }
 
 -- When all places were looked at.
@@ -264,21 +264,21 @@ none_yet v expected = record {
 -- What the code reads.
 
 pub fate_ends : (image : ImageValue) (w : World) (f : Fate) → IsFate image w f → is_end f ≡ true → IsEnd image w
-fate_ends image w fate.Finished is yes = inl is
-fate_ends image w fate.Deadlock is yes = inr is
-fate_ends image w fate.GoesOn is yes = cc
+fate_ends image w fate.Finished is passes = inl is
+fate_ends image w fate.Deadlock is passes = inr is
+fate_ends image w fate.GoesOn is passes = cc
 
 pub fate_goes_on : (image : ImageValue) (w : World) (f : Fate) → IsFate image w f → is_end f ≡ false → ¬ (IsEnd image w)
-fate_goes_on image w fate.Finished is no = absurd (cc)
-fate_goes_on image w fate.Deadlock is no = absurd (cc)
-fate_goes_on image w fate.GoesOn is no = λ ends. elim ends [ inl none ↦ none is.0 | inr still ↦ is.1 still ]
+fate_goes_on image w fate.Finished is fails = absurd (cc)
+fate_goes_on image w fate.Deadlock is fails = absurd (cc)
+fate_goes_on image w fate.GoesOn is fails = λ ends. elim ends [ inl none ↦ none is.0 | inr still ↦ is.1 still ]
 
 pub judged_at : (v : SpaceValue) (expected : List Expectation) (n : ℕ) (m : MachineValue) (j : EndJudgement)
     → m ≡ machine_after v.image (schedule_of v n) → IsEnd v.image (world_of v n) → IsKindOf m.image m.world j.kind
     → j.missed ≡ missed_in m.world expected → (IsFalse j.is_trapped ↔ AreTrapsExpected expected m.world)
     → IsJudgedAt v expected n j.kind j.missed j.is_trapped
-judged_at v expected n m j at is_end kind missed traps = record {
-  ends = is_end;
+judged_at v expected n m j at ends_there kind missed traps = record {
+  ends = ends_there;
   kind = subst (λ (x : MachineValue). IsKindOf x.image x.world j.kind) at kind;
   missed = missed ∙ ap (λ (x : MachineValue). missed_in x.world expected) at;
   traps = subst (λ (x : MachineValue). IsFalse j.is_trapped ↔ AreTrapsExpected expected x.world) at traps;

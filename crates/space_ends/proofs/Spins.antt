@@ -1,7 +1,6 @@
 -- Sets of worlds that spin, and what an added one leaves of the listed ends.
 use Rattle.std.proofs.Common.{◌≡◌, ℕ, zero, suc, ◌<◌, ◌≤◌, Bool, true, false, refl, sym, ap, ◌∙◌, subst, cond, set, arith}
 use Rattle.std.proofs.Common.{List, [], ◌∷◌, ◌++◌, length, get_or, map, inl, inr}
-use Rattle.std.specs.Prelude.{◌⊎◌, IsTrue}
 use Rattle.std.specs.List.{All, filter, list_all}
 use Rattle.std.proofs.lemmas.Bool.{cases_lt}
 use Rattle.std.proofs.lemmas.List.{map-append, map-set, get_or-map, length-map}
@@ -14,7 +13,6 @@ use Rattle.space_ends.specs.EndsOfSpace.{ListedEnd, listed_of, are_ends, ends_in
 use Rattle.space_ends.specs.Spinning.{are_spinning, spinning_in, SpinsAt, SaysWhatCanEnd, AreSpinning, IsUnmarked}
 use Rattle.space_ends.specs.Spinning.{SomeUnmarked, AreUnmarked}
 use Rattle.space_ends.specs.declared.end_values.SpaceEnd.{SpaceEnd}
-use Rattle.space_ends.specs.declared.end_values.SpaceEndKind.{SpaceEndKind}
 use Rattle.space_ends.proofs.Keeping.{kept_set}
 
 -- Marks.
@@ -60,12 +58,12 @@ all_kept_set P test (x ∷ xs) (suc i) y all here =
 
 found_in : (P : ListedEnd → Type 0) (test : ListedEnd → Bool) (xs : List ListedEnd) (i : ℕ) (d : ListedEnd)
     → All P (filter test xs) → i < length xs → test (get_or xs i d) ≡ true → P (get_or xs i d)
-found_in P test [] i d all below yes = absurd (omega (arith, below))
-found_in P test (x ∷ xs) zero d all below yes =
+found_in P test [] i d all below passes = absurd (omega (arith, below))
+found_in P test (x ∷ xs) zero d all below passes =
     All-head P x (filter test xs)
-    (subst (λ (b : Bool). All P (cond b (x ∷ filter test xs) (filter test xs))) yes all)
-found_in P test (x ∷ xs) (suc i) d all below yes =
-    found_in P test xs i d (tail_all P (test x) x (filter test xs) all) (omega (arith, below)) yes
+    (subst (λ (b : Bool). All P (cond b (x ∷ filter test xs) (filter test xs))) passes all)
+found_in P test (x ∷ xs) (suc i) d all below passes =
+    found_in P test xs i d (tail_all P (test x) x (filter test xs) all) (omega (arith, below)) passes
 
 longer : (b : Bool) (x : ListedEnd) (xs : List ListedEnd) → 0 < length xs → 0 < length (cond b (x ∷ xs) xs)
 longer true x xs some = omega arith
@@ -73,17 +71,17 @@ longer false x xs some = some
 
 some_kept_set : (test : ListedEnd → Bool) (xs : List ListedEnd) (i : ℕ) (y : ListedEnd) → test y ≡ true
     → i < length xs → 0 < length (filter test (set xs i y))
-some_kept_set test [] i y yes below = absurd (omega (arith, below))
-some_kept_set test (x ∷ xs) zero y yes below =
+some_kept_set test [] i y passes below = absurd (omega (arith, below))
+some_kept_set test (x ∷ xs) zero y passes below =
     let some : 0 < length (y ∷ filter test xs) = omega arith in
-    subst (λ (b : Bool). 0 < length (cond b (y ∷ filter test xs) (filter test xs))) (sym yes) some
-some_kept_set test (x ∷ xs) (suc i) y yes below =
-    longer (test x) x (filter test (set xs i y)) (some_kept_set test xs i y yes (omega (arith, below)))
+    subst (λ (b : Bool). 0 < length (cond b (y ∷ filter test xs) (filter test xs))) (sym passes) some
+some_kept_set test (x ∷ xs) (suc i) y passes below =
+    longer (test x) x (filter test (set xs i y)) (some_kept_set test xs i y passes (omega (arith, below)))
 
 pushed_kept : (test : ListedEnd → Bool) (xs : List ListedEnd) (y : ListedEnd) → test y ≡ true
     → filter test (xs ++ y ∷ []) ≡ filter test xs ++ y ∷ []
-pushed_kept test xs y yes =
-    filter-append test xs (y ∷ []) ∙ ap (λ (b : Bool). filter test xs ++ cond b (y ∷ []) []) yes
+pushed_kept test xs y passes =
+    filter-append test xs (y ∷ []) ∙ ap (λ (b : Bool). filter test xs ++ cond b (y ∷ []) []) passes
 
 -- A set that spins, added to the end of its line or as a new one.
 
@@ -166,7 +164,7 @@ pub record AreReachMarks (v : SpaceValue) (marks : List Bool) : Type 0 where
   pub followed : AllFollowed v → (k : ℕ) → k < count v → CanEnd v.image (world_of v k) → IsMarked marks k
 
 not_both : (b : Bool) → b ≡ true → b ≡ false → ⊥
-not_both b yes no = let e : true ≡ false = sym yes ∙ no in absurd (cc)
+not_both b passes fails = let e : true ≡ false = sym passes ∙ fails in absurd (cc)
 
 unmarked_or : (b : Bool) → ¬ (b ≡ true) → b ≡ false
 unmarked_or true never = absurd (never refl)
@@ -175,19 +173,19 @@ unmarked_or false never = refl
 spins_unmarked : (v : SpaceValue) (marks : List Bool) (k : ℕ) → AreReachMarks v marks → SpinsAt v k → IsUnmarked marks k
 spins_unmarked v marks k are spins = record {
   within = let long = are.each in omega (arith, long, spins.within);
-  is = unmarked_or (get_or marks k false) (λ yes. spins.never (are.reach k spins.within yes));
+  is = unmarked_or (get_or marks k false) (λ passes. spins.never (are.reach k spins.within passes));
 }
 
 unmarked_spins : (v : SpaceValue) (marks : List Bool) (k : ℕ) → AreReachMarks v marks → SaysWhatCanEnd v
     → IsUnmarked marks k → SpinsAt v k
-unmarked_spins v marks k are says no =
-    let within : k < count v = let long = are.each in omega (arith, long, no.within) in
+unmarked_spins v marks k are says fails =
+    let within : k < count v = let long = are.each in omega (arith, long, fails.within) in
     record {
       within = within;
       never = λ can.
           elim says [
-            | inl whole ↦ not_both (get_or marks k false) (are.all whole.0 whole.1 k within can) no.is
-            | inr all ↦ not_both (get_or marks k false) (are.followed all k within can) no.is
+            | inl whole ↦ not_both (get_or marks k false) (are.all whole.0 whole.1 k within can) fails.is
+            | inr all ↦ not_both (get_or marks k false) (are.followed all k within can) fails.is
           ];
     }
 
@@ -202,7 +200,7 @@ all_spinning v marks ends are some only each = record {
   each = λ says.
       All-weaker (λ (e : ListedEnd). All (IsUnmarked marks) e.places) (λ (e : ListedEnd). All (SpinsAt v) e.places)
       (λ e all.
-      All-weaker (IsUnmarked marks) (SpinsAt v) (λ k no. unmarked_spins v marks k are says no) e.places all)
+      All-weaker (IsUnmarked marks) (SpinsAt v) (λ k fails. unmarked_spins v marks k are says fails) e.places all)
       ends each;
 }
 

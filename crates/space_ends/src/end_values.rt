@@ -61,7 +61,7 @@ impl SpaceEndKind {
     }
 }
 
-/// Ends of one line: they agree in their kind, in who waits, was stopped or goes on for ever, in the words that changed, and
+/// Ends of one line: they agree in their kind, in who waits, was stopped or goes on forever, in the words that changed, and
 /// in the first expectation that they miss. Or the worlds of the space that break a claim.
 #[derive(Drop)]
 pub struct SpaceEnd {

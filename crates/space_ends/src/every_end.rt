@@ -16,6 +16,7 @@ use busy_streams::Busy;
 use claims::Claim;
 use end_states::EndState;
 use expectations::Expectation;
+use machine::LoadFault;
 use processor::Step;
 use schedule_space::Space;
 use seed_verdicts::first_broken;
@@ -103,23 +104,24 @@ fn add_more<const S: usize>(
     let sources = sources_of(alloc, space, ends)?;
     for (index, end) in ends.iter_mut().enumerate() {
         end.sources = sources.get(index).copied().unwrap_or(0);
-        if end.kind.is_end() && !claims.is_empty() {
-            end.broken = broken_on_way::<S>(alloc, space, &end.schedule, claims)?;
-        }
+        end.broken = broken_on_way::<S>(alloc, space, end, claims)?;
     }
     Ok(())
 }
 
-/// The place of the first claim that is broken on the way through a schedule.
+/// The place of the first claim that is broken on the way through the schedule of an end; of worlds that break one, that one.
 fn broken_on_way<const S: usize>(
     alloc: Global,
     space: &Space<'_>,
-    schedule: &[Step],
+    end: &SpaceEnd,
     claims: &[Claim],
 ) -> Result<Option<usize>, AllocError> {
-    match first_broken::<S>(alloc, space.image(), schedule, claims) {
+    if !end.kind.is_end() || claims.is_empty() {
+        return Ok(end.broken);
+    }
+    match first_broken::<S>(alloc, space.image(), &end.schedule, claims) {
         Ok(broken) => Ok(broken.map(|broken| broken.claim)),
-        Err(_) => Err(AllocError),
+        Err(LoadFault::NoMemory | LoadFault::Streams) => Err(AllocError),
     }
 }
 

@@ -1,4 +1,4 @@
-//! Endless loops: terminal components of worlds, which no step leads out of, and in which it goes on for ever.
+//! Endless loops: terminal components of worlds, which no step leads out of, and in which it goes on forever.
 
 ghost use Rattle.std.specs.Prelude.{◌≡◌, [], IfOk, OnOk};
 ghost use Rattle.space_ends.specs.EndsOfSpace.{ends_in};

@@ -51,11 +51,30 @@ fn places_of_sets(
     let mut rank_of = vec![in alloc; None; roots.len()]?;
     let mut sets = Vec::new(alloc);
     for place in 0..can_end.len() {
-        if !can_end[place] {
-            add_rooted(alloc, &mut rank_of, &mut sets, root_at(roots, place), place)?;
-        }
+        let root = root_at(roots, place);
+        add_if_unmarked(alloc, can_end, &mut rank_of, &mut sets, root, place)?;
     }
     Ok(sets)
+}
+
+/// Adds a place to the set with this first place, if no end can be reached from it.
+fn add_if_unmarked(
+    alloc: Global,
+    can_end: &[bool],
+    rank_of: &mut [Option<usize>],
+    sets: &mut Vec<Vec<usize>>,
+    root: Option<usize>,
+    place: usize,
+) -> Result<(), AllocError>
+    requires { place < length can_end.now }
+    ensures { OnOk result (All (λ set. All (IsUnmarked can_end.now) set.items) sets.old.items
+        → All (λ set. All (IsUnmarked can_end.now) set.items) sets.new.items) }
+{
+    if can_end[place] {
+        return Ok(());
+    }
+    add_rooted(alloc, rank_of, sets, root, place)?;
+    Ok(())
 }
 
 /// The first place of the set in which a place is, if it is in one.

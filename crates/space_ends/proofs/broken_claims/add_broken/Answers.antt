@@ -1,4 +1,4 @@
-use Rattle.std.proofs.Common.{refl, ◌∙◌, ◌<◌, ◌≤◌, length, map, arith, rules}
+use Rattle.std.proofs.Common.{◌∙◌, ◌<◌, ◌≤◌, length, map, arith, rules}
 use Rattle.space_ends.specs.BrokenClaims.{value_of}
 use Rattle.space_ends.proofs.Broken.{claim_more, claims_end}
 use Rattle.space_ends.proofs.broken_claims.add_broken.Goals as goal

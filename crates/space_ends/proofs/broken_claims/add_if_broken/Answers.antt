@@ -1,16 +1,18 @@
-use Rattle.std.proofs.Common.{ap}
+use Rattle.std.proofs.Common.{ap, ◌∙◌}
 use Rattle.space_ends.specs.BrokenClaims.{EndValue}
-use Rattle.space_ends.specs.EndsOfSpace.{are_ends}
-use Rattle.space_ends.specs.Spinning.{are_spinning}
+use Rattle.space_ends.specs.EndsOfSpace.{are_ends, ends_in}
+use Rattle.space_ends.specs.Spinning.{are_spinning, spinning_in}
 use Rattle.space_ends.proofs.Keeping.{ends_push, spinning_push}
 use Rattle.space_ends.proofs.broken_claims.add_if_broken.Goals as goal
 
 pub returns-clause-ends : goal.returns-clause-ends
 returns-clause-ends g c =
-    ends_push c.args.ends.now.items _
+    ap ends_in c.in_ok-push.ensures.items
+    ∙ ends_push c.args.ends.now.items c.in_ok-end_that_is_broken.field-0
     (ap (λ (x : EndValue). are_ends x.kind) c.in_ok-end_that_is_broken.ensures)
 
 pub returns-clause-spinning : goal.returns-clause-spinning
 returns-clause-spinning g c =
-    spinning_push c.args.ends.now.items _
+    ap spinning_in c.in_ok-push.ensures.items
+    ∙ spinning_push c.args.ends.now.items c.in_ok-end_that_is_broken.field-0
     (ap (λ (x : EndValue). are_spinning x.kind) c.in_ok-end_that_is_broken.ensures)

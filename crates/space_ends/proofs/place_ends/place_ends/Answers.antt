@@ -1,6 +1,5 @@
-use Rattle.std.proofs.Common.{◌≡◌, ◌+◌, ◌<◌, ◌∙◌, sym, subst, map, arith, true, false, Vec, Global, rules}
+use Rattle.std.proofs.Common.{◌≡◌, ◌+◌, ◌<◌, ◌∙◌, sym, subst, map, arith, List, Vec, Global, rules}
 use Rattle.schedule_space.specs.Spaces.{count, world_of}
-use Rattle.schedule_space.specs.Reaching.{IsEnd}
 use Rattle.space_ends.specs.EndsOfSpace.{listed_of, AreEndsBefore}
 use Rattle.space_ends.specs.declared.end_values.SpaceEnd.{SpaceEnd}
 use Rattle.space_ends.proofs.Listing.{none_yet, passed, all_places, none_spins, fate_ends, fate_goes_on}
@@ -8,7 +7,9 @@ use Rattle.space_ends.proofs.place_ends.place_ends.Goals as goal
 use Rattle.space_ends.proofs.place_ends.place_ends.Goals.{then-is_end+in_ok-add_place, else-is_end}
 
 pub loop-place-init : goal.loop-place-init
-loop-place-init g c = none_yet c.args.space.now c.args.expected.now
+loop-place-init g c =
+    subst (λ (xs : List SpaceEnd). AreEndsBefore c.args.space.now c.args.expected.now 0 (map listed_of xs))
+    (sym c.new-ends.ensures.items) (none_yet c.args.space.now c.args.expected.now)
 
 pub loop-place-preserved : goal.loop-place-preserved
 loop-place-preserved g c =
@@ -35,7 +36,7 @@ returns g c =
     record {
       ends =
           all_places v c.args.expected.now c.loop-place.place (map listed_of c.loop-place.ends.items)
-          c.len.ensures.in_order all c.loop-place.invariant;
+          c.len-place-end.ensures.in_order all c.loop-place.invariant;
       spinning =
           none_spins v c.args.expected.now c.loop-place.place (map listed_of c.loop-place.ends.items)
           c.loop-place.invariant;

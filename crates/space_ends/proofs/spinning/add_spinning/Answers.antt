@@ -1,6 +1,6 @@
-use Rattle.std.proofs.Common.{◌≡◌, ◌<◌, ◌≤◌, ◌+◌, ◌∙◌, subst, sym, arith, length, ℕ, List, Vec, Global}
+use Rattle.std.proofs.Common.{◌<◌, ◌≤◌, ◌∙◌, subst, sym, arith, length, ℕ, List, Bool, Vec, Global, rules}
 use Rattle.std.specs.List.{All}
-use Rattle.space_ends.specs.Spinning.{spinning_in, IsUnmarked, AreUnmarked}
+use Rattle.space_ends.specs.Spinning.{spinning_in, IsUnmarked, SomeUnmarked}
 use Rattle.space_ends.proofs.Spins.{AreReachMarks, all_added}
 use Rattle.space_ends.proofs.spinning.add_spinning.Goals as goal
 
@@ -10,11 +10,24 @@ loop-places-preserved g c =
     let is = c.in_ok-add_set.ensures in
     let kind = c.in_ok-set.ensures.kind in
     let marks = c.in_ok-can_end.can_end.items in
+    let each : All (λ (set : Vec ℕ Global). All (IsUnmarked marks) set.items) c.in_ok-sets.sets.items =
+    subst (λ (ms : List Bool). All (λ (set : Vec ℕ Global). All (IsUnmarked ms) set.items) c.in_ok-sets.sets.items)
+    c.deref.ensures.value c.in_ok-sets.ensures.each in
+    let items : All (λ (set : Vec ℕ Global). All (IsUnmarked marks) set.items) c.deref-places-items.result.now =
+    subst (All (λ (set : Vec ℕ Global). All (IsUnmarked marks) set.items)) (sym c.deref-places-items.ensures.value) each in
+    let below : c.loop-places.places-index < length c.deref-places-items.result.now = first_of (search rules, grind arith) in
+    let here : All (IsUnmarked marks) c.places-item.result.items =
+    subst (λ (set : Vec ℕ Global). All (IsUnmarked marks) set.items) (sym c.places-item.is)
+    (items c.loop-places.places-index c.places-item.result below) in
+    let read : All (IsUnmarked marks) c.deref-in-loop-places.result.now =
+    subst (λ (js : List ℕ). All (IsUnmarked marks) js) (sym c.deref-in-loop-places.ensures.value) here in
+    let new : All (IsUnmarked marks) c.in_ok-set.set.places.items =
+    subst (λ (js : List ℕ). All (IsUnmarked marks) js) (sym c.in_ok-set.ensures.places) read in
     record {
       ends = is.ends kind ∙ before.ends;
       some = λ more. is.some kind;
       only = λ none. absurd (omega (arith, none));
-      each = λ none. is.each kind marks ? (before.each none);
+      each = λ none. is.each kind marks new (before.each none);
     }
 
 pub returns-clause-spinning : goal.returns-clause-spinning
@@ -29,8 +42,12 @@ returns-clause-spinning g c = λ none.
       followed = c.in_ok-can_end.ensures.followed;
     } in
     let sets = length c.in_ok-sets.sets.items in
-    let past : sets ≤ c.loop-places.places-index = omega arith in
-    let within : c.loop-places.places-index ≤ sets = omega arith in
+    let some : SomeUnmarked marks → 0 < sets =
+    subst (λ (ms : List Bool). SomeUnmarked ms → 0 < sets) c.deref.ensures.value c.in_ok-sets.ensures.some in
+    let only : 0 < sets → SomeUnmarked marks =
+    subst (λ (ms : List Bool). 0 < sets → SomeUnmarked ms) c.deref.ensures.value c.in_ok-sets.ensures.only in
+    let past : sets ≤ c.loop-places.places-index = first_of (search rules, grind arith) in
+    let within : c.loop-places.places-index ≤ sets = first_of (search rules, grind arith) in
     all_added v marks (spinning_in c.args.ends.now.items) (spinning_in c.loop-places.ends.items)
-    c.loop-places.places-index sets are none past within c.in_ok-sets.ensures.some c.in_ok-sets.ensures.only last.some
+    c.loop-places.places-index sets are none past within some only last.some
     last.only last.each

@@ -1,5 +1,5 @@
 -- What was added so far: some end that spins if there was a set, and none of its places is marked.
-use Rattle.std.proofs.Common.{◌≡◌, ◌<◌, [], length}
+use Rattle.std.proofs.Common.{◌≡◌, ◌<◌, length}
 use Rattle.space_ends.specs.EndsOfSpace.{ends_in}
 use Rattle.space_ends.specs.Spinning.{spinning_in, AreUnmarked}
 use Rattle.space_ends.proofs.spinning.add_spinning.Given as goal
