@@ -19,7 +19,7 @@ pub enum EndFlaw {
     Wrong,
     /// A claim does not hold of some world on the way, or a stream loops alone where none is to.
     Broken,
-    /// It can go on for ever.
+    /// It can go on forever.
     Spinning,
 }
 
