@@ -2,10 +2,10 @@
 //! ("Files of expectations", docs/LAB_REFERENCE.md).
 #![tactic(auto)]
 
-mod fault_words;
+mod fault_texts;
 mod messages;
 mod reading;
 
-pub use fault_words::fault_words;
+pub use fault_texts::fault_words;
 pub use messages::check_expectations;
 pub use reading::{file_fault, requirements_of};

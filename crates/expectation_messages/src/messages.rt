@@ -1,6 +1,6 @@
 //! Faults of files of expectations as messages.
 
-use crate::fault_words::fault_words;
+use crate::fault_texts::fault_words;
 use command_parts::Program;
 use expectation_files::{
     FileFault, KnownNames, LineFault, file_faults, form_faults, line_of, widest_image, word_of,

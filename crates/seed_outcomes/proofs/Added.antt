@@ -1,14 +1,14 @@
 -- Outcomes of more seeds are added to those that are known.
 use Rattle.std.proofs.Common.{◌≡◌, ℕ, ◌+◌, ◌<◌, ◌≤◌, ◌^◌, refl, sym, ap, ◌∙◌, subst, arith, inl, inr}
 use Rattle.std.proofs.Common.{List, [], ◌∷◌, ◌++◌, length, set, Some, append_assoc, length-append}
-use Rattle.std.specs.Prelude.{slice_get, IsPermutation, Contains, All}
+use Rattle.std.specs.Prelude.{slice_get, IsPermutation}
 use Rattle.std.proofs.lemmas.List.{append-nil}
 use Rattle.std.proofs.lemmas.List.Elements.{All-append, Contains-append_left}
-use Rattle.std.proofs.lemmas.List.Sorted.{IsPermutation-refl, IsPermutation-sym, IsPermutation-trans, length_permutation}
+use Rattle.std.proofs.lemmas.List.Sorted.{IsPermutation-sym, IsPermutation-trans, length_permutation}
 use Rattle.std.proofs.lemmas.List.Sorted.{IsPermutation-append_right}
-use Rattle.seed_outcomes.specs.Sharing.{AreShared, none, some}
+use Rattle.seed_outcomes.specs.Sharing.{AreShared, none}
 use Rattle.seed_outcomes.specs.SeedRuns.{SurveyedProgram, EndsSo}
-use Rattle.seed_outcomes.specs.Outcomes.{AreOfOneLine, CountsSeeds, AreDistinct, AreOutcomes, runs_in_all}
+use Rattle.seed_outcomes.specs.Outcomes.{AreOfOneLine, CountsSeeds, AreOutcomes, runs_in_all}
 use Rattle.seed_outcomes.specs.Adding.{IsCountedIn, IsPushed, IsAdded, AreAdded, to_known, at_end, same, more}
 use Rattle.seed_outcomes.specs.declared.outcomes.SeedOutcome.{SeedOutcome}
 use Rattle.seed_outcomes.proofs.Shares.{in_other_order, shared_both, shared_one, with_more, all_shared, holder_at, last_shared}

@@ -1,5 +1,5 @@
 -- Outcomes of one line, and runs that end as an outcome says.
-use Rattle.std.proofs.Common.{◌≡◌, ℕ, refl, sym, ◌∙◌, subst}
+use Rattle.std.proofs.Common.{ℕ, refl, sym, ◌∙◌, subst}
 use Rattle.end_states.specs.declared.judgements.EndJudgement.{EndJudgement}
 use Rattle.end_states.specs.declared.states.EndState.{EndState}
 use Rattle.seed_outcomes.specs.SeedRuns.{SurveyedProgram, IsSeedRun, EndsSo}

@@ -1,7 +1,7 @@
 -- The seeds of all parts are those from one place to another.
-use Rattle.std.proofs.Common.{◌≡◌, ℕ, zero, suc, ◌+◌, ◌-◌, ◌*◌, ◌≤◌, ◌<◌, refl, sym, ap, ◌∙◌, subst, arith}
-use Rattle.std.proofs.Common.{List, [], ◌∷◌, ◌++◌, length, Some, Vec, Global}
-use Rattle.std.specs.Prelude.{slice_get, min}
+use Rattle.std.proofs.Common.{◌≡◌, ℕ, suc, ◌+◌, ◌-◌, ◌*◌, ◌≤◌, refl, sym, ap, ◌∙◌, subst, arith}
+use Rattle.std.proofs.Common.{List, [], ◌∷◌, length, Some, Vec, Global}
+use Rattle.std.specs.Prelude.{slice_get}
 use Rattle.seed_outcomes.specs.Sharing.{AreShared, none}
 use Rattle.seed_outcomes.specs.SeedLists.{seeds_between}
 use Rattle.seed_outcomes.specs.SeedRuns.{SurveyedProgram}

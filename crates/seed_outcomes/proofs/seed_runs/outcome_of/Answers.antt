@@ -1,4 +1,4 @@
-use Rattle.std.proofs.Common.{rules, ◌≡◌, subst, length, arith}
+use Rattle.std.proofs.Common.{rules, ◌≡◌, subst, length}
 use Rattle.machine.specs.MachineValue.{MachineValue}
 use Rattle.schedule_makers.specs.Seeds.{rule_of_seed}
 use Rattle.schedule_makers.specs.Made.{IsMade}

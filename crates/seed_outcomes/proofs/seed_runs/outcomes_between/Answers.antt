@@ -1,4 +1,4 @@
-use Rattle.std.proofs.Common.{◌≡◌, ◌<◌, sym, subst, arith, List}
+use Rattle.std.proofs.Common.{◌≡◌, sym, subst, arith, List}
 use Rattle.seed_outcomes.specs.SeedLists.{seeds_between}
 use Rattle.seed_outcomes.specs.SeedRuns.{surveyed_program}
 use Rattle.seed_outcomes.specs.Outcomes.{AreOutcomes}

@@ -1,4 +1,4 @@
-use Rattle.std.proofs.Common.{◌≡◌, ℕ, ◌-◌, ◌*◌, ◌≤◌, ap, ◌∙◌, arith, Vec, Global}
+use Rattle.std.proofs.Common.{◌≡◌, ℕ, ◌-◌, ap, ◌∙◌, arith, Vec, Global}
 use Rattle.std.specs.List.{range_with_len}
 use Rattle.rayon.specs.Numbers.{nat_range}
 use Rattle.seed_outcomes.specs.SeedLists.{seeds_between}
@@ -19,13 +19,15 @@ returns-in-Ok-Ok g c =
     let size = c.part_size-size.result in
     let count = c.parts_of.result in
     let h = rw c.in-Ok-Ok.field-0-is at c.in-Ok-Ok.ensures in
-    let chain = rw (c.with_min_len.ensures.base, c.map.ensures.base, c.map.ensures.f) at h.1 in
+    let based = rw c.with_min_len.ensures.base at h.1 in
+    let mapped = rw c.map.ensures.base at based in
+    let answers = rw c.map.ensures.f at mapped.2 in
     let range = c.into_par_iter.ensures in
     let whole : count - 0 ≡ count = omega arith in
-    let places = chain.1 ∙ (λ i. nat_range (range.0 i) (range.1 i)) ∙ ap (range_with_len 0) whole in
+    let places = mapped.1 ∙ (λ i. nat_range (range.0 i) (range.1 i)) ∙ ap (range_with_len 0) whole in
     let found = all_answered _
     (λ (i : ℕ) (v : Vec SeedOutcome Global).
     AreOutcomes p (seeds_between first (part_begin begin end size i) (part_end begin end size i)) v.items)
-    count chain.0 h.0 h.2.0 c.in-Ok-Ok.found.items chain.2 places h.2.1 h.2.2 in
+    count mapped.0 h.0 h.2.0 c.in-Ok-Ok.found.items answers places h.2.1 h.2.2 in
     shared_parts p first begin end size c.in-Ok-Ok.found.items count found.1 (c.parts_of.ensures.all c.part_size-size.ensures)
     c.requires found.0
