@@ -10,11 +10,11 @@ returns-in-Right c =
     let ends = c.args.ends.now in
     let criteria = c.args.criteria in
     let by : (g : EndGoal) → position (λ e. is_goal g criteria ends e) ends ≡ place_of_goal g criteria ends
-        → c.args.self ≡ g → c.first_place.result ≡ place_of_goal c.args.self criteria ends =
+    → c.args.self ≡ g → c.first_place.result ≡ place_of_goal c.args.self criteria ends =
     λ g is same.
-        c.first_place.ensures
-        ∙ subst (λ (x : EndGoal). position (λ e. is_goal x criteria ends e) ends ≡ place_of_goal x criteria ends)
-        (sym same) is in
+    c.first_place.ensures
+    ∙ subst (λ (x : EndGoal). position (λ e. is_goal x criteria ends e) ends ≡ place_of_goal x criteria ends)
+    (sym same) is in
     elim c.in-Right.is [
       | inl same ↦ by Right refl same
       | inr (inl same) ↦ by Wrong refl same
