@@ -28,6 +28,21 @@ const BEYOND: &str =
 const BUSY: &str =
     "busy comes after never alone, and nothing after it: never busy says that no stream can loop by its own steps alone";
 
+/// What the words of a fault are made of.
+#[derive(Clone, Copy)]
+enum FaultText {
+    /// These, whatever the program.
+    Fixed(&'static str),
+    /// The names of data words.
+    DataNames,
+    /// The data words of the program.
+    DataWords,
+    /// Its streams.
+    Streams,
+    /// Its program words.
+    ProgramWords,
+}
+
 /// What is wrong with a word of a line, for a program with this image and these names.
 pub fn fault_words(
     alloc: Global,
@@ -36,27 +51,39 @@ pub fn fault_words(
     image: &Image,
     names: &ProgramNames<'_>,
 ) -> Result<String, AllocError> {
-    let words = match kind {
-        LineFaultKind::Name => return name_words(alloc, word, names),
-        LineFaultKind::MissingWord => return missing_word(alloc, image),
-        LineFaultKind::MissingStream => return missing_stream(alloc, image),
-        LineFaultKind::Place => return missing_place(alloc, image),
-        LineFaultKind::Form(form) => form_words(form),
-        LineFaultKind::Unknown => FIRST_WORDS,
-        LineFaultKind::Address => ADDRESSES,
-        LineFaultKind::Points => "a range is FIRST..LAST",
-        LineFaultKind::Range | LineFaultKind::PlaceRange => "the range ends before it begins",
-        LineFaultKind::Stream => "a stream is P.S, P 0 to 15 and S 0 to 127",
-        LineFaultKind::Register => "a register is r0 to r31",
-        LineFaultKind::Number => NUMBERS,
-        LineFaultKind::Trap => "a trap is a number from 1 to 10",
-        LineFaultKind::Count => "this is no number",
-        LineFaultKind::Operation => OPERATIONS,
-        LineFaultKind::Beyond => BEYOND,
-        LineFaultKind::Busy => BUSY,
-        LineFaultKind::Twice => "a stream is named twice",
-    };
-    String::from_str(alloc, words)
+    match text_of(kind) {
+        FaultText::Fixed(words) => String::from_str(alloc, words),
+        FaultText::DataNames => name_words(alloc, word, names),
+        FaultText::DataWords => missing_word(alloc, image),
+        FaultText::Streams => missing_stream(alloc, image),
+        FaultText::ProgramWords => missing_place(alloc, image),
+    }
+}
+
+/// What the words of a fault of this kind are made of.
+fn text_of(kind: LineFaultKind) -> FaultText {
+    match kind {
+        LineFaultKind::Name => FaultText::DataNames,
+        LineFaultKind::MissingWord => FaultText::DataWords,
+        LineFaultKind::MissingStream => FaultText::Streams,
+        LineFaultKind::Place => FaultText::ProgramWords,
+        LineFaultKind::Form(form) => FaultText::Fixed(form_words(form)),
+        LineFaultKind::Unknown => FaultText::Fixed(FIRST_WORDS),
+        LineFaultKind::Address => FaultText::Fixed(ADDRESSES),
+        LineFaultKind::Points => FaultText::Fixed("a range is FIRST..LAST"),
+        LineFaultKind::Range | LineFaultKind::PlaceRange => {
+            FaultText::Fixed("the range ends before it begins")
+        }
+        LineFaultKind::Stream => FaultText::Fixed("a stream is P.S, P 0 to 15 and S 0 to 127"),
+        LineFaultKind::Register => FaultText::Fixed("a register is r0 to r31"),
+        LineFaultKind::Number => FaultText::Fixed(NUMBERS),
+        LineFaultKind::Trap => FaultText::Fixed("a trap is a number from 1 to 10"),
+        LineFaultKind::Count => FaultText::Fixed("this is no number"),
+        LineFaultKind::Operation => FaultText::Fixed(OPERATIONS),
+        LineFaultKind::Beyond => FaultText::Fixed(BEYOND),
+        LineFaultKind::Busy => FaultText::Fixed(BUSY),
+        LineFaultKind::Twice => FaultText::Fixed("a stream is named twice"),
+    }
 }
 
 /// That no data word has this name, and which may be meant.
