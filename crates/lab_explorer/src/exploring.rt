@@ -10,7 +10,7 @@ use expectation_messages::requirements_of;
 use lab_requests::ExploreRequest;
 use lab_texts::{Notation, ProgramNames};
 use processor::Step;
-use program_searches::{Console, ProgramSearch, explore_program};
+use program_searches::{Console, Explored, ProgramSearch, explore_program};
 use search_texts::search_fault;
 use std::alloc::Global;
 use std::io::{Read, Write};
@@ -28,35 +28,81 @@ pub fn show_every_end<C: Clock, F: Files, R: Read, E: Write>(
     let names = ProgramNames::of(alloc, &program.text)?;
     let required = requirements_asked(alloc, inputs, request.expected, &program)?;
     let begin = begin_asked(alloc, inputs, request, &program)?;
-    let made = make_folders(alloc, inputs, request);
-    let asked = search_asked(request, &required, &begin);
-    let found = match explore_program(alloc, &program.image, &asked, console) {
-        Ok(found) => found,
-        Err(fault) => return Err(search_fault(alloc, fault)?),
-    };
-    let image = &program.image;
-    let notation = Notation {
+    let read = ReadProgram {
+        program: &program,
         names: &names,
+        required: &required,
+        begin: &begin,
+    };
+    show_ends(alloc, inputs, request, read, console)
+}
+
+/// A program that was read, and what its ends are looked for by.
+#[derive(Clone, Copy)]
+struct ReadProgram<'a, 't> {
+    /// The program.
+    program: &'a Program,
+    /// The names of its places.
+    names: &'a ProgramNames<'t>,
+    /// What is required of it.
+    required: &'a Requirements,
+    /// The steps that all schedules begin with.
+    begin: &'a [Step],
+}
+
+/// Shows every end of a program that was read.
+fn show_ends<C: Clock, F: Files, R: Read, E: Write>(
+    alloc: Global,
+    inputs: &Inputs<'_, F, R>,
+    request: &ExploreRequest,
+    read: ReadProgram<'_, '_>,
+    console: &mut Console<'_, C, E>,
+) -> Result<CommandAnswer, LabFault> {
+    let made = make_folders(alloc, inputs, request);
+    let found = every_end(alloc, request, read, console)?;
+    let image = &read.program.image;
+    let required = read.required;
+    let notation = Notation {
+        names: read.names,
         style: style_of(request.shown),
     };
     let is_json = request.shown.json;
-    let mut answer = answer_of(alloc, is_json, image, &required, notation, &found)?;
+    let mut answer = answer_of(alloc, is_json, image, required, notation, &found)?;
     let shown = FoundProgram {
         path: request.program,
-        program: &program,
-        required: &required,
+        program: read.program,
+        required,
         found: &found,
     };
     let kept = write_folders(alloc, inputs, request, made, shown);
     let graphed = GraphedSearch {
         found: &found,
-        required: &required,
+        required,
         notation,
         image,
     };
     let drawn = write_graph(alloc, inputs, request.dot, graphed);
     answer.fault = kept.and(drawn).err();
     Ok(answer)
+}
+
+/// Every end of a program that was read.
+fn every_end<'a, C: Clock, E: Write>(
+    alloc: Global,
+    request: &ExploreRequest,
+    read: ReadProgram<'a, '_>,
+    console: &mut Console<'_, C, E>,
+) -> Result<Explored<'a>, LabFault> {
+    let asked = ProgramSearch {
+        required: read.required,
+        begin: read.begin,
+        bounds: request.bounds,
+        is_plain: request.is_plain,
+    };
+    match explore_program(alloc, &read.program.image, &asked, console) {
+        Ok(found) => Ok(found),
+        Err(fault) => Err(search_fault(alloc, fault)?),
+    }
 }
 
 /// The steps that all schedules are to begin with.
@@ -84,18 +130,4 @@ fn requirements_asked<F: Files, R: Read>(
     };
     let text = inputs.read(alloc, path)?;
     requirements_of(alloc, path, &text, program)
-}
-
-/// The search that is asked for.
-fn search_asked<'a>(
-    request: &ExploreRequest,
-    required: &'a Requirements,
-    begin: &'a [Step],
-) -> ProgramSearch<'a> {
-    ProgramSearch {
-        required,
-        begin,
-        bounds: request.bounds,
-        is_plain: request.is_plain,
-    }
 }
