@@ -1,6 +1,7 @@
 """A random program with what is asked of it, the calls of mta_lab that answer, and in what the answers differ from those
 of the search."""
 
+import itertools
 import json
 import os
 import random
@@ -96,7 +97,7 @@ class Case:
         sets = space.spinning()
         yield differs("worlds that spin", sum(end["worlds"] for end in ends if end["end"] == "spinning"), sum(map(len, sets)))
         yield differs("sets that spin", sum(end["sets"] for end in ends if end["end"] == "spinning"), len(sets))
-        yield from of_each_end(space, [], ends)
+        yield from of_each_end(space, [], [], ends)
         for end in ends:
             yield of_sources(space, sets, end)
             if end["end"] == "spinning":
@@ -107,7 +108,7 @@ class Case:
         """The ends alone."""
         yield from of_fewer(self.ends_alone, head, ends)
         yield differs("whether it spins", any(end["end"] == "spinning" for end in ends), bool(self.space.spinning()))
-        yield from of_each_end(self.space, [], ends, self.ends_alone.told_as)
+        yield from of_each_end(self.space, [], [], ends, self.ends_alone.told_as)
         yield differs("status", status, self.status([], []))
 
     def of_wished(self, status, head, *objects):
@@ -115,7 +116,7 @@ class Case:
         alone, ends = self.wished_alone, ends_of(objects)
         yield of_unshown(self.space, self.claims, objects)
         yield from of_fewer(alone, head, ends)
-        yield from of_each_end(self.space, self.expected, ends, alone.told_as)
+        yield from of_each_end(self.space, self.expected, self.claims, ends, alone.told_as)
         yield from of_claims(self.space, self.claims, ends, of_alone(alone, self.space.before))
         yield differs("status", status, self.status(self.expected, self.claims))
 
@@ -124,7 +125,7 @@ class Case:
         ends = ends_of(objects)
         yield of_unshown(self.space, self.claims, objects)
         yield differs("head", (head["complete"], head["plain"], head["worlds"]), (True, True, len(self.space.distance)))
-        yield from of_each_end(self.space, self.expected, ends)
+        yield from of_each_end(self.space, self.expected, self.claims, ends)
         yield from of_claims(self.space, self.claims, ends, of_all(self.space))
         yield differs("status", status, self.status(self.expected, self.claims))
 
@@ -154,7 +155,7 @@ class Case:
     def of_beginning(self, status, head, ends, told_as, breaking):
         """What is told of the schedules that begin so, whichever worlds are looked at."""
         yield differs("steps of the beginning", head["begin"], len(self.begin))
-        yield from of_each_end(self.begun, [], ends, told_as)
+        yield from of_each_end(self.begun, [], self.begun_claims, ends, told_as)
         yield from of_claims(self.begun, self.begun_claims, ends, breaking)
         yield differs("status", status, search.worst(statuses(self.begun, [], self.begun_claims)))
 
@@ -186,7 +187,7 @@ class Case:
     def verdict_of(self, expected, claims, is_busy):
         """The same of some expectations and claims, and where a stream goes round alone that may not."""
         ends = self.space.ends()
-        if any(wishes.is_trapped(expected, world) for world in ends):
+        if any(wishes.is_trapped(expected, world) for world in [*ends, *itertools.chain(*self.space.spinning())]):
             return "trap"
         if "deadlock" in ends.values():
             return "deadlock"
@@ -235,8 +236,9 @@ def statuses(space, expected, claims):
             yield search.DEADLOCK
         elif wishes.is_trapped(expected, world) or wishes.missed(expected, world):
             yield search.UNEXPECTED
-    if space.spinning():
-        yield search.ENDLESS
+    for spinning in space.spinning():
+        is_trapped = any(wishes.is_trapped(expected, world) for world in spinning)
+        yield search.UNEXPECTED if is_trapped else search.ENDLESS
     if broken(space, claims) or unshown(space, claims):
         yield search.UNEXPECTED
 
@@ -251,32 +253,34 @@ def of_fewer(alone, head, ends):
             yield differs("sources", end["from"], alone.leading_to(world))
 
 
-def of_each_end(space, expected, ends, told_as=lambda world: world):
-    """In what the ends differ: how many worlds each kind has, as expected or not, and each schedule. Ends are one that are
-    told as one world."""
+def of_each_end(space, expected, claims, ends, told_as=lambda world: world):
+    """In what the ends differ: how many worlds each kind has, as expected or not, and each schedule, with what it breaks. Ends
+    are one that are told as one world."""
     alike = {}
     for world in space.ends():
         key = told_as(world)
         alike[key] = min(alike.get(key, world), world, key=space.distance.get)
     wanted, told = {}, {}
     for world in alike.values():
-        is_met = wishes.missed(expected, world) is None and not wishes.is_trapped(expected, world)
-        key = space.kind(world), is_met and space.kind(world) != "deadlock"
+        key = space.kind(world), wishes.is_as_expected(expected, world, space.kind(world))
         count, least = wanted.get(key, (0, space.distance[world]))
         wanted[key] = count + 1, min(least, space.distance[world])
     for end in ends:
         if end["end"] in ("spinning", "broken"):
             continue
-        key = end["end"], end["expected"]
+        world = search.world_after(space.program, steps_of(end["schedule"]))
+        key = end["end"], wishes.is_as_expected(expected, world, space.kind(world))
         count, least = told.get(key, (0, end["shortest"]))
         told[key] = count + end["worlds"], min(least, end["shortest"])
-        world = search.world_after(space.program, steps_of(end["schedule"]))
+        on_its_way = wishes.broken_on_the_way(space.program, claims, steps_of(end["schedule"]))
+        yield differs("the claim of an end", end["claim"] and end["claim"]["text"], on_its_way and on_its_way.text)
+        yield differs("whether it is as expected", end["expected"], key[1] and on_its_way is None)
         first = alike.get(told_as(world))
         yield differs("a schedule", (first and space.kind(world), len(steps_of(end["schedule"])), end["shortest"]),
                       (end["end"], first and space.distance[first], first and space.distance[first]))
         missed = wishes.missed(expected, world)
-        wanted_line = missed and (expected.index(missed) + 1, numbers_read(missed.text))
-        told_line = end["missed"] and (end["missed"]["line"], numbers_read(end["missed"]["text"]))
+        wanted_line = missed and (expected.index(missed) + 1, wishes.numbers_read(missed.text))
+        told_line = end["missed"] and (end["missed"]["line"], wishes.numbers_read(end["missed"]["text"]))
         yield differs("what is missed", told_line, wanted_line)
         yield from of_world(space, world, end)
     yield differs("worlds and shortest of the ends", told, wanted)
@@ -296,19 +300,6 @@ def held(word):
     """The value and the tags of a word, as objects have them."""
     value, tags = word
     return [str(value), tags]
-
-
-def numbers_read(text):
-    """An expectation with its numbers read, however they are written."""
-    return [number(word) for word in text.split()]
-
-
-def number(word):
-    """A word that is a number as it is kept; others as they are."""
-    try:
-        return int(word, 0) % 2**64
-    except ValueError:
-        return word
 
 
 def of_all(space):

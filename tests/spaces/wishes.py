@@ -91,6 +91,31 @@ def is_trapped(wished, world):
     return any((p, s, trap) not in wanted for (p, s), trap in search.stopped(world).items())
 
 
+def is_as_expected(wished, world, kind):
+    """Whether an end of a kind is no deadlock, meets each expectation, and has no trap that nobody expected."""
+    return kind != "deadlock" and missed(wished, world) is None and not is_trapped(wished, world)
+
+
+def broken_on_the_way(program, wished, steps):
+    """The first of some claims that the first world breaks which breaks one and through which a schedule leads; None where
+    all hold."""
+    worlds = (search.world_after(program, steps[:count]) for count in range(len(steps) + 1))
+    return next((claim for world in worlds for claim in wished if not holds(claim, world)), None)
+
+
+def numbers_read(text):
+    """An expectation with its numbers read, however they are written."""
+    return [number(word) for word in text.split()]
+
+
+def number(word):
+    """A word that is a number as it is kept; others as they are."""
+    try:
+        return int(word, 0) % 2**64
+    except ValueError:
+        return word
+
+
 def claims(chance, made):
     """A few claims."""
     return [at_most(chance, made) if chance.random() < 0.35 else of_word(chance, made)
