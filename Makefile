@@ -52,7 +52,7 @@ help:
 	@echo "make check-dist unpacks them next to nothing but the C library, and runs the examples there (seconds)"
 	@echo "make hostile    hostile use of the built program; needs Python 3 and a C compiler (11 minutes on two cores, with other work)"
 	@echo "make refuse     the part of it that refuses each allocation of the commands in turn (some minutes)"
-	@echo "make spaces     compares mta_lab on 500 random programs with a search of all states by a machine of the tests' own (a minute)"
+	@echo "make spaces     compares mta_lab on 2,500 random programs with a search of all states by a machine of the tests' own (two minutes)"
 	@echo "make pages      the pages in a browser; needs chromium, its driver and Python's selenium, and says what is missing (some minutes)"
 	@echo "make editors    mta_lab dap by a client that others' library makes; needs Go and Debian's go-dap, and says what is missing (seconds)"
 	@echo "make bench      time, instructions and peak memory on the longest inputs (some minutes; valgrind counts instructions)"
@@ -156,15 +156,18 @@ refuse: built-calls
 hostile: built-calls
 	@python3 tests/hostile
 
-# random programs: a search of all states by a machine of the tests' own is compared with what explore and grade say
+# random programs: a search of all states by a machine of the tests' own is compared with what explore and grade say, and
+# with what check warns about
 spaces: built
 	@python3 tests/spaces
+	@python3 tests/spaces/slips.py
 
 # tries mta_lab dap by a client of the Debug Adapter Protocol on a library that others wrote
 editors:
 	@tests/adapter_go/run.sh
 
-# the replay page in headless Chromium: its states, controls, texts, sizes and widths; installs nothing
+# the pages in headless Chromium: their states, controls, texts, sizes and widths; installs nothing. Without a browser
+# python3 tests/pages --node asks what they say
 pages:
 	@python3 tests/pages
 

@@ -8,7 +8,7 @@ const wordNode = (x, y, text) => node("word", x, y, text, 10 + 8 * text.length, 
 const edgeHead = (x, y, degrees) =>
   svg("path", { class: "edge-head", d: "M0 0l-10 -5v10z", transform: `translate(${x} ${y}) rotate(${degrees})` });
 
-const waitWords = (wait) => `${wait.stream} waits for ${fullName(wait.word)} of ${wait.by ?? "no stream"}`;
+const waitWords = (wait) => `${wait.stream} waits for ${fullName(wait.word)} of ${wait.by}`;
 
 /** A picture of waits, which a screen reader reads as words. */
 const waitPicture = (width, height, waits) =>
@@ -100,8 +100,7 @@ function drawWaitRows(waits) {
   const picture = waitPicture(400, ROW_HEIGHT * waits.length + 22, waits);
   waits.forEach((wait, i) => {
     const y = ROW_HEIGHT * i + 18;
-    const isOwn = wait.by === wait.stream;
-    const other = wait.by === null || wait.by === undefined ? "none" : isOwn ? "itself" : wait.by;
+    const other = wait.by === wait.stream ? "itself" : wait.by;
     picture.append(
       svg("path", { class: "edge", d: `M60 ${y}H288` }), edgeHead(298, y, 0),
       streamNode(40, y, wait.stream), wordNode(170, y, `${cut(namedWord(wait.word), IN_ROW)} ${wait.for}`),

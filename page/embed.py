@@ -7,6 +7,7 @@ written, and each file of constants that is not up to date is named."""
 import pathlib
 import re
 import sys
+import textwrap
 
 sys.dont_write_bytecode = True
 
@@ -138,7 +139,8 @@ def imports(taken):
     for crate in sorted({crate for crate, _ in taken}):
         names = ", ".join(sorted(name for of, name in taken if of == crate))
         line = f"use {crate}::{{{names}}};"
-        lines.append(line if len(line) <= LINE else f"use {crate}::{{\n    {names},\n}};")
+        filled = textwrap.fill(f"{names},", LINE, initial_indent="    ", subsequent_indent="    ")
+        lines.append(line if len(line) <= LINE else f"use {crate}::{{\n{filled}\n}};")
     return "".join(f"{line}\n" for line in lines)
 
 

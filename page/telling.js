@@ -1,4 +1,4 @@
-// ---------------------------------------------------------------- what is told in words: waits, outcomes, findings
+// ---------------------------------------------------------------- what is told in words: waits, steps, findings
 
 const changed = (before, now) =>
   html("span", { class: "change" }, whole(number(before)), " → ", html("b", {}, number(now)));
@@ -16,34 +16,40 @@ function waitText(wait, n, since) {
   return [...start, `, which ${by === wait.stream ? `it ${turned} itself` : `${by} ${turned}`} in `, stepLink(made)];
 }
 
-/** What a reference that was done has read, or written without a change; its changes are told elsewhere. */
-function readText(step) {
-  if (step.o !== "done" || !step.ref) return "";
-  const [operation, , , word, given, reply] = step.ref;
-  if (operation === "LOAD") return `${namedWord(word)} is ${number(reply)}`;
-  if (operation === "TAGGET") return `the tags of ${namedWord(word)} are ${reply}`;
-  const isStore = operation === "STORE";
-  if (step.ch.some(([place]) => place[0] === "[" && (!isStore || place.endsWith("value")))) return "";
-  return isStore ? `${namedWord(word)} stays ${number(given)}` : `${namedWord(word)} stays as it was`;
+/** The value and the tags of a word after step n. */
+function wordAfter(address, n) {
+  const [, value, tags] = wordStates.has(address) ? stateAt(address, n) : [0, ...startWord(address)];
+  return [value, tags];
 }
 
-function doneText(step, n) {
+/** Whether the machine has the stream of a step: each of its processors has begun with a stream. */
+const hasStream = ({ p, s }) => Boolean(head.start.places[`${p}.scur`]) && s < head.slim;
+
+/** Why nothing came of a skipped step. */
+function skippedText(step, n) {
+  if (!hasStream(step)) return "there is no such stream";
+  const isStopped = stepsOf.get(step.who).some((one) => one < n && sign(steps[one - 1]) === "stopped");
+  return isStopped ? "has stopped: nothing happens" : "does not run: nothing happens";
+}
+
+/** What step n did, in the words of `mta_lab view`. */
+function sentence(step, n) {
+  if (isSkipped(step)) return [skippedText(step, n)];
+  return joined(sentenceParts(step, step.ref ? wordAfter(step.ref[3], n) : []));
+}
+
+/** Who made the stream of a step wait, or let it through. */
+function waitNote(step, n) {
   const freed = waitsOf.get(step.who)?.find((wait) => wait.to === n && wait.met);
-  const read = readText(step);
-  if (!freed) return ["done", read && `: ${read}`];
-  return [`done: ${namedWord(freed.word)} is ${freed.for} since `, stepLink(freed.met), read && `; ${read}`];
+  if (freed) return [` ${namedWord(freed.word)} is ${freed.for} since `, stepLink(freed.met), "."];
+  const wait = step.o === "blocked" ? waitAt(step.who, n) : undefined;
+  if (!wait) return [];
+  const turned = wait.for === "full" ? "emptied" : "filled";
+  const made = turnedIn(wait.word, n);
+  if (!made) return [` No step has ${turned} it, it was so at the start.`];
+  const by = steps[made - 1].who;
+  return [` ${by === wait.stream ? "The stream itself" : by} ${turned} it in `, stepLink(made), "."];
 }
-
-const OUTCOMES = {
-  done: doneText,
-  blocked(step, n) {
-    const wait = waitAt(step.who, n);
-    return wait ? ["blocked: ", ...waitText(wait, n)] : ["blocked"];
-  },
-  trapped: (step) => [`trapped by ${TRAPS[trapOf(step)]}; goes on at ${placeOf(get(`${step.who}.pc`, 0))}`],
-  stopped: (step) => [`stopped by ${TRAPS[trapOf(step)]}; no handler takes it`],
-  skipped: () => ["skipped: this stream does not run"],
-};
 
 // ---------------------------------------------------------------- findings
 
@@ -86,25 +92,14 @@ function tornText({ stale, fresh, reads, writes }) {
 
 // ---------------------------------------------------------------- this step in a sentence
 
-/** What became of the word that a step met. */
-function wordText(step) {
-  const value = step.ch.find(([place]) => place.endsWith("].value"));
-  const tags = step.ch.find(([place]) => place.endsWith("].tags"));
-  const turns = tags && isFull(tags[1]) !== isFull(tags[2]) ? fullText(tags[2]) : "";
-  if (!step.ref) return [];
-  const name = fullName(step.ref[3]);
-  if (value) return [` ${name} `, changed(value[1], value[2]), turns ? `, now ${turns}.` : "."];
-  return turns ? [` ${name} is now ${turns}.`] : [];
-}
-
 function tell() {
   const n = view.position;
   const step = steps[n - 1];
   if (!step) return byId("told").replaceChildren(html("b", {}, "The start"), ", before the first step.");
-  const outcome = html("span", { class: `outcome ${sign(step)}` }, ...(OUTCOMES[sign(step)] ?? doneText)(step, n));
-  const out = [html("b", {}, step.who), " "];
-  if (!isSkipped(step)) out.push("at ", html("b", {}, stepPlace(step)), " ", code(cut(stepStatement(step), 90)), " ");
-  out.push(outcome, ".", ...wordText(step));
+  const told = html("span", { class: `outcome ${sign(step)}` }, ...sentence(step, n));
+  const out = [html("b", {}, step.who), isSkipped(step) && !hasStream(step) ? ": " : " "];
+  if (!isSkipped(step)) out.push("at ", html("b", {}, stepPlace(step)), " ", code(cut(stepStatement(step), 90)), ": ");
+  out.push(told, ".", ...waitNote(step, n));
   for (const finding of run.findings) {
     if (lastOfFinding(finding) !== n) continue;
     out.push(" ", html("b", { class: "lost" }, FINDINGS[finding.kind].title), ...findingText(finding, true));

@@ -2,10 +2,11 @@
 
 let world; // place: what stands there, of all that isn't 0
 const startWords = head.start.memory.flatMap(([count, value, tags]) => Array(count).fill([value, tags]));
+const startWord = (address) => startWords[address / 8] ?? ["0", 0];
 const get = (place, absent = "0") => world.get(place) ?? absent;
 
 function wordAt(address) {
-  const [value, tags] = startWords[address / 8] ?? ["0", 0];
+  const [value, tags] = startWord(address);
   return [get(`[${address}].value`, value), get(`[${address}].tags`, tags)];
 }
 
@@ -36,7 +37,7 @@ let atEnd; // who waits, was stopped, has quit or could go on at the end
 
 /** The states of a word, in the order of the steps that made them. */
 function statesOf(address) {
-  if (!wordStates.has(address)) wordStates.set(address, [[0, ...(startWords[address / 8] ?? ["0", 0])]]);
+  if (!wordStates.has(address)) wordStates.set(address, [[0, ...startWord(address)]]);
   return wordStates.get(address);
 }
 

@@ -8,9 +8,10 @@ function goalText(e) {
   const kind = kinds[e];
   if (kind === "deadlock") return `reach the ${end.label}`;
   if (kind === "stopped") return `make it trap: ${end.label}`;
-  if (kind === "spinning") return "make it spin forever";
-  if (kind === "right") return `bring it to a right end: ${end.label.replace(/^finished /, "")}`;
-  if (kind === "broken") return `break the claim: ${end.text}`;
+  const isOnly = data.ends.filter((other) => other.kind === kind).length === 1;
+  if (kind === "spinning") return `make it spin forever${isOnly ? "" : `: ${end.label}`}`;
+  if (kind === "right") return `bring it to a right end: ${bareLabel(e)}`;
+  if (kind === "broken") return `break the claim: ${end.label}`;
   const isLost = end.findings.some((text) => text.startsWith("lost update"));
   if (kind === "wrong") return `${isLost ? "lose an update" : "make it go wrong"}: ${end.label}`;
   return `reach ${end.label}`;

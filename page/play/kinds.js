@@ -12,8 +12,6 @@ const isBad = (e) => kinds[e] === "wrong" || kinds[e] === "broken";
 
 /** [address, value before, value] of each word of a state that differs from the start. */
 const changedWords = (w) => [...wordMap(w)].map(([a, [value]]) => [a, startWord(a)[0], value]);
-const allTags = (tags) => [fullText(tags), ...["forward", "trap0", "trap1"].filter((_, bit) => tags & (2 << bit))]
-  .join(" ");
 
 /** Writes to each end what its first state holds: the words that changed, who waits for which word, who was stopped;
   and the tags by which alone it differs from others. */

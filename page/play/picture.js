@@ -34,7 +34,7 @@ function drawLanes({ cell, x, ends, wordsTop, endsTop, width, isNarrow }, parts,
   ends.forEach((e, i) => {
     const y = endsTop + i * END_LANE;
     if (i === 0) rule(y - 3);
-    const name = cut(label(e).replace(/^finished /, ""), isNarrow ? 6 : 17);
+    const name = shortLabel(e, isNarrow ? 6 : 17, bareLabel);
     heads.push(...laneHead(y, END_LANE, name, "", drawnSign(e, 21, y + 12)));
     parts.push(...endLane(e, y, x, cell));
   });

@@ -45,14 +45,11 @@ function resultTitle(e) {
   const end = data.ends[e];
   const values = endWords(end, fullName);
   const text = values.length ? `: ${and(values)}` : "";
-  if (end.kind === "deadlock") {
-    const who = end.waiting.map(([name]) => name);
-    return `Deadlock: ${and(who)} wait${who.length > 1 ? "" : "s"} forever`;
-  }
+  if (end.kind === "deadlock") return `Deadlock: ${waitersText(end)}${alsoStopped(end)}`;
   const stopped = and(end.stopped.map(([who, trap]) => `${who} (${trapName(trap)})`));
   if (end.kind === "stopped") return `Stopped by a trap: ${stopped}`;
   if (end.kind === "broken") return `A claim does not hold here: ${end.text}`;
-  if (end.kind === "spinning") return "It runs forever from here: no schedule ends it";
+  if (end.kind === "spinning") return `It runs forever from here: no schedule ends it${alsoStopped(end)}`;
   return `${end.right === null ? "Finished" : end.right ? "Finished, and right" : "Finished, but wrong"}${text}`;
 }
 

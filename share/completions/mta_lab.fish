@@ -26,7 +26,7 @@ complete -c mta_lab -n '__fish_seen_subcommand_from schedule survey explore grad
 complete -c mta_lab -n '__fish_seen_subcommand_from view debug compare page picture' -f -k -a '(__fish_complete_suffix .asm; __fish_complete_suffix .image; __fish_complete_suffix .schedule)'
 complete -c mta_lab -n '__fish_seen_subcommand_from dap word new' -f
 complete -c mta_lab -n '__fish_seen_subcommand_from exercise' -f -a '1 2 3 4 5 6 7 8 9 10 11 12 13'
-complete -c mta_lab -n '__fish_seen_subcommand_from explain' -f -a '.N normal .F future .S sync .T test full empty full/empty r0 t0 SSW status pointer ADD SUB MUL AND OR XOR ANDN SHL SHR SAR TALLY LTS LTU PTR stream processor schedule seed state race lost_update lost ALWAYS EQ NE LT GE LE GT GEU LEU GTU NEG POS OV NOV Z N C V JUMP SKIP CALL XCHG TSET TGET XGET XR RESERVE CREATE QUIT QUITP MASK NOP LIT LITH TLIT .entry .data .fill .word .slim .retry .trap .profile .chain E1 NotAscii E2 Unknown E3 Operand E4 Range E5 TwoWriters E6 LabelTwice E7 LabelMissing E8 Directive E9 Limit E10 NoMemory 101 102 103 104 105 106 107 108 109 110 111 112 113 114 LOAD STORE FADD TAGGET TAGSET PURGE 1 PROGRAM 2 ILLEGAL 3 TRAP3 4 TRAP4 POINTER 5 ALIGN 6 RANGE 7 TRAP0 8 TRAP1 9 FORWARD 10 TRAP10 DONE BLOCKED TRAPPED STOPPED SKIPPED deadlock spinning'
+complete -c mta_lab -n '__fish_seen_subcommand_from explain' -f -a '.N normal .F future .S sync .T test full empty full/empty r0 t0 SSW status pointer ADD SUB MUL AND OR XOR ANDN SHL SHR SAR TALLY LTS LTU PTR stream processor schedule seed state race lost_update lost ALWAYS EQ NE LT GE LE GT GEU LEU GTU NEG POS OV NOV Z N C V JUMP SKIP CALL XCHG TSET TGET XGET XR RESERVE CREATE QUIT QUITP MASK NOP LIT LITH TLIT .entry .data .fill .word .slim .retry .trap .profile .chain E1 NotAscii E2 Unknown E3 Operand E4 Range E5 TwoWriters E6 LabelTwice E7 LabelMissing E8 Directive E9 Limit E10 NoMemory 101 102 103 104 105 106 107 108 109 110 111 112 113 114 115 116 LOAD STORE FADD TAGGET TAGSET PURGE 1 PROGRAM 2 ILLEGAL 3 TRAP3 4 TRAP4 POINTER 5 ALIGN 6 RANGE 7 TRAP0 8 TRAP1 9 FORWARD 10 TRAP10 DONE BLOCKED TRAPPED STOPPED SKIPPED deadlock spinning'
 
 # options
 complete -c mta_lab -n '__fish_seen_subcommand_from check' -l as -x -a 'source image schedule expectations' -d 'all are of this kind: source, image, schedule or expectations'
@@ -51,7 +51,7 @@ complete -c mta_lab -n '__fish_seen_subcommand_from survey explore grade play' -
 complete -c mta_lab -n '__fish_seen_subcommand_from survey' -l explore -f -d 'says how many of the ends of every schedule were reached'
 complete -c mta_lab -n '__fish_seen_subcommand_from survey explore grade' -l states -x -d 'of every schedule, the most states that are explored [5000000]'
 complete -c mta_lab -n '__fish_seen_subcommand_from survey explore grade' -l seconds -x -d 'of every schedule, the most seconds of the search [none]'
-complete -c mta_lab -n '__fish_seen_subcommand_from survey explore' -l memory -x -d 'of every schedule, the most megabytes of the search [none]'
+complete -c mta_lab -n '__fish_seen_subcommand_from survey explore' -l memory -x -d 'of every schedule, the most megabytes of the search [2000]'
 complete -c mta_lab -n '__fish_seen_subcommand_from explore play' -l from -r -k -a '(__fish_complete_suffix .schedule)' -d 'a schedule: only those that begin with it [none]'
 complete -c mta_lab -n '__fish_seen_subcommand_from explore' -l plain -f -d 'explores all states, even if the ends need fewer'
 complete -c mta_lab -n '__fish_seen_subcommand_from explore' -l keep -x -a '(__fish_complete_directories)' -d 'writes the schedule to each end into this folder'
@@ -61,7 +61,7 @@ complete -c mta_lab -n '__fish_seen_subcommand_from grade' -l cases -x -a '(__fi
 complete -c mta_lab -n '__fish_seen_subcommand_from grade' -l given -r -k -a '(__fish_complete_suffix .data)' -d 'the cells, as .data and .fill lines, in place of each submission\'s own'
 complete -c mta_lab -n '__fish_seen_subcommand_from grade' -l all -f -d 'counts the ends of all seeds, and of all schedules'
 complete -c mta_lab -n '__fish_seen_subcommand_from grade' -l explore -f -d 'every schedule; if that decides nothing, random ones too'
-complete -c mta_lab -n '__fish_seen_subcommand_from grade' -l memory -x -d 'of every schedule, the most megabytes of each search [200 without --states]'
+complete -c mta_lab -n '__fish_seen_subcommand_from grade' -l memory -x -d 'of every schedule, the most megabytes of all searches at a time [2000]'
 complete -c mta_lab -n '__fish_seen_subcommand_from grade' -l jobs -x -d 'how many submissions at a time, 1 to 256 [as many as processors]'
 complete -c mta_lab -n '__fish_seen_subcommand_from grade' -l no-links -f -d 'a submission that is a symbolic link is not read'
 complete -c mta_lab -n '__fish_seen_subcommand_from grade' -l pages -x -a '(__fish_complete_directories)' -d 'writes the page of each submission that is not right into this folder'

@@ -21,7 +21,7 @@ class Value:
 
 @dataclass
 class Argument:
-    """An argument of a command. `form` is Needed, Optional, Several, AnyNumber, Flag or Option. A flag has no value. Only
+    """An argument of a command. `form` is Needed, Optional, Several, AnyNumber, Name, Flag or Option. A flag has no value. Only
     an option has a `presence`: Free, Needed, NeededWithout, Without or With. `others` are those that the form or the
     presence names."""
     name: str
@@ -169,7 +169,7 @@ def value_of(kind):
             return Value("words", explained_words())
         case "Exercise":
             return Value("words", [str(number) for number in exercises()])
-        case "Number" | "Text":
+        case "Number" | "Text" | "Operand":
             return Value("text")
     raise ValueError(f"no value is of the kind {name}")
 

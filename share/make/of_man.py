@@ -22,7 +22,7 @@ def shown(argument):
         return named(argument)
     if argument.value.is_fixed:
         return "\\fB" + "\\fP|\\fB".join(escaped(word) for word in argument.value.words) + "\\fP"
-    dots = ".." if argument.form in ("Several", "AnyNumber") else ""
+    dots = ".." if argument.form in ("Several", "AnyNumber", "Name") else ""
     return f"\\fI{escaped(argument.name)}\\fP{dots}"
 
 

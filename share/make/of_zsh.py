@@ -58,7 +58,7 @@ def spec(argument, position):
         return quoted(f"--{argument.name}[{escaped(argument.about)}]{value}")
     if argument.form in ("Several", "AnyNumber"):
         return quoted(f"*{value}")
-    return quoted(f"{position}{':' if argument.form == 'Optional' else ''}{value}")
+    return quoted(f"{position}{':' if argument.form in ('Optional', 'Name') else ''}{value}")
 
 
 def arm(command, shared):

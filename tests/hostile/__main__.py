@@ -1,10 +1,11 @@
 #!/usr/bin/env python3
 """Runs the built program on hostile inputs, in parts: damaged images, random texts, inputs at and beyond their limits,
-the command threads with and without its threads, the debugger's lines, files that fail, files that are written, and
-refused memory, in the commands and in single calls of the libraries. Each run has to end with the answer that the documents give, or, where only
-that much is known beforehand, done, or refused with one line on standard error and nothing printed; each refusal within a
-second of processor time, and within ten times its input and 40 MB. Arguments name the parts to be run; without any all of
-them are. With PROGRAM=draft in the environment they are run on the drafts. Needs Python 3 and a C compiler."""
+the command threads with and without its threads, the debugger's lines, files that fail, files that others swap, files
+that are written, folders of other users, bounds of memory and time, and refused memory, in the commands and in single
+calls of the libraries. Each run has to end with the answer that the documents give, or, where only that much is known
+beforehand, done, or refused with one line on standard error and nothing printed; each refusal within a second of
+processor time, and within ten times its input and 40 MB. Arguments name the parts to be run; without any all of them
+are. With PROGRAM=draft in the environment they are run on the drafts. Needs Python 3 and a C compiler."""
 
 import sys
 
@@ -16,12 +17,15 @@ import tempfile
 import time
 
 import allocations
+import bounds
 import calls
 import debugger
 import files
 import images
+import inputs
 import lab
 import limits
+import others
 import outputs
 import program
 import texts
@@ -37,7 +41,10 @@ PARTS = {
     "allocations": allocations.part,
     "calls": calls.part,
     "lab": lab.part,
+    "inputs": inputs.part,
+    "bounds": bounds.part,
     "outputs": outputs.part,
+    "others": others.part,
 }
 # how many of the things that were not as they have to be are printed for a part
 SHOWN = 20

@@ -68,6 +68,7 @@ def commands(folder):
         ["grade", "--explore", "--expect", wishes, racing],
         ["grade", "--all", "--format", "junit", "--expect", wishes, "--seeds", "5", racing],
         ["grade", "--json", "--expect", claims, "--seeds", "5", racing],
+        ["grade", "--given", write(folder, "given.data", b" .data 5\n .data 0\n"), "--expect", wishes, "--seeds", "5", racing],
         ["grade", "--expect", wishes, "--seeds", "5", *sorted(os.path.join(GRADED, it) for it in os.listdir(GRADED))],
     ]
 
@@ -128,6 +129,23 @@ def drawing(tally, library, folder):
         told = ended.status in (1, 2) and ended.out in (b"", ample.out) and b"memory" in ended.err and read(graph) == b"before"
         bounded = ended.status in STATUSES and NOT_ALL.search(ended.out) is not None
         tally.check(f"explore --dot: allocation {number} refused: {ended}", as_ever or told or bounded)
+
+
+def adapting(tally, library, folder):
+    """`dap` under refused memory, that of the thread that reads too: each request is answered, or the session ends with status 1
+    and a word."""
+    asked = framed("initialize", "launch", "configurationDone", *["threads"] * 5, "disconnect")
+    variables = refused_allocation(library, folder, 0)
+    ample = lab(["dap"], asked, **variables)
+    answers = ample.out.count(b'"type":"response"')
+    tally.check(f"dap with ample memory: {ample}", ample.status == 0 and answers == 9)
+    for number in range(1, int(read(variables["COUNT"])) + 1):
+        ended = lab(["dap"], asked, **refused_allocation(library, folder, number))
+        tally.runs += 1
+        tally.refused += ended.status == 1
+        answered = ended.status == 0 and ended.out.count(b'"type":"response"') == answers
+        told = (ended.status, ended.err) in ((1, NO_MEMORY), (1, NO_THREAD)) or ended.status == 2 and b"memory" in ended.err
+        tally.check(f"dap: allocation {number} refused: {ended}", answered or told)
 
 
 def outputs(tally):
@@ -236,6 +254,7 @@ def part(pool, folder):
         tally.add(one)
     assembling(tally, library, folder)
     drawing(tally, library, folder)
+    adapting(tally, library, folder)
     outputs(tally)
     without_threads(tally, library, folder)
     small_stacks(tally, folder)

@@ -330,8 +330,7 @@ def at_once(tally, folder):
 
 
 def replaced(tally, folder):
-    """A file that is replaced keeps its permissions, and under root's rights its owner; a link stays, and where it leads
-    is written."""
+    """A file that is written over keeps its permissions and its owner; a link stays, and where it leads is written."""
     at = room(folder, "replaced")
     whole = wholes(at)
     os.umask(0o022)
@@ -395,8 +394,8 @@ def protected(tally, folder):
     os.chmod(path, 0o662)
     ended = lab(["asm", LOCK, "--out", path], setup=as_nobody)
     about = os.lstat(path)
-    tally.check(f"asm over root's file: {ended}", ended.status == 0 and about.st_uid == NOBODY)
-    tally.check(f"nobody's group gets what all have: {about.st_mode:o}", stat.S_IMODE(about.st_mode) == 0o622)
+    tally.check(f"asm over root's file: {ended}", ended.status == 0 and about.st_uid == 0)
+    tally.check(f"root's file has its mode: {about.st_mode:o}", stat.S_IMODE(about.st_mode) == 0o662)
 
 
 def kept(tally, folder):

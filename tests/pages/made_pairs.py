@@ -8,7 +8,7 @@ import runs
 import worlds
 
 PARTS = ("schedule", "steps", "waits", "findings", "end")
-HEAD = ("version", "name", "source", "program", "data", "names", "start")
+HEAD = ("version", "name", "source", "program", "data", "names", "start", "slim")
 
 
 def pair_of(one, other):

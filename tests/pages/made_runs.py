@@ -102,7 +102,7 @@ class Maker:
         source = [f"{place}: {statement} ; what a line may say" for _, place, statement in self.program]
         return {"version": 2, "object": "page", "name": name, "schedule": "by chance", "source": source,
                 "program": self.program, "data": [[0, 1, 1, "the count"], [8, 1, 1, "slot"]], "names": [[8, 1, "slot"]],
-                "start": {"places": self.start, "memory": self.memory}, "steps": self.steps, "waits": self.waits,
+                "start": {"places": self.start, "memory": self.memory}, "slim": 1, "steps": self.steps, "waits": self.waits,
                 "findings": [], "end": self.end()}
 
 
@@ -143,7 +143,7 @@ def ring(count):
             "source": ["take: LOAD.S r0, r1, 0", "LOAD.S r0, r2, 0"],
             "program": [[1, "take", "LOAD.S r0, r1, 0"], [2, "take+1", "LOAD.S r0, r2, 0"]],
             "data": [[0, count, 1, "fork: one each"]], "names": [[0, count, "fork"]],
-            "start": {"places": places, "memory": [[count, "0", 1]]},
+            "start": {"places": places, "memory": [[count, "0", 1]]}, "slim": 1,
             "steps": steps, "waits": waits, "findings": [],
             "end": {"kind": "deadlock", "waiting": waiting, "circle": names, "able": [], "fresh": [], "quit": [],
                     "stopped": []}}

@@ -30,7 +30,7 @@ def keys(page):
     tally.same("the stream above", page.text("#stream h2").split()[1], "2.0")
     page.press("x")
     texts = page.text("#heads"), page.text("#end")
-    tally.check("hexadecimal numbers", all("[0x8]" in text for text in texts), texts)
+    tally.check("hexadecimal values", "stored 0x1 into [8]" in texts[1] and "[8]" in texts[0], texts)
     page.press("x", "?")
     tally.check("? shows the keys", page.script("return document.getElementById('keys').open"))
     page.press(ESCAPE)
@@ -131,7 +131,7 @@ def waits(page):
     tally.same("a wait has a band", len(page.all("#picture .back .wait")), 1)
     tally.same("an arrow from the step that let it through", len(page.all("#picture .arrow.frees")), 1)
     told = page.text("#told")
-    tally.check("who made it wait", "which 0.0 emptied in step 1" in told, told)
+    tally.check("who made it wait", "to be full. 0.0 emptied it in step 1." in told, told)
     page.go("6.1.0")
     told = page.text("#stream")
     tally.check("a wait that could end", "0.0 filled it in step 6, and it has not tried since" in told, told)
@@ -233,16 +233,17 @@ def judged(page):
 
 
 def skipped(page):
-    """A step of a stream that does not run."""
+    """A step of a stream that does not run, and of one that is not there."""
     run = runs.sample("lock.lost_update")
     run["steps"] += [{"p": 2, "s": 0, "pc": 0, "o": "skipped", "ch": []}, {"p": 9, "s": 7, "pc": 0, "o": "skipped", "ch": []}]
     page.open("skipped", runs.page(run), "#9")
     page.painted()
-    tally.same("a skipped step is told", page.text("#told"), "2.0 skipped: this stream does not run.")
+    tally.same("a skipped step is told", page.text("#told"), "2.0 does not run: nothing happens.")
     tally.check("it has no line", not page.all("#lines .from"))
     tally.same("its sign", len(page.all("#picture .cell.skipped")), 2)
     page.press(END)
     tally.same("a stream that is not there", page.text("#stream h2"), "Stream 9.7 idle")
+    tally.same("its step is told", page.text("#told"), "9.7: there is no such stream.")
     page.quiet("skipped steps")
 
 

@@ -82,7 +82,7 @@ def switched(page):
     tally.same("a link to a step of the second run", (page.position(), page.text("#stream h2").split()[1]), (7, "3.0"))
     tally.check("tells it", "An update is lost here" in page.text("#told"), page.text("#told"))
     page.press("x")
-    tally.check("hexadecimal numbers in both ends", "[0x8]" in page.text("#end"), page.text("#end"))
+    tally.check("hexadecimal values in both ends", "stored 0x1 into [8]" in page.text("#end"), page.text("#end"))
     page.quiet("either run")
 
 

@@ -2,12 +2,13 @@
 schedule of theirs can go on forever, and a name of its own for each end."""
 
 import concurrent.futures
+import os
 import pathlib
 import random
 import re
 import sys
 
-import of_play
+import graphs
 import runs
 import tally
 
@@ -15,13 +16,16 @@ sys.path.append(str(runs.ROOT / "tests" / "spaces"))
 import programs  # noqa: E402
 from machine import NO_HANDLER, Program, Word  # noqa: E402
 
-PROGRAMS, STEPS, STATES = 130, 1500, 4000
+# so many random programs, or as many as SENTENCES in the environment says
+PROGRAMS = int(os.environ.get("SENTENCES", "300"))
+STEPS, STATES = 1500, 4000
 EXAMPLES = ("lock", "fetch_add", "mailbox", "trap_handler", "forwarding", "future", "limited_wait")
 # walks over all steps of the graph, or over so many: of each step its stream, what is said of it, and of one that is
-# blocked what its stream waits for; tries that change nothing are among them
+# blocked what its stream waits for; tries that change nothing are among them. Values may be hexadecimal
 WALKS = """
-  const [most] = arguments;
+  const [most, isHex] = arguments;
   fullName = namedWord;
+  view.hex = isHex;
   const taken = new Set();
   const fresh = (w) => names.findIndex((_, k) => runs(w, k) && !taken.has(w * names.length + k));
   const nearest = (w) => {
@@ -72,6 +76,9 @@ CHOSEN = """
   }
   return out;
 """
+# what some steps of so many programs say
+SEEN = ("waits for .* to be full", "waits for .* to be empty", "tries ", "trap 10, ", "trap 7, ", "trap 9, ", "; to ",
+        "stays ", "full \u2192 empty", "empty \u2192 full", "starts ", "no handler \u2192 ", "\u2192 no handler")
 LINE = re.compile(r"^ *(\d+)  (\d+\.\d+) +\S+ +(.*)$")
 
 
@@ -115,60 +122,54 @@ def body(chance, length, memory, slim):
 
 
 def seen_by_page(text):
-    """What the page says of a step, without what it adds to what view says."""
-    text = text.replace("→", "->").replace("−", "-").replace(", past the end", "")
-    text = text.replace(str(2**64 - 2**32), str(-2**32))
-    text = re.sub(r"\S+ \((0x[0-9a-f]+)\)", r"\1", text)
-    return "" if text == "goes on" else without_reason(text)
-
-
-def without_reason(text):
-    """A sentence without the words that say what a trap means."""
-    return re.sub(r"(^trap \d+, \w+(?: at \[\d+\][^:;]*)?): [^;]*", r"\1", text)
+    """What the page says of a step, with the signs that view has for an arrow and for a minus."""
+    return "" if text == "goes on" else text.replace("\u2192", "->").replace("\u2212", "-")
 
 
 def seen_by_view(text):
-    """What view says of a step, without the comment, and as far as the data of a page say it: in them a target register
-    that is 0 is as one that names no handler."""
-    unset = "(?:0|no handler)"
-    parts = []
-    for part in without_reason(re.split("  +", text.rstrip())[0]).split("; "):
-        if re.fullmatch(rf"t\d {unset} -> {unset}|\d+\.\d+ has t\d {unset}", part):
-            continue
-        part = re.sub(rf"^(t\d) {unset} -> ", r"\1 -> ", part)
-        parts.append(re.sub(rf"^(t\d .* ->) {unset}$", r"\1 0 or no handler", part))
-    return "; ".join(parts)
+    """What view says of a step, without the comment."""
+    return re.split("  +", text.rstrip())[0]
 
 
-def lines_of_view(folder, source, number, walk):
-    """What view says of the steps of a walk."""
+def statements_of(program):
+    """The statements of the program in a page, that of no word, and the sign of a stream at no word, the longest first."""
+    return sorted({one[2] for one in program} | {"", "-"}, key=len, reverse=True)
+
+
+def without_statement(line, statements):
+    """What stands after the instruction in a line of view."""
+    return next(line[len(one):] for one in statements if line.startswith(one)).strip()
+
+
+def lines_of_view(folder, source, number, walk, words):
+    """What view says of the steps of a walk, by these options."""
     file = pathlib.Path(folder) / f"walk{number}.schedule"
     file.write_text("".join(f"{name.replace('.', ' ')} 1\n" for name, _, _ in walk))
-    printed = runs.call(runs.LAB, "view", "--all", str(source), str(file))
+    printed = runs.call(runs.LAB, "view", "--all", *words, str(source), str(file))
     return [found for found in map(LINE.match, printed.splitlines()) if found][:len(walk)]
 
 
-def differing(folder, source, statements, item):
-    """The steps of a walk of which the page says something else than view."""
+def differing(folder, source, statements, words, item):
+    """The steps of a walk of which the page says something else than view, by these options."""
     number, walk = item
-    lines = lines_of_view(folder, source, number, walk)
+    lines = lines_of_view(folder, source, number, walk, words)
     faults = [] if len(lines) == len(walk) else [f"{len(lines)} lines of {len(walk)} steps"]
     for (name, said, waits), line in zip(walk, lines):
-        shown = next(line[3][len(one):] for one in statements if line[3].startswith(one))
-        wanted = seen_by_view(shown.strip())
+        wanted = seen_by_view(without_statement(line[3], statements))
         if name != line[2] or seen_by_page(said) != wanted:
             faults.append(f"step {line[1]} of {name}: {seen_by_page(said)!r}, and not {wanted!r}")
-        if waits and not seen_by_view(shown.strip()).startswith(re.split("[;,]", waits)[0]):
+        if waits and not wanted.startswith(re.split("[;,]", waits)[0]):
             faults.append(f"step {line[1]} of {name}: {waits!r}, and not {wanted!r}")
     return faults
 
 
-def sentences(page, name, source, graph):
+def sentences(page, name, source, graph, is_hex):
     """Whether the page says of each step what view says. The answer is what it says of them."""
-    walks = page.script(WALKS, STEPS)
-    statements = sorted({one[2] for one in graph.data["program"]} | {""}, key=len, reverse=True)
+    walks = page.script(WALKS, STEPS, is_hex)
+    words = ["--hex"] if is_hex else []
+    statements = statements_of(graph.data["program"])
     with concurrent.futures.ThreadPoolExecutor() as pool:
-        faults = [fault for found in pool.map(lambda item: differing(page.folder, source, statements, item),
+        faults = [fault for found in pool.map(lambda item: differing(page.folder, source, statements, words, item),
                                               enumerate(walks)) for fault in found]
     steps = [step for walk in walks for step in walk]
     tally.check(f"{name}: {len(steps)} steps are as in view", not faults, faults[:3])
@@ -182,7 +183,7 @@ def outcome(graph, state, at):
     """How the step of a stream comes out that runs in a state."""
     does = graph.data["does"][graph.held[at][state]]
     if isinstance(does, list):
-        does = dict(zip(does[::2], does[1::2]))[of_play.column(graph.data["states"]["shared"])[state]]
+        does = dict(zip(does[::2], does[1::2]))[graphs.column(graph.data["states"]["shared"])[state]]
     return graph.data["steps"][does][0]
 
 
@@ -208,20 +209,20 @@ def has_cycle(graph):
                for state in range(len(after)) for at in graph.running(state))
 
 
-def of_program(page, name, source):
+def of_program(page, name, source, is_hex=False):
     """The sentences of a program's page, whether it may run forever, and the names of its ends."""
     try:
         text = runs.played(page.folder, source)
     except RuntimeError as refused:
         tally.check(f"{name}: it has too many states", "100000 states" in str(refused), refused)
         return []
-    graph = of_play.Graph(text)
+    graph = graphs.Graph(text)
     page.open(name, text)
     if graph.data["counted"]["states"] <= STATES:
         tally.same(f"{name}: whether a schedule may run forever", page.script("return runsForever()"), has_cycle(graph))
     labels = page.script("return data.ends.map((_, e) => label(e))")
     tally.check(f"{name}: each end has a name of its own", len({*labels}) == len(labels), labels)
-    said = sentences(page, name, source, graph)
+    said = sentences(page, name, source, graph, is_hex)
     page.quiet(f"{name}: sentences")
     return said
 
@@ -236,8 +237,7 @@ def part(page):
     for number in range(PROGRAMS):
         source = pathlib.Path(page.folder) / f"made{number}.asm"
         source.write_text(made(chance) if number % 3 else programs.made(chance).text.decode())
-        said += of_program(page, source.stem, source)
-    for what in ("waits for .* to be full", "waits for .* to be empty", "tries ", "trap 10, ", "trap 7, ", "trap 9, ",
-                 "; to ", "stays ", "full \\u2192 empty", "empty \\u2192 full", "starts "):
+        said += of_program(page, source.stem, source, number % 5 == 4)
+    for what in SEEN if PROGRAMS >= 300 else ():
         count = len([one for one in said if re.search(what, one)])
         tally.check(f"some steps say {what}", count > 10, count)

@@ -1,5 +1,5 @@
-"""What the page of `mta_lab play` says of all schedules, of right and wrong, of the steps that `--from` gives, and of
-ends that differ in tags alone."""
+"""What the page of `mta_lab play` says of all schedules, of right and wrong, of the steps that `--from` gives, and how it
+names its ends: those that differ in tags alone, in words that a short name has no room for, or that never end."""
 
 import pathlib
 import re
@@ -131,10 +131,41 @@ def tagged(page):
                     page.text("#result h2"))
 
 
+# eight ends: of each word the value is that of the stream which stores last
+STORES_3 = tuple(f"STORE.N r1, r0, {word}" for word in range(3))
+LONG = two(("LIT r1, 4294967295", *STORES_3, "QUIT"), ("LIT r1, 4294967294", *STORES_3, "QUIT"),
+           ".data 0\n.data 0\n.data 0")
+# two ends, at which a stream goes round: the word is 1 or 2
+ROUND = two(("LIT r1, 1", "STORE.N r1, r0, 0", "SKIP ALWAYS, 0, -1"), ("LIT r1, 2", "STORE.N r1, r0, 0", "QUIT"))
+# 0.0 is stopped by a trap, 1.0 waits forever
+TRAPPED = two(("LOAD.N r1, r0, 9", "QUIT"), TAKES, ".data 0, 0")
+# the texts of the ends' badges, of the goals but for "Look around", and of the ends' lanes
+NAMED = """
+  const texts = (selector) => [...document.querySelectorAll(selector)].map((one) => one.textContent);
+  const lanes = texts("#heads .name");
+  return [texts("#ends .badge .text"), texts("#goals button").slice(1), lanes.slice(-data.ends.length)];
+"""
+
+
+def names(page):
+    """No two ends have one name."""
+    for name, text, count in (("long", LONG, 8), ("round", ROUND, 2), ("tagged", TAGGED, 2)):
+        opened(page, name, text)
+        for kind, said in zip(("badge", "goal", "lane"), page.script(NAMED)):
+            tally.same(f"{name}: each end has a {kind} of its own", (len(said), len({*said})), (count, count))
+    opened(page, "trapped", TRAPPED)
+    page.script("setGoal(null); extend(0, shortestWay(0, 0)); goTo(way.length)")
+    tally.same("trapped: the stopped stream is named beside the deadlock", page.text("#result h2"),
+               "Deadlock: 1.0 waits forever; a trap stopped 0.0 (RANGE)")
+    told = page.script("return endText(0)")
+    tally.same("trapped: and in the result", told, "deadlock: 1.0 waits forever; a trap stopped 0.0 (RANGE)")
+
+
 def part(page):
     if not runs.has_pages():
         return
     leads(page)
+    names(page)
     given(page)
     judged(page)
     tagged(page)

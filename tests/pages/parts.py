@@ -1,4 +1,4 @@
-"""The parts of the tests, in their order, and the count of what they check."""
+"""The parts of the tests, in their order: those of the browser, and those that Node can do without one (scripts.py)."""
 
 import browser
 import of_access
@@ -10,13 +10,11 @@ import of_pairs
 import of_pictures
 import of_play
 import of_play_access
-import of_sentences
 import of_sizes
 import of_states
-import of_verdicts
 import of_ways
 import of_widths
-import tally
+import scripts
 
 ALL = {
     "files": of_files.part,
@@ -28,25 +26,10 @@ ALL = {
     "play": of_play.part,
     "play_access": of_play_access.part,
     "ways": of_ways.part,
-    "sentences": of_sentences.part,
-    "verdicts": of_verdicts.part,
+    **scripts.ALL,
     "hostile": of_hostile.part,
     "sizes": of_sizes.part,
     "widths": of_widths.part,
     "firefox": of_firefox.part,
 }
-
-
-def run(names, clock):
-    """Runs the parts of these names, each with a browser of its own. The answer is a status."""
-    for name in names:
-        begin = clock()
-        before = (tally.passed, tally.failed)
-        with browser.opened() as page:
-            ALL[name](page)
-        held, broken = tally.passed - before[0], tally.failed - before[1]
-        print(f"{name}: {held} passed, {broken} failed, {clock() - begin:.0f} s", flush=True)
-    for words in tally.skipped:
-        print(f"skipped: {words}")
-    print(f"{tally.passed} passed, {tally.failed} failed")
-    return 1 if tally.failed else 0
+opened = browser.opened

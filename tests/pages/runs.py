@@ -1,6 +1,7 @@
 """Where the pages come from: `mta_lab page`, where that is built; else page/build.py and the runs in samples, which a
 plain simulator has made of the examples. With PROGRAM=draft in the environment the drafts are meant; MTA_LAB and MTA_SIM
-name other programs than those that are built here."""
+name other programs than those that are built here. With PAGES=files a page has the program's data and the scripts and
+styles as they are in page/: so a script is tried without a build."""
 
 import functools
 import json
@@ -18,6 +19,7 @@ SAMPLES = pathlib.Path(__file__).resolve().parent / "samples"
 # after so many seconds a program has failed
 PATIENCE = 120
 RUN = re.compile(r'<script type="application/json" id="run">(.*?)</script>', re.DOTALL)
+GRAPH = re.compile(r'<script type="application/json" id="graph-data">(.*?)</script>', re.DOTALL)
 
 sys.path.insert(0, str(ROOT / "page"))
 sys.path.append(str(ROOT / "tests"))
@@ -62,7 +64,15 @@ def page_of(folder, program, *how):
     """The page that mta_lab makes of a program."""
     file = pathlib.Path(folder) / "made.html"
     call(LAB, "page", str(program), *map(str, how), "--out", str(file))
-    return file.read_text(encoding="utf-8")
+    text = file.read_text(encoding="utf-8")
+    return taken(text, "pair" if '"object":"pair"' in text else "run", RUN)
+
+
+def taken(page, kind, data):
+    """A page as it is, or with the files in page/."""
+    if os.environ.get("PAGES") != "files":
+        return page
+    return build.PAGES[kind].text(data.search(page).group(1))
 
 
 def run_of(page):
@@ -93,7 +103,7 @@ def played(folder, source, *words):
         return None
     file = pathlib.Path(folder) / "played.html"
     call(LAB, "play", str(source), *words, "--out", str(file))
-    return file.read_text(encoding="utf-8")
+    return taken(file.read_text(encoding="utf-8"), "play", GRAPH)
 
 
 def sample(name):

@@ -6,6 +6,7 @@ import glob
 import json
 import os
 import random
+import subprocess
 import time
 
 import adapters
@@ -344,6 +345,34 @@ def heads():
             found.append((response["request_seq"], response["success"]))
         editor.body("disconnect")
         yield "heads", [(7, True)] * len(written), found
+
+
+@checks.others("adapter/conditions")
+def conditions():
+    """A breakpoint with a condition, a count of hits or a message is not verified, says why, and stops nowhere: these are not
+    used. An empty condition is none."""
+    asked = [{"condition": "r2 == 1"}, {"hitCondition": "3"}, {"logMessage": "here"}, {"condition": " ", "hitCondition": ""}]
+    with adapters.adapter() as editor:
+        editor.launched(LOCK, LOST)
+        for command, place in (("setBreakpoints", {"line": 21}), ("setFunctionBreakpoints", {"name": "bare+2"}),
+                               ("setDataBreakpoints", {"dataId": "[8]"})):
+            found = editor.body(command, source={"path": LOCK}, breakpoints=[{**place, **more} for more in asked])
+            yield (command, [(False, True)] * 3 + [(True, False)],
+                   [(it["verified"], " not used" in it.get("message", "")) for it in found["breakpoints"]])
+            editor.body(command, source={"path": LOCK}, breakpoints=[{**place, **more} for more in asked[:3]])
+        yield "a run", "step", editor.move("continue")[1]
+
+
+@checks.others("adapter/unreadable_input")
+def unreadable_input():
+    """Input that can't be read ends the session with status 1 and a word, where an end of the input is its end."""
+    folder = os.open("/", os.O_RDONLY)
+    ended = subprocess.run([tool.LAB, "dap"], stdin=folder, capture_output=True, timeout=tool.PATIENCE, check=False)
+    os.close(folder)
+    yield ("a folder", (1, b"", b"mta_lab: -: read failed: Is a directory (os error 21)\n"),
+           (ended.returncode, ended.stdout, ended.stderr))
+    ended = subprocess.run([tool.LAB, "dap"], input=b"", capture_output=True, timeout=tool.PATIENCE, check=False)
+    yield "no input", (0, b"", b""), (ended.returncode, ended.stdout, ended.stderr)
 
 
 @checks.others("adapter/pause")

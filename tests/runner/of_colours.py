@@ -49,7 +49,7 @@ def colours():
                (bright.status, COLOUR.sub(b"", bright.out), COLOUR.sub(b"", bright.err), bright.out + bright.err != bare.out + bare.err))
         yield f"{words}, usual", (bare.out, bare.err, False), (usual.out, usual.err, b"\x1b" in bare.out + bare.err)
     for words in FOR_PROGRAMS:
-        bare, bright = (lab(*words, *more, given=QUIT, folder=EXAMPLES) for more in ([], ["--color", "always"]))
+        bare, bright = (lab(*it, given=QUIT, folder=EXAMPLES) for it in (words, with_colours(words)))
         yield f"{words}", bare.out, bright.out
     yield "a file", True, page_is_the_same()
     for path in sorted(glob.glob(os.path.join(table.CASES, "lab_check/*.asm"))):
@@ -58,9 +58,21 @@ def colours():
     yield "a terminal", True, b"\x1b[32m" in on_terminal({})
     yield "a terminal, NO_COLOR", False, b"\x1b" in on_terminal({"NO_COLOR": "1"})
     yield "a terminal, NO_COLOR empty", True, b"\x1b[32m" in on_terminal({"NO_COLOR": ""})
+    yield "a terminal, TERM dumb", False, b"\x1b" in on_terminal({"TERM": "dumb"})
+    yield "a terminal, no TERM", False, b"\x1b" in on_terminal({"TERM": None})
+    yield "a terminal, TERM empty", False, b"\x1b" in on_terminal({"TERM": ""})
+    yield "a terminal in Emacs", False, b"\x1b" in on_terminal({"INSIDE_EMACS": "29.4,comint"})
+    yield "a terminal, TERM dumb, --color always", True, b"\x1b[32m" in on_terminal({"TERM": "dumb"}, "--color", "always")
+    yield "a terminal in Emacs, --color always", True, b"\x1b[32m" in on_terminal({"INSIDE_EMACS": "vterm"}, "--color", "always")
     yield "a terminal, --color never", False, b"\x1b" in on_terminal({}, "--color", "never")
     yield "a terminal, NO_COLOR, --color always", True, b"\x1b[32m" in on_terminal({"NO_COLOR": "1"}, "--color", "always")
     yield "no such word", 2, lab("view", "lock.asm", "--color", "red", folder=EXAMPLES).status
+
+
+def with_colours(words):
+    """A command line with the option at its end; that of `word` before its words, after which nothing is an option."""
+    place = 1 if words[0] == "word" else len(words)
+    return [*words[:place], "--color", "always", *words[place:]]
 
 
 def page_is_the_same():
@@ -72,12 +84,13 @@ def page_is_the_same():
 
 
 def on_terminal(environment, *words):
-    """What `view` prints where its standard output is a terminal."""
-    kept = {name: value for name, value in os.environ.items() if name != "NO_COLOR"}
+    """What `view` prints where its standard output is a terminal, by these variables; None takes one away."""
+    wanted = {**os.environ, "NO_COLOR": None, "INSIDE_EMACS": None, "TERM": "xterm", **environment}
+    variables = {name: value for name, value in wanted.items() if value is not None}
     child, terminal = pty.fork()
     if child == 0:
         os.chdir(EXAMPLES)
-        os.execve(tool.LAB, [tool.LAB, "view", "lock.asm", "--seed", "1", *words], {**kept, **environment})
+        os.execve(tool.LAB, [tool.LAB, "view", "lock.asm", "--seed", "1", *words], variables)
     printed = b""
     while True:
         try:

@@ -89,6 +89,21 @@ def long_lines():
         yield f"{length} bytes at the end", answer, behind_the_first_line(line, end="")
 
 
+@checks.others("lab/debug_not_utf_8")
+def not_utf_8():
+    """A line that is not UTF-8 is refused by its number: it is not the empty line, which repeats the last command."""
+    refused = b"line 2 is not UTF-8: it is not taken\n"
+    *first, last = told_by(b"step\nwhere\n").splitlines(keepends=True)
+    for name, line in (("a byte FF", b"\xff"), ("a letter that is cut off", b"where \xc3"), ("Latin-1", b"M\xfcller")):
+        yield name, b"".join([*first, refused, last]), told_by(b"step\n" + line + b"\nwhere\n")
+    yield "at the end", b"".join([*told_by(b"step\n").splitlines(keepends=True), refused]), told_by(b"step\n\xff")
+
+
+def told_by(lines):
+    """What a session over lock.asm answers to these bytes."""
+    return of_lab.lab("debug", "lock.asm", "lock.ends.schedule", given=lines).out
+
+
 @checks.each("lab/debug.tsv")
 def answered(fields):
     """A session: what stands there first, and each line that is typed behind > and a blank, with its answer."""

@@ -1,5 +1,5 @@
-"""The exercises: each solution is right by every schedule, each start is not, and each typical wrong program gets the
-sentence that belongs to it. The files are read here by a reader of the tests' own. And what the command `exercise` says."""
+"""The exercises: each solution is right by every schedule, each start is not, and of each wrong program the sentence is said
+that belongs to it, or none. And what the command `exercise` says."""
 
 import contextlib
 import os
@@ -36,14 +36,18 @@ def judged(exercise, program):
     return verdict, why
 
 
-def advice_for(exercise, verdict, why):
-    """The head of the first line of advice that speaks of a verdict, and its sentence."""
-    for line in text_of(exercise, "advice").splitlines():
-        head, sentence = line.split(": ", 1)
-        kind, _, words = head.partition(", ")
-        if kind == verdict and words in why:
-            return head, sentence
-    return None, None
+def sentences_of(exercise):
+    """The sentences of an exercise's advice."""
+    return [line.split(": ", 1)[1] for line in text_of(exercise, "advice").splitlines()]
+
+
+def sentence_of(exercise, beginning):
+    """The one sentence of an exercise's advice that begins so; None for `-`."""
+    if beginning == "-":
+        return None
+    found = {sentence for sentence in sentences_of(exercise) if sentence.startswith(beginning)}
+    assert len(found) == 1, f"{exercise}: {beginning!r} begins {len(found)} sentences"
+    return found.pop()
 
 
 def is_solved(exercise):
@@ -80,25 +84,61 @@ def programs():
             for name in exercises() for part in parts]
 
 
+def file_of(name):
+    """The file of a program of the table: the start, or one of `wrong`."""
+    return "start.asm" if name == "start" else os.path.join("wrong", name + ".asm")
+
+
 @checks.others("exercises/all wrong ones")
 def wrong_programs():
-    """Each wrong program has a row."""
-    rows = {(row.fields[0], row.fields[1] + ".asm") for row in table.rows("exercises/wrong.tsv")}
-    there = {(name, wrong) for name in exercises() for wrong in os.listdir(os.path.join(EXERCISES, name, "wrong"))}
-    return [("wrong programs without a row", set(), there - rows)]
+    """Each start and each wrong program has a row, and each sentence of advice is said of one of them."""
+    listed = table.rows("exercises/wrong.tsv")
+    rows = {(row.fields[0], file_of(row.fields[1])) for row in listed}
+    there = {(name, os.path.join("wrong", wrong)) for name in exercises()
+             for wrong in os.listdir(os.path.join(EXERCISES, name, "wrong"))}
+    there |= {(name, "start.asm") for name in exercises()}
+    said = {sentence_of(row.fields[0], row.fields[2]) for row in listed}
+    sentences = {sentence for name in exercises() for sentence in sentences_of(name)}
+    return [("wrong programs without a row", set(), there - rows), ("sentences of no program", set(), sentences - said),
+            ("at least 77 attempts", True, len(rows) >= 77)]
 
 
 @checks.each("exercises/wrong.tsv")
 def wrong(fields):
-    exercise, name, head = fields
-    verdict, why = judged(exercise, os.path.join("wrong", name + ".asm"))
-    found, _ = advice_for(exercise, verdict, why)
-    return head, found if found else f"no advice on {verdict}: {why}"
+    """The sentence that is said of a wrong program."""
+    exercise, name, beginning = fields
+    with copied(exercise) as folder:
+        put(folder, exercise, file_of(name))
+        said = sentence_said(exercise, folder)
+    return sentence_of(exercise, beginning), said
+
+
+@checks.each("exercises/facts.tsv")
+def facts(fields):
+    """Whether a line of advice is said of a program."""
+    exercise, name, head, is_said = fields
+    with copied(exercise) as folder:
+        put(folder, exercise, "start.asm" if name == "start" else name + ".asm")
+        tool.write(os.path.join(folder, "exercises", exercise, "advice"), f"{head}: It is so.\n".encode())
+        said = sentence_said(exercise, folder)
+    return is_said, "yes" if said == "It is so." else "no" if said is None else said
+
+
+@checks.each("exercises/advice.tsv")
+def advice(fields):
+    """What a file of advice is refused for."""
+    text, status, err = fields
+    with copied("03_lock") as folder:
+        tool.write(os.path.join(folder, "exercises", "03_lock", "advice"), unescaped(text))
+        ended = lab("exercise", "3", folder=folder)
+    said = b"" if err else b"First."
+    return (int(status), said, unescaped(err)), (ended.status, b"".join(ended.out.splitlines()[2:3]), ended.err)
 
 
 # the command `exercise`, beside what `grade` says of the same program, put into words by the rules of docs/LAB_REFERENCE.md
 
 THOROUGH = ("--states", "200000", "--seeds", "200", "--steps", "10000")
+AFTER_SENTENCE = ("All messages: ", "To look at this run:", "A hint: ")
 QUICK = ("--states", "20000", "--seeds", "20", "--steps", "2000")
 # an exercise, and what takes the place of its start: a file of its own, or a text; None where it is gone
 TOLD = [
@@ -109,10 +149,12 @@ TOLD = [
 
 
 @contextlib.contextmanager
-def copied():
-    """A folder with a copy of the exercises."""
+def copied(only=None):
+    """A folder with a copy of the exercises, or of one alone, without their wrong programs."""
     with tempfile.TemporaryDirectory(prefix="mta-case-") as folder:
-        shutil.copytree(EXERCISES, os.path.join(folder, "exercises"))
+        for name in exercises() if only is None else [only]:
+            shutil.copytree(os.path.join(EXERCISES, name), os.path.join(folder, "exercises", name),
+                            ignore=shutil.ignore_patterns("wrong"))
         yield folder
 
 
@@ -159,16 +201,23 @@ def shown_run(path, why):
             f"It has the words of {path}/cases/{case}.data: if your .data lines differ, put these there."]
 
 
-def told(exercise, verdict, why):
-    """What `exercise N` prints."""
+def told(exercise, program, verdict, why):
+    """What `exercise N` prints of a program."""
     path, number = f"exercises/{exercise}", int(exercise[:2])
     lines = [f"exercise {number}, {title_of(exercise)}: {verdict}", f"{path}/start.asm: {why}"]
+    beginnings = {(row.fields[0], file_of(row.fields[1])): row.fields[2] for row in table.rows("exercises/wrong.tsv")}
     if verdict == "right":
         return [*lines, *next_after(exercise)]
-    _, sentence = advice_for(exercise, verdict, why)
-    lines += [sentence] if sentence else []
+    sentence = beginnings.get((exercise, program))
+    lines += [sentence_of(exercise, sentence)] if sentence else []
     lines += [f"All messages: mta_lab check {path}/start.asm"] if verdict == "source fault" else []
     return [*lines, *shown_run(path, why), f"A hint: mta_lab exercise {number} --hint 1"]
+
+
+def sentence_said(exercise, folder):
+    """The sentence that `exercise` says of the start in a folder; None where it says none."""
+    lines = lab("exercise", exercise[:2], folder=folder).out.decode().splitlines()[2:3]
+    return next((line for line in lines if not line.startswith(AFTER_SENTENCE)), None)
 
 
 def tells(exercise, program):
@@ -176,7 +225,7 @@ def tells(exercise, program):
         put(folder, exercise, program)
         verdict, why, status = row_of(folder, exercise, THOROUGH)
         said = lab("exercise", exercise[:2], folder=folder)
-    wanted = "".join(line + "\n" for line in told(exercise, verdict, why))
+    wanted = "".join(line + "\n" for line in told(exercise, program, verdict, why))
     return (status, wanted.encode(), b""), (said.status, said.out, said.err)
 
 

@@ -137,7 +137,7 @@ def unknown():
             reason = b"no word is named totl: did you mean total?" if shown == b"totl" else b"no word is named a: " + KNOWN
             marked = f"    2 | word {name} 0\n      |      {'^' * len(name)}\n".encode()
             return ((1, b"", b"w.x:2:6: error: " + reason + b"\n" + marked), True, True), (
-                told(said), b"wrong" in graded.out, reason in graded.out)
+                told(said), b"\tnot judged\t" in graded.out, reason in graded.out)
         yield f"expected {name}", lambda check=check, name=name: with_folder(
             check, p_asm=SOURCE, w_x=f"finished\nword {name} 0\n".encode())
 
@@ -232,7 +232,7 @@ NAMED_CASES = (
     (b" .data 3 ; input\n .data 0 ; output: twice\n", b"word output 6\nword [input] 3\n", "right", ""),
     (b" .data 3 ; input\n .data 0 ; output: twice\n", b"never word output is 6\n", "wrong", "never word output is 6"),
     (b" .data 3\n .data 0 ; the double\n", b"word output 3\n", "right", ""),
-    (b" .data 3 ; input\n .data 0\n", b"word output 6\n", "wrong", "no word is named output: the names are input"),
+    (b" .data 3 ; input\n .data 0\n", b"word output 6\n", "not judged", "no word is named output: the names are input"),
 )
 
 

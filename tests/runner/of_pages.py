@@ -121,7 +121,7 @@ def pair_as_compared(source, one, other, *options):
     ways = [["--seed", it, *options[1:]] if options else [it] for it in (one, other)]
     alone = [run_in(written("page", source, *way)[1]) for way in ways]
     parts = ("steps", "waits", "findings", "end")
-    wanted = {key: alone[0][key] for key in ("version", "name", "source", "program", "data", "names", "start")}
+    wanted = {key: alone[0][key] for key in ("version", "name", "source", "program", "data", "names", "start", "slim")}
     wanted |= {"object": "pair", "schedule": " and ".join(names), "difference": difference, "runs": [
         {"schedule": name, **{part: run[part] for part in parts}} for name, run in zip(names, alone)]}
     return json.dumps(wanted, sort_keys=True), json.dumps(pair, sort_keys=True)
@@ -131,6 +131,7 @@ def pair_as_compared(source, one, other, *options):
 SEARCHES = {
     "lock.asm": (("lock.asm",), None),
     "race, judged": (("grading/submissions/racing.asm",), b"word 8 4\nnever word 8 is 3\n"),
+    "claim broken on the way": (("grading/submissions/racing.asm",), b"never word 8 is 1\n"),
     "deadlock, judged": (("grading/submissions/never_given_back.asm",), b"word 8 4\n"),
 }
 

@@ -84,6 +84,15 @@ def slips(fields):
     return [words, cure], next((it for it in found if it[0] == words), found)
 
 
+@checks.each("lab_check/warned.tsv")
+def warned(fields):
+    """All messages about a text, each by its line and its number."""
+    _, text, wanted = fields
+    told = [(it["line"], it["number"], it["severity"]) for it in messages(unescaped(text))]
+    found = ", ".join(f"{line} {'E' * (severity == 'error')}{number}" for line, number, severity in told)
+    return wanted, found or "-"
+
+
 @checks.others("lab/no_slips")
 def no_slips():
     """Nothing new is said of the examples, of right programs, and of those on the pages of explain."""
@@ -139,7 +148,7 @@ def pages():
 @checks.others("lab/numbers_of_messages")
 def numbers():
     """The least number of the errors on the line that mta_sim refuses is the kind that it says; each number has a page, and
-    each page of a warning a case."""
+    each page of a warning a case; 114 has its own in of_names.py."""
     texts = {f"{row}": program(row.fields[1], row.fields[2]) for row in table.rows("lab_check/slips.tsv")}
     texts |= {f"{row}": unescaped(row.fields[1]) for row in table.rows("lab_check/sentences.tsv") if row.fields[0] == "wrong.asm"}
     texts |= {os.path.basename(path): tool.read(path) for path in glob.glob(os.path.join(table.CASES, "lab_check/*.asm"))}
@@ -154,7 +163,7 @@ def numbers():
     for number in numbers:
         page = f"E{number}" if number < 100 else f"{number}"
         yield f"page {page}", 0, lab("explain", page).status
-    yield "warnings", set(range(101, 114)), {it for it in numbers if it > 100}
+    yield "warnings", {*range(101, 117)} - {114}, {it for it in numbers if it > 100}
 
 
 def is_about(message, line):

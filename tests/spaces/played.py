@@ -37,8 +37,8 @@ def content(stream):
                "retries": stream.retries}
     found |= {name: number for name, number in numbers.items() if number}
     texts = {"xr": stream.xr} | {f"r{n}": value for n, value in enumerate(stream.registers)}
-    texts |= {f"t{n}": value for n, value in enumerate(stream.targets) if value != machine.NO_HANDLER}
-    return found | {name: str(number) for name, number in texts.items() if number}
+    targets = {f"t{n}": str(value) for n, value in enumerate(stream.targets) if value != (0 if n else machine.NO_HANDLER)}
+    return found | {name: str(number) for name, number in texts.items() if number} | targets
 
 
 def shared(program, world):

@@ -24,7 +24,7 @@ enum WordPosition {
 struct ColouredWord(&'static str, Colour, WordPosition);
 
 /// The words that have one; of two that begin alike the longer one first.
-const WORDS: [ColouredWord; 27] = [
+const WORDS: [ColouredWord; 28] = [
     ColouredWord("error:", Colour::Bad, WordPosition::Head),
     ColouredWord("warning:", Colour::Doubtful, WordPosition::Head),
     ColouredWord("mta_lab:", Colour::Bad, WordPosition::Beginning),
@@ -39,6 +39,7 @@ const WORDS: [ColouredWord; 27] = [
     ColouredWord("source fault", Colour::Bad, WordPosition::Column),
     ColouredWord("not read", Colour::Doubtful, WordPosition::Column),
     ColouredWord("not decided", Colour::Doubtful, WordPosition::Column),
+    ColouredWord("not judged", Colour::Doubtful, WordPosition::Column),
     ColouredWord("spinning", Colour::Doubtful, WordPosition::Column),
     ColouredWord("spins", Colour::Doubtful, WordPosition::Column),
     ColouredWord("out of steps", Colour::Doubtful, WordPosition::Column),

@@ -1,6 +1,7 @@
 //! Files and standard input, read whole.
 
 use crate::lab_fault::LabFault;
+use named_files::ForeignNames;
 use output_files::UsedFiles;
 use std::alloc::{AllocError, Global};
 use std::fs;
@@ -14,6 +15,9 @@ const INPUT_LIMIT: usize = 33_554_432;
 /// The bytes that one read asks for.
 const CHUNK: usize = 65_536;
 
+/// What is said of a file whose name is not UTF-8.
+pub(crate) const NOT_UTF_8: &str = "its name is not UTF-8: rename it to have it read";
+
 /// Where a command's inputs come from, and which files it has read: it never writes over them.
 #[derive(Drop)]
 pub struct Inputs<'a, F, R> {
@@ -23,6 +27,8 @@ pub struct Inputs<'a, F, R> {
     pub input: &'a mut R,
     /// The files that were read.
     pub(crate) used: UsedFiles,
+    /// The words of the command line that are not UTF-8.
+    pub(crate) foreign: ForeignNames,
 }
 
 impl<'a, F: Files, R: Read> Inputs<'a, F, R> {
@@ -32,7 +38,28 @@ impl<'a, F: Files, R: Read> Inputs<'a, F, R> {
             files,
             input,
             used: UsedFiles::none(alloc),
+            foreign: ForeignNames::none(alloc),
         }
+    }
+
+    /// The same of a command in whose line these words are not UTF-8.
+    pub fn with_names(
+        alloc: Global,
+        files: &'a F,
+        input: &'a mut R,
+        foreign: ForeignNames,
+    ) -> Inputs<'a, F, R> {
+        Inputs {
+            files,
+            input,
+            used: UsedFiles::none(alloc),
+            foreign,
+        }
+    }
+
+    /// The words of the command line that are not UTF-8.
+    pub fn names(&self) -> &ForeignNames {
+        &self.foreign
     }
 
     /// All the bytes of the file of a path, or of standard input for `-`. The file is remembered as read.
@@ -49,17 +76,20 @@ impl<'a, F: Files, R: Read> Inputs<'a, F, R> {
         if path == "-" {
             return read_whole(alloc, self.input);
         }
+        if self.foreign.has(path) {
+            return Ok(Err(String::from_str(alloc, NOT_UTF_8)?));
+        }
         match fs::open(self.files, path) {
-            Ok(mut file) => {
-                self.remember(alloc, path, &file)?;
-                read_whole(alloc, &mut file)
-            }
+            Ok(file) => self.read_opened(alloc, path, file),
             Err(error) => Ok(Err(not_read(alloc, &error)?)),
         }
     }
 
     /// The same of a file that the command is to replace: it is not remembered, and so it may be written over.
     pub fn read_to_replace(&mut self, alloc: Global, path: &str) -> Result<Vec<u8>, LabFault> {
+        if self.foreign.has(path) {
+            return Err(LabFault::Words(format!(in alloc; "{path}: {NOT_UTF_8}")?));
+        }
         let read = if path == "-" {
             read_whole(alloc, self.input)?
         } else {
@@ -69,6 +99,18 @@ impl<'a, F: Files, R: Read> Inputs<'a, F, R> {
             }
         };
         read_or_fault(alloc, path, read)
+    }
+
+    /// The bytes of the file that was opened by a path, which is remembered as read; or in words why they are not read.
+    pub(crate) fn read_opened(
+        &mut self,
+        alloc: Global,
+        path: &str,
+        file: F::File,
+    ) -> Result<Result<Vec<u8>, String>, AllocError> {
+        let mut file = file;
+        self.remember(alloc, path, &file)?;
+        read_whole(alloc, &mut file)
     }
 
     /// Remembers a file that was opened by a path.
@@ -93,7 +135,7 @@ fn read_or_fault(
 }
 
 /// Why a file was not read, in words.
-fn not_read(alloc: Global, error: &Error) -> Result<String, AllocError> {
+pub(crate) fn not_read(alloc: Global, error: &Error) -> Result<String, AllocError> {
     format!(in alloc; "read failed: {error}")
 }
 

@@ -10,6 +10,12 @@ use serde_json::Value;
 /// The most breakpoints of a kind; each may be a point a processor.
 const MOST_BREAKPOINTS: usize = 1024;
 
+/// The members by which a breakpoint asks for more than to stop at each step or write there.
+const CONDITIONS: [&str; 3] = ["condition", "hitCondition", "logMessage"];
+
+/// What is said of a breakpoint that has one of these.
+const NO_CONDITION: &str = "conditions, hit counts and log messages are not used: take them away";
+
 /// The kinds of breakpoints, each of which is set as a whole.
 #[derive(Clone, Copy, PartialEq, Eq)]
 pub(crate) enum PointKind {
@@ -109,6 +115,7 @@ impl<'a, 'i, 't> Adapter<'a, 'i, 't> {
         for (index, wanted) in request.list("breakpoints").iter().enumerate() {
             let line = wanted.get("line").and_then(Value::as_u64).unwrap_or(0);
             match self.word_of_client_line(line) {
+                Some(_) if is_ours && has_condition(wanted) => push_unverified(body, NO_CONDITION),
                 Some(word) if is_ours && index < MOST_BREAKPOINTS => self.break_at(
                     PointKind::Line,
                     word,
@@ -136,6 +143,7 @@ impl<'a, 'i, 't> Adapter<'a, 'i, 't> {
         for (index, wanted) in request.list("breakpoints").iter().enumerate() {
             let name = wanted.get("name").and_then(Value::as_str).unwrap_or("");
             match self.named.word_of_place(name.trim()) {
+                Some(_) if has_condition(wanted) => push_unverified(body, NO_CONDITION),
                 Some(word) if index < MOST_BREAKPOINTS => self.break_at(
                     PointKind::Function,
                     word,
@@ -162,6 +170,7 @@ impl<'a, 'i, 't> Adapter<'a, 'i, 't> {
         for (index, wanted) in request.list("breakpoints").iter().enumerate() {
             let text = wanted.get("dataId").and_then(Value::as_str).unwrap_or("");
             match self.watch_of(text) {
+                Some(_) if has_condition(wanted) => push_unverified(body, NO_CONDITION),
                 Some(command) if index < MOST_BREAKPOINTS => self.watch(&command, body)?,
                 Some(_) => push_unverified(body, "there are too many breakpoints"),
                 None => push_unverified(body, "there is no such word"),
@@ -263,6 +272,14 @@ fn in_brackets(text: &str) -> &str {
         }
         _ => text,
     }
+}
+
+/// Whether a breakpoint is to stop only sometimes, or to print something.
+fn has_condition(wanted: &Value) -> bool {
+    CONDITIONS.iter().any(|member| {
+        let text = wanted.get(*member).and_then(Value::as_str).unwrap_or("");
+        !text.trim().is_empty()
+    })
 }
 
 /// Adds a breakpoint that stops nowhere, and why.

@@ -6,7 +6,7 @@ use crate::refusals::Refusal;
 use crate::streams::thread_id;
 use adapter_messages::Events;
 use editor_wire::Json;
-use lab_texts::{Notation, NumberStyle, push_step_line, push_trap};
+use lab_texts::{Notation, NumberStyle, plural, push_step_line, push_trap};
 use named_session::LastStep;
 use processor::Step;
 use step_views::StepView;
@@ -63,7 +63,10 @@ impl<'a, 'i, 't> Adapter<'a, 'i, 't> {
         } else {
             ""
         };
-        let description = format!(in self.alloc; "after {position} of {steps} steps{end}")?;
+        let some_steps = plural(steps);
+        let description = format!(in self.alloc;
+            "after {position} of {steps} step{some_steps}{end}"
+        )?;
         let mut body = Json::new(self.alloc);
         body.open();
         body.text_of("reason", reason);

@@ -12,7 +12,7 @@ mod second_thread;
 mod values;
 
 pub use framing::MESSAGE_LIMIT;
-pub use inbox::Inbox;
+pub use inbox::{Inbox, InboxFault};
 pub use json_text::Json;
 pub use outbox::Outbox;
 pub use quoting::push_quoted;

@@ -1,7 +1,7 @@
 //! The thread that reads messages and passes them on.
 
-use crate::framing::Frames;
-use crate::inbox::{Inbox, ReceivedMessage};
+use crate::framing::{Frame, Frames};
+use crate::inbox::{Inbox, InboxFault, ReceivedMessage};
 use crate::values::message_of;
 use crossbeam_channel::Sender;
 use serde_json::Value;
@@ -59,7 +59,8 @@ pub fn read_if_first<X: Wait, R: Read>(
     }
 }
 
-/// Reads messages and passes them on, up to one that asks for the end, or to the end of the input.
+/// Reads messages and passes them on, up to one that asks for the end, or to the end of the input. What keeps it from
+/// reading on is passed on too.
 fn read_frames<X: Wait, R: Read>(
     rt: &X,
     alloc: Global,
@@ -70,12 +71,14 @@ fn read_frames<X: Wait, R: Read>(
     let mut frames = Frames::new(alloc);
     let mut chunk = [0u8; CHUNK];
     for _ in 0..u64::MAX {
-        let Ok(count) = input.read(&mut chunk) else {
-            return;
+        let count = match input.read(&mut chunk) {
+            Ok(0) => return,
+            Ok(count) => count,
+            Err(error) => {
+                let _ = sender.send(rt, Err(InboxFault::Input(error)));
+                return;
+            }
         };
-        if count == 0 {
-            return;
-        }
         for byte in chunk.get(..count).unwrap_or(b"") {
             if !pass_on(rt, alloc, end, &mut frames, *byte, &sender) {
                 return;
@@ -95,12 +98,17 @@ fn pass_on<X: Wait>(
 ) -> bool {
     match frames.take(byte) {
         Ok(None) => true,
-        Ok(Some(frame)) => send_on(rt, end, message_of(alloc, &frame), sender),
-        Err(_) => false,
+        Ok(Some(frame)) => send_on(rt, end, received_of(alloc, &frame), sender),
+        Err(AllocError) => send_on(rt, end, Err(InboxFault::NoMemory), sender),
     }
 }
 
-/// Passes on what came in. Whether more is to be read: not after a message that asks for the end.
+/// What is passed on of what came in.
+fn received_of(alloc: Global, frame: &Frame) -> ReceivedMessage {
+    Ok(message_of(alloc, frame)?)
+}
+
+/// Passes on what came in. Whether more is to be read: not after a message that asks for the end, nor after a fault.
 fn send_on<X: Wait>(
     rt: &X,
     end: EndMark,

@@ -1,7 +1,9 @@
 -- When the end of a run is as expected.
 use Rattle.std.specs.Prelude.{Bool, true, false, not, ◌&&◌, ◌||◌, is_some}
+use Rattle.end_kinds.specs.Statuses.{status_of}
 use Rattle.end_kinds.specs.declared.kinds.EndKind.{EndKind}
 use Rattle.end_kinds.specs.declared.kinds.EndKind.TheVariants as kind
+use Rattle.end_kinds.specs.declared.statuses.Status.{Status}
 use Rattle.end_states.specs.declared.judgements.EndJudgement.{EndJudgement}
 
 -- whether ends of this kind are deadlocks
@@ -20,3 +22,11 @@ is_wrong j = is_some j.missed || is_some j.broken
 -- that stopped a stream is expected.
 abbrev pub is_expected : EndJudgement → Bool
 is_expected j = not (is_deadlock j.kind) && not (is_wrong j) && not j.is_trapped
+
+-- whether a claim is broken on the way, or a trap that is not expected stopped a stream
+abbrev pub is_flawed : EndJudgement → Bool
+is_flawed j = is_some j.broken || j.is_trapped
+
+-- what an end means for the exit status: a claim that is broken on the way counts whatever the kind of the end
+abbrev pub status_of_judged : EndJudgement → Status
+status_of_judged j = status_of j.kind (is_some j.missed) (is_flawed j)

@@ -1,8 +1,7 @@
 //! How the end of a run is judged: whether it is as expected, and what it means for the exit status.
 
-ghost use Rattle.std.specs.Prelude.{◌≡◌, ◌||◌, is_some};
-ghost use Rattle.end_kinds.specs.Statuses.{status_of};
-ghost use Rattle.end_states.specs.Judgements.{is_deadlock, is_expected, is_wrong};
+ghost use Rattle.std.specs.Prelude.{◌≡◌};
+ghost use Rattle.end_states.specs.Judgements.{is_deadlock, is_expected, is_wrong, is_flawed, status_of_judged};
 
 use end_kinds::{EndKind, Status, status_of};
 
@@ -28,11 +27,18 @@ impl EndJudgement {
         !is_deadlock(self.kind) && !self.is_wrong() && !self.is_trapped
     }
 
-    /// What the end means for the exit status.
+    /// What the end means for the exit status. A claim that is broken on the way counts whatever the kind of the end.
     pub fn status(self) -> Status
-        ensures { result ≡ status_of self.kind (is_some self.missed || is_some self.broken) self.is_trapped }
+        ensures { result ≡ status_of_judged self }
     {
-        status_of(self.kind, self.is_wrong(), self.is_trapped)
+        status_of(self.kind, self.missed.is_some(), self.is_flawed())
+    }
+
+    /// Whether a claim is broken on the way, or a trap that is not expected stopped a stream.
+    fn is_flawed(self) -> bool
+        ensures { result ≡ is_flawed self }
+    {
+        self.broken.is_some() || self.is_trapped
     }
 
     /// Whether an expectation is missed, or a claim is broken.

@@ -6,7 +6,7 @@ use expectation_files::{
     FileFault, KnownNames, LineFault, file_faults, form_faults, line_of, widest_image, word_of,
     word_span,
 };
-use fault_messages::{Message, Severity, Spot};
+use fault_messages::{MOST_FOUND, Message, Severity, Spot};
 use image_file::Image;
 use lab_texts::ProgramNames;
 use source_places::SourcePlaces;
@@ -15,7 +15,8 @@ use std::alloc::{AllocError, Global};
 /// Why a file that says nothing is refused.
 pub(crate) const EMPTY: &str = "nothing is expected here, so nothing can be judged";
 
-/// What is wrong with a file of expectations, a message for each line with a fault. Without a program a name is no fault.
+/// What is wrong with a file of expectations, a message for each line with a fault, [`MOST_FOUND`] at most. Without a program a
+/// name is no fault.
 pub fn check_expectations(
     alloc: Global,
     text: &[u8],
@@ -50,10 +51,12 @@ fn messages_of(
     names: &ProgramNames<'_>,
 ) -> Result<Vec<Message>, AllocError> {
     let mut messages = Vec::new(alloc);
-    for fault in faults {
+    let mut begin = LineBegin::FIRST;
+    for fault in faults.iter().take(MOST_FOUND) {
         match *fault {
             FileFault::Line { line, fault } => {
-                messages.push(message_on(alloc, text, line, fault, image, names)?)?;
+                begin = begin.of_line(text, line);
+                messages.push(message_on(alloc, text, begin, fault, image, names)?)?;
             }
             FileFault::Empty => messages.push(empty_message(alloc)?)?,
             FileFault::NoMemory => return Err(AllocError),
@@ -66,17 +69,17 @@ fn messages_of(
 pub(crate) fn message_on(
     alloc: Global,
     text: &[u8],
-    line: usize,
+    begin: LineBegin,
     fault: LineFault,
     image: &Image,
     names: &ProgramNames<'_>,
 ) -> Result<Message, AllocError> {
-    let bytes = line_of(text, line);
+    let bytes = line_of(text.get(begin.start..).unwrap_or(b""), 1);
     let span = word_span(bytes, fault.word);
     let word = word_of(bytes, fault.word);
     let spot = Spot {
-        line,
-        start: start_of(text, line),
+        line: begin.line,
+        start: begin.start,
         column: span.column,
         width: span.width.max(1),
     };
@@ -102,14 +105,32 @@ fn error_at(spot: Spot, words: String) -> Message {
     }
 }
 
-/// How many bytes of a text stand before a line, which is counted from 1.
-fn start_of(text: &[u8], line: usize) -> usize {
-    let mut start: usize = 0;
-    for before in text
-        .split(|byte| *byte == b'\n')
-        .take(line.saturating_sub(1))
-    {
-        start = start.saturating_add(before.len()).saturating_add(1);
+/// Where a line begins in a text.
+#[derive(Clone, Copy)]
+pub(crate) struct LineBegin {
+    /// The line, counted from 1.
+    line: usize,
+    /// How many bytes of the text stand before it.
+    start: usize,
+}
+
+impl LineBegin {
+    /// The first line's.
+    pub(crate) const FIRST: LineBegin = LineBegin { line: 1, start: 0 };
+
+    /// That of a later line of a text.
+    pub(crate) fn of_line(self, text: &[u8], line: usize) -> LineBegin {
+        let rest = text.get(self.start..).unwrap_or(b"");
+        let mut start = self.start;
+        for before in rest
+            .split(|byte| *byte == b'\n')
+            .take(line.saturating_sub(self.line))
+        {
+            start = start.saturating_add(before.len()).saturating_add(1);
+        }
+        LineBegin {
+            line,
+            start: start.min(text.len()),
+        }
     }
-    start.min(text.len())
 }

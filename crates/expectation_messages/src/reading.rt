@@ -1,6 +1,6 @@
 //! Files of expectations, read for a command.
 
-use crate::messages::{EMPTY, message_on};
+use crate::messages::{EMPTY, LineBegin, message_on};
 use command_parts::{LabFault, Program};
 use expectation_files::{FileFault, KnownNames, Requirements, read_requirements};
 use fault_messages::push_message;
@@ -43,7 +43,8 @@ pub fn file_fault(
         }
         FileFault::Line { line, fault } => {
             let names = ProgramNames::of(alloc, &program.text)?;
-            let message = message_on(alloc, text, line, fault, &program.image, &names)?;
+            let begin = LineBegin::FIRST.of_line(text, line);
+            let message = message_on(alloc, text, begin, fault, &program.image, &names)?;
             let path = plain(alloc, path)?;
             let mut lines = String::new(alloc);
             push_message(&mut lines, &path, text, &message)?;

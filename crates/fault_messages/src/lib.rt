@@ -9,6 +9,6 @@ mod token;
 
 pub use lines::{TextLine, TextLines};
 pub use message::{Message, Severity, Spot, push_message};
-pub use notes::{Notes, in_order};
+pub use notes::{MOST_FOUND, Notes, in_order};
 pub use shown::put_shown;
 pub use token::Token;

@@ -1,6 +1,6 @@
 //! Messages about a text, and how they are printed.
 
-use plain_text::TextWriter;
+use plain_text::{TextWriter, is_hidden};
 use std::alloc::AllocError;
 use text_parts::cut;
 
@@ -31,7 +31,7 @@ impl Severity {
 pub struct Message {
     /// Whether the text is refused for it.
     pub severity: Severity,
-    /// Its number: of a fault of a source text 1 to 10, of a warning 101 to 114; None where it has none.
+    /// Its number: of a fault of a source text 1 to 10, of a warning 101 to 116; None where it has none.
     pub number: Option<u8>,
     /// The line, from 1.
     pub line: usize,
@@ -154,10 +154,11 @@ fn put_help(out: &mut TextWriter, message: &Message) {
     }
 }
 
-/// Prints a text of one line, in which only a tab is printed of the control characters.
+/// Prints a text of one line, in which only a tab is printed of the control characters, and none that [`is_hidden`].
 fn put_printable(out: &mut TextWriter, text: &str) {
     for letter in text.chars() {
-        if letter == '\t' || !letter.is_control() {
+        let is_unseen = letter.is_control() || is_hidden(letter);
+        if letter == '\t' || !is_unseen {
             out.put_letter(letter);
         } else if letter != '\r' {
             out.put("?");

@@ -1,14 +1,14 @@
 //! What is found in a text.
 
-ghost use Rattle.std.specs.Prelude.{◌≡◌, ◌<◌, ◌&&◌, ◌||◌, ◌==◌, nat_lt, vec_len, IfOk, OnOk};
+ghost use Rattle.std.specs.Prelude.{◌≡◌, ◌<◌, ◌&&◌, ◌||◌, ◌==◌, nat_lt, vec_len, IsTrue, IfOk, OnOk};
 ghost use Rattle.fault_messages.specs.Messages.{is_error, has_error};
 
 use crate::message::{Message, Severity, Spot};
 use plain_text::TextWriter;
 use std::alloc::{AllocError, Global};
 
-/// How many faults of a text, or warnings of it, are told at most.
-const MOST_FOUND: usize = 100_000;
+/// How many faults of a text, or warnings of it, are told at most: no more are looked for.
+pub const MOST_FOUND: usize = 10_000;
 
 /// How many suggestions of names are looked for in one text, each among many.
 const MOST_SUGGESTIONS: usize = 16;
@@ -80,6 +80,13 @@ impl Notes {
         ensures { result ≡ vec_len self.now.found }
     {
         self.found.len()
+    }
+
+    /// Whether as much is found as is told: what is looked for further is not.
+    pub fn is_full(&self) -> bool
+        ensures { IsTrue result → 0 < vec_len self.now.found }
+    {
+        self.found.len() >= MOST_FOUND
     }
 
     /// What is added next has this number: that of a fault, or of a warning.

@@ -4,6 +4,7 @@
 mod gradescope_report;
 mod json_report;
 mod junit_report;
+mod report_classes;
 mod reports;
 mod rows;
 mod text_report;

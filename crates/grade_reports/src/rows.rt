@@ -60,7 +60,7 @@ pub struct GradeRow {
     pub known: Known,
     /// What shows it.
     pub witness: Witness,
-    /// The first line that the end misses, or that is broken on the way.
+    /// The first line that the end misses, or that is broken on the way; or the line by which it can't be judged.
     pub missed: Option<ReportLine>,
     /// Why it is no program; else who was stopped, who waits and which words changed, or what a line asks for that the
     /// program does not have.

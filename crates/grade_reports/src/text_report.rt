@@ -3,7 +3,7 @@
 use crate::reports::ReportedRow;
 use crate::rows::{CountedEnd, GradeRow, ReportLine};
 use judgements::{Known, VerdictKind, Witness};
-use plain_text::{plain, push_plain};
+use plain_text::{plain, plural, push_plain};
 use processor::Step;
 use schedule_turns::turns_of;
 use std::alloc::{AllocError, Global};
@@ -45,7 +45,9 @@ pub(crate) fn why_of(alloc: Global, reported: &ReportedRow<'_>) -> Result<String
             push_known(&mut why, reported)?;
             push_unshown(&mut why, row)?;
         }
-        VerdictKind::NotRead | VerdictKind::SourceFault => why.push_str(&row.words)?,
+        VerdictKind::NotRead | VerdictKind::SourceFault | VerdictKind::NotJudged => {
+            why.push_str(&row.words)?
+        }
         VerdictKind::Trap
         | VerdictKind::Deadlock
         | VerdictKind::Wrong
@@ -60,13 +62,14 @@ fn push_known(why: &mut String, reported: &ReportedRow<'_>) -> Result<(), AllocE
     let known = reported.row.known;
     if reported.cases > 0 && reported.row.kind == VerdictKind::Right {
         let cases = reported.cases;
-        let some = if cases == 1 { "" } else { "s" };
-        write!(why, "{cases} case{some}, ")?;
+        let some_cases = plural(cases);
+        write!(why, "{cases} case{some_cases}, ")?;
     }
     push_worlds(why, known)?;
     if let Some(seeds) = known.seeds {
         let between = if known.worlds.is_some() { ", and " } else { "" };
-        write!(why, "{between}{seeds} seeds")?;
+        let some_seeds = plural(seeds);
+        write!(why, "{between}{seeds} seed{some_seeds}")?;
     }
     Ok(())
 }
@@ -81,7 +84,8 @@ fn push_worlds(why: &mut String, known: Known) -> Result<(), AllocError> {
     } else {
         "some schedules"
     };
-    write!(why, "{which}, {worlds} states")?;
+    let some_worlds = plural(worlds);
+    write!(why, "{which}, {worlds} state{some_worlds}")?;
     match known.bound {
         Some(bound) => {
             let ended = bound.words();

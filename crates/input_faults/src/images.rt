@@ -5,7 +5,7 @@ ghost use Rattle.fault_messages.specs.declared.message.Severity.TheVariants as s
 
 use fault_messages::{Message, Severity};
 use image_file::{CountField, ImageFault};
-use plain_text::TextWriter;
+use plain_text::{TextWriter, plural};
 use std::alloc::{AllocError, Global};
 
 /// Where in a file a fault stands, and how it may be mended.
@@ -80,7 +80,7 @@ fn tell_fault(words: &mut TextWriter, bytes: &[u8], fault: ImageFault) -> FaultP
 fn tell_short(words: &mut TextWriter, length: usize) -> FaultPlace {
     words.put("the file ends too soon, after ");
     words.put_number(length as u64);
-    words.put(" bytes");
+    words.put_all(&[" byte", plural(length)]);
     FaultPlace {
         place: length,
         width: 1,
@@ -169,7 +169,7 @@ impl HeaderCounts {
         words.put_number(u64::from(number_at(bytes, place, 4)));
         words.put(" of a program of ");
         words.put_number(u64::from(self.words));
-        words.put(" words");
+        words.put_all(&[" word", plural(self.words as usize)]);
         FaultPlace {
             place,
             width: 4,

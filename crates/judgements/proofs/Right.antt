@@ -21,6 +21,7 @@ not_severe verdict.Deadlock h = absurd (omega (arith, h))
 not_severe verdict.Wrong h = absurd (omega (arith, h))
 not_severe verdict.Spins h = absurd (omega (arith, h))
 not_severe verdict.RanOutOfSteps h = absurd (omega (arith, h))
+not_severe verdict.NotJudged h = absurd (omega (arith, h))
 not_severe verdict.NotDecided h = absurd (omega (arith, h))
 not_severe verdict.Right h = refl
 

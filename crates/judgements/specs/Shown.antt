@@ -76,13 +76,13 @@ pub record IsReadCase (asked : AskedJudging) (image : ImageValue) (text : List �
   pub said : said_by case (program_by image case) text ≡ Ok (requirements_seen required)
   pub shown : IsShownBy (program_by image case) required (seeds_of asked) j
 
--- The case speaks of something that the submission lacks.
+-- The case speaks of something that the submission lacks: nothing is known against the submission.
 pub record IsAbsent (image : ImageValue) (text : List ℕ) (case : Case) (j : CaseJudgement) : Type 0 where
   pub number : ℕ
   pub fault : LineFault
   pub reason : j.reason ≡ reason.Absent number fault
   pub said : said_by case (program_by image case) text ≡ Err (file.Line number fault)
-  pub kind : j.kind ≡ verdict.Wrong
+  pub kind : j.kind ≡ verdict.NotJudged
 
 -- What is known of a submission by a case: right is so, and what is not right is shown.
 pub record IsCaseJudged (asked : AskedJudging) (image : ImageValue) (text : List ℕ) (case : Case) (j : CaseJudgement)

@@ -16,7 +16,7 @@ use crate::judge_faults::CaseFault;
 use crate::knowledge::Known;
 use crate::requirements::required_by;
 use crate::verdict_kinds::VerdictKind;
-use expectation_files::FileFault;
+use expectation_files::{FileFault, LineFault, LineFaultKind, line_of, word_of};
 use program_rules::first_broken;
 use program_searches::Console;
 use std::alloc::Global;
@@ -42,12 +42,33 @@ pub(crate) fn judged_by_case<X: Threads + Sync, C: Clock, E: Write>(
             let required = &required;
             judged_program(rt, alloc, asked, JudgedProgram { image, required }, console)
         }
-        Err(FileFault::Line { line, fault }) if fault.kind.is_of_program() => {
+        Err(FileFault::Line { line, fault }) if is_of_program(case, line, fault) => {
             let reason = Reason::Absent { line, fault };
-            Ok(CaseJudgement::plain(alloc, VerdictKind::Wrong, Known::NOTHING, reason))
+            Ok(CaseJudgement::plain(alloc, VerdictKind::NotJudged, Known::NOTHING, reason))
         }
         Err(fault) => Err(CaseFault::of_file(fault)),
     }
+}
+
+/// Whether a line of a case may be right of another program: it names what this one lacks, or words that stand the other
+/// way round here.
+fn is_of_program(case: &Case, line: usize, fault: LineFault) -> bool {
+    let is_of_names = fault.kind == LineFaultKind::Range
+        && has_name(word_of(line_of(&case.expected, line), fault.word).as_bytes());
+    is_of_names || fault.kind.is_of_program()
+}
+
+/// Whether one end of a range, perhaps in brackets, is a name: it begins with a letter or `_`, and no number does.
+fn has_name(range: &[u8]) -> bool {
+    let mut before = b'.';
+    for byte in range {
+        let begins = before == b'.' || before == b'[';
+        if begins && (byte.is_ascii_alphabetic() || *byte == b'_') {
+            return true;
+        }
+        before = *byte;
+    }
+    false
 }
 
 /// What is known of a program of which this is required: by the first rule of programs that it breaks, else by every

@@ -131,18 +131,25 @@ fn undecided<X: Threads + Sync>(
 }
 
 /// The judgement by seeds of a program of which a search did not decide: it is not decided in place of right. Where
-/// `is_shown`, the search has shown each claim that has to hold of one world at least.
+/// `is_shown`, the search has shown each claim that has to hold of one world at least. That runs alone can't show that no
+/// stream loops is no reason after a search.
 fn not_decided(sampled: CaseJudgement, is_shown: bool) -> CaseJudgement
     ensures right { ¬ (result.kind ≡ VerdictKind.Right) }
     ensures shown { (image : ImageValue) (required : Requirements) (seeds : Seeds)
         → IsShownBy image required seeds sampled → IsShownBy image required seeds result }
 {
+    let is_answered = is_shown || is_of_runs_alone(&sampled.reason);
     let mut judgement = sampled;
     if judgement.kind == VerdictKind::Right {
         judgement.kind = VerdictKind::NotDecided;
     }
-    if is_shown && judgement.kind == VerdictKind::NotDecided {
+    if is_answered && judgement.kind == VerdictKind::NotDecided {
         judgement.reason = Reason::Looked;
     }
     judgement
+}
+
+/// Whether the reason is that no run can show it.
+fn is_of_runs_alone(reason: &Reason) -> bool {
+    matches!(reason, Reason::NoRunCan)
 }

@@ -48,7 +48,7 @@ pub enum Reason {
     NoRunCan,
     /// The rule of programs at this place, which the program breaks.
     Rule(usize),
-    /// That a line names what the program lacks.
+    /// That a line names what the program lacks, so that it can't be judged.
     Absent {
         /// The line, counted from 1.
         line: usize,

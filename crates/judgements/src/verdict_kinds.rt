@@ -22,6 +22,8 @@ pub enum VerdictKind {
     RanOutOfSteps,
     /// It can go on forever.
     Spins,
+    /// A line of a case speaks of what it does not have, so that it can't be judged by this case.
+    NotJudged,
     /// The search came to its bound and found nothing wrong, and neither did seeds.
     NotDecided,
     /// All that was looked at is as it is required.
@@ -39,6 +41,7 @@ impl VerdictKind {
             VerdictKind::Wrong => "wrong",
             VerdictKind::RanOutOfSteps => "ran out of steps",
             VerdictKind::Spins => "spins",
+            VerdictKind::NotJudged => "not judged",
             VerdictKind::NotDecided => "not decided",
             VerdictKind::Right => "right",
         }
@@ -50,24 +53,11 @@ impl VerdictKind {
             VerdictKind::NotRead | VerdictKind::SourceFault => Status::Fault,
             VerdictKind::Deadlock => Status::Deadlock,
             VerdictKind::Trap | VerdictKind::Wrong => Status::Unexpected,
-            VerdictKind::RanOutOfSteps | VerdictKind::Spins | VerdictKind::NotDecided => {
-                Status::OutOfSteps
-            }
-            VerdictKind::Right => Status::Done,
-        }
-    }
-
-    /// Whether it is said of a submission that did not run.
-    pub fn is_of_no_program(self) -> bool {
-        match self {
-            VerdictKind::NotRead | VerdictKind::SourceFault => true,
-            VerdictKind::Trap
-            | VerdictKind::Deadlock
-            | VerdictKind::Wrong
-            | VerdictKind::RanOutOfSteps
+            VerdictKind::RanOutOfSteps
             | VerdictKind::Spins
-            | VerdictKind::NotDecided
-            | VerdictKind::Right => false,
+            | VerdictKind::NotJudged
+            | VerdictKind::NotDecided => Status::OutOfSteps,
+            VerdictKind::Right => Status::Done,
         }
     }
 
@@ -76,13 +66,14 @@ impl VerdictKind {
         ensures { result ≡ severity_of self }
     {
         match self {
-            VerdictKind::NotRead => 8,
-            VerdictKind::SourceFault => 7,
-            VerdictKind::Trap => 6,
-            VerdictKind::Deadlock => 5,
-            VerdictKind::Wrong => 4,
-            VerdictKind::Spins => 3,
-            VerdictKind::RanOutOfSteps => 2,
+            VerdictKind::NotRead => 9,
+            VerdictKind::SourceFault => 8,
+            VerdictKind::Trap => 7,
+            VerdictKind::Deadlock => 6,
+            VerdictKind::Wrong => 5,
+            VerdictKind::Spins => 4,
+            VerdictKind::RanOutOfSteps => 3,
+            VerdictKind::NotJudged => 2,
             VerdictKind::NotDecided => 1,
             VerdictKind::Right => 0,
         }

@@ -2,9 +2,9 @@
 
 use adapter_messages::{Connection, DapRequest, read_request};
 use command_parts::{LabFault, write_out};
-use editor_wire::Inbox;
+use editor_wire::{Inbox, InboxFault};
 use serde_json::Value;
-use std::alloc::Global;
+use std::alloc::{AllocError, Global};
 use std::io::Write;
 use std::sync::Wait;
 
@@ -39,22 +39,36 @@ impl<'a, W: Write> Transport<'a, W> {
     /// one of an empty command.
     pub(crate) fn next<X: Wait>(&mut self, rt: &X) -> Result<Option<DapRequest>, LabFault> {
         self.flush()?;
-        let message = self.inbox.next(rt)?;
-        self.request_in(message)
+        let heard = self.inbox.next(rt);
+        self.request_in(heard)
     }
 
     /// The same where one has come already, and else None.
     pub(crate) fn next_there<X: Wait>(&mut self, rt: &X) -> Result<Option<DapRequest>, LabFault> {
         self.flush()?;
-        let message = self.inbox.next_there(rt)?;
-        self.request_in(message)
+        let heard = self.inbox.next_there(rt);
+        self.request_in(heard)
     }
 
-    /// The request of a message, where there is one.
-    fn request_in(&self, message: Option<Value>) -> Result<Option<DapRequest>, LabFault> {
-        match message {
-            Some(message) => Ok(Some(read_request(self.alloc, message)?)),
-            None => Ok(None),
+    /// The request of a message, where there is one; or why none comes any more.
+    fn request_in(
+        &self,
+        heard: Result<Option<Value>, InboxFault>,
+    ) -> Result<Option<DapRequest>, LabFault> {
+        match heard {
+            Ok(Some(message)) => Ok(Some(read_request(self.alloc, message)?)),
+            Ok(None) => Ok(None),
+            Err(fault) => Err(not_heard(self.alloc, fault)?),
         }
+    }
+}
+
+/// Why no request comes any more, as the command says it.
+fn not_heard(alloc: Global, fault: InboxFault) -> Result<LabFault, AllocError> {
+    match fault {
+        InboxFault::Input(error) => {
+            Ok(LabFault::Words(format!(in alloc; "-: read failed: {error}")?))
+        }
+        InboxFault::NoMemory => Ok(LabFault::NoMemory),
     }
 }

@@ -6,8 +6,7 @@ use std::alloc::Global;
 use std::io::Read;
 use std::rt::Files;
 
-/// Assembles a source text. The image is written beside its place and renamed to there, so what was there is kept
-/// until the new one is whole.
+/// Assembles a source text. Where no path is named for the image, it stands beside the source, and follows no link.
 pub fn assemble_file<F: Files, R: Read>(
     alloc: Global,
     inputs: &mut Inputs<'_, F, R>,
@@ -21,12 +20,14 @@ pub fn assemble_file<F: Files, R: Read>(
         )?));
     }
     let program = program_of(alloc, source, bytes)?;
-    let place = match image {
-        Some(path) => String::from_str(alloc, path)?,
-        None => image_path(alloc, source)?,
-    };
     let written = write_image(alloc, &program.image)?;
-    inputs.write(alloc, &place, &written)?;
+    match image {
+        Some(path) => inputs.write(alloc, path, &written)?,
+        None => {
+            let path = image_path(alloc, source)?;
+            inputs.write_derived(alloc, &path, &written)?;
+        }
+    }
     Ok(CommandAnswer::silent(alloc))
 }
 

@@ -13,6 +13,8 @@ use std::rt::Files;
 struct NewLayout<'a> {
     /// The path of its file.
     path: &'a str,
+    /// What was read of it.
+    read: Vec<u8>,
     /// The text.
     text: Vec<u8>,
 }
@@ -28,9 +30,10 @@ pub fn lay_out<F: Files, R: Read>(
         if *path == "-" {
             return lay_out_input(alloc, inputs, request);
         }
-        let bytes = inputs.read_to_replace(alloc, path)?;
+        let read = inputs.read_to_replace(alloc, path)?;
+        let bytes = Vec::from_slice(alloc, &read)?;
         if let Some(text) = new_layout(alloc, path, bytes)? {
-            changed.push(NewLayout { path, text })?;
+            changed.push(NewLayout { path, read, text })?;
         }
     }
     if request.files.is_empty() {
@@ -42,7 +45,8 @@ pub fn lay_out<F: Files, R: Read>(
     write_layouts(alloc, inputs, &changed)
 }
 
-/// Writes the texts to their files, and says which were written before a fault.
+/// Writes the texts to their files, and says which were written before a fault. A file that has changed since it was read
+/// is left alone.
 fn write_layouts<F: Files, R: Read>(
     alloc: Global,
     inputs: &Inputs<'_, F, R>,
@@ -50,7 +54,7 @@ fn write_layouts<F: Files, R: Read>(
 ) -> Result<CommandAnswer, LabFault> {
     let mut out = String::new(alloc);
     for layout in changed {
-        match inputs.write(alloc, layout.path, &layout.text) {
+        match inputs.write_over_read(alloc, layout.path, &layout.read, &layout.text) {
             Ok(()) => push_file(&mut out, layout.path, "laid out")?,
             Err(fault) => {
                 return Ok(CommandAnswer {
@@ -77,16 +81,19 @@ fn lay_out_input<F: Files, R: Read>(
             "- is standard input, and goes alone",
         )?));
     }
-    let bytes = inputs.read(alloc, "-")?;
-    let given = Vec::from_slice(alloc, &bytes)?;
+    let read = inputs.read(alloc, "-")?;
+    let bytes = Vec::from_slice(alloc, &read)?;
     let layout = new_layout(alloc, "-", bytes)?;
     if request.checks {
         return match layout {
-            Some(text) => would_change(alloc, &[NewLayout { path: "-", text }]),
+            Some(text) => {
+                let path = "-";
+                would_change(alloc, &[NewLayout { path, read, text }])
+            }
             None => Ok(CommandAnswer::silent(alloc)),
         };
     }
-    match String::from_utf8(layout.unwrap_or(given)) {
+    match String::from_utf8(layout.unwrap_or(read)) {
         Ok(text) => Ok(CommandAnswer::printed(alloc, text, Status::Done)),
         Err(_) => Err(LabFault::Words(String::from_str(
             alloc,

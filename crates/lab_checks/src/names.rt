@@ -11,8 +11,8 @@ const TWICE: u8 = 114;
 /// The most such names that are reported of a text.
 const MOST_TOLD: usize = 100;
 
-/// Adds to the messages about a source text a warning for each name that a line of data says and does not have: another
-/// line of data says it too, or it is the label of another line. All are then in the order of lines and columns.
+/// Adds after the messages about a source text a warning for each name that a line of data says and does not have: another
+/// line of data says it too, or it is the label of another line. They are in the order of lines.
 pub(crate) fn add_names(
     alloc: Global,
     text: &[u8],
@@ -31,7 +31,7 @@ pub(crate) fn add_names(
         told = told.saturating_add(1);
         messages.push(message_of(alloc, text, &places, name)?)?;
     }
-    messages.sort_by_key(|message| (message.line, message.column))
+    Ok(())
 }
 
 /// The warning that tells that a name is not its line's.

@@ -1,6 +1,6 @@
 //! The command `new`.
 
-use command_parts::{CommandAnswer, Inputs, LabFault, Status};
+use command_parts::{CommandAnswer, Inputs, LabFault, NewFile, Status};
 use std::alloc::Global;
 use std::io::Read;
 use std::rt::Files;
@@ -24,7 +24,7 @@ word 0 2                # both have counted
 finished                # all streams have finished
 ";
 
-/// Writes a program to begin with, and what each of its ends has to be, where no file has these names.
+/// Writes a program to begin with, and what each of its ends has to be, where nothing has these names: both or none.
 pub fn start_program<F: Files, R: Read>(
     alloc: Global,
     inputs: &mut Inputs<'_, F, R>,
@@ -38,8 +38,20 @@ pub fn start_program<F: Files, R: Read>(
             return Err(LabFault::Words(format!(in alloc; "{path}: there is a file of this name")?));
         }
     }
-    inputs.write(alloc, source.as_str(), PROGRAM.as_bytes())?;
-    inputs.write(alloc, expected.as_str(), EXPECTED.as_bytes())?;
+    // (one may have come meanwhile)
+    inputs.make_new(
+        alloc,
+        &[
+            NewFile {
+                path: &source,
+                bytes: PROGRAM.as_bytes(),
+            },
+            NewFile {
+                path: &expected,
+                bytes: EXPECTED.as_bytes(),
+            },
+        ],
+    )?;
     let told = format!(in alloc;
         "{source}: a program of two processors\n{expected}: what each of its ends has to be\nnext: mta_lab explore {source} --expect {expected}\n"
     )?;

@@ -3,6 +3,7 @@
 use command_parts::{CommandAnswer, Inputs, LabFault, Status, made_by, read_program};
 use end_kinds::EndKind;
 use lab_requests::Maker;
+use plain_text::plural;
 use schedule_makers::MadeEnd;
 use std::alloc::Global;
 use std::io::Read;
@@ -20,11 +21,11 @@ pub fn make_schedule<F: Files, R: Read>(
     let program = read_program(alloc, inputs, path)?;
     let made = made_by(alloc, &program.image, maker, most)?;
     let steps = made.steps.len();
-    let plural = if steps == 1 { "" } else { "s" };
+    let some_steps = plural(steps);
     let why = sentence_of(made.end);
     Ok(CommandAnswer {
         output: write_schedule(alloc, &made.steps)?,
-        errors: format!(in alloc; "after {steps} step{plural}: {why}\n")?,
+        errors: format!(in alloc; "after {steps} step{some_steps}: {why}\n")?,
         status: Status::Done,
         fault: None,
     })

@@ -6,13 +6,19 @@ use lab_words::{explained, instruction_told, source_of};
 use source_faults::check_source;
 use std::alloc::{AllocError, Global};
 
-/// What a word of a program, of a run or of a message means; without one, all words that have a page.
-pub fn explain(alloc: Global, word: Option<&str>) -> Result<CommandAnswer, LabFault> {
-    let text = explained(alloc, word)?;
+/// What a word of a program, of a run or of a message means, or a name of several words; without one, all words that have a
+/// page.
+pub fn explain(alloc: Global, words: &[&str]) -> Result<CommandAnswer, LabFault> {
+    let name = words_in_line(alloc, words)?;
+    let asked = if words.is_empty() {
+        None
+    } else {
+        Some(name.as_str())
+    };
+    let text = explained(alloc, asked)?;
     if text.is_empty() {
-        let word = word.unwrap_or("");
         return Err(LabFault::Words(format!(in alloc;
-            "no page is called {word}; explain alone lists them all, as ADD, .S, EQ, .data, 6, E2; 0x806 is a trap register"
+            "no page is called {name}; explain alone lists them all, as ADD, .S, EQ, .data, 6, E2; 0x806 is a trap register"
         )?));
     }
     Ok(CommandAnswer::printed(alloc, text, Status::Done))
@@ -20,15 +26,21 @@ pub fn explain(alloc: Global, word: Option<&str>) -> Result<CommandAnswer, LabFa
 
 /// What an instruction word says, by its hexadecimal digits or by its text, whose words these are.
 pub fn show_word(alloc: Global, words: &[&str]) -> Result<CommandAnswer, LabFault> {
+    let text = words_in_line(alloc, words)?;
+    match instruction_told(alloc, text.as_str())? {
+        Some(told) => Ok(CommandAnswer::printed(alloc, told, Status::Done)),
+        None => Err(LabFault::Lines(faults_of(alloc, text.as_str())?)),
+    }
+}
+
+/// Words with a blank between each two.
+fn words_in_line(alloc: Global, words: &[&str]) -> Result<String, AllocError> {
     let mut text = String::new(alloc);
     for (place, word) in words.iter().enumerate() {
         text.push_str(if place == 0 { "" } else { " " })?;
         text.push_str(word)?;
     }
-    match instruction_told(alloc, text.as_str())? {
-        Some(told) => Ok(CommandAnswer::printed(alloc, told, Status::Done)),
-        None => Err(LabFault::Lines(faults_of(alloc, text.as_str())?)),
-    }
+    Ok(text)
 }
 
 /// Why a text is no instruction.

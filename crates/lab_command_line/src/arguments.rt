@@ -16,6 +16,8 @@ pub(crate) enum Form {
     Several(ValueKind),
     /// Words, which may be left out.
     AnyNumber(ValueKind),
+    /// A name of one or more words, which may be left out.
+    Name(ValueKind),
     /// `--name`, which does not go with the options of these names.
     Flag(&'static [&'static str]),
     /// `--name VALUE`: what help calls the value, what it is, and when the option stands on a line.
@@ -49,7 +51,7 @@ pub(crate) fn parser_of<'a>(alloc: Global, argument: &Argument) -> Result<Arg<'a
         Form::Needed(kind) => Ok(taking(parser, kind).required(true)),
         Form::Optional(kind, excluded) => taking(parser, kind).conflicts_with_all(excluded),
         Form::Several(kind) => Ok(taking_several(parser, kind).required(true)),
-        Form::AnyNumber(kind) => Ok(taking_several(parser, kind)),
+        Form::AnyNumber(kind) | Form::Name(kind) => Ok(taking_several(parser, kind)),
         Form::Flag(excluded) => parser
             .long(name)
             .action(ArgAction::SetTrue)
@@ -75,6 +77,7 @@ fn checking<'a>(parser: Arg<'a>, kind: ValueKind) -> Arg<'a> {
     match kind {
         ValueKind::OneOf(words) => parser.value_parser(words),
         ValueKind::Number(least, most) => parser.value_parser(ValueParser::unsigned(least, most)),
+        ValueKind::Operand => parser.allow_hyphen_values(true),
         ValueKind::File(_)
         | ValueKind::Folder
         | ValueKind::OneOfOrOther(_)

@@ -15,7 +15,7 @@ use crate::run_commands::{
 };
 
 /// The commands.
-#[derive(Clone, Copy)]
+#[derive(Clone, Copy, PartialEq, Eq)]
 pub(crate) enum CommandName {
     /// `check`.
     Check,

@@ -47,15 +47,15 @@ pub(crate) const FMT_ARGUMENTS: [Argument; 2] = [
 /// Of `explain`.
 pub(crate) const EXPLAIN_ARGUMENTS: [Argument; 1] = [Argument(
     "WORD",
-    "the word [all words are listed]",
-    Form::Optional(ValueKind::Explained, &[]),
+    "the word, or a name of several words [all words are listed]",
+    Form::Name(ValueKind::Explained),
 )];
 
 /// Of `word`.
 pub(crate) const WORD_ARGUMENTS: [Argument; 1] = [Argument(
     "WORD",
     "hexadecimal digits, as 0x28000, or an instruction, as ADD r1, r1, 1",
-    Form::Several(ValueKind::Text),
+    Form::Several(ValueKind::Operand),
 )];
 
 /// Of `new`.
@@ -134,10 +134,13 @@ pub(crate) fn word_of<'a>(
 }
 
 /// What `explain` is asked.
-pub(crate) fn explain_of<'a>(found: &ArgMatches<'a>) -> LabCommand<'a> {
-    LabCommand::Explain {
-        word: text(found, "WORD"),
-    }
+pub(crate) fn explain_of<'a>(
+    alloc: Global,
+    found: &ArgMatches<'a>,
+) -> Result<LabCommand<'a>, AllocError> {
+    Ok(LabCommand::Explain {
+        words: words(alloc, found, "WORD")?,
+    })
 }
 
 /// What `new` is asked.

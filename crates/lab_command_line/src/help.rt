@@ -241,10 +241,10 @@ pub(crate) const STATES: &str = "of every schedule, the most states that are exp
 
 pub(crate) const SECONDS: &str = "of every schedule, the most seconds of the search [none]";
 
-pub(crate) const MEMORY: &str = "of every schedule, the most megabytes of the search [none]";
+pub(crate) const MEMORY: &str = "of every schedule, the most megabytes of the search [2000]";
 
 pub(crate) const GRADE_MEMORY: &str =
-    "of every schedule, the most megabytes of each search [200 without --states]";
+    "of every schedule, the most megabytes of all searches at a time [2000]";
 
 pub(crate) const PLAIN: &str = "explores all states, even if the ends need fewer";
 

@@ -8,6 +8,7 @@ mod arguments;
 mod choices;
 mod commands;
 mod file_commands;
+mod foreign_words;
 mod help;
 mod many_runs_commands;
 mod options;
@@ -15,6 +16,7 @@ mod parsers;
 mod reading;
 mod run_commands;
 mod shared_arguments;
+mod standard_inputs;
 mod values;
 
 pub use reading::read_lab_command;

@@ -249,6 +249,7 @@ pub(crate) fn grade_of<'a>(
         most: count(found, "steps", USUAL_STEPS),
         counts_all: found.get_flag("all"),
         explored: graded_of(found),
+        megabytes_in_all: found.get_one::<usize>("memory"),
         jobs: found.get_one::<usize>("jobs"),
         refuses_links: found.get_flag("no-links"),
         pages: text(found, "pages"),
@@ -286,13 +287,16 @@ fn explored_of(found: &ArgMatches) -> Option<Bounds> {
     }
 }
 
-/// The same of each submission. Where neither states nor megabytes are given, four searches side by side hold less than a
-/// gigabyte.
+/// The same of each submission. Those that are judged side by side share the megabytes that are given; where neither states
+/// nor megabytes are, each has its own.
 fn graded_of(found: &ArgMatches) -> Option<Bounds> {
     let mut bounds = explored_of(found)?;
-    if bounds.megabytes.is_none() && found.get_one::<usize>("states").is_none() {
-        bounds.megabytes = Some(USUAL_MEGABYTES);
-    }
+    let is_bounded = bounds.megabytes.is_some() || found.get_one::<usize>("states").is_some();
+    bounds.megabytes = if is_bounded {
+        None
+    } else {
+        Some(USUAL_MEGABYTES)
+    };
     Some(bounds)
 }
 
@@ -302,5 +306,6 @@ fn bounds_of(found: &ArgMatches) -> Bounds {
         worlds: count(found, "states", USUAL_WORLDS),
         seconds: found.get_one::<u64>("seconds"),
         megabytes: found.get_one::<usize>("memory"),
+        megabytes_in_all: None,
     }
 }

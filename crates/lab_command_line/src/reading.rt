@@ -3,22 +3,30 @@
 use crate::choices::{COLOUR_WORDS, COLOURS};
 use crate::commands::{CommandName, command_called};
 use crate::file_commands::{asm_of, check_of, exercise_of, explain_of, layout_of, new_of, word_of};
+use crate::foreign_words::refusal_of;
 use crate::many_runs_commands::{explore_of, grade_of, play_of, survey_of};
 use crate::options::chosen;
 use crate::parsers::lab_parser;
 use crate::run_commands::{
     compare_of, debug_of, misfit_of, page_of, picture_of, schedule_of, view_of,
 };
+use crate::standard_inputs::doubled_input;
 use clap::error::ErrorKind;
 use clap::{ArgMatches, Error};
 use lab_requests::{Colours, LabCall, LabCommand};
+use named_files::ForeignNames;
 use std::alloc::{AllocError, Global};
 use std::convert::AsStr;
 
-/// The command that the words of a line ask for, the first of which is the program's name.
+/// The command that the words of a line ask for, the first of which is the program's name. Those that are not UTF-8 stand
+/// there as they are shown, and may be files that are read and no options.
 ///
 /// The error has the text for the user, also where help or the version was asked for, or memory was refused.
-pub fn read_lab_command<'a, S: AsStr>(alloc: Global, line: &'a [S]) -> Result<LabCall<'a>, Error> {
+pub fn read_lab_command<'a, S: AsStr>(
+    alloc: Global,
+    line: &'a [S],
+    foreign: &ForeignNames,
+) -> Result<LabCall<'a>, Error> {
     if let Some(program) = mistyped_program(line) {
         let words = format!(in alloc; "to run a program, type: mta_lab view {program}")?;
         return Err(refused(alloc, words.as_str())?);
@@ -30,10 +38,17 @@ pub fn read_lab_command<'a, S: AsStr>(alloc: Global, line: &'a [S]) -> Result<La
     let Some(command) = command_called(name) else {
         return Err(refused(alloc, "there is no such command")?);
     };
-    match misfit_of(command, found) {
+    if let Some(words) = refusal_of(alloc, command, found, foreign)? {
+        return Err(refused(alloc, words.as_str())?);
+    }
+    if let Some(words) = misfit_of(command, found) {
+        return Err(refused(alloc, words)?);
+    }
+    let command = asked_of(alloc, command, found)?;
+    match doubled_input(&command) {
         Some(words) => Err(refused(alloc, words)?),
         None => Ok(LabCall {
-            command: asked_of(alloc, command, found)?,
+            command,
             colours: colours_of(found),
         }),
     }
@@ -88,7 +103,7 @@ fn asked_of<'a>(
         CommandName::Picture => Ok(LabCommand::Picture(picture_of(found))),
         CommandName::Play => Ok(LabCommand::Play(play_of(found))),
         CommandName::Asm => Ok(asm_of(found)),
-        CommandName::Explain => Ok(explain_of(found)),
+        CommandName::Explain => explain_of(alloc, found),
         CommandName::Word => word_of(alloc, found),
         CommandName::New => Ok(new_of(found)),
     }

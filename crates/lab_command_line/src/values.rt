@@ -19,6 +19,8 @@ pub(crate) enum ValueKind {
     Exercise,
     /// Any text.
     Text,
+    /// A part of an instruction, which may begin with a sign.
+    Operand,
 }
 
 /// A program: a source text or an image.

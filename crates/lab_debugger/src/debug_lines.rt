@@ -14,8 +14,10 @@ pub(crate) const LINE_LIMIT: usize = 65_536;
 /// What stands next in the input.
 #[derive(Drop)]
 pub(crate) enum NextLine {
-    /// A line, without its end. One that is no text is empty.
+    /// A line, without its end.
     Text(String),
+    /// A line whose bytes are not UTF-8, of this number, from 1.
+    NotText(u64),
     /// A line of more than [`LINE_LIMIT`] bytes, of which nothing is kept.
     TooLong,
     /// The end.
@@ -27,6 +29,8 @@ pub(crate) enum NextLine {
 pub(crate) struct InputLines {
     rest: Vec<u8>,
     first: usize,
+    /// How many lines were taken.
+    taken: u64,
 }
 
 impl InputLines {
@@ -35,6 +39,7 @@ impl InputLines {
         InputLines {
             rest: Vec::new(alloc),
             first: 0,
+            taken: 0,
         }
     }
 
@@ -71,10 +76,12 @@ impl InputLines {
         length: usize,
         is_too_long: bool,
     ) -> Result<NextLine, LabFault> {
+        self.taken = self.taken.saturating_add(1);
         let line = if is_too_long || length > LINE_LIMIT {
             NextLine::TooLong
         } else {
-            NextLine::Text(text_of(alloc, self.waiting().get(..length).unwrap_or(b""))?)
+            let bytes = self.waiting().get(..length).unwrap_or(b"");
+            line_of(alloc, bytes, self.taken)?
         };
         self.first = self.first.saturating_add(length).saturating_add(1);
         Ok(line)
@@ -102,7 +109,10 @@ impl InputLines {
     }
 }
 
-/// Bytes as text; empty where they are none.
-fn text_of(alloc: Global, bytes: &[u8]) -> Result<String, LabFault> {
-    Ok(String::from_str(alloc, str::from_utf8(bytes).unwrap_or(""))?)
+/// The line of this number that has these bytes.
+fn line_of(alloc: Global, bytes: &[u8], number: u64) -> Result<NextLine, LabFault> {
+    match str::from_utf8(bytes) {
+        Ok(text) => Ok(NextLine::Text(String::from_str(alloc, text)?)),
+        Err(_) => Ok(NextLine::NotText(number)),
+    }
 }

@@ -3,7 +3,9 @@
 use crate::debug_points::is_named_word;
 use crate::debug_repl::{DebugRepl, ENDS_HERE, refuse};
 use command_parts::LabFault;
-use lab_texts::{NumberStyle, ProgramNames, RunPieces, TextWriter, turned_word, wanted_word};
+use lab_texts::{
+    NumberStyle, ProgramNames, RunPieces, TextWriter, plural, turned_word, wanted_word,
+};
 use named_session::{UserName, read_name};
 use processor::Step;
 use step_views::{Content, Place, StreamPart};
@@ -21,6 +23,11 @@ impl<'a, 'i, 't, const S: usize> DebugRepl<'a, 'i, 't, S> {
         let session = &self.named.session;
         put_position(out, session.position(), session.schedule().len());
         match session.next_step() {
+            Some(step) if self.is_idle(step) => {
+                out.put("; next ");
+                out.put_stream(step.p, step.s);
+                out.put(", which does not run\n");
+            }
             Some(step) => {
                 out.put("; next ");
                 self.put_stream_line(step, out);
@@ -32,8 +39,13 @@ impl<'a, 'i, 't, const S: usize> DebugRepl<'a, 'i, 't, S> {
         }
     }
 
-    /// Adds a stream, where it stands, and the instruction there, with the line's end.
+    /// Adds a stream, where it stands, and the instruction there, with the line's end; of one that is not started, or has
+    /// quit, that it does not run.
     pub(crate) fn put_stream_line(&self, step: Step, out: &mut TextWriter) {
+        if self.is_idle(step) {
+            put_idle(step, out);
+            return;
+        }
         out.put_stream(step.p, step.s);
         if let Some(pc) = self.named.pc(step.p, step.s) {
             let line = match self.named.line(step.p, step.s) {
@@ -136,6 +148,7 @@ impl<'a, 'i, 't, const S: usize> DebugRepl<'a, 'i, 't, S> {
             return;
         };
         match self.named.pc(step.p, step.s) {
+            Some(_) if self.is_idle(step) => put_idle(step, out),
             Some(pc) => put_around(out, self.names, self.columns.place, pc),
             None => out.put(NO_STREAM),
         }
@@ -169,7 +182,14 @@ fn put_position(out: &mut TextWriter, position: u64, steps: usize) {
     out.put_number(position);
     out.put(" of ");
     out.put_number(steps as u64);
-    out.put(" steps");
+    out.put(" step");
+    out.put(plural(steps));
+}
+
+/// Adds that a stream does not run.
+pub(crate) fn put_idle(step: Step, out: &mut TextWriter) {
+    out.put_stream(step.p, step.s);
+    out.put(" does not run\n");
 }
 
 /// Adds the place and the instruction of a program word, which stands on this line; 0 where it stands on none.

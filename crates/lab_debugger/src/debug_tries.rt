@@ -1,9 +1,10 @@
 //! Steps in place of the schedule's, and how they are taken back.
 
 use crate::debug_repl::{DebugRepl, refuse};
+use crate::debug_shows::put_idle;
 use command_parts::LabFault;
 use debug_commands::Command;
-use lab_texts::{RunPieces, TextWriter};
+use lab_texts::{RunPieces, TextWriter, plural};
 use named_session::{UserName, read_name};
 use processor::Step;
 use stream_core::Status;
@@ -25,8 +26,7 @@ impl<'a, 'i, 't, const S: usize> DebugRepl<'a, 'i, 't, S> {
             return Ok(());
         };
         if !self.runs(step) {
-            out.put_stream(step.p, step.s);
-            out.put(" does not run\n");
+            put_idle(step, out);
             return Ok(());
         }
         let dropped = self.steps_to_come()?;
@@ -65,8 +65,11 @@ impl<'a, 'i, 't, const S: usize> DebugRepl<'a, 'i, 't, S> {
         match self.named.session.replace_schedule_from(position, &steps) {
             Ok(()) => {
                 out.put("the try is taken back: the schedule has ");
-                out.put_number(self.named.session.schedule().len() as u64);
-                out.put(" steps\n");
+                let steps = self.named.session.schedule().len();
+                out.put_number(steps as u64);
+                out.put(" step");
+                out.put(plural(steps));
+                out.put("\n");
                 self.move_by(&Command::Go(position), out)
             }
             Err(fault) => refuse(fault, out),
@@ -77,6 +80,14 @@ impl<'a, 'i, 't, const S: usize> DebugRepl<'a, 'i, 't, S> {
     fn runs(&self, step: Step) -> bool {
         match self.named.session.machine().stream(step.p, step.s) {
             Some(stream) => matches!(stream.status(), Status::Running),
+            None => false,
+        }
+    }
+
+    /// Whether a stream is not started, or has quit. Such a one stands at no instruction.
+    pub(crate) fn is_idle(&self, step: Step) -> bool {
+        match self.named.session.machine().stream(step.p, step.s) {
+            Some(stream) => matches!(stream.status(), Status::Idle),
             None => false,
         }
     }

@@ -6,7 +6,7 @@ use crate::sessions::named_of;
 use command_parts::{Inputs, LabFault, Program, Status, read_program, steps_of, write_out};
 use image_machines::by_room;
 use lab_requests::RunChoice;
-use lab_texts::{Columns, ProgramNames, TextWriter};
+use lab_texts::{Columns, ProgramNames, TextWriter, plural};
 use processor::Step;
 use std::alloc::Global;
 use std::io::{Read, Write};
@@ -83,6 +83,7 @@ fn talk<const S: usize, F: Files, R: Read, W: Write, E: Write>(
         let goes_on = match read_line(alloc, &mut lines, inputs.input, &mut line)? {
             Heard::Line => answer_line(alloc, inputs, repl, line.as_str(), &mut out)?,
             Heard::TooLong => push_too_long(&mut out)?,
+            Heard::NotText(number) => push_not_text(&mut out, number)?,
             Heard::End => false,
         };
         if !goes_on {
@@ -120,6 +121,8 @@ enum Heard {
     Line,
     /// A line that is too long, and is refused.
     TooLong,
+    /// A line of this number that is no text, and is refused.
+    NotText(u64),
     /// The end of the input.
     End,
 }
@@ -133,7 +136,13 @@ fn push_too_long(out: &mut String) -> Result<bool, LabFault> {
     Ok(true)
 }
 
-/// Reads the next line in place of the last one, which one that is empty or too long leaves as it is.
+/// Adds that the line of this number is no text. The session goes on.
+fn push_not_text(out: &mut String, number: u64) -> Result<bool, LabFault> {
+    writeln!(out, "line {number} is not UTF-8: it is not taken")?;
+    Ok(true)
+}
+
+/// Reads the next line in place of the last one, which one that is empty or refused leaves as it is.
 fn read_line<R: Read>(
     alloc: Global,
     lines: &mut InputLines,
@@ -143,6 +152,7 @@ fn read_line<R: Read>(
     match lines.next(alloc, input)? {
         NextLine::End => Ok(Heard::End),
         NextLine::TooLong => Ok(Heard::TooLong),
+        NextLine::NotText(number) => Ok(Heard::NotText(number)),
         NextLine::Text(next) => {
             if !next.as_str().trim().is_empty() {
                 *line = next;
@@ -182,7 +192,9 @@ fn put_saved(out: &mut TextWriter, path: &str, steps: usize) {
     out.put_plain(path);
     out.put(" has the ");
     out.put_number(steps as u64);
-    out.put(" steps of the schedule\n");
+    out.put(" step");
+    out.put(plural(steps));
+    out.put(" of the schedule\n");
 }
 
 impl<W: Write, E: Write> Screen<'_, W, E> {

@@ -1,6 +1,6 @@
 //! Endless loops in words: how the streams go on in them, and the steps of a cycle.
 
-use crate::end_texts::put_stopped;
+use crate::end_texts::{put_stopped, put_wait};
 use image_file::Image;
 use image_machines::{by_room, loaded};
 use lab_texts::{Notation, ProgramNames, RunPieces, TextWriter, push_changed_words, put_part_of};
@@ -12,42 +12,36 @@ use std::alloc::{AllocError, Global};
 /// The most steps of a cycle that are shown one by one.
 const MOST_SHOWN: usize = 12;
 
-/// A set of worlds that spins, in words: who was stopped, who runs in it and who waits in each of its worlds, the words that
-/// differ from the image in its first one, and those that change in it.
+/// A set of worlds of an image that spins, in words: who was stopped, who runs in it and who waits in each of its worlds, the
+/// words that differ from the image in its first one, and those that change in it.
 pub(crate) fn loop_text(
     alloc: Global,
     notation: Notation<'_, '_>,
+    image: &Image,
     end: &SpaceEnd,
 ) -> Result<String, AllocError> {
     let names = notation.names;
     let mut text = String::new(alloc);
     let mut out = TextWriter::take(&mut text);
     put_stopped(&mut out, &end.state.stopped);
-    put_streams(&mut out, names, &end.going);
+    put_streams(&mut out, names, image, end);
     out.give_back(&mut text)?;
     push_changed_words(&mut text, names, notation.style, &end.state.changed)?;
     push_changing(&mut text, names, &end.changing)?;
     Ok(text)
 }
 
-/// Adds the streams, and how they go on.
-fn put_streams(out: &mut TextWriter, names: &ProgramNames<'_>, streams: &[GoingStream]) {
-    for GoingStream { stream, going } in streams {
+/// Adds the streams of a set of worlds of an image, and how they go on.
+fn put_streams(out: &mut TextWriter, names: &ProgramNames<'_>, image: &Image, end: &SpaceEnd) {
+    for GoingStream { stream, going } in &end.going {
         put_part_of(out, 0, "");
         out.put_stream(stream.p, stream.s);
-        put_going(out, names, *going);
-    }
-}
-
-/// Adds how a stream goes on.
-fn put_going(out: &mut TextWriter, names: &ProgramNames<'_>, going: Going) {
-    match going {
-        Going::Runs => out.put(" runs"),
-        Going::WaitsFor(address) => {
-            out.put(" waits for ");
-            names.put_address(out, address);
+        match *going {
+            Going::Runs => out.put(" runs"),
+            // (it is stuck there in each of them, so the first one shows what it waits for)
+            Going::WaitsFor(address) => put_wait(out, names, image, &end.state.changed, address),
+            Going::Waits => out.put(" waits"),
         }
-        Going::Waits => out.put(" waits"),
     }
 }
 

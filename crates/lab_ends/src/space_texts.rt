@@ -73,26 +73,28 @@ pub fn words_of_end(
     end: &SpaceEnd,
 ) -> Result<EndWords, AllocError> {
     Ok(EndWords {
-        text: text_of_end(alloc, notation, required, end)?,
+        text: text_of_end(alloc, notation, required, image, end)?,
         finding: by_room!(image, finding_of(alloc, notation, image, end))?,
         cycle: cycle_text(alloc, notation.names, image, end)?,
     })
 }
 
-/// Who was stopped, who waits or goes on for ever, and the words that changed; the line of worlds that break one.
+/// Of an end of an image who was stopped, who waits or goes on forever, and the words that changed; the line of worlds that
+/// break one.
 pub fn text_of_end(
     alloc: Global,
     notation: Notation<'_, '_>,
     required: &Requirements,
+    image: &Image,
     end: &SpaceEnd,
 ) -> Result<String, AllocError> {
     if let Some(line) = broken_line(required, end.kind) {
         return String::from_str(alloc, line.words);
     }
     if end.kind == SpaceEndKind::End(EndKind::Spinning) {
-        return loop_text(alloc, notation, end);
+        return loop_text(alloc, notation, image, end);
     }
-    state_text(alloc, notation, &end.state)
+    state_text(alloc, notation, image, &end.state)
 }
 
 /// The first finding of the run of an end's schedule.

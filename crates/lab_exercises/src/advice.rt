@@ -1,65 +1,107 @@
-//! Sentences on typical mistakes.
+//! Which sentence of an exercise's advice is said, and what is wrong with a file of advice.
 
-use grade_reports::GradeRow;
+use crate::judging::{Judgement, THOROUGH};
+use command_parts::{LabFault, made_by};
+use exercise_advice::{
+    AdviceFault, AdviceFaultKind, AdviceLine, ShownMistake, first_fitting, observations_of,
+    read_advice,
+};
+use image_file::Image;
+use judgements::Witness;
+use lab_requests::Maker;
+use plain_text::plain;
+use processor::Step;
 use std::alloc::{AllocError, Global};
-use std::str;
 
-/// The parts of what is said of a program that words of advice are looked for in, one by one.
-#[derive(Drop)]
-pub(crate) struct MistakeParts<'r> {
-    /// The word of the verdict.
-    verdict: &'static str,
-    /// The line that is not met, after `not`; empty where there is none.
-    missed: String,
-    /// Who was stopped, who waits, and the words that changed; or what the program lacks.
-    shown: &'r str,
-    /// The first finding of the run.
-    finding: &'r str,
-}
+/// What a line of advice looks like.
+const LINES: &str = "a line of advice is VERDICT: SENTENCE or VERDICT, FACT, ..: SENTENCE";
 
-impl<'r> MistakeParts<'r> {
-    /// Those of what is said of a program.
-    pub(crate) fn of(alloc: Global, row: &'r GradeRow) -> Result<MistakeParts<'r>, AllocError> {
-        let mut missed = String::new(alloc);
-        if let Some(line) = &row.missed {
-            let text = line.text.as_str();
-            write!(missed, "not {text}")?;
+/// The sentence of the advice of a file on the mistake that a judgement shows; None if no line speaks of it.
+pub(crate) fn sentence_on(
+    alloc: Global,
+    path: &str,
+    text: &[u8],
+    judgement: &Judgement,
+) -> Result<Option<String>, LabFault> {
+    let lines = match read_advice(alloc, text) {
+        Ok(lines) => lines,
+        Err(AdviceFault::NoMemory) => return Err(LabFault::NoMemory),
+        Err(AdviceFault::Line { number, kind, word }) => {
+            return Err(line_fault(alloc, path, number, kind, &word)?);
         }
-        Ok(MistakeParts {
-            verdict: row.kind.word(),
-            missed,
-            shown: &row.words,
-            finding: &row.finding,
-        })
-    }
-
-    /// Whether one of them has these words.
-    fn have(&self, words: &str) -> bool {
-        self.missed.contains(words) || self.shown.contains(words) || self.finding.contains(words)
-    }
-}
-
-/// The sentence of a text of advice on a program with this verdict, of which this is said: that of the first line
-/// `VERDICT: SENTENCE` or `VERDICT, WORDS: SENTENCE` whose words stand in a part of it.
-pub(crate) fn sentence_on<'t>(advice: &'t [u8], mistake: &MistakeParts<'_>) -> Option<&'t str> {
-    for line in advice.split(|byte| *byte == b'\n') {
-        if let Some(sentence) = sentence_of(line, mistake) {
-            return Some(sentence);
-        }
-    }
-    None
-}
-
-/// The sentence of a line, if it speaks of such a program.
-fn sentence_of<'t>(line: &'t [u8], mistake: &MistakeParts<'_>) -> Option<&'t str> {
-    let (head, sentence) = str::from_utf8(line).ok()?.split_once(": ")?;
-    let (kind, words) = match head.split_once(", ") {
-        Some((kind, words)) => (kind, words),
-        None => (head, ""),
     };
-    if kind == mistake.verdict && mistake.have(words) {
-        Some(sentence)
-    } else {
-        None
+    Ok(sentence_among(alloc, &lines, judgement)?)
+}
+
+/// The same, among the lines that were read.
+fn sentence_among(
+    alloc: Global,
+    lines: &[AdviceLine],
+    judgement: &Judgement,
+) -> Result<Option<String>, AllocError> {
+    let Some(decided) = &judgement.decided else {
+        return Ok(None);
+    };
+    let Some(case) = decided.judgement.deciding() else {
+        return Ok(None);
+    };
+    let steps = steps_of(alloc, &decided.image, &judgement.row.witness)?;
+    let shown = ShownMistake {
+        image: &decided.image,
+        required: &decided.required,
+        judgement: case,
+        steps: &steps,
+    };
+    let seen = observations_of(alloc, shown)?;
+    match first_fitting(lines, case.kind, &seen) {
+        Some(place) => sentence_at(alloc, lines, place),
+        None => Ok(None),
     }
+}
+
+/// A copy of the sentence of the line at a place.
+fn sentence_at(
+    alloc: Global,
+    lines: &[AdviceLine],
+    place: usize,
+) -> Result<Option<String>, AllocError> {
+    match lines.get(place) {
+        Some(line) => Ok(Some(String::from_str(alloc, &line.sentence)?)),
+        None => Ok(None),
+    }
+}
+
+/// The steps of the run that shows a verdict; none where no run does.
+fn steps_of(alloc: Global, image: &Image, witness: &Witness) -> Result<Vec<Step>, AllocError> {
+    match witness {
+        Witness::None => Ok(Vec::new(alloc)),
+        Witness::Schedule(steps) => Vec::from_slice(alloc, steps),
+        Witness::Seed(seed) => {
+            let maker = Maker::Random { seed: *seed };
+            Ok(made_by(alloc, image, maker, THOROUGH.steps)?.steps)
+        }
+    }
+}
+
+/// What is said of a file of advice: what is wrong with its line of this number.
+fn line_fault(
+    alloc: Global,
+    path: &str,
+    number: usize,
+    kind: AdviceFaultKind,
+    word: &str,
+) -> Result<LabFault, AllocError> {
+    let path = plain(alloc, path)?;
+    let word = plain(alloc, word)?;
+    let words = match kind {
+        AdviceFaultKind::Bytes => String::from_str(alloc, "the line is no UTF-8")?,
+        AdviceFaultKind::Sentence => String::from_str(alloc, LINES)?,
+        AdviceFaultKind::Verdict => {
+            format!(in alloc; "no verdict on a program that runs is called {word}")?
+        }
+        AdviceFaultKind::Fact => format!(in alloc; "no fact is called {word}")?,
+        AdviceFaultKind::Part => format!(in alloc; "{word} is no part of this fact")?,
+        AdviceFaultKind::Twice => format!(in alloc; "{word}: the fact has such a part already")?,
+    };
+    Ok(LabFault::Lines(format!(in alloc; "{path}:{number}:1: error: {words}\n")?))
 }

@@ -1,6 +1,6 @@
 //! The command `exercise`.
 
-use crate::advice::{MistakeParts, sentence_on};
+use crate::advice::sentence_on;
 use crate::folders::{Exercise, number_in, read_exercises};
 use crate::hints::push_hint;
 use crate::judging::{QUICK, THOROUGH, judge};
@@ -8,7 +8,7 @@ use crate::listing::{push_line, widest};
 use crate::telling::push_judgement;
 use command_parts::{CommandAnswer, Inputs, LabFault, Status};
 use lab_requests::ExerciseRequest;
-use plain_text::plain;
+use plain_text::{plain, plural};
 use program_searches::Console;
 use std::alloc::{AllocError, Global};
 use std::io::{Read, Write};
@@ -108,9 +108,8 @@ fn tell<X: Threads + Sync + Clock, F: Files, R: Read, E: Write>(
     } else {
         let path = exercise.file(alloc, "advice")?;
         let advice = inputs.read(alloc, &path)?;
-        let mistake = MistakeParts::of(alloc, &judgement.row)?;
-        let sentence = sentence_on(&advice, &mistake);
-        push_judgement(alloc, &mut out, exercise, &judgement, sentence)?;
+        let sentence = sentence_on(alloc, &path, &advice, &judgement)?;
+        push_judgement(alloc, &mut out, exercise, &judgement, sentence.as_ref())?;
         push_hint_command(alloc, &mut out, request, exercise, 1)?;
     }
     Ok(CommandAnswer::printed(alloc, out, judgement.row.status))
@@ -129,7 +128,8 @@ fn show_hint<F: Files, R: Read>(
     let mut out = String::new(alloc);
     let count = push_hint(&mut out, str::from_utf8(&bytes).unwrap_or(""), hint)?;
     if hint > count {
-        return Err(LabFault::Words(format!(in alloc; "{path}: it has {count} hints")?));
+        let some_hints = plural(count);
+        return Err(LabFault::Words(format!(in alloc; "{path}: it has {count} hint{some_hints}")?));
     }
     if hint < count {
         push_hint_command(alloc, &mut out, request, exercise, hint.saturating_add(1))?;

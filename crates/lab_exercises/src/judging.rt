@@ -4,7 +4,7 @@ use crate::folders::Exercise;
 use command_parts::{Inputs, LabFault};
 use grade_reports::{GradeRow, reason_of};
 use judgements::VerdictKind;
-use lab_grades::grades_of;
+use lab_grades::{DecidedByCase, judged_alone};
 use lab_requests::{Bounds, GradeCases, GradeFormat, GradeRequest};
 use program_searches::Console;
 use std::alloc::Global;
@@ -45,6 +45,8 @@ pub(crate) struct Judgement {
     pub row: GradeRow,
     /// What was looked at, or what shows that it is not right, in words without control bytes.
     pub why: String,
+    /// What decides it, as values; None if it is no program.
+    pub decided: Option<DecidedByCase>,
 }
 
 impl Judgement {
@@ -70,8 +72,6 @@ pub(crate) fn judge<X: Threads + Sync + Clock, F: Files, R: Read, E: Write>(
 ) -> Result<Judgement, LabFault> {
     let cases = exercise.file(alloc, "cases")?;
     let start = exercise.file(alloc, "start.asm")?;
-    let mut submissions = Vec::new(alloc);
-    submissions.push(start.as_str())?;
     let request = GradeRequest {
         cases: GradeCases::Folder(cases.as_str()),
         seeds: reach.seeds,
@@ -81,18 +81,21 @@ pub(crate) fn judge<X: Threads + Sync + Clock, F: Files, R: Read, E: Write>(
             worlds: reach.worlds,
             seconds: None,
             megabytes: None,
+            megabytes_in_all: None,
         }),
+        megabytes_in_all: None,
         jobs: Some(1),
         refuses_links: false,
         pages: None,
-        submissions,
+        submissions: Vec::new(alloc),
         format: GradeFormat::Text,
         hexadecimal: false,
     };
-    let mut grades = grades_of(rt, alloc, inputs, &request, console)?;
-    let Some(row) = grades.rows.pop() else {
-        return Err(LabFault::NoMemory);
-    };
-    let why = reason_of(alloc, &row, grades.cases)?;
-    Ok(Judgement { row, why })
+    let judged = judged_alone(rt, alloc, inputs, &request, &start, console)?;
+    let why = reason_of(alloc, &judged.row, judged.cases)?;
+    Ok(Judgement {
+        row: judged.row,
+        why,
+        decided: judged.decided,
+    })
 }

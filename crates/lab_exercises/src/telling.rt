@@ -15,7 +15,7 @@ pub(crate) fn push_judgement(
     out: &mut String,
     exercise: &Exercise,
     judgement: &Judgement,
-    sentence: Option<&str>,
+    sentence: Option<&String>,
 ) -> Result<(), AllocError> {
     let path = plain(alloc, &exercise.path)?;
     let (number, title) = (exercise.number, exercise.title.as_str());

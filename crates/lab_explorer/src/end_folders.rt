@@ -60,7 +60,7 @@ fn keep_schedules<F: Files, R: Read>(
         let number = index.saturating_add(1);
         let path = format!(in alloc; "{folder}/{number}.schedule")?;
         let text = write_schedule(alloc, &end.schedule)?;
-        inputs.write(alloc, &path, text.as_bytes())?;
+        inputs.write_derived(alloc, &path, text.as_bytes())?;
     }
     Ok(())
 }

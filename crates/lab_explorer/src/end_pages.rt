@@ -45,7 +45,7 @@ impl FoundProgram<'_> {
                 )?));
             }
             let page = self.page_of_end(alloc, number, end)?;
-            inputs.write(alloc, &path, page.as_bytes())?;
+            inputs.write_derived(alloc, &path, page.as_bytes())?;
         }
         Ok(())
     }

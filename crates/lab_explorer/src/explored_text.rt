@@ -7,7 +7,7 @@ use expectation_files::Requirements;
 use image_file::Image;
 use lab_ends::{EndWords, words_of_ends};
 use lab_texts::Notation;
-use plain_text::push_plain;
+use plain_text::{plural, push_plain};
 use program_searches::Explored;
 use schedule_turns::turns_of;
 use search_texts::{
@@ -111,11 +111,6 @@ fn schedules_of(found: &Explored<'_>) -> &'static str {
         (false, 0) => "some schedules",
         (false, _) => "some schedules that begin so",
     }
-}
-
-/// What stands after a word that is counted.
-fn plural(count: usize) -> &'static str {
-    if count == 1 { "" } else { "s" }
 }
 
 /// An end that a search found, as a line shows it.

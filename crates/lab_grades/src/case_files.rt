@@ -6,6 +6,7 @@ use command_parts::{Inputs, LabFault, folder_names, slash_after};
 use image_file::Image;
 use judgements::Case;
 use lab_requests::GradeCases;
+use named_files::shown_name;
 use plain_text::plain;
 use source_faults::check_source;
 use std::alloc::{AllocError, Global};
@@ -141,6 +142,9 @@ fn add_names(
     bytes: &[u8],
 ) -> Result<(), LabFault> {
     for entry in bytes.split(|byte| *byte == 0) {
+        if is_foreign_case(entry) {
+            return Err(foreign_case(alloc, folder, entry)?);
+        }
         if let Some(name) = name_of_case(entry)
             && !names.iter().any(|known: &String| known.as_str() == name)
         {
@@ -156,6 +160,21 @@ fn add_names(
 /// What is said of a folder that has more cases than are taken.
 fn too_many_cases(alloc: Global, folder: &str) -> Result<LabFault, AllocError> {
     Ok(LabFault::Words(format!(in alloc; "{folder}: more than {MOST_CASES} cases")?))
+}
+
+/// Whether a file is of a case by the end of its name, which is not UTF-8.
+fn is_foreign_case(entry: &[u8]) -> bool {
+    let is_case = entry.ends_with(b".data") || entry.ends_with(b".expect");
+    is_case && str::from_utf8(entry).is_err()
+}
+
+/// What is said of a folder with such a file.
+fn foreign_case(alloc: Global, folder: &str, entry: &[u8]) -> Result<LabFault, AllocError> {
+    let slash = slash_after(folder);
+    let name = shown_name(alloc, entry)?;
+    Ok(LabFault::Words(format!(in alloc;
+        "{folder}{slash}{name}: the name of a case has to be UTF-8"
+    )?))
 }
 
 /// What is said of a folder that has no case.

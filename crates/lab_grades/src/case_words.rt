@@ -2,7 +2,7 @@
 
 use crate::report_lines::{CaseLines, absent_line};
 use command_parts::made_by;
-use expectation_files::{LineFault, line_of, word_of};
+use expectation_files::{LineFault, LineFaultKind, line_of, word_of};
 use expectation_messages::fault_words;
 use grade_reports::GradeRow;
 use image_file::Image;
@@ -12,6 +12,7 @@ use lab_ends::{first_finding, state_text, text_of_end};
 use lab_requests::Maker;
 use lab_texts::{Notation, ProgramNames};
 use processor::Step;
+use source_places::SourcePlaces;
 use space_ends::SpaceEnd;
 use std::alloc::{AllocError, Global};
 
@@ -55,7 +56,7 @@ impl CaseNotation<'_, '_> {
     fn add_run(self, alloc: Global, run: &ShownRun, row: &mut GradeRow) -> Result<(), AllocError> {
         let maker = Maker::Random { seed: run.seed };
         let made = made_by(alloc, self.image, maker, self.most)?;
-        row.words = state_text(alloc, self.notation, &run.end.state)?;
+        row.words = state_text(alloc, self.notation, self.image, &run.end.state)?;
         row.finding = self.finding(alloc, &made.steps)?;
         Ok(())
     }
@@ -63,7 +64,7 @@ impl CaseNotation<'_, '_> {
     /// Writes what an end of all schedules shows: nothing beside the line where its worlds break one.
     fn add_end(self, alloc: Global, end: &SpaceEnd, row: &mut GradeRow) -> Result<(), AllocError> {
         if end.kind.is_end() {
-            row.words = text_of_end(alloc, self.notation, self.lines.required, end)?;
+            row.words = text_of_end(alloc, self.notation, self.lines.required, self.image, end)?;
         }
         row.finding = self.finding(alloc, &end.schedule)?;
         Ok(())
@@ -124,10 +125,50 @@ pub(crate) fn add_absent(
     let own = ProgramNames::of(alloc, text)?;
     let given = ProgramNames::of(alloc, &case.given)?;
     let names = if names_words(&given) { &given } else { &own };
-    let reason = fault_words(alloc, fault.kind, word, image, names)?;
+    let reason = match missing_label(alloc, fault.kind, word, text)? {
+        Some(label) => format!(in alloc; "the program has no label {label}")?,
+        None => fault_words(alloc, fault.kind, word, image, names)?,
+    };
     row.words = format!(in alloc; "{path}:{line}: {reason}")?;
     row.missed = Some(absent_line(alloc, case, line)?);
     Ok(())
+}
+
+/// The first label of a range of program words that a program of this text does not have, where that is its fault; None where
+/// it is a number past the program's words, or an address after one of its labels.
+fn missing_label(
+    alloc: Global,
+    kind: LineFaultKind,
+    range: &str,
+    text: &[u8],
+) -> Result<Option<String>, AllocError> {
+    if kind != LineFaultKind::Place {
+        return Ok(None);
+    }
+    let places = SourcePlaces::of(alloc, text)?;
+    for end in range.split('.') {
+        let label = match end.split_once('+') {
+            Some((label, _)) => label,
+            None => end,
+        };
+        if is_label(label) && !has_label(&places, label) {
+            return Ok(Some(String::from_str(alloc, label)?));
+        }
+    }
+    Ok(None)
+}
+
+/// Whether a text is a label, and no number.
+fn is_label(text: &str) -> bool {
+    text.starts_with(|letter: char| letter == '_' || letter.is_ascii_alphabetic())
+}
+
+/// Whether a program has a label.
+fn has_label(places: &SourcePlaces<'_>, label: &str) -> bool {
+    places
+        .labels()
+        .iter()
+        .any(|known| known.name == label.as_bytes())
 }
 
 /// Whether a text names some of its data words.

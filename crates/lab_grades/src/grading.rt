@@ -1,6 +1,7 @@
 //! The command `grade`.
 
 use crate::case_files::read_cases;
+use crate::grade_notes::GradeNotes;
 use crate::judging::Grading;
 use crate::page_folder::PageFolder;
 use crate::side_by_side::{Graded, jobs_of, judge_all};
@@ -25,18 +26,20 @@ const MOST_BYTES: usize = 16_777_216;
 
 /// What is said of submissions.
 #[derive(Drop)]
-pub struct Grades {
+struct Grades {
     /// Their rows, in the order of the submissions.
-    pub rows: Vec<GradeRow>,
+    rows: Vec<GradeRow>,
     /// How many cases they were judged by; 0 if no case has a name.
-    pub cases: usize,
+    cases: usize,
+    /// The lines of what is said beside the rows.
+    notes: String,
     /// Why not all of their pages were written.
-    pub fault: Option<LabFault>,
+    fault: Option<LabFault>,
 }
 
 impl Grades {
     /// The worst status over all of them.
-    pub fn status(&self) -> Status {
+    fn status(&self) -> Status {
         let mut status = Status::Done;
         for row in self.rows.iter() {
             status = status.worse(row.status);
@@ -61,13 +64,17 @@ pub fn grade<X: Threads + Sync + Clock, F: Files, R: Read, E: Write>(
         &grades.rows,
         grades.cases,
     )?;
-    let mut answer = CommandAnswer::printed(alloc, output, grades.status());
-    answer.fault = grades.fault;
-    Ok(answer)
+    let status = grades.status();
+    Ok(CommandAnswer {
+        output,
+        errors: grades.notes,
+        status,
+        fault: grades.fault,
+    })
 }
 
 /// What is said of submissions, each by the same cases: by the same seeds, or by every schedule.
-pub fn grades_of<X: Threads + Sync + Clock, F: Files, R: Read, E: Write>(
+fn grades_of<X: Threads + Sync + Clock, F: Files, R: Read, E: Write>(
     rt: &X,
     alloc: Global,
     inputs: &mut Inputs<'_, F, R>,
@@ -83,14 +90,22 @@ pub fn grades_of<X: Threads + Sync + Clock, F: Files, R: Read, E: Write>(
         jobs: jobs_of(rt, request),
     };
     let rows = rows_of(rt, alloc, inputs, &grading, &mut pages, console)?;
+    let PageFolder { notes, fault, .. } = pages;
+    let GradeNotes { lines, .. } = notes;
     Ok(Grades {
         rows,
-        cases: cases
-            .iter()
-            .filter(|case: &&Case| case.name.is_some())
-            .count(),
-        fault: pages.fault,
+        cases: named_cases(&cases),
+        notes: lines,
+        fault,
     })
+}
+
+/// How many cases have a name.
+pub(crate) fn named_cases(cases: &[Case]) -> usize {
+    cases
+        .iter()
+        .filter(|case: &&Case| case.name.is_some())
+        .count()
 }
 
 /// What is said of each submission, in their order. Some are read, judged and let go before the next are read.
@@ -104,7 +119,8 @@ fn rows_of<X: Threads + Sync + Clock, F: Files, R: Read, E: Write>(
 ) -> Result<Vec<GradeRow>, LabFault> {
     let mut rows = Vec::new(alloc);
     for _ in 0..grading.request.submissions.len() {
-        let judged = judge_some(rt, alloc, inputs, grading, rows.len(), console)?;
+        let notes = &mut pages.notes;
+        let judged = judge_some(rt, alloc, inputs, grading, rows.len(), notes, console)?;
         if judged.is_empty() {
             return Ok(rows);
         }
@@ -122,9 +138,10 @@ fn judge_some<X: Threads + Sync + Clock, F: Files, R: Read, E: Write>(
     inputs: &mut Inputs<'_, F, R>,
     grading: &Grading<'_, '_>,
     place: usize,
+    notes: &mut GradeNotes,
     console: &mut Console<'_, X, E>,
 ) -> Result<Vec<Graded>, LabFault> {
-    let read = read_some(alloc, inputs, grading.request, place)?;
+    let read = read_some(alloc, inputs, grading.request, place, notes)?;
     if read.is_empty() {
         return Ok(Vec::new(alloc));
     }
@@ -137,15 +154,19 @@ fn read_some<F: Files, R: Read>(
     inputs: &mut Inputs<'_, F, R>,
     request: &GradeRequest,
     place: usize,
+    notes: &mut GradeNotes,
 ) -> Result<Vec<Result<Program, GradeRow>>, LabFault> {
     let mut read = Vec::new(alloc);
     let mut bytes: usize = 0;
     for path in request.submissions.iter().skip(place).take(MOST_READ) {
         let submission = read_submission(alloc, inputs, path, request.refuses_links)?;
-        if let Ok(program) = &submission {
+        if let Some(link) = &submission.link {
+            notes.note_link(place.saturating_add(read.len()), path, link)?;
+        }
+        if let Ok(program) = &submission.program {
             bytes = bytes.saturating_add(size_of(program));
         }
-        read.push(submission)?;
+        read.push(submission.program)?;
         if bytes > MOST_BYTES {
             return Ok(read);
         }
@@ -164,7 +185,7 @@ fn size_of(program: &Program) -> usize {
 }
 
 /// How the numbers of ends are told.
-fn style_of(request: &GradeRequest) -> NumberStyle {
+pub(crate) fn style_of(request: &GradeRequest) -> NumberStyle {
     if request.hexadecimal {
         NumberStyle::Hexadecimal
     } else {

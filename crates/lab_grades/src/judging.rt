@@ -4,10 +4,12 @@ use crate::rows::row_of;
 use command_parts::{LabFault, Program};
 use expectation_messages::file_fault;
 use grade_reports::GradeRow;
-use judgements::{AskedJudging, Case, JudgeFault, Submission, image_by, judged_submission};
-use lab_requests::GradeRequest;
+use judgements::{
+    AskedJudging, Case, JudgeFault, Submission, SubmissionJudgement, image_by, judged_submission,
+};
+use lab_requests::{Bounds, GradeRequest};
 use lab_texts::NumberStyle;
-use program_searches::{Console, SearchFault};
+use program_searches::{Console, SearchFault, USUAL_MEGABYTES};
 use search_texts::search_fault;
 use std::alloc::{AllocError, Global};
 use std::io::Write;
@@ -31,12 +33,22 @@ impl Grading<'_, '_> {
     /// What is asked of each submission. The seeds of one are shared among the processors where submissions are not.
     fn asked(&self) -> AskedJudging {
         AskedJudging {
-            explored: self.request.explored,
+            explored: self.bounds_of_each(),
             seeds: self.request.seeds,
             most: self.request.most,
             counts_all: self.request.counts_all,
             is_spread: self.jobs <= 1,
         }
+    }
+
+    /// How far the search of each submission goes: those that are judged side by side share the megabytes.
+    fn bounds_of_each(&self) -> Option<Bounds> {
+        let mut bounds = self.request.explored?;
+        let in_all = self.request.megabytes_in_all.unwrap_or(USUAL_MEGABYTES);
+        let share = (in_all / self.jobs.max(1)).max(1);
+        bounds.megabytes = Some(bounds.megabytes.unwrap_or(share).min(share));
+        bounds.megabytes_in_all = Some(in_all);
+        Some(bounds)
     }
 }
 
@@ -48,6 +60,18 @@ pub(crate) fn row_on<X: Threads + Sync, C: Clock, E: Write>(
     program: &Program,
     console: &mut Console<'_, C, E>,
 ) -> Result<GradeRow, LabFault> {
+    let judgement = judgement_on(rt, alloc, grading, program, console)?;
+    Ok(row_of(alloc, grading, program, &judgement)?)
+}
+
+/// What is known of a submission by all cases.
+pub(crate) fn judgement_on<X: Threads + Sync, C: Clock, E: Write>(
+    rt: &X,
+    alloc: Global,
+    grading: &Grading<'_, '_>,
+    program: &Program,
+    console: &mut Console<'_, C, E>,
+) -> Result<SubmissionJudgement, LabFault> {
     let submission = Submission {
         image: &program.image,
         text: &program.text,
@@ -60,7 +84,7 @@ pub(crate) fn row_on<X: Threads + Sync, C: Clock, E: Write>(
         submission,
         console,
     ) {
-        Ok(judgement) => Ok(row_of(alloc, grading, program, &judgement)?),
+        Ok(judgement) => Ok(judgement),
         Err(fault) => Err(judge_fault(alloc, grading.cases, program, fault)?),
     }
 }

@@ -1,8 +1,10 @@
-//! The command `grade`: submissions, judged by the same cases.
+//! The command `grade`: submissions, judged by the same cases; and one that is judged alone.
 #![tactic(auto)]
 
+mod alone;
 mod case_files;
 mod case_words;
+mod grade_notes;
 mod grading;
 mod judging;
 mod page_folder;
@@ -14,4 +16,5 @@ mod side_by_side;
 mod submissions;
 mod verdict_pages;
 
-pub use grading::{Grades, grade, grades_of};
+pub use alone::{DecidedByCase, JudgedAlone, judged_alone};
+pub use grading::grade;

@@ -1,5 +1,6 @@
 //! The folder into which the pages of submissions are written.
 
+use crate::grade_notes::GradeNotes;
 use crate::judging::Grading;
 use crate::page_names::page_names;
 use crate::side_by_side::Graded;
@@ -17,13 +18,15 @@ use std::time::Clock;
 /// The folder for pages, where one is asked for.
 #[derive(Drop)]
 pub(crate) struct PageFolder<'a> {
-    /// Its path, as long as pages are written.
+    /// Its path; None if no page is written.
     folder: Option<&'a str>,
     /// What the page of each submission is called, in their order.
     names: Vec<String>,
     /// The place of the submission of the next row.
     next: usize,
-    /// Why no more pages are written.
+    /// What is said of submissions beside their rows.
+    pub notes: GradeNotes,
+    /// Why a page, or all of them, was not written: the first reason.
     pub fault: Option<LabFault>,
 }
 
@@ -38,22 +41,18 @@ impl<'a> PageFolder<'a> {
             folder: request.pages,
             names: Vec::new(alloc),
             next: 0,
+            notes: GradeNotes::new(alloc),
             fault: None,
         };
         if let Some(folder) = request.pages {
             pages.names = page_names(alloc, &request.submissions)?;
             reserve_all(alloc, inputs, &request.submissions)?;
-            pages.take(inputs.make_folder(alloc, folder));
+            if let Err(fault) = inputs.make_folder(alloc, folder) {
+                pages.folder = None;
+                pages.fault = Some(fault);
+            }
         }
         Ok(pages)
-    }
-
-    /// Writes no more pages where one can't be written.
-    fn take(&mut self, done: Result<(), LabFault>) {
-        if let Err(fault) = done {
-            self.folder = None;
-            self.fault = Some(fault);
-        }
     }
 
     /// The row of the next submission, with its page, which is written.
@@ -81,36 +80,67 @@ impl<'a> PageFolder<'a> {
     ) -> Result<(), LabFault> {
         let place = self.next;
         self.next = place.saturating_add(1);
-        if let Some(folder) = self.folder
-            && let Some(program) = &graded.program
-        {
-            let path = grading.request.submissions.get(place).copied();
-            let called = stem_of(path.unwrap_or(""));
-            let page = page_of_row(alloc, grading, called, program, &graded.row, console)?;
-            if let Some(page) = page {
-                graded.row.page = self.written(alloc, inputs, folder, place, page)?;
+        let Some(folder) = self.folder else {
+            return Ok(());
+        };
+        let path = self.path_of(alloc, folder, place)?;
+        let called = grading
+            .request
+            .submissions
+            .get(place)
+            .copied()
+            .unwrap_or("");
+        let page = match &graded.program {
+            Some(program) if self.notes.may_have_page(place) => page_of_row(
+                alloc,
+                grading,
+                stem_of(called),
+                program,
+                &graded.row,
+                console,
+            )?,
+            _ => None,
+        };
+        match page {
+            Some(page) => graded.row.page = self.written(alloc, inputs, path, page)?,
+            None if inputs.files.symlink_metadata(&path).is_ok() => {
+                self.notes.note_old_page(&path, called)?
             }
+            None => {}
         }
         Ok(())
     }
 
-    /// The path of a page that is written for the submission of this place; None where it can't be.
+    /// The path of the page of the submission of a place.
+    fn path_of(&self, alloc: Global, folder: &str, place: usize) -> Result<String, AllocError> {
+        let slash = slash_after(folder);
+        let name = self.names.get(place).map_or("", |name| name.as_str());
+        format!(in alloc; "{folder}{slash}{name}.html")
+    }
+
+    /// Writes a page, and gives its path; None where it can't be written, which costs this page alone.
     fn written<F: Files, R: Read>(
         &mut self,
         alloc: Global,
         inputs: &Inputs<'_, F, R>,
-        folder: &str,
-        place: usize,
+        path: String,
         page: String,
     ) -> Result<Option<String>, LabFault> {
-        let slash = slash_after(folder);
-        let name = self.names.get(place).map_or("", |name| name.as_str());
-        let path = format!(in alloc; "{folder}{slash}{name}.html")?;
-        self.take(inputs.write(alloc, &path, page.as_bytes()));
-        if self.fault.is_some() {
-            return Ok(None);
+        match inputs.write_derived(alloc, &path, page.as_bytes()) {
+            Ok(()) => Ok(Some(path)),
+            Err(LabFault::NoMemory) => Err(LabFault::NoMemory),
+            Err(fault) => {
+                self.keep(fault);
+                Ok(None)
+            }
         }
-        Ok(Some(path))
+    }
+
+    /// Keeps why a page was not written, unless there is a reason already.
+    fn keep(&mut self, fault: LabFault) {
+        if self.fault.is_none() {
+            self.fault = Some(fault);
+        }
     }
 }
 

@@ -1,29 +1,27 @@
 //! The ends of a submission, counted, as reports have them.
 
-use crate::report_lines::CaseLines;
+use crate::case_words::CaseNotation;
 use end_kinds::EndKind;
 use end_states::EndJudgement;
 use grade_reports::CountedEnd;
 use judgements::{CaseJudgement, MissedLine, Witness, line_missed_by};
 use lab_ends::{state_text, text_of_end};
-use lab_texts::Notation;
 use seed_outcomes::SeedOutcome;
 use space_ends::{SpaceEnd, SpaceEndKind};
 use std::alloc::{AllocError, Global};
 
-/// Adds the ends of a case: the outcomes of all seeds, where these decide, else the ends of all schedules.
+/// Adds the ends of a program by a case: the outcomes of all seeds, where these decide, else the ends of all schedules.
 pub(crate) fn add_ends(
     alloc: Global,
-    lines: CaseLines<'_>,
-    notation: Notation<'_, '_>,
+    shown: CaseNotation<'_, '_>,
     judgement: &CaseJudgement,
     ends: &mut Vec<CountedEnd>,
 ) -> Result<(), AllocError> {
     for outcome in judgement.outcomes.iter() {
-        ends.push(outcome_end(alloc, lines, notation, outcome)?)?;
+        ends.push(outcome_end(alloc, shown, outcome)?)?;
     }
     for end in judgement.ends.iter() {
-        ends.push(counted_end(alloc, lines, notation, end)?)?;
+        ends.push(counted_end(alloc, shown, end)?)?;
     }
     Ok(())
 }
@@ -31,16 +29,16 @@ pub(crate) fn add_ends(
 /// An end, as one that is counted by its worlds.
 fn counted_end(
     alloc: Global,
-    lines: CaseLines<'_>,
-    notation: Notation<'_, '_>,
+    shown: CaseNotation<'_, '_>,
     end: &SpaceEnd,
 ) -> Result<CountedEnd, AllocError> {
+    let lines = shown.lines;
     let schedule = Vec::from_slice(alloc, &end.schedule)?;
     Ok(CountedEnd {
         kind: kind_of(end.kind),
         count: end.worlds(),
         witness: Witness::Schedule(schedule),
-        text: text_of_end(alloc, notation, lines.required, end)?,
+        text: text_of_end(alloc, shown.notation, lines.required, shown.image, end)?,
         missed: lines.line_of(alloc, line_missed_by(end))?,
     })
 }
@@ -56,16 +54,15 @@ fn kind_of(kind: SpaceEndKind) -> Option<EndKind> {
 /// The end that an outcome is.
 fn outcome_end(
     alloc: Global,
-    lines: CaseLines<'_>,
-    notation: Notation<'_, '_>,
+    shown: CaseNotation<'_, '_>,
     outcome: &SeedOutcome,
 ) -> Result<CountedEnd, AllocError> {
     Ok(CountedEnd {
         kind: Some(outcome.judgement.kind),
         count: outcome.runs,
         witness: Witness::Seed(outcome.seed),
-        text: state_text(alloc, notation, &outcome.state)?,
-        missed: lines.line_of(alloc, missed_by(outcome.judgement))?,
+        text: state_text(alloc, shown.notation, shown.image, &outcome.state)?,
+        missed: shown.lines.line_of(alloc, missed_by(outcome.judgement))?,
     })
 }
 

@@ -134,7 +134,7 @@ impl ShownCase<'_> {
         };
         shown.add_reason(alloc, self.judgement, row)?;
         if grading.request.counts_all {
-            add_ends(alloc, lines, notation, self.judgement, &mut row.ends)?;
+            add_ends(alloc, shown, self.judgement, &mut row.ends)?;
         }
         Ok(())
     }

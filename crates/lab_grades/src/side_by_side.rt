@@ -4,22 +4,35 @@ use crate::judging::{Grading, row_on};
 use command_parts::{LabFault, Program};
 use grade_reports::GradeRow;
 use lab_requests::GradeRequest;
-use program_searches::Console;
+use program_searches::{Console, USUAL_MEGABYTES};
 use rayon::current_num_threads;
 use rayon::prelude::*;
 use std::alloc::{AllocError, Global};
+use std::fs::File;
 use std::io::{Write, sink};
 use std::thread::Threads;
 use std::time::Clock;
+
+/// The megabytes that the search of a submission has at least, where it is not said how many are judged side by side.
+const LEAST_MEGABYTES: usize = 200;
 
 /// How many submissions are judged side by side: as many as are asked for, else as there are processors, and no more
 /// than there are.
 pub(crate) fn jobs_of<X: Threads>(rt: &X, request: &GradeRequest) -> usize {
     let jobs = match request.jobs {
         Some(jobs) => jobs,
-        None => current_num_threads(rt),
+        None => current_num_threads(rt).min(most_searches(request)),
     };
     jobs.min(request.submissions.len())
+}
+
+/// How many searches have their megabytes side by side, one at least.
+fn most_searches(request: &GradeRequest) -> usize {
+    if request.explored.is_none() {
+        return usize::MAX;
+    }
+    let in_all = request.megabytes_in_all.unwrap_or(USUAL_MEGABYTES);
+    (in_all / LEAST_MEGABYTES).max(1)
 }
 
 /// A submission that is judged.
@@ -100,6 +113,7 @@ fn judge_part<X: Threads + Sync + Clock>(
         clock: rt,
         errors: &mut nowhere,
         is_terminal: false,
+        memory: unread_memory(rt),
     };
     let mut judged = Vec::new(alloc);
     let mut place: usize = 0;
@@ -112,6 +126,11 @@ fn judge_part<X: Threads + Sync + Clock>(
         }
     }
     Ok(judged)
+}
+
+/// That the system is not asked how much memory the process takes.
+fn unread_memory<X>(_rt: &X) -> Option<&File> {
+    None
 }
 
 /// What the jobs said, in the order of the submissions, which are no more than `most`.

@@ -1,6 +1,6 @@
 //! Submissions, read.
 
-use command_parts::{Inputs, LabFault, Program, ProgramFault, program_in};
+use command_parts::{Inputs, LabFault, LinkOut, Program, ProgramFault, RegularFile, program_in};
 use fault_messages::{Message, Severity};
 use grade_reports::{GradeRow, SourcePosition};
 use judgements::VerdictKind;
@@ -8,59 +8,57 @@ use std::alloc::{AllocError, Global};
 use std::io::Read;
 use std::rt::Files;
 
-/// The program of a submission, or what is said of one that can't be read or is no program. Only a regular file is read,
-/// and standard input for `-`; where links are refused, none that is reached by one.
+/// A submission that was read.
+#[derive(Drop)]
+pub(crate) struct ReadSubmission {
+    /// Its program, or what is said of one that can't be read or is no program.
+    pub program: Result<Program, GradeRow>,
+    /// The link that led to it, if that leads out of its folder.
+    pub link: Option<LinkOut>,
+}
+
+/// Reads a submission. Only a regular file is read, and standard input for `-`; where links are refused, none that is
+/// reached by one.
 pub(crate) fn read_submission<F: Files, R: Read>(
     alloc: Global,
     inputs: &mut Inputs<'_, F, R>,
     path: &str,
     refuses_links: bool,
-) -> Result<Result<Program, GradeRow>, LabFault> {
-    if let Some(words) = refusal_of(alloc, inputs.files, path, refuses_links)? {
-        return Ok(Err(GradeRow::of_no_program(alloc, VerdictKind::NotRead, words)));
+) -> Result<ReadSubmission, LabFault> {
+    match read_file(alloc, inputs, path, refuses_links)? {
+        Ok(RegularFile { bytes, link }) => Ok(ReadSubmission {
+            program: program_or_row(alloc, bytes)?,
+            link,
+        }),
+        Err(why) => Ok(ReadSubmission {
+            program: Err(GradeRow::of_no_program(alloc, VerdictKind::NotRead, why)),
+            link: None,
+        }),
     }
-    let bytes = match inputs.read_or_why(alloc, path)? {
-        Ok(bytes) => bytes,
-        Err(why) => return Ok(Err(GradeRow::of_no_program(alloc, VerdictKind::NotRead, why))),
-    };
+}
+
+/// The bytes of a submission, or why they are not read.
+fn read_file<F: Files, R: Read>(
+    alloc: Global,
+    inputs: &mut Inputs<'_, F, R>,
+    path: &str,
+    refuses_links: bool,
+) -> Result<Result<RegularFile, String>, AllocError> {
+    if path != "-" {
+        return inputs.read_regular(alloc, path, refuses_links);
+    }
+    match inputs.read_or_why(alloc, path)? {
+        Ok(bytes) => Ok(Ok(RegularFile { bytes, link: None })),
+        Err(why) => Ok(Err(why)),
+    }
+}
+
+/// The program of a submission's bytes, or what is said of bytes that are none.
+fn program_or_row(alloc: Global, bytes: Vec<u8>) -> Result<Result<Program, GradeRow>, LabFault> {
     match program_in(alloc, bytes) {
         Ok(program) => Ok(Ok(program)),
         Err(ProgramFault::NoMemory) => Err(LabFault::NoMemory),
-        Err(ProgramFault::Messages { messages, .. }) => { Ok(Err(source_fault(alloc, &messages)?)) }
-    }
-}
-
-/// Why a path is not read: nothing is there, it is no regular file, or it is a link that is refused.
-fn refusal_of<F: Files>(
-    alloc: Global,
-    files: &F,
-    path: &str,
-    refuses_links: bool,
-) -> Result<Option<String>, AllocError> {
-    if path == "-" {
-        return Ok(None);
-    }
-    if refuses_links && is_link(files, path) {
-        return reason(alloc, "it is a symbolic link");
-    }
-    match files.metadata(path) {
-        Ok(found) if found.is_file() => Ok(None),
-        Ok(found) if found.is_dir() => reason(alloc, "it is a folder"),
-        Ok(_) => reason(alloc, "it is no regular file"),
-        Err(error) => Ok(Some(format!(in alloc; "read failed: {error}")?)),
-    }
-}
-
-/// These words, as why a path is not read.
-fn reason(alloc: Global, words: &str) -> Result<Option<String>, AllocError> {
-    Ok(Some(String::from_str(alloc, words)?))
-}
-
-/// Whether a path is a symbolic link.
-fn is_link<F: Files>(files: &F, path: &str) -> bool {
-    match files.symlink_metadata(path) {
-        Ok(found) => found.is_symlink(),
-        Err(_) => false,
+        Err(ProgramFault::Messages { messages, .. }) => Ok(Err(source_fault(alloc, &messages)?)),
     }
 }
 

@@ -7,6 +7,7 @@ use lab_texts::ProgramNames;
 use serde_json::Value;
 use std::alloc::{AllocError, Global};
 use step_views::{Change, StepView};
+use stream_core::Outcome;
 
 /// The first step at which two runs differ, by its number, and what each of them takes there.
 pub fn parting_value(
@@ -23,7 +24,8 @@ pub fn parting_value(
     parting.whole()
 }
 
-/// The stream of a step, and the place of the program where it stands; null where the run has no such step.
+/// The stream of a step, and the place of the program and the statement where it stands, which are null of a stream that does
+/// not run; null where the run has no such step.
 fn taken_value(
     alloc: Global,
     names: &ProgramNames,
@@ -32,14 +34,27 @@ fn taken_value(
     let Some(view) = step else {
         return Ok(Value::Null);
     };
-    let mut place = String::new(alloc);
-    names.push_place(&mut place, view.pc)?;
     let mut taken = Object::new(alloc);
     taken.put("stream", stream_value(alloc, view.step));
     taken.put_number("pc", u64::from(view.pc));
-    taken.put("place", Ok(Value::String(place)));
-    taken.put_text("statement", names.statement(view.pc));
+    match view.outcome {
+        Outcome::Skipped => {
+            taken.put("place", Ok(Value::Null));
+            taken.put("statement", Ok(Value::Null));
+        }
+        Outcome::Done | Outcome::Blocked | Outcome::Trapped(_) | Outcome::Stopped(_) => {
+            taken.put("place", place_value(alloc, names, view.pc));
+            taken.put_text("statement", names.statement(view.pc));
+        }
+    }
     taken.whole()
+}
+
+/// The place of a program word, as a label and an offset.
+fn place_value(alloc: Global, names: &ProgramNames, word: u32) -> Result<Value, AllocError> {
+    let mut place = String::new(alloc);
+    names.push_place(&mut place, word)?;
+    Ok(Value::String(place))
 }
 
 /// The first position at which the worlds of two runs differ, and the places in which they do: each with what stands there

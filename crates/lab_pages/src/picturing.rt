@@ -4,6 +4,7 @@ use crate::paging::{RunToShow, program_name, run_to_show, schedule_words};
 use command_parts::{CommandAnswer, Inputs, LabFault};
 use image_machines::{by_room, loaded};
 use lab_requests::PageRequest;
+use plain_text::plural;
 use replay_page::{MOST_DRAWN_STEPS, MOST_STEPS, RunNames, picture_of};
 use std::alloc::{AllocError, Global};
 use std::io::Read;
@@ -41,9 +42,9 @@ fn none_drawn(alloc: Global, request: &PageRequest) -> Result<LabFault, AllocErr
 
 /// What is said of steps that begin after the last of so many.
 fn past_end(alloc: Global, from: usize, count: usize) -> Result<LabFault, AllocError> {
-    let plural = if count == 1 { "" } else { "s" };
+    let some_steps = plural(count);
     Ok(LabFault::Words(format!(in alloc;
-        "--from {from}: the run has {count} step{plural}, so no step is drawn"
+        "--from {from}: the run has {count} step{some_steps}, so no step is drawn"
     )?))
 }
 

@@ -128,8 +128,10 @@ pub struct Bounds {
     pub worlds: usize,
     /// The most seconds that it takes.
     pub seconds: Option<u64>,
-    /// The most megabytes, of 1,000,000 bytes, that what it holds takes.
+    /// The most megabytes, of 1,000,000 bytes, that what it holds takes, with its machines.
     pub megabytes: Option<usize>,
+    /// The most megabytes that the process takes, other searches among it; None: as many as this one.
+    pub megabytes_in_all: Option<usize>,
 }
 
 /// What `survey` is asked.
@@ -216,6 +218,8 @@ pub struct GradeRequest<'a> {
     pub counts_all: bool,
     /// All schedules before seeds, and how far they are looked for, of each submission and case.
     pub explored: Option<Bounds>,
+    /// The most megabytes that the searches of submissions which are judged side by side take together.
+    pub megabytes_in_all: Option<usize>,
     /// How many submissions are judged side by side, at least 1; None: as many as there are processors.
     pub jobs: Option<usize>,
     /// Whether a submission that is a symbolic link is not read.
@@ -311,9 +315,9 @@ pub enum LabCommand<'a> {
     Picture(PageRequest<'a>),
     /// Writes a page on which the reader is the scheduler.
     Play(PlayRequest<'a>),
-    /// Says what a word means; without one, which words have a page.
+    /// Says what a word means, or a name of several words; without one, which words have a page.
     Explain {
-        word: Option<&'a str>,
+        words: Vec<&'a str>,
     },
     /// Says what an instruction word says, by its digits or its text, whose words these are.
     Word {
@@ -325,7 +329,7 @@ pub enum LabCommand<'a> {
     New {
         name: &'a str,
     },
-    /// Assembles a source text, beside its place, and renames it to there.
+    /// Assembles a source text.
     Assemble {
         source: &'a str,
         image: Option<&'a str>,

@@ -2,6 +2,7 @@
 
 use crate::survey_objects::{SurveyInput, push_broken_object, push_coverage};
 use lab_ends::{BrokenLine, broken_line};
+use plain_text::plural;
 use program_searches::Explored;
 use seed_outcomes::{SeedOutcome, is_met, is_reported};
 use std::alloc::{AllocError, Global};
@@ -70,8 +71,9 @@ fn push_met(
         Some(bound) => (", ", bound.words()),
         None => ("", ""),
     };
+    let (some_ends, some_worlds) = (plural(ends), plural(worlds));
     write!(
         out,
-        "reached {met} of the {ends} ends of {which} ({worlds} states{comma}{ended})\n"
+        "reached {met} of the {ends} end{some_ends} of {which} ({worlds} state{some_worlds}{comma}{ended})\n"
     )
 }

@@ -56,7 +56,7 @@ fn words_of_outcome(
     let maker = Maker::Random { seed: outcome.seed };
     let made = made_by(alloc, image, maker, surveyed.most)?;
     Ok(OutcomeWords {
-        text: state_text(alloc, notation, &outcome.state)?,
+        text: state_text(alloc, notation, image, &outcome.state)?,
         finding: by_room!(image, finding_of(alloc, notation, image, &made.steps))?,
     })
 }

@@ -2,7 +2,7 @@
 
 use crate::names::{ProgramNames, put_offset};
 use plain_text::TextWriter;
-use source_places::DataName;
+use source_places::{DataName, SourceLabel, SourcePlaces};
 use std::alloc::{AllocError, Global};
 use std::collections::HashMap;
 use std::str;
@@ -21,11 +21,19 @@ pub(crate) struct DataNames<'t> {
     by_word: Vec<DataName<'t>>,
     /// Each by its bytes.
     by_name: HashMap<&'t [u8], DataName<'t>>,
+    /// All names that lines of data say, also those that name nothing, in the order of the lines.
+    said: Vec<DataName<'t>>,
+    /// The labels of the text.
+    labels: Vec<SourceLabel<'t>>,
 }
 
 impl<'t> DataNames<'t> {
-    /// The names of a program's text.
-    pub(crate) fn of(alloc: Global, names: &[DataName<'t>]) -> Result<DataNames<'t>, AllocError> {
+    /// The names of a program's text, by its places.
+    pub(crate) fn of(
+        alloc: Global,
+        places: &SourcePlaces<'t>,
+    ) -> Result<DataNames<'t>, AllocError> {
+        let names = places.data_names();
         let mut by_name = HashMap::new(alloc);
         for name in names {
             let _ = by_name.insert(name.name, *name)?;
@@ -33,6 +41,8 @@ impl<'t> DataNames<'t> {
         Ok(DataNames {
             by_word: Vec::from_slice(alloc, names)?,
             by_name,
+            said: Vec::from_slice(alloc, places.said_names())?,
+            labels: Vec::from_slice(alloc, places.labels())?,
         })
     }
 
@@ -47,6 +57,28 @@ impl<'t> DataNames<'t> {
     /// The name that is this text; None where none is.
     fn called(&self, text: &str) -> Option<&DataName<'t>> {
         self.by_name.get(text.as_bytes())
+    }
+
+    /// The lines, from 1, of which the first one says a name for its data and the second one too, or has it as its label, so
+    /// that it names nothing; None where there are no two such lines.
+    fn lines_of_one_name(&self, text: &str) -> Option<(usize, usize)> {
+        let name = text.as_bytes();
+        let mut first = None;
+        for said in &self.said {
+            if said.name == name {
+                match first {
+                    None => first = Some(said.number),
+                    Some(line) => return Some(two_lines(line, said.number)),
+                }
+            }
+        }
+        let line = first?;
+        for label in &self.labels {
+            if label.name == name && label.place.line != line {
+                return Some(two_lines(line, label.place.line));
+            }
+        }
+        None
     }
 
     /// The name that is nearest to a text, where one is near enough.
@@ -113,8 +145,8 @@ impl<'t> ProgramNames<'t> {
         }
     }
 
-    /// Adds why a text says no address: no word has this name, and which may be meant, which there are, or how words get
-    /// names.
+    /// Adds why a text says no address: two lines have this name; or no word has it, and which may be meant, which there are,
+    /// or how words get names.
     pub fn push_no_address(
         &self,
         alloc: Global,
@@ -139,9 +171,12 @@ impl<'t> ProgramNames<'t> {
             Some((name, _)) => name,
             None => text,
         };
-        match self.data_names.called(name) {
-            Some(found) => put_beyond(out, text, name, found.count),
-            None => self.put_unknown(out, text, self.data_names.nearest(alloc, text)?),
+        if let Some(found) = self.data_names.called(name) {
+            put_beyond(out, text, name, found.count);
+        } else if let Some(lines) = self.data_names.lines_of_one_name(name) {
+            put_said_twice(out, name, lines);
+        } else {
+            self.put_unknown(out, text, self.data_names.nearest(alloc, text)?);
         }
         Ok(())
     }
@@ -221,6 +256,23 @@ impl<'t> ProgramNames<'t> {
             None
         }
     }
+}
+
+/// Two lines, which are counted from 0, as people count them, in their order.
+fn two_lines(one: usize, other: usize) -> (usize, usize) {
+    let first = one.min(other).saturating_add(1);
+    let second = one.max(other).saturating_add(1);
+    (first, second)
+}
+
+/// Adds that a name stands on two lines, and so names nothing.
+fn put_said_twice(out: &mut TextWriter, name: &str, lines: (usize, usize)) {
+    out.put_plain(name);
+    out.put(" names no word: lines ");
+    out.put_number(lines.0 as u64);
+    out.put(" and ");
+    out.put_number(lines.1 as u64);
+    out.put(" have this name");
 }
 
 /// Adds that a text is past the words of a name.

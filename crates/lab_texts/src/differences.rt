@@ -97,22 +97,22 @@ fn put_between(out: &mut TextWriter, names: &ProgramNames, before: Option<u64>, 
     }
 }
 
-/// Adds the comment of a word in brackets as the text has it, where it has one.
+/// Adds the comment of a word in brackets, as a line quotes it, where it has one.
 fn put_remark_in_brackets(out: &mut TextWriter, names: &ProgramNames, address: u64) {
     let comment = names.remark(address);
     if !comment.is_empty() {
         out.put(" (");
-        out.put(comment);
+        out.put_quoted(comment);
         out.put(")");
     }
 }
 
-/// Adds the comment of a word as the text has it, where it has one.
+/// Adds the comment of a word, as a line quotes it, where it has one.
 fn put_remark(out: &mut TextWriter, names: &ProgramNames, address: u64) {
     let comment = names.remark(address);
     if !comment.is_empty() {
         out.put("   ");
-        out.put(comment);
+        out.put_quoted(comment);
     }
 }
 

@@ -198,7 +198,7 @@ impl Telling<'_, '_> {
         out.put(before);
         out.put_number(word);
         out.put("] ");
-        out.put_plain(comment);
+        out.put_quoted(comment);
         true
     }
 

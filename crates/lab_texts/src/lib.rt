@@ -24,7 +24,7 @@ pub use findings::{Telling, push_findings, push_first_finding, put_findings};
 pub use findings_of_run::{FindingsOfRun, MOST_STEPS_OF_TORN};
 pub use names::ProgramNames;
 pub use notation::Notation;
-pub use plain_text::TextWriter;
+pub use plain_text::{TextWriter, plural};
 pub use run_pieces::RunPieces;
 pub use step_lines::{
     Columns, push_lane_head, push_lane_text, push_step_head, push_step_line, push_step_number,

@@ -2,10 +2,13 @@
 
 use crate::addresses::DataNames;
 use image_file::MAX_PROGRAM_WORDS;
-use plain_text::TextWriter;
+use plain_text::{TextWriter, front_of};
 use source_places::{DataLine, SourceLabel, SourcePlaces, comment_of};
 use std::alloc::{AllocError, Global};
 use std::str;
+
+/// How many characters of an instruction a line shows at most.
+const LONGEST_STATEMENT: usize = 200;
 
 /// A word of the program, by the text.
 #[derive(Clone, Copy)]
@@ -43,7 +46,7 @@ impl<'t> ProgramNames<'t> {
         Ok(ProgramNames {
             words,
             data: Vec::from_slice(alloc, places.data_lines())?,
-            data_names: DataNames::of(alloc, places.data_names())?,
+            data_names: DataNames::of(alloc, places)?,
             place_width,
             statement_width,
         })
@@ -96,7 +99,8 @@ impl<'t> ProgramNames<'t> {
         }
     }
 
-    /// Adds the instruction of a program word, with a space for each tab and carriage return between its parts.
+    /// Adds the instruction of a program word, with a space for each tab and carriage return between its parts, and no more
+    /// than 200 characters of it.
     pub fn push_statement(&self, out: &mut String, word: u32) -> Result<(), AllocError> {
         let mut text = TextWriter::take(out);
         self.put_statement(&mut text, word);
@@ -105,9 +109,14 @@ impl<'t> ProgramNames<'t> {
 
     /// Adds what [`ProgramNames::push_statement`] does.
     pub fn put_statement(&self, out: &mut TextWriter, word: u32) {
-        for (index, part) in self.statement(word).split(is_blank).enumerate() {
+        let statement = self.statement(word);
+        let front = front_of(statement, LONGEST_STATEMENT);
+        for (index, part) in front.split(is_blank).enumerate() {
             out.put(if index == 0 { "" } else { " " });
             out.put(part);
+        }
+        if front.len() < statement.len() {
+            out.put("..");
         }
     }
 
@@ -148,12 +157,12 @@ impl<'t> ProgramNames<'t> {
             .is_empty())
     }
 
-    /// Adds that comment as a terminal may have it, without the word's name and after blanks, where there is one.
+    /// Adds that comment as a line quotes it, without the word's name and after blanks, where there is one.
     pub(crate) fn put_comment(&self, out: &mut TextWriter, address: u64) {
         let comment = self.remark(address);
         if !comment.is_empty() {
             out.put("   ");
-            out.put_plain(comment);
+            out.put_quoted(comment);
         }
     }
 

@@ -21,6 +21,9 @@ const NUMBER_WIDTH: usize = 8;
 /// The name of the column that says what a step did.
 const WHAT_IT_DID: &str = "what it did";
 
+/// What stands for the address and the instruction of a stream that is not started, or has quit.
+const NO_INSTRUCTION: &str = "-";
+
 /// The columns of lines that show steps.
 #[derive(Clone, Copy, Debug)]
 pub struct Columns {
@@ -113,7 +116,7 @@ fn put_step_text<const S: usize>(
     view: &StepView,
     machine: &Machine<'_, S>,
 ) {
-    put_instruction(out, notation.names, columns, view);
+    put_instruction(out, notation.names, columns, view, machine);
     let begin = out.len();
     put_what(out, notation, view, machine);
     if let Some(address) = met_word(view) {
@@ -123,17 +126,50 @@ fn put_step_text<const S: usize>(
 }
 
 /// Adds whose step it was, and which instruction it took from where.
-fn put_instruction(out: &mut TextWriter, names: &ProgramNames, columns: Columns, view: &StepView) {
+fn put_instruction<const S: usize>(
+    out: &mut TextWriter,
+    names: &ProgramNames,
+    columns: Columns,
+    view: &StepView,
+    machine: &Machine<'_, S>,
+) {
+    let word = word_of_step(view, machine);
     let begin = out.len();
     out.put_stream(view.step.p, view.step.s);
     out.pad(begin, 7);
     let begin = out.len();
-    names.put_place(out, view.pc);
+    match word {
+        Some(word) => names.put_place(out, word),
+        None => out.put(NO_INSTRUCTION),
+    }
     out.pad(begin, columns.place);
     let begin = out.len();
     out.put("  ");
-    names.put_statement(out, view.pc);
+    put_statement_at(out, names, word);
     out.pad(begin, columns.statement.saturating_add(4));
+}
+
+/// Adds the instruction of a program word.
+fn put_statement_at(out: &mut TextWriter, names: &ProgramNames, word: Option<u32>) {
+    match word {
+        Some(word) => names.put_statement(out, word),
+        None => out.put(NO_INSTRUCTION),
+    }
+}
+
+/// The program word at which the stream of a step stood, which the machine has just taken; None of a stream that is not
+/// there, is not started, or has quit: it stands at no word.
+fn word_of_step<const S: usize>(view: &StepView, machine: &Machine<'_, S>) -> Option<u32> {
+    match view.outcome {
+        Outcome::Done | Outcome::Blocked | Outcome::Trapped(_) | Outcome::Stopped(_) => {
+            Some(view.pc)
+        }
+        // (the step changed nothing: the stream is as it was before)
+        Outcome::Skipped => match machine.stream(view.step.p, view.step.s)?.status() {
+            Status::Idle => None,
+            Status::Running | Status::Stopped(_) => Some(view.pc),
+        },
+    }
 }
 
 /// Adds the comment of a word, where it has one, after a column that began at a place in the text.
@@ -148,7 +184,7 @@ fn put_remark(
     if !comment.is_empty() {
         out.pad(begin, width);
         out.put("  ");
-        out.put_plain(comment);
+        out.put_quoted(comment);
     }
 }
 
@@ -197,7 +233,7 @@ pub fn push_lane_text<const S: usize>(
     for lane in lanes {
         let begin = text.len();
         if *lane == view.step {
-            notation.names.put_statement(&mut text, view.pc);
+            put_statement_at(&mut text, notation.names, word_of_step(view, machine));
         }
         text.pad(begin, width);
     }
@@ -255,8 +291,11 @@ fn put_what<const S: usize>(
     put_changes(out, notation, view, begin);
 }
 
-/// Why a step was skipped.
+/// Why a step was skipped. A stream from the image's slim on is not there, whatever the machine's room is.
 fn why_skipped<const S: usize>(view: &StepView, machine: &Machine<'_, S>) -> &'static str {
+    if u16::from(view.step.s) >= machine.image().slim() {
+        return "there is no such stream";
+    }
     let Some(stream) = machine.stream(view.step.p, view.step.s) else {
         return "there is no such stream";
     };

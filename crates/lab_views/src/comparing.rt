@@ -17,6 +17,7 @@ use std::alloc::{AllocError, Global};
 use std::io::Read;
 use std::rt::Files;
 use step_views::StepView;
+use stream_core::Outcome;
 use whole_runs::{Difference, first_difference, run_views};
 
 /// Shows where two schedules of a program part, where the worlds first differ, and both ends.
@@ -124,16 +125,28 @@ impl<'i, const S: usize> Run<'i, S> {
     ) -> Result<String, AllocError> {
         let mut words = String::new(alloc);
         match self.views.get(place) {
-            Some(view) => {
-                push_stream(&mut words, view.step.p, view.step.s)?;
-                words.push_str(" at ")?;
-                names.push_place(&mut words, view.pc)?;
-                words.push_str(" ")?;
-                names.push_statement(&mut words, view.pc)?;
-            }
+            Some(view) => push_step_words(&mut words, names, view)?,
             None => words.push_str("it has ended")?,
         }
         Ok(words)
+    }
+}
+
+/// Adds the stream of a step, and the instruction at which it stood; of one that does not run, that it does not.
+fn push_step_words(
+    words: &mut String,
+    names: &ProgramNames,
+    view: &StepView,
+) -> Result<(), AllocError> {
+    push_stream(words, view.step.p, view.step.s)?;
+    match view.outcome {
+        Outcome::Skipped => words.push_str(" does not run"),
+        Outcome::Done | Outcome::Blocked | Outcome::Trapped(_) | Outcome::Stopped(_) => {
+            words.push_str(" at ")?;
+            names.push_place(words, view.pc)?;
+            words.push_str(" ")?;
+            names.push_statement(words, view.pc)
+        }
     }
 }
 

@@ -11,7 +11,7 @@ use lab_ends::RunFindings;
 use lab_json::{RunTitle, end_value, head_value, step_value};
 use lab_requests::{RunChoice, ViewRequest};
 use lab_texts::{
-    Columns, Notation, ProgramNames, RunEnd, end_of, push_differing_words, push_end,
+    Columns, Notation, ProgramNames, RunEnd, end_of, plural, push_differing_words, push_end,
     push_lane_head, push_lane_text, push_step_head, push_step_text,
 };
 use machine::Machine;
@@ -87,8 +87,9 @@ fn check_stream(alloc: Global, only: Option<Step>, image: &Image) -> Result<(), 
     if usize::from(p) < processors && u16::from(s) < slim {
         return Ok(());
     }
+    let (many, each) = (plural(processors), plural(usize::from(slim)));
     Err(LabFault::Words(format!(in alloc;
-        "--only {p}.{s}: the program has no such stream, but {processors} processors of {slim} streams"
+        "--only {p}.{s}: the program has no such stream, but {processors} processor{many} of {slim} stream{each}"
     )?))
 }
 
@@ -210,8 +211,8 @@ fn push_no_step(
         _ => write!(out, " from step {from} to step {to}")?,
     }
     if from > steps {
-        let plural = if steps == 1 { "" } else { "s" };
-        write!(out, ": the run has {steps} step{plural}")?;
+        let some_steps = plural(steps);
+        write!(out, ": the run has {steps} step{some_steps}")?;
     }
     out.push_str("\n")
 }

@@ -3,7 +3,8 @@
 use crate::pages::TEXTS;
 use std::alloc::AllocError;
 
-/// Adds each page that is of a name, in letters of either case.
+/// Adds each page that is of a name, in letters of either case; a blank stands for the sign between the words of a name, as in
+/// `lost update` and `full empty`.
 pub(crate) fn push_pages(out: &mut String, name: &str) -> Result<(), AllocError> {
     for text in TEXTS.iter() {
         let mut is_shown = false;
@@ -39,11 +40,32 @@ pub(crate) fn push_names(out: &mut String) -> Result<(), AllocError> {
     Ok(())
 }
 
-/// Whether a name is one of those between blanks, in letters of either case.
+/// Whether a name is one of those between blanks.
 fn is_among(name: &str, names: &str) -> bool {
-    names
-        .split(' ')
-        .any(|known| known.eq_ignore_ascii_case(name))
+    names.split(' ').any(|known| is_same_name(known, name))
+}
+
+/// Whether a name is this known one, in letters of either case, and with blanks between its words or with its own signs.
+fn is_same_name(known: &str, name: &str) -> bool {
+    if known.len() != name.len() {
+        return false;
+    }
+    for (own, byte) in known.bytes().zip(name.bytes()) {
+        if !is_same_byte(own, byte) {
+            return false;
+        }
+    }
+    true
+}
+
+/// Whether a byte of a name stands for this one of a known name.
+fn is_same_byte(own: u8, byte: u8) -> bool {
+    own.eq_ignore_ascii_case(&byte) || (is_between(own) && byte == b' ')
+}
+
+/// Whether a byte stands between the words of a known name.
+fn is_between(byte: u8) -> bool {
+    byte == b'_' || byte == b'/'
 }
 
 /// Adds the empty line between two pages.

@@ -17,8 +17,8 @@ use lab_views::{compare, view};
 use plain_text::{plain, push_plain};
 use program_searches::Console;
 use std::alloc::{AllocError, Global};
-use std::convert::AsStr;
 use std::fmt::Display;
+use std::fs::File;
 use std::io::{Read, Write};
 use std::marker::Send;
 use std::rt::Files;
@@ -48,6 +48,8 @@ pub(crate) struct Outputs<'a, W, E> {
     pub errors: &'a mut E,
     /// Which streams are terminals.
     pub terminals: Terminals,
+    /// By which file the system says how much memory the process takes.
+    pub memory: Option<&'a File>,
 }
 
 /// Runs the command of a command line, whose first word is the program's name, on these inputs and outputs, and gives the
@@ -55,7 +57,6 @@ pub(crate) struct Outputs<'a, W, E> {
 /// the prompts of `debug` and the line of a search.
 pub(crate) fn run_lab<
     X: Threads + Wait + Sync + Clock,
-    S: AsStr,
     F: Files,
     R: Read + Send,
     W: Write,
@@ -63,11 +64,15 @@ pub(crate) fn run_lab<
 >(
     rt: &X,
     alloc: Global,
-    words: &[S],
+    words: &[String],
     inputs: &mut Inputs<'_, F, R>,
     outputs: &mut Outputs<'_, W, E>,
 ) -> u8 {
-    match read_lab_command(alloc, words) {
+    if let Some(name) = inputs.names().shown_twice(words) {
+        tell_twofold(alloc, name, outputs.errors);
+        return Status::NoCommand.number();
+    }
+    match read_lab_command(alloc, words, inputs.names()) {
         Ok(call) => {
             let painting = Painting::of(&call, outputs.terminals);
             let ended = run_command(rt, alloc, &call.command, inputs, outputs, painting);
@@ -83,6 +88,18 @@ pub(crate) fn run_lab<
             let wrote = write!(output, "{help}").and_then(|()| output.flush());
             let ended = written(wrote).map(|()| Status::Done);
             status_told(ended, outputs.errors, Painting::NONE)
+        }
+    }
+}
+
+/// Writes that two words of the command line, which are not the same, are both shown so.
+fn tell_twofold<E: Write>(alloc: Global, name: &str, errors: &mut E) {
+    match format!(in alloc;
+        "{name}: two words of this line are shown so; rename one of the files"
+    ) {
+        Ok(words) => tell_words(&words, errors, false),
+        Err(_) => {
+            let _ = writeln!(errors, "mta_lab: no memory");
         }
     }
 }
@@ -151,6 +168,7 @@ fn run_command<X: Threads + Wait + Sync + Clock, F: Files, R: Read + Send, W: Wr
                 clock: rt,
                 errors: &mut *outputs.errors,
                 is_terminal: outputs.terminals.errors,
+                memory: outputs.memory,
             };
             let answer = answer_to(rt, alloc, command, inputs, &mut console)?;
             tell(answer, outputs, painting)
@@ -189,7 +207,7 @@ fn answer_to<X: Threads + Sync + Clock, F: Files, R: Read, E: Write>(
         LabCommand::Page(request) => write_page(alloc, inputs, request),
         LabCommand::Picture(request) => write_picture(alloc, inputs, request),
         LabCommand::Play(request) => write_play_page(alloc, inputs, request, console),
-        LabCommand::Explain { word } => explain(alloc, *word),
+        LabCommand::Explain { words } => explain(alloc, words),
         LabCommand::Word { words } => show_word(alloc, words),
         LabCommand::LayOut(request) => lay_out(alloc, inputs, request),
         LabCommand::New { name } => start_program(alloc, inputs, name),

@@ -1,14 +1,20 @@
 //! The one way in which the lab writes files ("Files", docs/LAB_REFERENCE.md).
 #![tactic(auto)]
 
+mod contents;
 mod folders;
 mod identities;
+mod making;
+mod new_files;
 mod places;
 mod replacing;
 mod used_files;
+mod write_faults;
 mod writing;
 
 pub use folders::make_folder;
 pub use identities::FileIdentity;
+pub use new_files::{NewFile, NotMade, make_new};
 pub use used_files::UsedFiles;
-pub use writing::{WriteFault, write_whole};
+pub use write_faults::WriteFault;
+pub use writing::{Output, PathOrigin, write_whole};

@@ -1,98 +1,83 @@
-//! A regular file that is replaced as a whole, or made.
+//! A regular file whose content is replaced.
 
-use crate::places::folder_of;
+use crate::contents::{has_bytes, lengthen, overwrite};
+use crate::making::make_hidden;
+use crate::write_faults::WriteFault;
 use std::alloc::Global;
-use std::fs::{Metadata, OpenFile, OpenOptions, Permissions};
-use std::io::{Error, ErrorKind, Write};
-use std::os::unix::fs::{MetadataExt, OpenOptionsExt, PermissionsExt};
+use std::fs::{OpenFile, OpenOptions};
+use std::io::{Error, ErrorKind, Read, Seek, Write};
 use std::rt::Files;
 
-/// How many names are tried for the file that is made beside its place.
-const MOST_NAMES: usize = 1000;
-
-/// The permission bits of a file that is new, from which the system takes those of the process's mask.
-const NEW_MODE: u32 = 0o666;
-
-/// Those of a file that is to replace another one, until it has that one's.
-const HIDDEN_MODE: u32 = 0o600;
-
-/// Writes these bytes to a file beside a place, under a name that nothing had, and renames it to there: so what was there
-/// is kept until the new one is whole. Where `old` was there, the new file has its permissions and its owner as far as
-/// this process may give them. An error leaves what was there, and nothing beside it.
-pub(crate) fn replace_file<F: Files>(
-    alloc: Global,
-    files: &F,
-    place: &str,
-    bytes: &[u8],
-    old: Option<&Metadata>,
-) -> Result<(), Error> {
-    let mode = if old.is_some() { HIDDEN_MODE } else { NEW_MODE };
-    let (beside, mut file) = make_beside(alloc, files, place, mode)?;
-    let replaced = fill_and_move(files, &mut file, &beside, place, bytes, old);
-    if replaced.is_err() {
-        let _ = files.remove_file(&beside);
-    }
-    replaced
+/// A file that is open to be replaced.
+#[derive(Drop)]
+pub(crate) struct OldFile<T> {
+    /// The file.
+    pub file: T,
+    /// Whether it may be read too.
+    pub is_readable: bool,
 }
 
-/// Makes an empty file in the folder of a place, under a name that nothing had; that name and the open file.
-fn make_beside<F: Files>(
-    alloc: Global,
-    files: &F,
-    place: &str,
-    mode: u32,
-) -> Result<(String, F::File), Error> {
-    let folder = folder_of(place);
-    for number in 0..MOST_NAMES {
-        let beside = format!(in alloc; "{folder}.mta_lab-{number}.new")?;
-        match make_file(files, &beside, mode) {
-            Ok(file) => return Ok((beside, file)),
-            Err(error) if error.kind() == ErrorKind::AlreadyExists => {}
-            Err(error) => return Err(error),
-        }
-    }
-    Err(Error::new(
-        ErrorKind::AlreadyExists,
-        "no name is free for a file beside it",
-    ))
-}
-
-/// Makes an empty file; an error where anything has its name, a link that leads nowhere too.
-fn make_file<F: Files>(files: &F, path: &str, mode: u32) -> Result<F::File, Error> {
+/// Opens the regular file at a place to be replaced, and changes nothing of it. (To be read too, since then nothing waits
+/// where a FIFO has come to stand there.)
+pub(crate) fn open_old<F: Files>(files: &F, place: &str) -> Result<OldFile<F::File>, Error> {
     let mut options = OpenOptions::new();
-    options.write(true).create_new(true).mode(mode);
-    options.open(files, path)
-}
-
-/// Writes the bytes to the file that was made beside a place, and renames it to there.
-fn fill_and_move<F: Files>(
-    files: &F,
-    file: &mut F::File,
-    beside: &str,
-    place: &str,
-    bytes: &[u8],
-    old: Option<&Metadata>,
-) -> Result<(), Error> {
-    file.write_all(bytes)?;
-    file.flush()?;
-    if let Some(old) = old {
-        // (some systems tell only here that there was no room)
-        file.sync_all()?;
-        take_after(files, file, beside, old);
+    options.read(true).write(true);
+    match options.open(files, place) {
+        Ok(file) => Ok(OldFile {
+            file,
+            is_readable: true,
+        }),
+        Err(error) if error.kind() == ErrorKind::PermissionDenied => Ok(OldFile {
+            file: OpenOptions::new().write(true).open(files, place)?,
+            is_readable: false,
+        }),
+        Err(error) => Err(error),
     }
-    files.rename(beside, place)
 }
 
-/// Gives a file the owner, group and permissions of another one, as far as this process may. Where the group stays
-/// another one, it gets no more rights than all others have.
-fn take_after<F: Files>(files: &F, file: &F::File, path: &str, old: &Metadata) {
-    let has_group = files.lchown(path, None, Some(old.gid())).is_ok();
-    let _ = files.lchown(path, Some(old.uid()), None);
-    let mode = old.mode() & 0o777;
-    let kept = if has_group {
-        mode
-    } else {
-        mode & (0o707 | (mode & 0o007) << 3)
-    };
-    let _ = file.set_permissions(Permissions::from_mode(kept));
+/// Makes these bytes the content of the open file at a place, which stays the same file: its owner, group, permissions,
+/// access list and other names stay. Where it is to have `replaced` until then, and has other bytes, it is left as it is;
+/// it may have the new ones already.
+///
+/// Before that the new content lies whole in a file beside the place, and on the disk, so that it is found there if the
+/// run is ended in the middle. A fault leaves the old content, or it is Partly.
+pub(crate) fn replace_content<F: Files>(
+    alloc: Global,
+    files: &F,
+    place: &str,
+    old: &mut OldFile<F::File>,
+    bytes: &[u8],
+    replaced: Option<&[u8]>,
+) -> Result<(), WriteFault> {
+    let beside = make_hidden(alloc, files, place, bytes)?;
+    let begun = begin(old, bytes, replaced);
+    if begun.is_err() {
+        let _ = files.remove_file(&beside);
+        return begun;
+    }
+    match overwrite(&mut old.file, old.is_readable, bytes) {
+        Ok(()) => {
+            let _ = files.remove_file(&beside);
+            Ok(())
+        }
+        Err(error) => Err(WriteFault::Partly {
+            error,
+            kept: beside,
+        }),
+    }
+}
+
+/// Looks whether a file still has what it is to have, or already its new content, and makes it as long as that.
+fn begin<T: Read + Write + Seek + OpenFile>(
+    old: &mut OldFile<T>,
+    bytes: &[u8],
+    replaced: Option<&[u8]>,
+) -> Result<(), WriteFault> {
+    if let Some(replaced) = replaced
+        && !has_bytes(&mut old.file, replaced)?
+        && !has_bytes(&mut old.file, bytes)?
+    {
+        return Err(WriteFault::Changed);
+    }
+    Ok(lengthen(&mut old.file, bytes)?)
 }

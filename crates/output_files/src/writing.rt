@@ -1,87 +1,159 @@
 //! A file that is written as a whole.
 
 use crate::identities::FileIdentity;
+use crate::making::make_whole;
 use crate::places::end_of_links;
-use crate::replacing::replace_file;
+use crate::replacing::{open_old, replace_content};
 use crate::used_files::UsedFiles;
-use std::alloc::{AllocError, Global};
-use std::fs::{Metadata, OpenOptions};
+use crate::write_faults::WriteFault;
+use std::alloc::Global;
+use std::fs::{Metadata, OpenFile, OpenOptions};
 use std::io::{Error, ErrorKind, Write};
+use std::os::unix::fs::MetadataExt;
 use std::rt::Files;
 
-/// Why a file was not written.
+/// How often a write begins again, where another program changes what its path leads to.
+const MOST_ATTEMPTS: usize = 100;
+
+/// Who chose the path of a file that is written.
+#[derive(Clone, Copy, Debug, PartialEq, Eq)]
+pub enum PathOrigin {
+    /// The user: links are followed, and a device is written to.
+    Named,
+    /// The lab: the path has to be that of a regular file with one name, or of nothing.
+    Derived,
+}
+
+/// What is to be written, and where.
+#[derive(Clone, Copy, Debug)]
+pub struct Output<'a> {
+    /// The path.
+    pub path: &'a str,
+    /// Who chose it.
+    pub origin: PathOrigin,
+    /// The content.
+    pub bytes: &'a [u8],
+    /// What the file has to have until then; None where it may be anything, and may be missing.
+    pub replaced: Option<&'a [u8]>,
+}
+
+/// What became of an attempt to write.
 #[derive(Drop)]
-pub enum WriteFault {
-    /// The run uses this very file, by this name.
-    InUse(String),
-    /// The system refuses it.
-    System(Error),
-    /// Memory was refused.
-    NoMemory,
+enum Attempt {
+    /// It is written.
+    Done,
+    /// Another file came to stand there, or may be about to go: the fault if it stays so.
+    Again(WriteFault),
 }
 
-impl From<AllocError> for WriteFault {
-    fn from(_error: AllocError) -> WriteFault {
-        WriteFault::NoMemory
-    }
-}
-
-impl From<Error> for WriteFault {
-    fn from(error: Error) -> WriteFault {
-        match error.kind() {
-            ErrorKind::OutOfMemory => WriteFault::NoMemory,
-            _ => WriteFault::System(error),
-        }
-    }
-}
-
-/// Makes these bytes the content of the file that a path leads to, over symbolic links, which stay. A file that is there
-/// is replaced as a whole, unless the run uses it, under whatever name, or this process may not write to it. What is no
-/// regular file, as a device or a FIFO, is written to, and stays what it is. A fault leaves a regular file as it was.
+/// Makes these bytes the content of the file of a path. Where nothing is there, the file is made whole at once. A regular
+/// file that is there gets them in place, unless the run uses it, under whatever name, or this process may not write to
+/// it: it stays the same file, whose owner and permissions nothing changes. A device or a FIFO that the user named is
+/// written to. A fault leaves a regular file as it was, or it is Partly.
 pub fn write_whole<F: Files>(
     alloc: Global,
     files: &F,
     used: &UsedFiles,
-    path: &str,
-    bytes: &[u8],
+    output: Output<'_>,
 ) -> Result<(), WriteFault> {
-    match files.metadata(path) {
-        Ok(old) => write_over(alloc, files, used, path, bytes, &old),
-        Err(error) if error.kind() == ErrorKind::NotFound => {
-            let place = end_of_links(alloc, files, path)?;
-            Ok(replace_file(alloc, files, &place, bytes, None)?)
+    let mut fault = WriteFault::Busy;
+    for _ in 0..MOST_ATTEMPTS {
+        match try_once(alloc, files, used, output)? {
+            Attempt::Done => return Ok(()),
+            Attempt::Again(found) => fault = found,
+        }
+    }
+    Err(fault)
+}
+
+/// The same, once.
+fn try_once<F: Files>(
+    alloc: Global,
+    files: &F,
+    used: &UsedFiles,
+    output: Output<'_>,
+) -> Result<Attempt, WriteFault> {
+    let found = match output.origin {
+        PathOrigin::Named => files.metadata(output.path),
+        PathOrigin::Derived => files.symlink_metadata(output.path),
+    };
+    match found {
+        Ok(old) => write_over(alloc, files, used, output, &old),
+        Err(error) if error.kind() == ErrorKind::NotFound => make(alloc, files, output),
+        Err(error) => Err(WriteFault::from(error)),
+    }
+}
+
+/// Makes the file where nothing is.
+fn make<F: Files>(alloc: Global, files: &F, output: Output<'_>) -> Result<Attempt, WriteFault> {
+    if output.replaced.is_some() {
+        return Err(WriteFault::Changed);
+    }
+    let place = place_of(alloc, files, output)?;
+    match make_whole(alloc, files, &place, output.bytes) {
+        Ok(()) => Ok(Attempt::Done),
+        Err(error) if error.kind() == ErrorKind::AlreadyExists => {
+            Ok(Attempt::Again(WriteFault::from(error)))
         }
         Err(error) => Err(WriteFault::from(error)),
     }
 }
 
-/// The same where the path leads to something of which the system says this.
+/// The path without links that an output's path leads to.
+fn place_of<F: Files>(alloc: Global, files: &F, output: Output<'_>) -> Result<String, Error> {
+    match output.origin {
+        PathOrigin::Named => end_of_links(alloc, files, output.path),
+        PathOrigin::Derived => Ok(String::from_str(alloc, output.path)?),
+    }
+}
+
+/// Writes where the path leads to something of which the system says this.
 fn write_over<F: Files>(
     alloc: Global,
     files: &F,
     used: &UsedFiles,
-    path: &str,
-    bytes: &[u8],
+    output: Output<'_>,
     old: &Metadata,
-) -> Result<(), WriteFault> {
+) -> Result<Attempt, WriteFault> {
     refuse_used(alloc, files, used, old)?;
-    let mut file = open_to_write(files, path)?;
     if !old.is_file() {
-        file.write_all(bytes)?;
-        return Ok(file.flush()?);
+        write_to_special(files, output, old)?;
+        return Ok(Attempt::Done);
     }
-    let place = place_of(alloc, files, path)?;
-    Ok(replace_file(alloc, files, &place, bytes, Some(old))?)
+    if output.origin == PathOrigin::Derived && old.nlink() > 1 {
+        // (a file that another run is making has two names for a moment)
+        return Ok(Attempt::Again(WriteFault::Link));
+    }
+    let place = place_of(alloc, files, output)?;
+    let mut opened = open_old(files, &place)?;
+    if FileIdentity::of(&opened.file.metadata()?) != FileIdentity::of(old) {
+        return Ok(Attempt::Again(WriteFault::Busy));
+    }
+    replace_content(
+        alloc,
+        files,
+        &place,
+        &mut opened,
+        output.bytes,
+        output.replaced,
+    )?;
+    Ok(Attempt::Done)
 }
 
-/// The path without links of the regular file that a path leads to; an error where there is none, as of a file that was
-/// removed and is still open.
-fn place_of<F: Files>(alloc: Global, files: &F, path: &str) -> Result<String, Error> {
-    let place = end_of_links(alloc, files, path)?;
-    if files.symlink_metadata(&place)?.is_file() {
-        Ok(place)
-    } else {
-        Err(Error::from(ErrorKind::NotFound))
+/// Writes to what is no regular file, if the user named it, and it is not to be replaced.
+fn write_to_special<F: Files>(
+    files: &F,
+    output: Output<'_>,
+    old: &Metadata,
+) -> Result<(), WriteFault> {
+    match output.origin {
+        PathOrigin::Named if output.replaced.is_none() => {
+            let mut file = OpenOptions::new().write(true).open(files, output.path)?;
+            file.write_all(output.bytes)?;
+            Ok(file.flush()?)
+        }
+        PathOrigin::Derived if old.is_symlink() => Err(WriteFault::Link),
+        PathOrigin::Named | PathOrigin::Derived => Err(WriteFault::NotRegular),
     }
 }
 
@@ -99,9 +171,4 @@ fn refuse_used<F: Files>(
         Some(name) => Err(WriteFault::InUse(String::from_str(alloc, name)?)),
         None => Ok(()),
     }
-}
-
-/// Opens what a path leads to, and changes nothing of it.
-fn open_to_write<F: Files>(files: &F, path: &str) -> Result<F::File, Error> {
-    OpenOptions::new().write(true).open(files, path)
 }

@@ -1,8 +1,11 @@
 //! Texts that are put together piece by piece.
 
-use crate::escaping::push_plain;
+use crate::escaping::{front_of, push_plain};
 use std::alloc::{AllocError, Global};
 use std::mem;
+
+/// How many characters of quoted texts a line has at most.
+const MOST_QUOTED: usize = 200;
 
 /// A text that is being put together. Where memory is refused for a piece, the text lacks it, and
 /// [`TextWriter::give_back`] says so at the end; so a writer has one place to look, and not one a piece.
@@ -10,6 +13,8 @@ use std::mem;
 pub struct TextWriter {
     text: String,
     lacks_pieces: bool,
+    /// How many characters of quoted texts the line has so far.
+    quoted: usize,
 }
 
 impl TextWriter {
@@ -18,6 +23,7 @@ impl TextWriter {
         TextWriter {
             text: String::new(alloc),
             lacks_pieces: false,
+            quoted: 0,
         }
     }
 
@@ -27,6 +33,7 @@ impl TextWriter {
         TextWriter {
             text: mem::replace(text, empty),
             lacks_pieces: false,
+            quoted: 0,
         }
     }
 
@@ -35,6 +42,7 @@ impl TextWriter {
         let TextWriter {
             text: written,
             lacks_pieces,
+            ..
         } = self;
         *text = written;
         if lacks_pieces {
@@ -48,6 +56,7 @@ impl TextWriter {
     pub fn take_text(&mut self) -> Result<String, AllocError> {
         let empty = String::new(self.alloc());
         let text = mem::replace(&mut self.text, empty);
+        self.quoted = 0;
         if mem::replace(&mut self.lacks_pieces, false) {
             Err(AllocError)
         } else {
@@ -72,10 +81,13 @@ impl TextWriter {
         }
     }
 
-    /// Adds a piece as it is.
+    /// Adds a piece as it is. One that ends a line begins a new one.
     pub fn put(&mut self, piece: &str) {
         let added = self.text.push_str(piece);
         self.keep(added);
+        if piece.ends_with('\n') {
+            self.quoted = 0;
+        }
     }
 
     /// Adds pieces as they are, one behind the other.
@@ -95,6 +107,17 @@ impl TextWriter {
     pub fn put_plain(&mut self, text: &str) {
         let added = push_plain(&mut self.text, text);
         self.keep(added);
+    }
+
+    /// Adds a quoted text, such as a comment, without control bytes. Of all that is quoted on a line the first 200
+    /// characters are shown, and `..` stands for what is cut of a text.
+    pub fn put_quoted(&mut self, text: &str) {
+        let front = front_of(text, MOST_QUOTED.saturating_sub(self.quoted));
+        self.quoted = self.quoted.saturating_add(front.chars().count());
+        self.put_plain(front);
+        if front.len() < text.len() {
+            self.put("..");
+        }
     }
 
     /// Adds a number in decimal digits.

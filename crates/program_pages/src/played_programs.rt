@@ -44,6 +44,7 @@ impl<'a> PageChoices<'a> {
                 worlds: self.states,
                 seconds: None,
                 megabytes: None,
+                megabytes_in_all: None,
             },
             is_plain: true,
         }

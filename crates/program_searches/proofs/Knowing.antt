@@ -1,6 +1,6 @@
 -- What is known of the space of a search, by what ended it.
-use Rattle.std.specs.Prelude.{IsTrue, IsFalse, IsNone, IsSome, Option, None, Some, slice_index_or, is_some}
-use Rattle.std.proofs.Common.{◌≡◌, ℕ, ◌<◌, ◌≤◌, ◌⊎◌, inl, inr, Bool, true, false, not, ◌||◌, List, refl, sym, ap, ◌∙◌, subst}
+use Rattle.std.specs.Prelude.{IsTrue, IsFalse, IsNone, IsSome, Option, None, Some, slice_index_or, is_some, min}
+use Rattle.std.proofs.Common.{◌≡◌, ℕ, ◌<◌, ◌≤◌, ◌⊎◌, inl, inr, Bool, true, false, not, ◌||◌, List, refl, sym, ap, ◌∙◌, subst, arith}
 use Rattle.expectations.specs.declared.expectation.Expectation.{Expectation}
 use Rattle.claims.specs.Looking.{is_looked_at}
 use Rattle.claims.specs.declared.claim.Claim.{Claim}
@@ -77,6 +77,20 @@ module _ (asked : ProgramSearch) (most : ℕ) (e : Exploration) (v : SpaceValue)
         full = λ states. subst (λ n. IsFull (space_in e) n) is_most (full (by_worlds e b by states));
         missing = λ states on. cc;
       })
+
+-- a space of a search for no more worlds, as one that the time ended
+pub of_first : (asked : ProgramSearch) (most : ℕ) (v : SpaceValue) (b : Option SearchBound)
+    → IsSearched (record asked { bounds = record asked.bounds { worlds = min most asked.bounds.worlds } }) v b
+    → IsSearched asked v (Some bound.Seconds)
+of_first asked most v b s = record {
+  worlds = λ none _. cc;
+  needed = λ none _. cc;
+  alone = λ on. s.alone on;
+  shortest = λ on. s.shortest on;
+  within = let within = s.within in omega (arith, within);
+  full = λ states. cc;
+  missing = λ states _. cc;
+}
 
 -- places that are reported are covered
 pub shown_by : (v : SpaceValue) (claims : List Claim) (places looked_at : List Bool) → looked_at ≡ places

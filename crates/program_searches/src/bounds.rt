@@ -3,6 +3,9 @@
 ghost use Rattle.std.specs.Prelude.{◌≡◌};
 ghost use Rattle.program_searches.specs.Bounds.{bound_words, bound_json_name};
 
+/// The most megabytes, of 1,000,000 bytes, of a search of which nothing else is said.
+pub const USUAL_MEGABYTES: usize = 2_000;
+
 /// What ended a search before its end.
 #[derive(Clone, Copy, Debug, PartialEq, Eq)]
 pub enum SearchBound {
@@ -10,7 +13,7 @@ pub enum SearchBound {
     States,
     /// The seconds were over.
     Seconds,
-    /// What it held took more than the megabytes that were asked for.
+    /// What it held took more than the megabytes that were asked for, or more than [`USUAL_MEGABYTES`].
     Memory,
     /// Memory was refused.
     Refused,

@@ -4,13 +4,15 @@
 
 mod bounds;
 mod explored;
+mod held_bytes;
 mod laws;
+mod looking;
 mod searches;
 mod spaces;
 mod unkept;
 mod watching;
 
-pub use bounds::SearchBound;
+pub use bounds::{SearchBound, USUAL_MEGABYTES};
 pub use explored::Explored;
 pub use laws::no_schedule_to_it_is_shorter;
 pub use searches::{ProgramSearch, SearchFault, explore_program};

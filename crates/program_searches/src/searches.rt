@@ -29,7 +29,7 @@
 //! contract does not follow, so this is tested. The watcher was made by each caller before; it is made here, so
 //! that `SearchFault::Clock` is promised to come only if the time is bounded.
 
-ghost use Rattle.std.specs.Prelude.{◌≡◌, ◌≤◌, ◌⊎◌, ◌↔◌, is_some, IsTrue, IsSome, IsNone, IfSome, IfOk, IfErr, None};
+ghost use Rattle.std.specs.Prelude.{◌≡◌, ◌≤◌, ◌⊎◌, ◌↔◌, is_some, min, IsTrue, IsSome, IsNone, IfSome, IfOk, IfErr, None};
 ghost use Rattle.schedule_space.specs.Spaces.{IsComplete, HasAllEdges};
 ghost use Rattle.schedule_space.specs.Followed.{AllFollowed};
 ghost use Rattle.busy_streams.specs.Busy.{IsNeverBusy};
@@ -43,8 +43,8 @@ ghost use Rattle.program_searches.specs.Bounds.{IsOfClock};
 ghost use Rattle.program_searches.specs.Searches.{most_worlds, takes_all, SaysWhetherRight, IsExplored};
 
 use crate::explored::Explored;
-use crate::spaces::space_of;
-use crate::watching::{Console, Watcher};
+use crate::spaces::space_in_time;
+use crate::watching::{Console, WatchedSearch, Watcher};
 use busy_streams::{Busy, first_busy};
 use expectation_files::Requirements;
 use image_file::Image;
@@ -96,6 +96,20 @@ impl ProgramSearch<'_> {
         self.bounds.worlds.max(1)
     }
 
+    /// The same search for so many worlds at most, and no more than it asks for.
+    pub(crate) fn for_first(&self, most: usize) -> ProgramSearch<'_>
+        ensures { result ≡ record self.now
+            { bounds = record self.now.bounds { worlds = min most self.now.bounds.worlds } } }
+    {
+        ProgramSearch {
+            bounds: Bounds {
+                worlds: most.min(self.bounds.worlds),
+                ..self.bounds
+            },
+            ..*self
+        }
+    }
+
     /// Whether all worlds are looked for: where it is asked for, and where no stream is to loop alone.
     pub(crate) fn takes_all(&self) -> bool
         ensures { result ≡ takes_all self.now }
@@ -139,7 +153,11 @@ pub fn explore_program<'i, C: Clock, E: Write>(
     ensures explored { IfOk result (λ e. IsExplored image.entry.now asked.now e) }
     ensures clock { IfErr result (λ f. IsOfClock f → IsSome asked.now.bounds.seconds) }
 {
-    let mut watcher = Watcher::new(console, asked.bounds)?;
+    let watched = WatchedSearch {
+        has_machines: !asked.takes_all(),
+        is_looked_at: !asked.required.claims().is_empty(),
+    };
+    let mut watcher = Watcher::new(console, image, asked.bounds, watched)?;
     let found = explore_watched(alloc, image, asked, &mut watcher);
     watcher.finish();
     match found {
@@ -174,7 +192,7 @@ fn explore_on<'i, const S: usize, C: Clock, E: Write>(
 ) -> Result<Explored<'i>, AllocError>
     ensures { IfOk result (λ e. IsExplored image.entry.now asked.now e) }
 {
-    let (space, bound) = space_of::<S, C, E>(alloc, image, asked, watcher)?;
+    let (space, bound) = space_in_time::<S, C, E>(alloc, image, asked, watcher)?;
     let is_complete = bound.is_none();
     let required = asked.required;
     let busy = busy_in::<S>(alloc, required, &space, is_complete)?;

@@ -7,6 +7,7 @@ ghost use Rattle.program_searches.specs.Bounds.{IsWatched, IsBoundBy};
 ghost use Rattle.program_searches.specs.Searches.{takes_all, IsSearched};
 
 use crate::bounds::SearchBound;
+use crate::looking::worlds_in_time;
 use crate::searches::ProgramSearch;
 use crate::watching::Watcher;
 use claims::places_looked_at;
@@ -22,7 +23,7 @@ use std::time::Clock;
 /// need, and what ended the search before it had them. Of worlds that these need one stands for all that differ in
 /// registers alone that nobody reads again, and at which no expectation looks; and where it is complete, steps from them
 /// are left out only where others are taken first at which no claim looks.
-pub(crate) fn space_of<'i, const S: usize, C: Clock, E: Write>(
+fn space_of<'i, const S: usize, C: Clock, E: Write>(
     alloc: Global,
     image: &'i Image,
     asked: &ProgramSearch<'_>,
@@ -36,6 +37,58 @@ pub(crate) fn space_of<'i, const S: usize, C: Clock, E: Write>(
         return all_worlds::<S, C, E>(alloc, image, asked, watcher);
     }
     needed_worlds::<S, C, E>(alloc, image, asked, watcher)
+}
+
+/// The same; or, where there is no time to look at all of its worlds for the claims, the space of a search for the first ones
+/// alone, which the time ended.
+pub(crate) fn space_in_time<'i, const S: usize, C: Clock, E: Write>(
+    alloc: Global,
+    image: &'i Image,
+    asked: &ProgramSearch<'_>,
+    watcher: &mut Watcher<'_, '_, C, E>,
+) -> Result<(Space<'i>, Option<SearchBound>), AllocError>
+    ensures image { IfOk result (λ found. found.0.image ≡ image.entry.now) }
+    ensures begin { IfOk result (λ found. found.0.begin ≡ asked.now.begin.now) }
+    ensures searched { IfOk result (λ found. IsSearched asked.now found.0 found.1) }
+{
+    let (space, bound) = space_of::<S, C, E>(alloc, image, asked, watcher)?;
+    let Some(most) = most_looked_at(alloc, &space, asked, watcher)? else {
+        return Ok((space, bound));
+    };
+    drop(space);
+    watcher.forget_time();
+    first_worlds::<S, C, E>(alloc, image, asked, most, watcher)
+}
+
+/// How many worlds of a space there is time to look at for the claims; None where there is time for all, or no bound of it.
+fn most_looked_at<C: Clock, E: Write>(
+    alloc: Global,
+    space: &Space<'_>,
+    asked: &ProgramSearch<'_>,
+    watcher: &Watcher<'_, '_, C, E>,
+) -> Result<Option<usize>, AllocError> {
+    let claims = asked.required.claims().len() as u64;
+    match watcher.time_left() {
+        Some(time) if claims > 0 => worlds_in_time(alloc, space, claims.saturating_mul(2), time),
+        Some(_) | None => Ok(None),
+    }
+}
+
+/// The space of a search for so many worlds at most, as one that the time ended.
+fn first_worlds<'i, const S: usize, C: Clock, E: Write>(
+    alloc: Global,
+    image: &'i Image,
+    asked: &ProgramSearch<'_>,
+    most: usize,
+    watcher: &mut Watcher<'_, '_, C, E>,
+) -> Result<(Space<'i>, Option<SearchBound>), AllocError>
+    ensures image { IfOk result (λ found. found.0.image ≡ image.entry.now) }
+    ensures begin { IfOk result (λ found. found.0.begin ≡ asked.now.begin.now) }
+    ensures searched { IfOk result (λ found. IsSearched asked.now found.0 found.1) }
+{
+    let first = asked.for_first(most);
+    let (space, _bound) = space_of::<S, C, E>(alloc, image, &first, watcher)?;
+    Ok((space, Some(SearchBound::Seconds)))
 }
 
 /// The same of all worlds.

@@ -4,13 +4,14 @@ ghost use Rattle.std.specs.Prelude.{◌≡◌, IsSome, IsFalse, IfErr};
 ghost use Rattle.program_searches.specs.Bounds.{IsWatched};
 
 use crate::bounds::SearchBound;
+use crate::held_bytes::{HeldBytes, MEGABYTE};
+use crate::looking::TimeLeft;
+use image_file::Image;
 use lab_requests::Bounds;
 use schedule_space::Watch;
+use std::fs::File;
 use std::io::{self, Write};
 use std::time::{Clock, Duration, Instant};
-
-/// How many bytes a megabyte has.
-const MEGABYTE: usize = 1_000_000;
 
 /// The clock, and where a search shows how far it is.
 #[derive(Drop)]
@@ -21,6 +22,8 @@ pub struct Console<'a, C, E> {
     pub errors: &'a mut E,
     /// Whether that is a terminal: elsewhere nothing is shown.
     pub is_terminal: bool,
+    /// The file `/proc/self/statm`, by which the system says how much memory the process takes; None where it is not read.
+    pub memory: Option<&'a File>,
 }
 
 /// What looks on at one search, ends it at its bounds, and shows each second how far it is.
@@ -29,9 +32,19 @@ pub(crate) struct Watcher<'w, 'c, C, E> {
     console: &'w mut Console<'c, C, E>,
     start: Option<Instant>,
     most_time: Option<Duration>,
-    most_bytes: usize,
+    search_time: Option<Duration>,
+    held: HeldBytes,
     last_report: Option<Report>,
     ended: Option<SearchBound>,
+}
+
+/// What is known beforehand of a search that is watched.
+#[derive(Clone, Copy, Debug)]
+pub(crate) struct WatchedSearch {
+    /// Whether it keeps a machine for each world that waits.
+    pub has_machines: bool,
+    /// Whether its worlds are looked at after it.
+    pub is_looked_at: bool,
 }
 
 /// What was shown last.
@@ -42,11 +55,14 @@ struct Report {
 }
 
 impl<'w, 'c, C: Clock, E: Write> Watcher<'w, 'c, C, E> {
-    /// Who looks on at a search of these bounds that begins now. The clock is read only where there is a bound of time or
-    /// a terminal; a fault where the first asks for it, and it can't be read.
+    /// Who looks on at a search over an image that begins now, by its bounds. It has half of the time where its worlds are
+    /// looked at after it. The clock is read only where there is a bound of time or a terminal; a fault where the first asks
+    /// for it, and it can't be read.
     pub(crate) fn new(
         console: &'w mut Console<'c, C, E>,
+        image: &Image,
         bounds: Bounds,
+        watched: WatchedSearch,
     ) -> Result<Watcher<'w, 'c, C, E>, io::Error>
         ensures { IfErr result (λ _. IsSome bounds.seconds) }
     {
@@ -59,10 +75,10 @@ impl<'w, 'c, C: Clock, E: Write> Watcher<'w, 'c, C, E> {
             console,
             start,
             most_time: bounds.seconds.map(|seconds| Duration::from_secs(seconds)),
-            most_bytes: match bounds.megabytes {
-                Some(megabytes) => megabytes.saturating_mul(MEGABYTE),
-                None => usize::MAX,
-            },
+            search_time: bounds
+                .seconds
+                .map(|seconds| search_time_of(seconds, watched.is_looked_at)),
+            held: HeldBytes::of(image, bounds, watched.has_machines),
             last_report: None,
             ended: None,
         })
@@ -73,6 +89,22 @@ impl<'w, 'c, C: Clock, E: Write> Watcher<'w, 'c, C, E> {
         ensures { result ≡ self.now.ended }
     {
         self.ended
+    }
+
+    /// How much time has passed, and how much is left; None where it is not bounded.
+    pub(crate) fn time_left(&self) -> Option<TimeLeft> {
+        let most = self.most_time?;
+        let start = self.start?;
+        let passed = start.elapsed(self.console.clock).unwrap_or(Duration::MAX);
+        Some(TimeLeft {
+            passed,
+            left: most.saturating_sub(passed),
+        })
+    }
+
+    /// Lets the next search go on, whatever the time.
+    pub(crate) fn forget_time(&mut self) {
+        self.search_time = None;
     }
 
     /// Wipes what it has shown.
@@ -92,7 +124,7 @@ impl<'w, 'c, C: Clock, E: Write> Watcher<'w, 'c, C, E> {
         };
         // where the clock can't be read any more, the time may be over
         let passed = start.elapsed(self.console.clock).unwrap_or(Duration::MAX);
-        if self.most_time.is_some_and(|most| passed >= most) {
+        if self.search_time.is_some_and(|most| passed >= most) {
             self.ended = Some(SearchBound::Seconds);
             return false;
         }
@@ -121,11 +153,21 @@ impl<'w, 'c, C: Clock, E: Write> Watcher<'w, 'c, C, E> {
     }
 }
 
+/// How long a search goes on of so many seconds, in half of which its worlds may have to be looked at.
+fn search_time_of(seconds: u64, is_looked_at: bool) -> Duration {
+    if is_looked_at {
+        Duration::from_millis(seconds.saturating_mul(500))
+    } else {
+        Duration::from_secs(seconds)
+    }
+}
+
 impl<C: Clock, E: Write> Watch for Watcher<'_, '_, C, E> {
     ghost HasEnded = { λ w. IsWatched w.ended };
 
     fn goes_on(&mut self, found: usize, waiting: usize, bytes: usize) -> bool {
-        if bytes > self.most_bytes {
+        let memory = self.console.memory;
+        if !self.held.may_go_on(memory, waiting, bytes) {
             self.ended = Some(SearchBound::Memory);
             return false;
         }

@@ -16,7 +16,10 @@ mod whole_run;
 mod words_drawn;
 
 pub use pages::{push_escaped, push_script_data};
-pub use parts::{push_base_style, push_elements_script, push_program_script, push_values_script};
+pub use parts::{
+    push_base_style, push_elements_script, push_program_script, push_sentences_script,
+    push_values_script,
+};
 pub use pictures::picture_of;
 pub use run_verdicts::RunVerdict;
 pub use runs::{PairNames, RunNames};

@@ -18,6 +18,7 @@ mod picture_script;
 mod picture_words_script;
 mod program_script;
 mod run_script;
+mod sentences_script;
 mod source_script;
 mod start_script;
 mod tables_script;
@@ -50,6 +51,11 @@ pub fn push_program_script(page: &mut String) -> Result<(), AllocError> {
     page.push_str(program_script::TEXT)
 }
 
+/// Adds the text of page/sentences.js, which other pages have too.
+pub fn push_sentences_script(page: &mut String) -> Result<(), AllocError> {
+    page.push_str(sentences_script::TEXT)
+}
+
 /// Adds the text of page/values.js, which other pages have too.
 pub fn push_values_script(page: &mut String) -> Result<(), AllocError> {
     page.push_str(values_script::TEXT)
@@ -76,6 +82,7 @@ pub(crate) fn push_tail(page: &mut String) -> Result<(), AllocError> {
     page.push_str(one_script::TEXT)?;
     page.push_str(values_script::TEXT)?;
     page.push_str(program_script::TEXT)?;
+    page.push_str(sentences_script::TEXT)?;
     page.push_str(world_script::TEXT)?;
     page.push_str(columns_script::TEXT)?;
     page.push_str(lanes_script::TEXT)?;
@@ -116,6 +123,7 @@ pub(crate) fn push_pair_tail(page: &mut String) -> Result<(), AllocError> {
     page.push_str(two_script::TEXT)?;
     page.push_str(values_script::TEXT)?;
     page.push_str(program_script::TEXT)?;
+    page.push_str(sentences_script::TEXT)?;
     page.push_str(world_script::TEXT)?;
     page.push_str(columns_script::TEXT)?;
     page.push_str(lanes_script::TEXT)?;

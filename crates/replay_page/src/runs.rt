@@ -94,7 +94,8 @@ pub(crate) fn both_names(alloc: Global, names: PairNames) -> Result<String, Allo
     format!(in alloc; "{one} and {other}")
 }
 
-/// The head of a run as an object that is not closed, so that its other members can follow.
+/// The head of a run, and how many streams a processor has, as an object that is not closed, so that its other members
+/// can follow.
 fn open_head<const S: usize>(
     alloc: Global,
     title: RunTitle,
@@ -105,6 +106,8 @@ fn open_head<const S: usize>(
     let head = head_value(alloc, title, text, &places, start)?;
     let mut json = head.to_string(alloc)?;
     json.pop();
+    let slim = u64::from(start.image().slim());
+    push_member(alloc, &mut json, "slim", &Value::from(slim))?;
     Ok(json)
 }
 

@@ -20,7 +20,7 @@ const RETRIES: usize = 42;
 
 const STATUS: usize = 43;
 
-/// The pc of a target register that names no handler.
+/// The bits of a t0 that names no handler.
 const NO_HANDLER: u64 = 0xFFFF_FFFF;
 
 /// Whether the stream of these numbers runs.
@@ -28,8 +28,8 @@ pub(crate) fn is_running(numbers: &[u32]) -> bool {
     word_at(numbers, STATUS) == 1
 }
 
-/// What the stream of these numbers holds: its status and its pc, and by their names all other parts that are not zero, but for
-/// a target that names no handler.
+/// What the stream of these numbers holds: its status and its pc, and by their names all other parts that are not as usual: zero,
+/// and of t0 that it names no handler.
 pub(crate) fn content_json(alloc: Global, numbers: &[u32]) -> Result<Value, AllocError> {
     let mut content = Object::new(alloc);
     content.put("status", status_json(alloc, word_at(numbers, STATUS)));
@@ -66,16 +66,21 @@ fn put_registers(alloc: Global, content: &mut Object, numbers: &[u32]) -> Result
     Ok(())
 }
 
-/// Puts the targets that are not zero, but for those that name no handler.
+/// Puts the targets that are not as usual.
 fn put_targets(alloc: Global, content: &mut Object, numbers: &[u32]) -> Result<(), AllocError> {
     for number in 0..TARGETS {
         let target = word_at(numbers, REGISTERS + number);
-        if target != NO_HANDLER {
+        if target != usual_target(number) {
             let name = format!(in alloc; "t{number}")?;
-            put_large(alloc, content, &name, target);
+            content.put(&name, digits(alloc, target));
         }
     }
     Ok(())
+}
+
+/// What a target register holds unless a program sets it, and a program without `.trap`.
+fn usual_target(number: usize) -> u64 {
+    if number == 0 { NO_HANDLER } else { 0 }
 }
 
 /// Puts a number of few bits, if it is not zero.

@@ -23,7 +23,10 @@ mod template_4;
 mod template_5;
 mod way_script;
 
-use replay_page::{push_base_style, push_elements_script, push_program_script, push_values_script};
+use replay_page::{
+    push_base_style, push_elements_script, push_program_script, push_sentences_script,
+    push_values_script,
+};
 use std::alloc::AllocError;
 
 /// Adds what stands before the title.
@@ -46,6 +49,7 @@ pub(crate) fn push_tail(page: &mut String) -> Result<(), AllocError> {
     page.push_str(graph_script::TEXT)?;
     push_values_script(page)?;
     push_program_script(page)?;
+    push_sentences_script(page)?;
     page.push_str(kinds_script::TEXT)?;
     page.push_str(way_script::TEXT)?;
     page.push_str(naming_script::TEXT)?;

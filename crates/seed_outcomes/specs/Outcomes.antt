@@ -1,13 +1,14 @@
 -- What a survey counts.
-use Rattle.std.specs.Prelude.{◌≡◌, ◌≤◌, ◌⊎◌, ◌||◌, ℕ, List, Some, length, slice_get, Contains, All, is_some}
+use Rattle.std.specs.Prelude.{◌≡◌, ◌≤◌, ◌⊎◌, ℕ, List, Some, length, slice_get, Contains, All}
 use Rattle.std.specs.List.{sum_by}
 use Rattle.image_file.specs.ImageValue.{ImageValue}
 use Rattle.schedule_makers.specs.FairLengths.{IsFairLength}
 use Rattle.seed_verdicts.specs.Seeds.{loaded}
 use Rattle.expectation_files.specs.declared.requirements.Requirements.{Requirements}
-use Rattle.end_kinds.specs.Statuses.{badness, status_of}
+use Rattle.end_kinds.specs.Statuses.{badness}
 use Rattle.end_kinds.specs.declared.statuses.Status.{Status}
 use Rattle.end_kinds.specs.declared.statuses.Status.TheVariants as status
+use Rattle.end_states.specs.Judgements.{status_of_judged}
 use Rattle.end_states.specs.declared.states.EndState.{EndState}
 use Rattle.seed_outcomes.specs.Sharing.{AreShared}
 use Rattle.seed_outcomes.specs.SeedLists.{seeds_between}
@@ -66,8 +67,7 @@ pub record AreOutcomesOf (image : ImageValue) (required : Requirements) (asked :
 
 -- the exit status of an outcome
 abbrev pub status_of_outcome : SeedOutcome → Status
-status_of_outcome o =
-    status_of o.judgement.kind (is_some o.judgement.missed || is_some o.judgement.broken) o.judgement.is_trapped
+status_of_outcome o = status_of_judged o.judgement
 
 -- A status is that of one of some outcomes, or `Done`.
 abbrev pub IsOfSome : List SeedOutcome → Status → Type 0

@@ -3,6 +3,7 @@
 use crate::data_words::put_data_help;
 use crate::examples::put_example;
 use crate::form::OperandForm;
+use crate::left_out::{label_to_go_to, put_address_help, with_left_out};
 use crate::operand_notes::Taking;
 use crate::operand_words::COMMENTS;
 use crate::phrases::{put_count, put_operands};
@@ -61,13 +62,16 @@ fn put_count_help(
             return Ok(());
         }
     }
-    match fixed_help(taking, operands, pieces.len()) {
-        Some(words) => {
-            notes.help.put(words);
-            Ok(())
-        }
-        None => put_statement(&mut notes.help, reader, taking, head, pieces),
+    if let Some(words) = fixed_help(taking, operands, pieces.len()) {
+        notes.help.put(words);
+        return Ok(());
     }
+    let words = blank_words(notes.alloc(), pieces)?;
+    if put_address_help(&mut notes.help, reader, taking, head, &words)? {
+        return Ok(());
+    }
+    let lacks_commas = words.len() > pieces.len() && pieces.len() < taking.least;
+    put_statement(&mut notes.help, reader, taking, head, words, lacks_commas)
 }
 
 /// Adds a statement that has as many operands as it takes.
@@ -76,22 +80,30 @@ fn put_statement(
     reader: &Reader,
     taking: Taking,
     head: Token,
-    pieces: &[Token],
+    words: Vec<Token>,
+    lacks_commas: bool,
 ) -> Result<(), AllocError> {
-    let words = blank_words(help.alloc(), pieces)?;
-    let lacks_commas = words.len() > pieces.len() && pieces.len() < taking.least;
-    if lacks_commas {
-        help.put("commas stand between operands: ");
+    let label = label_to_go_to(help.alloc(), reader, taking, &words)?;
+    match label {
+        Some(label) => {
+            help.put("TLIT t1, ");
+            put_shown(help, label.bytes);
+            help.put(" comes first, and then ");
+        }
+        None if lacks_commas => help.put("commas stand between operands: write "),
+        None => help.put("write "),
     }
-    help.put("write ");
+    let words = with_left_out(help.alloc(), reader, taking, &words, label.is_some())?;
     put_shown(help, head.bytes);
     put_example(help, reader, taking.forms, &words)
 }
 
 /// What is said of operands that are written as on other machines, or of several values in one line of data.
 fn fixed_help(taking: Taking, operands: Token, count: usize) -> Option<&'static str> {
-    if taking.name == ".data" && count > taking.forms.len() {
-        return Some("write a .data line for each data word");
+    if let Some(words) = lines_help(taking)
+        && count > taking.forms.len()
+    {
+        return Some(words);
     }
     if operands.bytes.contains(&b'(') || operands.bytes.contains(&b'[') {
         return Some(
@@ -99,6 +111,19 @@ fn fixed_help(taking: Taking, operands: Token, count: usize) -> Option<&'static 
         );
     }
     None
+}
+
+/// What is said of several values of a directive that takes one, and may stand on many lines.
+fn lines_help(taking: Taking) -> Option<&'static str> {
+    if taking.name == ".data" {
+        Some("write a .data line for each data word")
+    } else if taking.name == ".entry" {
+        Some("write an .entry line for each processor")
+    } else if taking.name == ".word" {
+        Some("write a .word line for each instruction word")
+    } else {
+        None
+    }
 }
 
 /// The words of pieces that blanks separate.

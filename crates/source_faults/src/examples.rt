@@ -26,7 +26,11 @@ pub(crate) fn put_example(
                 next = next.saturating_add(1);
                 put_shown(out, word.bytes);
             }
-            None => put_shown(out, usual(reader, *form)),
+            None => {
+                let follows_target = place > 0
+                    && matches!(forms.get(place - 1), Some(OperandForm::Target));
+                put_shown(out, usual(reader, *form, follows_target));
+            }
         }
     }
     Ok(())
@@ -48,11 +52,12 @@ fn fitting<'t>(
     }
 }
 
-/// An operand of this form.
-fn usual<'t>(reader: &Reader<'_, 't>, form: OperandForm) -> &'t [u8] {
+/// An operand of this form. CALL returns by another target register than the one before it, to which it goes.
+fn usual<'t>(reader: &Reader<'_, 't>, form: OperandForm, follows_target: bool) -> &'t [u8] {
     match form {
         OperandForm::Register => b"r1",
         OperandForm::Base => b"r0",
+        OperandForm::Target if follows_target => b"t2",
         OperandForm::Target => b"t1",
         OperandForm::Condition => b"ALWAYS",
         OperandForm::Pc | OperandForm::Distance | OperandForm::Entry => {

@@ -1,6 +1,7 @@
 //! What is wrong with a source text, in words for people (docs/WRITING_PROGRAMS.md).
 #![tactic(auto)]
 
+mod comment_notes;
 mod count_notes;
 mod data_lines;
 mod data_words;
@@ -9,6 +10,7 @@ mod foreign_names;
 mod form;
 mod head_notes;
 mod label_notes;
+mod left_out;
 mod lines;
 mod nearest;
 mod number_words;
@@ -21,7 +23,6 @@ mod pieces;
 mod reader;
 mod sources;
 mod statement_notes;
-mod straight_line;
 mod text_notes;
 mod unreached;
 mod warnings;

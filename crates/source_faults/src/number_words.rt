@@ -147,6 +147,19 @@ pub(crate) fn decimal(text: &[u8]) -> Option<u64> {
     }
 }
 
+/// The number of at most 64 bits that decimal digits say, or hexadecimal ones after 0x.
+pub(crate) fn written_number(text: &[u8]) -> Option<u64> {
+    let number = if text.starts_with(b"0x") {
+        read_digits(Base::Hexadecimal, text.get(2..)?)?
+    } else {
+        read_digits(Base::Decimal, text)?
+    };
+    match number {
+        Number::Word(number) => Some(number),
+        Number::TooLarge => None,
+    }
+}
+
 fn are_decimal(digits: &[u8]) -> bool {
     read_digits(Base::Decimal, digits).is_some()
 }

@@ -9,8 +9,5 @@ pub(crate) const DATA_LABEL: u8 = 102;
 /// A condition that asks a code from before its word.
 pub(crate) const EARLIER_CODE: u8 = 103;
 
-/// A label's value that is used as an address.
-pub(crate) const LABEL_ADDRESS: u8 = 104;
-
-/// A reference whose pointer says how it waits.
-pub(crate) const POINTER_CONTROL: u8 = 105;
+/// A statement in a comment.
+pub(crate) const STATEMENT_IN_COMMENT: u8 = 115;

@@ -169,7 +169,11 @@ fn put_base_help(help: &mut TextWriter, operand: &[u8]) -> bool {
     let Some(address) = decimal(operand) else {
         return false;
     };
-    if address % 8 == 0 && address <= 248 {
+    if address % 8 != 0 {
+        help.put("an address is a multiple of 8: data words are at [0], [8], [16] and so on");
+        return true;
+    }
+    if address <= 248 {
         help.put("write r0, ");
         help.put_number(address / 8);
     } else {

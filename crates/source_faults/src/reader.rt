@@ -7,7 +7,6 @@ use crate::pieces::split_head;
 use asm_line::{Fault, Item, Place, SourceLine, read_line};
 use asm_text::{Outline, outline_of};
 use fault_messages::{Spot, Token};
-use insn_word::Profile;
 use source_places::SourcePlaces;
 use std::alloc::{AllocError, Global};
 
@@ -103,11 +102,6 @@ impl<'s, 't> Reader<'s, 't> {
     /// How many program words stand before the line.
     pub(crate) fn here(&self) -> usize {
         self.line.here
-    }
-
-    /// The text's profile.
-    pub(crate) fn profile(&self) -> Profile {
-        self.source.outline.profile
     }
 
     /// Where the data words of the text stand in memory.

@@ -20,7 +20,7 @@ use std::alloc::{AllocError, Global};
 const KINDS: &str = "see the faults of a text in WRITING_PROGRAMS.md";
 
 /// All faults of a source text as errors, and as warnings what is legal in it and likely not what is meant, where that can
-/// be judged; in the order of lines and columns, and of each at most 100,000. There is an error exactly where the text
+/// be judged; in the order of lines and columns, and of each at most 10,000. There is an error exactly where the text
 /// means no image. Only memory can be missing.
 pub fn check_source(alloc: Global, text: &[u8]) -> Result<Vec<Message>, AllocError>
     ensures { IfOk result (λ messages. has_error messages.items ≡ is_err (meaning_of text.now)) }
@@ -90,7 +90,7 @@ fn faults_of<'t>(
     Ok(notes)
 }
 
-/// Tells the faults of all lines, and then those of the text as a whole.
+/// Tells the faults of all lines, and then those of the text as a whole, until there are as many as are told.
 fn note_faults<'t>(
     notes: &mut Notes,
     source: &SourceFacts<'t>,
@@ -98,6 +98,9 @@ fn note_faults<'t>(
 ) -> Result<(), AllocError> {
     let mut totals = Totals::NONE;
     for line in CountedLines::of(text) {
+        if notes.is_full() {
+            return Ok(());
+        }
         note_foreign(notes, &line)?;
         totals.see(&line);
         let reader = Reader::at(source, line);

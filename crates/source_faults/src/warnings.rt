@@ -1,16 +1,16 @@
 //! What is legal in a text and likely not what is meant.
 
+use crate::comment_notes::note_comment;
 use crate::data_lines::DataLines;
 use crate::lines::CountedLines;
 use crate::numbers::{DATA_LABEL, EARLIER_CODE};
 use crate::pieces::pieces;
 use crate::reader::{Reader, SourceFacts};
-use crate::straight_line::StraightLine;
 use crate::unreached::note_unreached;
 use asm_line::Item;
 use fault_messages::{Notes, Spot, put_shown};
 use image_file::Image;
-use insn_word::{Condition, ControlOp, Insn, decode_as};
+use insn_word::{Condition, ControlOp, Insn};
 use std::alloc::{AllocError, Global};
 
 /// What stands on the lines without a fault and is likely not meant; and where the text means an image, the words of its
@@ -39,44 +39,39 @@ fn note_lines<'t>(
     data_lines: &DataLines,
     text: &'t [u8],
 ) -> Result<(), AllocError> {
-    let mut straight = StraightLine::NEW;
     for line in CountedLines::of(text) {
         let reader = Reader::at(source, line);
-        match reader.own_item() {
-            Ok(item) => note_item(notes, spots, &mut straight, &reader, data_lines, item)?,
-            Err(_) => straight = StraightLine::NEW,
+        if let Ok(item) = reader.own_item() {
+            note_item(notes, spots, &reader, data_lines, item)?;
         }
     }
     Ok(())
 }
 
 /// Warns of what a line adds, and adds the spot of a program word.
-fn note_item<'t>(
+fn note_item(
     notes: &mut Notes,
     spots: &mut Vec<Spot>,
-    straight: &mut StraightLine<'t>,
-    reader: &Reader<'_, 't>,
+    reader: &Reader,
     data_lines: &DataLines,
     item: Item,
 ) -> Result<(), AllocError> {
-    let insn = match item {
-        Item::Instruction(insn) => Some(insn),
-        Item::Word(word) => decode_as(reader.profile(), word),
-        Item::Cells { .. } => return note_data_label(notes, reader, data_lines),
-        Item::Nothing
-        | Item::Entry(_)
+    match item {
+        Item::Nothing => return Ok(()),
+        Item::Instruction(insn) => {
+            note_code(notes, reader, insn)?;
+            spots.push(reader.spot(reader.line().statement()))?;
+        }
+        Item::Word(_) => spots.push(reader.spot(reader.line().statement()))?,
+        Item::Cells { .. } => note_data_label(notes, reader, data_lines)?,
+        Item::Entry(_)
         | Item::Trap(_)
         | Item::Profile(_)
         | Item::Slim(_)
         | Item::Chain(_)
-        | Item::Retry(_) => return Ok(()),
-    };
-    if let Item::Instruction(insn) = item {
-        note_code(notes, reader, insn)?;
+        | Item::Retry(_) => {}
     }
-    straight.take(notes, reader, data_lines, insn)?;
-    spots.push(reader.spot(reader.line().statement()))?;
-    Ok(())
+    note_comment(notes, reader)
 }
 
 /// Warns of a label on a line of data.

@@ -1,11 +1,45 @@
-//! Addresses that are no word's.
+//! Addresses that are no word's, and pointers that no reference may use.
 
 use crate::references::ProgramReference;
 use crate::spots::{SlipKind, Slips};
 use std::alloc::{AllocError, Global};
 
-/// The least address that only a displacement below 0 makes.
-const BELOW: u64 = 0xFFFF_FFFF_0000;
+/// How many data words a memory has at most.
+const MOST_CELLS: u64 = 262_144;
+
+/// Warns of each reference whose pointer none may use.
+pub(crate) fn warn_of_pointers(
+    slips: &mut Slips,
+    references: &[ProgramReference],
+) -> Result<(), AllocError> {
+    for reference in references {
+        if reference.is_refused() && !slips.is_full() {
+            warn_refused(slips, reference)?;
+        }
+    }
+    Ok(())
+}
+
+fn warn_refused(slips: &mut Slips, reference: &ProgramReference) -> Result<(), AllocError> {
+    let alloc = slips.alloc();
+    let base = reference.part.base;
+    let (why, help) = if reference.has_reserved_bits() {
+        (
+            "bits 48 to 58 are not all 0",
+            "an address has 48 bits; LITH sets bits 32 to 63",
+        )
+    } else {
+        (
+            "control is 1",
+            "the control, bits 59 and 60, is 0 for normal, 2 for future, 3 for sync",
+        )
+    };
+    let words = format!(in alloc;
+        "no reference may use the pointer in r{base}, whose {why}: the reference traps"
+    )?;
+    let help = String::from_str(alloc, help)?;
+    slips.warn(SlipKind::NoDataWord, reference.place, words, help)
+}
 
 /// Warns of each reference whose address is known and is that of no word, of so many data words.
 pub(crate) fn warn_of_addresses(
@@ -15,13 +49,32 @@ pub(crate) fn warn_of_addresses(
 ) -> Result<(), AllocError> {
     let end = (cells as u64).saturating_mul(8);
     for reference in references {
-        match reference.address() {
-            Some(address) if address % 8 != 0 => warn_unaligned(slips, reference, address)?,
-            Some(address) if address >= end => warn_past(slips, reference, address, end)?,
-            _ => {}
+        if reference.is_refused() || slips.is_full() {
+            continue;
+        }
+        if let Some(address) = reference.address() {
+            warn_of_address(slips, reference, address, end)?;
         }
     }
     Ok(())
+}
+
+/// Warns of an address that is not that of a word before an end.
+fn warn_of_address(
+    slips: &mut Slips,
+    reference: &ProgramReference,
+    address: u64,
+    end: u64,
+) -> Result<(), AllocError> {
+    if address % 8 != 0 {
+        warn_unaligned(slips, reference, address)
+    } else if address < end {
+        Ok(())
+    } else if reference.is_before_memory() {
+        warn_before(slips, reference)
+    } else {
+        warn_past(slips, reference, address, end)
+    }
 }
 
 fn warn_unaligned(
@@ -33,7 +86,7 @@ fn warn_unaligned(
     let words = format!(in alloc;
         "the address here is {address}, no multiple of 8: the reference traps"
     )?;
-    let help = if address < 0x1_0000_0000 {
+    let help = if address < MOST_CELLS {
         let meant = address.saturating_mul(8);
         format!(in alloc; "an address counts bytes: data word number {address} is [{meant}]")?
     } else {
@@ -45,6 +98,13 @@ fn warn_unaligned(
     slips.warn(SlipKind::NoDataWord, reference.place, words, help)
 }
 
+fn warn_before(slips: &mut Slips, reference: &ProgramReference) -> Result<(), AllocError> {
+    let alloc = slips.alloc();
+    let words = String::from_str(alloc, "the address here is below 0: the reference traps")?;
+    let help = String::from_str(alloc, "the first data word is [0]")?;
+    slips.warn(SlipKind::NoDataWord, reference.place, words, help)
+}
+
 fn warn_past(
     slips: &mut Slips,
     reference: &ProgramReference,
@@ -52,11 +112,6 @@ fn warn_past(
     end: u64,
 ) -> Result<(), AllocError> {
     let alloc = slips.alloc();
-    if address >= BELOW {
-        let words = String::from_str(alloc, "the address here is below 0: the reference traps")?;
-        let help = String::from_str(alloc, "the first data word is [0]")?;
-        return slips.warn(SlipKind::NoDataWord, reference.place, words, help);
-    }
     let last = end.saturating_sub(8);
     let words = format!(in alloc;
         "the address here is [{address}], and the last data word is [{last}]: the reference traps"
@@ -72,6 +127,12 @@ fn past_help(
     address: u64,
 ) -> Result<String, AllocError> {
     let displacement = reference.part.disp;
+    if address / 8 >= MOST_CELLS {
+        return String::from_str(
+            alloc,
+            "a memory has at most 262144 data words: mend the address",
+        );
+    }
     if displacement > 0 {
         return format!(in alloc;
             "displacements count words: {displacement} is {} bytes",

@@ -7,19 +7,25 @@ use image_file::Image;
 use insn_word::{ControlOp, Insn, MemoryOp};
 use std::alloc::AllocError;
 
-/// Warns of each word from which a stream may run on past the end, or into another processor's code.
+/// Warns of each word from which a stream may run on past the end, or into another processor's code; not of these words,
+/// whose loops never end.
 pub(crate) fn warn_of_falls(
     slips: &mut Slips,
     image: &Image,
     program: &ProgramWords,
+    endless: &[usize],
 ) -> Result<(), AllocError> {
     let ends = past_ends(slips.alloc(), image)?;
     for end in ends.iter() {
-        warn_of_end(slips, end.place as usize)?;
+        let place = end.place as usize;
+        if endless.binary_search(&place).is_err() {
+            warn_of_end(slips, place)?;
+        }
     }
     for into in runs_into(slips.alloc(), image)?.iter() {
         let place = into.place as usize;
-        let is_told = ends.iter().any(|end| end.place == into.place);
+        let is_told = ends.iter().any(|end| end.place == into.place)
+            || endless.binary_search(&place).is_ok();
         if !is_told && is_others_entry(program, place.saturating_add(1)) {
             warn_of_entry(slips, place, into.processor)?;
         }
@@ -73,7 +79,7 @@ fn has_reference(program: &ProgramWords, place: usize) -> bool {
 fn warn_of_entry(slips: &mut Slips, place: usize, processor: usize) -> Result<(), AllocError> {
     let alloc = slips.alloc();
     let words = format!(in alloc;
-        "a stream goes on from here into the code of processor {processor}"
+        "a stream that goes on from here is in the code of processor {processor}"
     )?;
     let help = String::from_str(alloc, "did you forget QUIT?")?;
     slips.warn(SlipKind::OthersCode, place, words, help)

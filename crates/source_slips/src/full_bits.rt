@@ -1,74 +1,23 @@
 //! References that wait for what never comes.
 
+use crate::full_bit_changes::FullBitChanges;
+use crate::program::ProgramWords;
 use crate::references::ProgramReference;
 use crate::spots::{SlipKind, Slips};
+use crate::stuck_references::stuck_references;
 use asm_line::names;
 use image_file::Image;
-use insn_word::{Access, MemoryOp};
-use std::alloc::{AllocError, Global};
+use insn_word::MemoryOp;
+use std::alloc::AllocError;
 
-/// Which words of memory may be filled and which emptied.
-#[derive(Drop)]
-struct FullBitChanges {
-    filled: Vec<bool>,
-    emptied: Vec<bool>,
-    fills_any: bool,
-    empties_any: bool,
-}
-
-impl FullBitChanges {
-    /// By these references, of so many words.
-    fn of(
-        alloc: Global,
-        references: &[ProgramReference],
-        cells: usize,
-    ) -> Result<FullBitChanges, AllocError> {
-        let mut turns = FullBitChanges {
-            filled: vec![in alloc; false; cells]?,
-            emptied: vec![in alloc; false; cells]?,
-            fills_any: false,
-            empties_any: false,
-        };
-        for reference in references {
-            turns.see(reference);
-        }
-        Ok(turns)
-    }
-
-    fn see(&mut self, reference: &ProgramReference) {
-        let (fills, empties) = (reference.may_fill(), reference.may_empty());
-        match reference.address() {
-            Some(address) => {
-                let cell = (address / 8) as usize;
-                if fills && cell < self.filled.len() {
-                    self.filled[cell] = true;
-                }
-                if empties && cell < self.emptied.len() {
-                    self.emptied[cell] = true;
-                }
-            }
-            None => {
-                self.fills_any |= fills;
-                self.empties_any |= empties;
-            }
-        }
-    }
-
-    fn may_fill(&self, cell: usize) -> bool {
-        self.fills_any || self.filled.get(cell).copied().unwrap_or(true)
-    }
-
-    fn may_empty(&self, cell: usize) -> bool {
-        self.empties_any || self.emptied.get(cell).copied().unwrap_or(true)
-    }
-}
-
-/// Warns of each reference that waits for a word which is full from the start on, or empty, and which nothing turns. None is
-/// told where waiting has a limit, where the program fills no word at all, where data words have other tags than full, and
-/// where a TAGSET may let a word forward references to another one.
+/// Warns of each reference that waits for a word which is full from the start on, or empty, and which nothing turns; and if
+/// the program shows where its streams go, of each for whose word that comes only after such waits. None is told where
+/// waiting has a limit, where the program fills no word at all, where data words have other tags than full, and where a
+/// TAGSET may let a word forward references to another one.
 pub(crate) fn warn_of_full_bits(
     slips: &mut Slips,
     image: &Image,
+    program: &ProgramWords,
     references: &[ProgramReference],
 ) -> Result<(), AllocError> {
     let cells = image.cells();
@@ -80,43 +29,38 @@ pub(crate) fn warn_of_full_bits(
         return Ok(());
     }
     let turns = FullBitChanges::of(slips.alloc(), references, cells.len())?;
+    let stuck = stuck_references(slips.alloc(), image, program, references)?;
     for reference in references {
         if slips.is_full() {
             return Ok(());
         }
-        if let Some(address) = reference.address() {
-            let cell = (address / 8) as usize;
-            if let (true, Some(word)) = (address % 8 == 0, cells.get(cell)) {
-                warn_of_word(slips, &turns, reference, cell, word.is_full())?;
-            }
+        let Some(cell) = reference.cell(cells.len()) else {
+            continue;
+        };
+        let is_full = cells.get(cell).is_some_and(|word| word.is_full());
+        if reference.waits_for() != Some(!is_full) {
+            continue;
+        }
+        if !turns.may_turn(cell, is_full) {
+            warn_of_word(slips, reference, cell, is_full)?;
+        } else if stuck.get(reference.place).copied().unwrap_or(false) {
+            warn_of_first(slips, reference, cell, is_full)?;
         }
     }
     Ok(())
 }
 
-/// Warns of a reference to a data word, where that begins as it must not be and nothing turns it.
+/// Warns of a reference to a data word that begins as it must not be and that nothing turns.
 fn warn_of_word(
     slips: &mut Slips,
-    turns: &FullBitChanges,
     reference: &ProgramReference,
     cell: usize,
     is_full: bool,
 ) -> Result<(), AllocError> {
-    match waits_for(reference) {
-        Some(true) if !is_full && !turns.may_fill(cell) => warn_of_empty(slips, reference, cell),
-        Some(false) if is_full && !turns.may_empty(cell) => warn_of_full(slips, reference, cell),
-        _ => Ok(()),
-    }
-}
-
-/// Whether a reference waits until its word is full; None where it does not wait.
-fn waits_for(reference: &ProgramReference) -> Option<bool> {
-    match (reference.part.op, reference.access()?) {
-        (MemoryOp::Store, Access::Sync) => Some(false),
-        (MemoryOp::Load | MemoryOp::Store | MemoryOp::FetchAdd, Access::Future | Access::Sync) => {
-            Some(true)
-        }
-        _ => None,
+    if is_full {
+        warn_of_full(slips, reference, cell)
+    } else {
+        warn_of_empty(slips, reference, cell)
     }
 }
 
@@ -158,4 +102,35 @@ fn warn_of_full(
         None => String::from_str(alloc, "let it begin empty: .data 0, 0; or write STORE.N")?,
     };
     slips.warn(SlipKind::EndlessWait, reference.place, words, help)
+}
+
+/// Warns of a reference for whose word what it waits for comes only after such waits.
+fn warn_of_first(
+    slips: &mut Slips,
+    reference: &ProgramReference,
+    cell: usize,
+    is_full: bool,
+) -> Result<(), AllocError> {
+    let alloc = slips.alloc();
+    let name = names::memory(reference.part.op);
+    let address = cell.saturating_mul(8);
+    let (begins, turns) = if is_full {
+        ("full", "empties")
+    } else {
+        ("empty", "fills")
+    };
+    let words = format!(in alloc;
+        "[{address}] begins {begins}, and a stream {turns} it only after a wait like this: this {name} waits forever"
+    )?;
+    let data = if is_full { ".data 0, 0" } else { ".data 0" };
+    let begun = if is_full {
+        "let it begin empty"
+    } else {
+        "a lock begins full"
+    };
+    let help = match slips.data_line(cell) {
+        Some(line) => format!(in alloc; "{begun}: {data} on line {line}")?,
+        None => format!(in alloc; "{begun}: {data}")?,
+    };
+    slips.warn(SlipKind::NobodyFirst, reference.place, words, help)
 }

@@ -13,7 +13,9 @@ pub(crate) struct ProgramWords {
     /// Whether a way leads to each word.
     pub(crate) reached: Vec<bool>,
     /// Whether streams may come to each word otherwise than from the word before it.
-    pub(crate) begins: Vec<bool>,
+    begins: Vec<bool>,
+    /// Whether they may do so otherwise than by a SKIP too.
+    enters: Vec<bool>,
     /// The entries of the processors.
     pub(crate) entries: Vec<u32>,
     /// Whether a stream may go on at any word, with any codes: by a trap handler (also one that the
@@ -37,6 +39,7 @@ impl ProgramWords {
         let mut program = ProgramWords {
             reached: reachable_places(alloc, image)?,
             begins: vec![in alloc; goes_anywhere; insns.len()]?,
+            enters: vec![in alloc; goes_anywhere; insns.len()]?,
             insns,
             entries,
             goes_anywhere,
@@ -58,6 +61,11 @@ impl ProgramWords {
     /// Whether streams may come to a word otherwise than from the word before it.
     pub(crate) fn is_beginning(&self, place: usize) -> bool {
         self.begins.get(place).copied().unwrap_or(true)
+    }
+
+    /// Whether streams may come to a word otherwise than from the word before it and by a SKIP.
+    pub(crate) fn is_entered(&self, place: usize) -> bool {
+        self.enters.get(place).copied().unwrap_or(true)
     }
 
     /// The word to which a SKIP at a place leads; None where there is none, or where it leads before the program.
@@ -106,28 +114,46 @@ impl ProgramWords {
         }
     }
 
+    /// Whether a stream goes on, or starts, where a target register leads.
+    pub(crate) fn goes_by_target(&self, place: usize) -> bool {
+        match self.insn(place) {
+            Some(Insn::Normal { c, .. }) => match c.op {
+                ControlOp::Jump | ControlOp::Call | ControlOp::Create => true,
+                _ => false,
+            },
+            _ => false,
+        }
+    }
+
     fn mark_beginnings(&mut self) {
-        self.mark(0);
+        self.enter(0);
         for place in 0..self.insns.len() {
             if let Some(target) = self.skip_target(place) {
-                self.mark(target);
+                self.begin(target);
             }
             if let Some(target) = self.target(place) {
-                self.mark(target);
+                self.enter(target);
             }
             if self.is_call(place) {
-                self.mark(place.saturating_add(1));
+                self.enter(place.saturating_add(1));
             }
         }
         for processor in 0..self.entries.len() {
             let entry = self.entries.get(processor).copied().unwrap_or(0);
-            self.mark(entry as usize);
+            self.enter(entry as usize);
         }
     }
 
-    fn mark(&mut self, place: usize) {
+    fn begin(&mut self, place: usize) {
         if place < self.begins.len() {
             self.begins[place] = true;
+        }
+    }
+
+    fn enter(&mut self, place: usize) {
+        self.begin(place);
+        if place < self.enters.len() {
+            self.enters[place] = true;
         }
     }
 }

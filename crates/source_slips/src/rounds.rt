@@ -73,8 +73,13 @@ fn bit_of(register: u8) -> u32 {
     }
 }
 
-/// Warns of each loop of arithmetic alone in which nothing changes that it asks.
-pub(crate) fn warn_of_rounds(slips: &mut Slips, program: &ProgramWords) -> Result<(), AllocError> {
+/// Warns of each loop of arithmetic alone in which nothing changes that it asks; the SKIPs that lead back in them, in their
+/// order.
+pub(crate) fn warn_of_rounds(
+    slips: &mut Slips,
+    program: &ProgramWords,
+) -> Result<Vec<usize>, AllocError> {
+    let mut endless = Vec::new(slips.alloc());
     for place in 0..program.insns.len() {
         let (Some(target), Some(Insn::Normal { m, a, c, .. })) = (
             program.skip_target(place),
@@ -85,13 +90,15 @@ pub(crate) fn warn_of_rounds(slips: &mut Slips, program: &ProgramWords) -> Resul
         let is_loop = target <= place && m.op == MemoryOp::Nop && program.is_reached(place);
         if is_loop && never_ends(program, target, place, a, c) {
             warn_of_round(slips, place, c)?;
+            endless.push(place)?;
         }
     }
-    Ok(())
+    Ok(endless)
 }
 
-/// Whether a loop from a word to the SKIP that goes back never ends once it repeats. One SKIP alone that always goes to
-/// itself is how a stream stays at its end.
+/// Whether a loop from a word to the SKIP that goes back never ends once it repeats: it asks a code of before the loop, or
+/// one that each time through all of it makes alike. One SKIP alone that always goes to itself is how a stream stays at
+/// its end.
 fn never_ends(program: &ProgramWords, first: usize, last: usize, a: APart, c: CPart) -> bool {
     let mut round = LoopBody::NEW;
     for place in first..last {
@@ -104,8 +111,23 @@ fn never_ends(program: &ProgramWords, first: usize, last: usize, a: APart, c: CP
     }
     let asks_old = c.code >= round.codes;
     round.take(a);
-    let is_same = !asks_old || round.codes == 0;
+    let is_same = if asks_old {
+        round.codes == 0
+    } else {
+        !is_entered_within(program, first, last)
+    };
     is_same && round.read & round.written == 0
+}
+
+/// Whether a stream may come to a word of a loop after its first one otherwise than from the word before it. What its
+/// SKIP asks may then be another code than the next time.
+fn is_entered_within(program: &ProgramWords, first: usize, last: usize) -> bool {
+    for place in first..last {
+        if program.is_beginning(place.saturating_add(1)) {
+            return true;
+        }
+    }
+    false
 }
 
 fn warn_of_round(slips: &mut Slips, place: usize, c: CPart) -> Result<(), AllocError> {

@@ -1,5 +1,6 @@
 //! Where the words of a program stand in its text, and what is said there.
 
+use crate::operands::{LinePiece, base_operand, label_operand, statement_of};
 use source_places::SourcePlaces;
 use std::alloc::{AllocError, Global};
 
@@ -9,6 +10,10 @@ const MOST_SLIPS: usize = 1000;
 /// What a slip is, with the number of its page of `explain` (docs/words/faults.txt).
 #[derive(Clone, Copy)]
 pub(crate) enum SlipKind {
+    /// A label is used as an address.
+    LabelAddress = 104,
+    /// A pointer says how a reference waits.
+    PointerControl = 105,
     /// A condition asks a code that nothing has made.
     NoCode = 107,
     /// A stream goes on past the end.
@@ -17,12 +22,14 @@ pub(crate) enum SlipKind {
     OthersCode = 109,
     /// A loop never ends.
     EndlessLoop = 110,
-    /// An address is that of no data word.
+    /// An address is that of no data word, or none may use the pointer.
     NoDataWord = 111,
     /// A reference waits for what nothing changes.
     EndlessWait = 112,
     /// A result is lost.
     LostResult = 113,
+    /// A reference waits for what comes only after such waits.
+    NobodyFirst = 116,
 }
 
 /// What is likely not meant at a place of a text.
@@ -42,6 +49,15 @@ pub struct Slip {
     pub help: String,
     /// How many bytes of the text stand before the line.
     pub start: usize,
+}
+
+/// Where a slip stands in its text, as `Slip` has it.
+#[derive(Clone, Copy)]
+struct SlipPlace {
+    line: usize,
+    column: usize,
+    width: usize,
+    start: usize,
 }
 
 /// The slips of a text so far.
@@ -91,6 +107,32 @@ impl<'t> Slips<'t> {
         self.found.len() >= MOST_SLIPS
     }
 
+    /// The label that is the operand of the LIT at a word of the program; None where that is a number.
+    pub(crate) fn label_of(&self, word: usize) -> Option<&'t [u8]> {
+        label_operand(self.places.line(word)?.bytes)
+    }
+
+    /// The address of the first data word that the line of a label adds, if it adds any.
+    pub(crate) fn data_address(&self, label: &[u8]) -> Option<usize> {
+        let number = self.label_line(label)?;
+        for line in self.places.data_lines() {
+            if line.number == number {
+                return Some(line.first.saturating_mul(8));
+            }
+        }
+        None
+    }
+
+    /// The number of the line, from 0, of a label.
+    fn label_line(&self, label: &[u8]) -> Option<usize> {
+        for known in self.places.labels() {
+            if known.name == label {
+                return Some(known.place.line);
+            }
+        }
+        None
+    }
+
     /// Warns of a word of the program.
     pub(crate) fn warn(
         &mut self,
@@ -99,21 +141,72 @@ impl<'t> Slips<'t> {
         words: String,
         help: String,
     ) -> Result<(), AllocError> {
+        let Some(place) = self.statement_place(word) else {
+            return Ok(());
+        };
+        self.warn_at(kind, place, words, help)
+    }
+
+    /// Warns of the base of the reference of a word of the program.
+    pub(crate) fn warn_of_base(
+        &mut self,
+        kind: SlipKind,
+        word: usize,
+        words: String,
+        help: String,
+    ) -> Result<(), AllocError> {
+        let Some(place) = self.base_place(word) else {
+            return Ok(());
+        };
+        self.warn_at(kind, place, words, help)
+    }
+
+    /// Where the statement of a word of the program stands.
+    fn statement_place(&self, word: usize) -> Option<SlipPlace> {
+        let line = self.places.line(word)?;
+        Some(self.place_of(word, line.number, statement_of(line.bytes)))
+    }
+
+    /// Where the base of the reference of a word of the program stands.
+    fn base_place(&self, word: usize) -> Option<SlipPlace> {
+        let line = self.places.line(word)?;
+        Some(self.place_of(word, line.number, base_operand(line.bytes)))
+    }
+
+    /// Where a piece of the line of this number, from 0, stands, which is that of a word of the program.
+    fn place_of(&self, word: usize, number: usize, piece: LinePiece) -> SlipPlace {
+        SlipPlace {
+            line: number.saturating_add(1),
+            column: piece.start.saturating_add(1),
+            width: piece.bytes.len().max(1),
+            start: self.starts.get(word).copied().unwrap_or(0),
+        }
+    }
+
+    fn warn_at(
+        &mut self,
+        kind: SlipKind,
+        place: SlipPlace,
+        words: String,
+        help: String,
+    ) -> Result<(), AllocError> {
         if self.is_full() {
             return Ok(());
         }
-        let Some(line) = self.places.line(word) else {
-            return Ok(());
-        };
-        let (first, width) = statement_of(line.bytes);
+        let SlipPlace {
+            line,
+            column,
+            width,
+            start,
+        } = place;
         self.found.push(Slip {
             number: kind as u8,
-            line: line.number.saturating_add(1),
-            column: first.saturating_add(1),
+            line,
+            column,
             width,
             words,
             help,
-            start: self.starts.get(word).copied().unwrap_or(0),
+            start,
         })?;
         Ok(())
     }
@@ -150,25 +243,4 @@ fn is_line_of(places: &SourcePlaces, word: usize, number: usize) -> bool {
         Some(line) => line.number == number,
         None => false,
     }
-}
-
-/// How many bytes stand before the statement of a line, and how many it has.
-fn statement_of(line: &[u8]) -> (usize, usize) {
-    let mut first = 0usize;
-    let mut last = 0usize;
-    let mut is_begun = false;
-    for (place, byte) in line.iter().enumerate() {
-        match byte {
-            b';' => break,
-            b':' => is_begun = false,
-            b' ' | b'\t' | b'\r' => {}
-            _ if is_begun => last = place,
-            _ => {
-                is_begun = true;
-                first = place;
-                last = place;
-            }
-        }
-    }
-    (first, last.saturating_sub(first).saturating_add(1))
 }

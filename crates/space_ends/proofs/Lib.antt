@@ -2,3 +2,4 @@ mod Broken
 mod Listing
 mod Keeping
 mod Spins
+mod SpinningSets

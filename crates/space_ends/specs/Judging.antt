@@ -1,9 +1,8 @@
 -- When a listed end is as expected.
 use Rattle.std.specs.Prelude.{Bool, true, false, Option, Some, None}
-use Rattle.end_kinds.specs.Statuses.{status_of}
 use Rattle.end_kinds.specs.declared.statuses.Status.{Status}
 use Rattle.end_kinds.specs.declared.statuses.Status.TheVariants as status
-use Rattle.end_states.specs.Judgements.{is_expected, is_wrong}
+use Rattle.end_states.specs.Judgements.{is_expected, status_of_judged}
 use Rattle.end_states.specs.declared.judgements.EndJudgement.{EndJudgement}
 use Rattle.space_ends.specs.declared.end_values.SpaceEnd.{SpaceEnd}
 use Rattle.space_ends.specs.declared.end_values.SpaceEndKind.{SpaceEndKind}
@@ -37,7 +36,7 @@ expected_end e = expected_by (judgement_of e)
 -- what it means for the exit status; worlds that break a claim are not as expected
 abbrev pub status_by : Option EndJudgement → Status
 status_by None = status.Unexpected
-status_by (Some j) = status_of j.kind (is_wrong j) j.is_trapped
+status_by (Some j) = status_of_judged j
 
 abbrev pub end_status : SpaceEnd → Status
 end_status e = status_by (judgement_of e)

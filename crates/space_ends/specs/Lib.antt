@@ -5,3 +5,4 @@ pub mod BrokenClaims
 pub mod EndsOfSpace
 pub mod Spinning
 pub mod Judging
+pub mod SpinningSets

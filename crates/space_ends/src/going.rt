@@ -1,5 +1,9 @@
 //! How the streams go on in a set of worlds, and which words change in it.
 
+ghost use Rattle.std.specs.Prelude.{◌≡◌, IfOk, None};
+ghost use Rattle.space_ends.specs.EndsOfSpace.{missed_in};
+ghost use Rattle.space_ends.specs.SpinningSets.{earlier, IsFirstMissedBy};
+
 use expectations::{Expectation, first_missed};
 use machine::Machine;
 use processor::Step;
@@ -53,12 +57,13 @@ pub(crate) struct WorldSet {
 }
 
 impl WorldSet {
-    /// Of one world, a machine's.
-    fn of<const S: usize>(
+    /// Of no world yet, and the streams that run in that of a machine.
+    fn before<const S: usize>(
         alloc: Global,
         machine: &Machine<'_, S>,
-        expected: &[Expectation],
-    ) -> Result<WorldSet, AllocError> {
+    ) -> Result<WorldSet, AllocError>
+        ensures { IfOk result (λ set. set.missed ≡ None) }
+    {
         let mut going = Vec::new(alloc);
         for stream in &running_streams(alloc, machine)? {
             going.push(GoingStream {
@@ -69,34 +74,38 @@ impl WorldSet {
         let words = machine.image().cells().len();
         Ok(WorldSet {
             going,
-            missed: first_missed(machine, expected),
+            missed: None,
             is_changing: vec![in alloc; false; words]?,
         })
     }
 
-    /// Of a first world, a machine's, and of those at the other places.
+    /// Of the worlds at some places, of which this machine is at the first one.
     pub(crate) fn over<const S: usize>(
         alloc: Global,
         space: &Space<'_>,
         first: &Machine<'_, S>,
-        others: &[usize],
+        places: &[usize],
         expected: &[Expectation],
-    ) -> Result<WorldSet, AllocError> {
-        let mut known = WorldSet::of(alloc, first, expected)?;
-        for place in others {
-            let other = machine_at::<S>(alloc, space, *place)?;
-            known.add(first, &other, expected);
+    ) -> Result<WorldSet, AllocError>
+        ensures { IfOk result (λ set. IsFirstMissedBy space.now expected.now places.now set.missed) }
+    {
+        let mut known = WorldSet::before(alloc, first)?;
+        for place in places {
+            let world = machine_at::<S>(alloc, space, *place)?;
+            known.add(first, &world, expected);
         }
         Ok(known)
     }
 
-    /// Also of another world than that of the first machine.
+    /// Also of one more world, a machine's.
     fn add<const S: usize>(
         &mut self,
         first: &Machine<'_, S>,
         other: &Machine<'_, S>,
         expected: &[Expectation],
-    ) {
+    )
+        ensures { self.new.missed ≡ earlier self.old.missed (missed_in other.now.world expected.now) }
+    {
         for stream in self.going.iter_mut() {
             stream.going = stream.going.and(going_of(other, stream.stream));
         }
@@ -117,7 +126,9 @@ impl WorldSet {
 }
 
 /// The lesser of two places, which may be missing.
-fn earlier(one: Option<usize>, other: Option<usize>) -> Option<usize> {
+fn earlier(one: Option<usize>, other: Option<usize>) -> Option<usize>
+    ensures { result ≡ earlier one other }
+{
     match (one, other) {
         (Some(one), Some(other)) => Some(one.min(other)),
         (None, place) | (place, None) => place,

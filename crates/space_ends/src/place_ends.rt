@@ -6,6 +6,7 @@ ghost use Rattle.schedule_space.specs.Spaces.{count, world_of, schedule_of};
 ghost use Rattle.schedule_space.specs.Reaching.{IsEnd};
 ghost use Rattle.space_ends.specs.EndsOfSpace.{listed_of, ends_in, with_place, first_listed, AreEndsBefore, AreEndsOf, IsJudgedSo};
 ghost use Rattle.space_ends.specs.Spinning.{spinning_in};
+ghost use Rattle.space_ends.specs.SpinningSets.{AreSpinningSets};
 
 use crate::end_values::{SpaceEnd, SpaceEndKind};
 use crate::every_end::new_end;
@@ -23,6 +24,7 @@ pub(crate) fn place_ends<const S: usize>(
 ) -> Result<Vec<SpaceEnd>, AllocError>
     ensures ends { IfOk result (λ v. AreEndsOf space.now expected.now (ends_in v.items)) }
     ensures spinning { IfOk result (λ v. spinning_in v.items ≡ []) }
+    ensures sets { IfOk result (λ v. AreSpinningSets space.now expected.now v.items) }
 {
     let mut ends = Vec::new(alloc);
     for place in 0..space.len() {

@@ -1,8 +1,9 @@
 //! Endless loops: terminal components of worlds, which no step leads out of, and in which it goes on forever.
 
-ghost use Rattle.std.specs.Prelude.{◌≡◌, [], IfOk, OnOk};
+ghost use Rattle.std.specs.Prelude.{◌≡◌, ◌<◌, [], length, slice_index, IfOk, OnOk};
 ghost use Rattle.space_ends.specs.EndsOfSpace.{ends_in};
 ghost use Rattle.space_ends.specs.Spinning.{spinning_in, AreSpinning};
+ghost use Rattle.space_ends.specs.SpinningSets.{set_of, IsSpinningSet, AreSpinningSets};
 
 use crate::cycles::cycle_of;
 use crate::end_values::{SpaceEnd, SpaceEndKind};
@@ -33,6 +34,8 @@ pub(crate) fn add_spinning<const S: usize>(
     ensures ends { OnOk result (ends_in ends.new.items ≡ ends_in ends.old.items) }
     ensures spinning { OnOk result (spinning_in ends.old.items ≡ []
         → AreSpinning space.now (spinning_in ends.new.items)) }
+    ensures sets { OnOk result (AreSpinningSets space.now expected.now ends.old.items
+        → AreSpinningSets space.now expected.now ends.new.items) }
 {
     let can_end = space.can_end(alloc)?;
     let sets = spinning_sets(alloc, space, &can_end)?;
@@ -52,16 +55,16 @@ fn spinning_set<const S: usize>(
 ) -> Result<SpaceEnd, AllocError>
     ensures kind { IfOk result (λ e. e.kind ≡ SPINNING) }
     ensures places { IfOk result (λ e. e.places.items ≡ places.now) }
+    ensures set { IfOk result (λ e. 0 < length places.now → IsSpinningSet space.now expected.now (set_of e)) }
 {
-    let first = places.first().copied().unwrap_or(0);
+    let first = first_of(places);
     let machine = machine_at::<S>(alloc, space, first)?;
     let state = EndState {
         stopped: trap_stops(alloc, &machine)?,
         waiting: Vec::new(alloc),
         changed: changed_words(alloc, &machine)?,
     };
-    let others = places.get(1..).unwrap_or(&[]);
-    let known = WorldSet::over(alloc, space, &machine, others, expected)?;
+    let known = WorldSet::over(alloc, space, &machine, places, expected)?;
     let mut end = new_end(alloc, space, first, SPINNING, state)?;
     end.missed = known.missed;
     end.is_trapped = !are_traps_expected(&machine, expected);
@@ -70,4 +73,14 @@ fn spinning_set<const S: usize>(
     end.going = known.going;
     end.places = places.to_vec(alloc)?;
     Ok(end)
+}
+
+/// The first of some places; 0 if there is none.
+fn first_of(places: &[usize]) -> usize
+    ensures { 0 < length places.now → result ≡ slice_index places.now 0 }
+{
+    if places.is_empty() {
+        return 0;
+    }
+    places[0]
 }

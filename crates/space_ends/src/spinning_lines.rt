@@ -2,8 +2,11 @@
 
 ghost use Rattle.std.specs.Prelude.{◌≡◌, ◌<◌, ◌++◌, List, Bool, length, slice_index_or, IfSome, IsTrue, OnOk};
 ghost use Rattle.std.specs.List.{All};
+ghost use Rattle.expectations.specs.declared.expectation.Expectation.{Expectation};
+ghost use Rattle.schedule_space.specs.Spaces.{SpaceValue};
 ghost use Rattle.space_ends.specs.EndsOfSpace.{ends_in};
 ghost use Rattle.space_ends.specs.Spinning.{spinning_in, IsUnmarked, AreUnmarked};
+ghost use Rattle.space_ends.specs.SpinningSets.{set_of, IsSpinningSet, AreSpinningSets, IsOfLine};
 
 use crate::end_values::SpaceEnd;
 use crate::spinning::SPINNING;
@@ -16,6 +19,8 @@ pub(crate) fn add_set(ends: &mut Vec<SpaceEnd>, set: SpaceEnd) -> Result<(), All
     ensures some { OnOk result (set.kind ≡ SPINNING → 0 < length (spinning_in ends.new.items)) }
     ensures each { OnOk result (set.kind ≡ SPINNING → (marks : List Bool) → All (IsUnmarked marks) set.places.items
         → AreUnmarked marks (spinning_in ends.old.items) → AreUnmarked marks (spinning_in ends.new.items)) }
+    ensures sets { OnOk result ((v : SpaceValue) (expected : List Expectation) → IsSpinningSet v expected (set_of set)
+        → AreSpinningSets v expected ends.old.items → AreSpinningSets v expected ends.new.items) }
 {
     match line_of(ends, &set) {
         Some(index) => {
@@ -33,6 +38,8 @@ pub(crate) fn add_set(ends: &mut Vec<SpaceEnd>, set: SpaceEnd) -> Result<(), All
 fn extend_by(end: &mut SpaceEnd, set: &SpaceEnd) -> Result<(), AllocError>
     ensures kind { OnOk result (end.new.kind ≡ end.old.kind) }
     ensures places { OnOk result (end.new.places.items ≡ end.old.places.items ++ set.now.places.items) }
+    ensures set { OnOk result (set_of end.new
+        ≡ record (set_of end.old) { places = end.old.places.items ++ set.now.places.items }) }
 {
     end.sets = end.sets.saturating_add(1);
     end.places.extend_from_slice(&set.places)?;
@@ -42,7 +49,7 @@ fn extend_by(end: &mut SpaceEnd, set: &SpaceEnd) -> Result<(), AllocError>
 /// The index of the end of whose line a set is.
 fn line_of(ends: &[SpaceEnd], set: &SpaceEnd) -> Option<usize>
     ensures { IfSome result (λ i. (i < length ends.now)
-        × ((d : SpaceEnd) → (slice_index_or ends.now i d).kind ≡ SPINNING)) }
+        × ((d : SpaceEnd) → IsOfLine (slice_index_or ends.now i d) set.now.missed)) }
 {
     for (index, end) in ends.iter().enumerate() {
         if is_of_line(end, set) {
@@ -54,7 +61,7 @@ fn line_of(ends: &[SpaceEnd], set: &SpaceEnd) -> Option<usize>
 
 /// Whether a set that spins is of the same line as a listed end.
 fn is_of_line(end: &SpaceEnd, set: &SpaceEnd) -> bool
-    ensures { IsTrue result → end.now.kind ≡ SPINNING }
+    ensures { IsTrue result → IsOfLine end.now set.now.missed }
 {
     end.kind.is_end_of(EndKind::Spinning)
         && end.missed == set.missed

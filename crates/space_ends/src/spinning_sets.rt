@@ -19,6 +19,7 @@ pub(crate) fn spinning_sets(
     ensures some { IfOk result (λ v. SomeUnmarked can_end.now → 0 < length v.items) }
     ensures only { IfOk result (λ v. 0 < length v.items → SomeUnmarked can_end.now) }
     ensures each { IfOk result (λ v. All (λ set. All (IsUnmarked can_end.now) set.items) v.items) }
+    ensures filled { IfOk result (λ v. All (λ set. 0 < length set.items) v.items) }
 {
     if can_all_end(can_end) {
         return Ok(Vec::new(alloc));
@@ -46,7 +47,8 @@ fn places_of_sets(
     roots: &[Option<usize>],
     can_end: &[bool],
 ) -> Result<Vec<Vec<usize>>, AllocError>
-    ensures { IfOk result (λ v. All (λ set. All (IsUnmarked can_end.now) set.items) v.items) }
+    ensures each { IfOk result (λ v. All (λ set. All (IsUnmarked can_end.now) set.items) v.items) }
+    ensures filled { IfOk result (λ v. All (λ set. 0 < length set.items) v.items) }
 {
     let mut rank_of = vec![in alloc; None; roots.len()]?;
     let mut sets = Vec::new(alloc);
@@ -67,8 +69,10 @@ fn add_if_unmarked(
     place: usize,
 ) -> Result<(), AllocError>
     requires { place < length can_end.now }
-    ensures { OnOk result (All (λ set. All (IsUnmarked can_end.now) set.items) sets.old.items
+    ensures each { OnOk result (All (λ set. All (IsUnmarked can_end.now) set.items) sets.old.items
         → All (λ set. All (IsUnmarked can_end.now) set.items) sets.new.items) }
+    ensures filled { OnOk result (All (λ set. 0 < length set.items) sets.old.items
+        → All (λ set. 0 < length set.items) sets.new.items) }
 {
     if can_end[place] {
         return Ok(());
@@ -93,9 +97,11 @@ fn add_rooted(
     root: Option<usize>,
     place: usize,
 ) -> Result<(), AllocError>
-    ensures { OnOk result ((marks : List Bool) → IsUnmarked marks place
+    ensures each { OnOk result ((marks : List Bool) → IsUnmarked marks place
         → All (λ set. All (IsUnmarked marks) set.items) sets.old.items
         → All (λ set. All (IsUnmarked marks) set.items) sets.new.items) }
+    ensures filled { OnOk result (All (λ set. 0 < length set.items) sets.old.items
+        → All (λ set. 0 < length set.items) sets.new.items) }
 {
     let Some(root) = root else {
         return Ok(());
@@ -114,9 +120,11 @@ fn add_to_set(
     rank: usize,
     place: usize,
 ) -> Result<(), AllocError>
-    ensures { OnOk result ((marks : List Bool) → IsUnmarked marks place
+    ensures each { OnOk result ((marks : List Bool) → IsUnmarked marks place
         → All (λ set. All (IsUnmarked marks) set.items) sets.old.items
         → All (λ set. All (IsUnmarked marks) set.items) sets.new.items) }
+    ensures filled { OnOk result (All (λ set. 0 < length set.items) sets.old.items
+        → All (λ set. 0 < length set.items) sets.new.items) }
 {
     if rank >= sets.len() {
         let mut places = Vec::new(alloc);
@@ -131,7 +139,8 @@ fn add_to_set(
 
 /// The places from which no end can be reached.
 fn places_without_end(alloc: Global, can_end: &[bool]) -> Result<Vec<usize>, AllocError>
-    ensures { IfOk result (λ v. All (IsUnmarked can_end.now) v.items) }
+    ensures each { IfOk result (λ v. All (IsUnmarked can_end.now) v.items) }
+    ensures some { IfOk result (λ v. SomeUnmarked can_end.now → 0 < length v.items) }
 {
     let mut places = Vec::new(alloc);
     for place in 0..can_end.len() {

@@ -90,7 +90,8 @@ RESERVE rd, ra asks for ra more streams of this processor. rd becomes how many i
 It grants at most what .slim leaves: look at rd before you CREATE so many.
 
 = CREATE
-CREATE t, ra starts a stream at the target register t. Its r1 becomes ra, all other registers 0.
+CREATE t, ra starts a stream at the target register t. Its r1 becomes ra. It has the t0 (trap handler) and the trap mask of
+its creator, and all other registers are 0.
 
 > .slim 2
 > .entry start

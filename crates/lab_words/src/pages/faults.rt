@@ -52,10 +52,12 @@ Warning 103: the condition asks the code from before this word. What .T makes co
 What to do: put the SKIP or JUMP into the next word.
 
 = 104
-Warning 104: a register that holds a label is used as an address. Data words are at [0], [8], [16] and so on.
+Warning 104: on every path to here the base holds a label, and no address. Data words are at [0], [8], [16] and so on.
 
 = 105
-Warning 105: the pointer's bits 59 and 60 say how this reference waits. Write .N, .F or .S to say it in the program.
+Warning 105: on every path to here the pointer's bits 59 and 60 say how this reference waits.
+
+What to do: write .N, .F or .S to say it in the program.
 
 = 106
 Warning 106: a comment is not ASCII, or a byte order mark stands before the text. mta_lab reads it, mta_sim does not.
@@ -71,7 +73,7 @@ Warning 108: a stream that goes on from here is past the end of the program, and
 What to do: end it by QUIT.
 
 = 109
-Warning 109: a stream goes on from here into the code of another processor. End it by QUIT.
+Warning 109: a stream that goes on from here is in the code of another processor. End it by QUIT.
 
 = 110
 Warning 110: a loop never ends once it repeats, since nothing that it asks changes in it.
@@ -79,7 +81,7 @@ Warning 110: a loop never ends once it repeats, since nothing that it asks chang
 What to do: change a register that it compares, or wait for a word by LOAD.F or LOAD.S.
 
 = 111
-Warning 111: the address here is that of no data word, so the reference traps (trap 5 or 6).
+Warning 111: the address here is that of no data word, or no reference may use the pointer: it traps (4, 5 or 6).
 
 What to do: an address counts bytes, a displacement words. LOAD.N r1, r0, 2 reads [16], the third data word.
 
@@ -89,10 +91,22 @@ Warning 112: a reference waits for a word that is full, or empty, from the start
 What to do: .data 0 begins full, .data 0, 0 empty. STORE.S fills a word, LOAD.S empties it.
 
 = 113
-Warning 113: a result or number goes to r0, which is always 0. Write r1 to r31, or .T to make a code.
+Warning 113: a result, a number or what a LOAD reads goes to r0, which is always 0.
+
+What to do: write r1 to r31, or .T to make a code. LOAD.F and LOAD.S wait for a full word, also with r0.
 
 = 114
 Warning 114: a comment is the name of its data word, and another line has the name too: so it names no word.
 
 What to do: .data 0 ; total names a word for mta_lab. Take another name, or more words of comment.
+
+= 115
+Warning 115: after ; stands an instruction or a directive. It is a comment, and no part of the program.
+
+What to do: write it on a line of its own. A bar | stands between the operations of one word.
+
+= 116
+Warning 116: a reference waits for a word that begins empty, or full, and only streams that wait so first change that.
+
+What to do: a lock begins full (.data 0), as LOAD.S takes it and STORE.S releases it. One of two streams goes first.
 ";

@@ -53,7 +53,8 @@ Outcome BLOCKED: the reference waits for the full bit of its word, and the next 
 view and explore say who waits for which word, and since when.
 
 = TRAPPED STOPPED
-Outcome TRAPPED: the step trapped, and the stream goes on at its handler. STOPPED: there is no handler, and it stops.
+Outcome TRAPPED: the step trapped, and the stream goes on at its handler.
+Outcome STOPPED: the step trapped, and the stream stops: it has no handler, or the trap came inside its handler.
 
 explain XR, with XR as 0x806, says why.
 

@@ -29,15 +29,37 @@ function foundText() {
 /** A circle of a deadlock, or no stream. */
 const circleAtEnd = () => (isDeadlock() && run.end.circle.length >= CIRCLE_LEAST ? run.end.circle : []);
 
+/** Those of the stuck streams that are in no circle, and wait for one of it, or for one who does. */
+function waitersFor(circle) {
+  const found = new Set(circle);
+  const isNext = (id) => !found.has(id) && found.has(atEnd.waiting.get(id).by);
+  for (let next; (next = stuckAtEnd().find(isNext)); ) found.add(next);
+  return stuckAtEnd().filter((id) => found.has(id) && !circle.includes(id));
+}
+
+const waitOrWaits = (ids) => `wait${ids.length > 1 ? "" : "s"}`;
+
+/** Who else waits at a deadlock with a circle: for a stream of it, or for something else. */
+function waitsBeside(circle) {
+  const forThem = waitersFor(circle);
+  const apart = stuckAtEnd().filter((id) => !circle.includes(id) && !forThem.includes(id));
+  const texts = [];
+  if (forThem.length) texts.push(`, and ${andMore(forThem)} ${waitOrWaits(forThem)} for them`);
+  if (apart.length) texts.push(`; ${andMore(apart)} ${waitOrWaits(apart)} for something else`);
+  return texts.join("");
+}
+
 /** Who waits for whom, in the fewest words. */
 function waitsTitle() {
   const circle = circleAtEnd();
-  const stuck = stuckAtEnd();
-  const rest = stuck.length > circle.length ? ", and others for them" : "";
-  if (circle.length) return `Deadlock: ${andMore(circle)} wait for each other in a circle${rest}`;
-  const waits = `${andMore(stuck)} wait${stuck.length > 1 ? "" : "s"}`;
+  if (circle.length) return `Deadlock: ${andMore(circle)} wait for each other in a circle${waitsBeside(circle)}`;
+  const waits = `${andMore(stuckAtEnd())} ${waitOrWaits(stuckAtEnd())}`;
   return isDeadlock() ? `Deadlock: ${waits} forever` : `${waits}, and no stream that has begun can go on`;
 }
+
+/** The streams that a trap stopped, after what else is said of the end. */
+const trappedText = () =>
+  (run.end.stopped.length ? `; a trap stopped ${andMore(run.end.stopped.map((one) => one.stream))}` : "");
 
 /** The end in a line: its sign, and why the run ended so. An end that is as expected has no sign of a fault. */
 function endTitle() {
@@ -50,7 +72,7 @@ function titleOfEnd() {
   const { kind, stopped, quit } = run.end;
   const n = times(steps.length, "1 step", "steps");
   const found = foundText();
-  if (isHeldUp()) return [isDeadlock() ? "deadlock" : found ? "bad" : "steps", waitsTitle() + found];
+  if (isHeldUp()) return [isDeadlock() ? "deadlock" : found ? "bad" : "steps", waitsTitle() + trappedText() + found];
   if (stopped.length && (kind === "stopped" || begunAtEnd().length === 0)) {
     return ["bad", `Stopped by a trap: ${andMore(stopped.map((one) => one.stream))}${found}`];
   }
@@ -117,14 +139,14 @@ function endItems() {
   return [...items, ...stopped.map(stoppedText), ...restText()];
 }
 
-/** The picture of who waits for whom: a circle where there is one, else a row each. */
+/** The picture of who waits for whom: a circle where there is one, else a row for each whose word a step has turned. */
 function endPicture() {
   if (!isHeldUp()) return [];
   const { waiting } = run.end;
   const circle = circleAtEnd();
   if (circle.length) return circle.length <= CIRCLE_MOST ? [drawCircle(circle, waiting)] : [];
-  const rows = waiting.filter((wait) => stuckAtEnd().includes(wait.stream));
-  return rows.length <= ROWS_MOST ? [drawWaitRows(rows)] : [];
+  const rows = waiting.filter((wait) => stuckAtEnd().includes(wait.stream) && wait.by !== null);
+  return rows.length && rows.length <= ROWS_MOST ? [drawWaitRows(rows)] : [];
 }
 
 /** The end's title, a heading of some kind, and the rest of it as a list. */

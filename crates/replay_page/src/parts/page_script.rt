@@ -59,10 +59,12 @@ function tellingSteps() {
 }
 let telling = [];
 
-/** The step that matters: the last in which something was found, or that from which on nobody who had begun goes on. */
+/** The step that decides: the first trap that stopped a stream; else the last step in which something was found, or
+  that from which on nobody who had begun goes on; else the last step. */
 function stepThatMatters() {
+  const trapped = steps.findIndex((step) => sign(step) === "stopped") + 1;
   const found = Math.max(0, ...run.findings.map(lastOfFinding));
-  if (found) return found;
+  if (trapped || found) return trapped || found;
   const stuck = isHeldUp() ? stuckAtEnd().map((id) => atEnd.waiting.get(id)) : [];
   // (one that has not tried would wait since the word was turned)
   return Math.max(0, ...stuck.map(({ since, made }) => since || made)) || steps.length;

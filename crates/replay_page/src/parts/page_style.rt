@@ -45,7 +45,6 @@ section { background: var(--paper); border: 1px solid var(--rule); border-radius
 .pane { position: relative; overflow: auto; flex: 1 1 0; min-height: 220px; }
 section h2 { padding: 9px 12px; }
 #told { padding: 10px 14px; min-height: 62px; border-bottom: 1px solid var(--rule); font-size: 14.5px; }
-#told .outcome { font-weight: 600; }
 .outcome.blocked { color: var(--blocked-ink); }
 .outcome.trapped { color: var(--trapped); }
 .outcome.stopped { color: var(--stopped); }
@@ -177,6 +176,7 @@ button.word { padding: 0; border: 0; background: none; color: var(--done); font:
 #trace tbody th { text-align: right; width: 56px; }
 #trace :is(#waits, #streams) :is(td, th) { font: 12.5px/18px var(--prose); text-align: left; }
 #steps td:not(:last-child) { white-space: nowrap; }
+#steps .change { background: none; padding: 0; white-space: nowrap; }
 #trace tr.now td, #trace tr.now th { background: var(--here); }
 #trace caption:not(.unseen) { text-align: left; font-weight: 600; padding: 14px 10px 2px; }
 dialog { border: 1px solid var(--rule); border-radius: 10px; background: var(--paper); color: var(--ink);

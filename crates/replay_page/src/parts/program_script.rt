@@ -3,12 +3,13 @@
 pub(crate) const TEXT: &str =
     r#"// ---------------------------------------------------------------- places of the program and words by name
 
-const placeOf = (pc) => head.program[pc]?.[1] ?? `${pc}, past the end`;
+const placeName = (pc) => head.program[pc]?.[1] ?? String(pc);
+const placeOf = (pc) => `${placeName(pc)}${head.program[pc] ? "" : ", past the end"}`;
 const lineOf = (pc) => head.program[pc]?.[0];
 const statement = (pc) => head.program[pc]?.[2] ?? "no word";
 const dataOf = (address) => head.data.find(([first, count]) => address >= first && address < first + 8 * count);
 const comment = (address) => dataOf(address)?.[3] ?? "";
-const wordName = (address) => `[${number(address)}]`;
+const wordName = (address) => `[${address}]`;
 const nameOfLine = new Map(head.names.map(([first, , name]) => [first, name]));
 
 /** The name that the program gives a word: total, or ring+1 for a word behind the first of its line; else "". */

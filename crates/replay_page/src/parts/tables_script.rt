@@ -12,32 +12,13 @@ const tableHead = (...names) =>
   html("thead", {}, html("tr", {}, ...names.map((name) => html("th", { scope: "col" }, name))));
 const cells = (...texts) => texts.map((text) => html("td", {}, text));
 
-/** A change in words; null for what the other columns say or what is of little use in a list. */
-function changeText([place, before, now]) {
-  const [, word, what] = place.match(/^(\[\d+\])?\.?(?:\d+\.)*(\w+)$/);
-  const name = word && namedWord(Number(word.slice(1, -1)));
-  if (what === "value") return `${name} ${number(before)} → ${number(now)}`;
-  if (what === "tags") return [`${name} ${fullText(now)}`, tagsText(now)].filter(Boolean).join(", ");
-  if (before === String(NO_HANDLER)) return null;
-  return /^(r|t)\d+$|^xr$/.test(what) ? `${what} ${number(before)} → ${number(now)}` : null;
-}
-
-/** The changes of a step in words, none of which is broken over lines. */
-function changesTexts(step) {
-  // A stream that ends loses all it held: its registers are not listed.
-  const isEnd = step.ch.some(([place, , now]) => place.endsWith(".status") && now === "idle");
-  const own = isEnd ? step.ch.filter(([place]) => place[0] === "[") : step.ch;
-  const texts = [readText(step), ...own.map(changeText), isEnd && "the stream ends"].filter(Boolean);
-  return texts.flatMap((text, i) => [...(i ? [", "] : []), whole(text)]);
-}
-
 function stepRow(step, n) {
   const link = html("a", { href: stepHash(n) }, String(n));
   return html("tr", { id: `row-${n}` },
     html("th", { scope: "row" }, link),
     ...cells(step.who, stepPlace(step), cut(stepStatement(step), STATEMENT_SHOWN)),
     html("td", { class: `outcome ${sign(step)}` }, step.o),
-    html("td", {}, ...changesTexts(step)));
+    html("td", {}, ...sentence(step, n)));
 }
 
 /** Shows the rows from some step on: as many as the table has. */
@@ -47,7 +28,7 @@ function showRows(from) {
   const behind = tableFrom + shown.length;
   byId("steps").replaceChildren(
     html("caption", { class: "unseen" }, `Steps ${tableFrom + 1} to ${behind} of ${steps.length}`),
-    tableHead("step", "stream", "address", "instruction", "outcome", "word, changes"),
+    tableHead("step", "stream", "address", "instruction", "outcome", "what it did"),
     html("tbody", {}, ...shown.map((step, i) => stepRow(step, tableFrom + i + 1))),
   );
   byId("earlier").hidden = tableFrom === 0;

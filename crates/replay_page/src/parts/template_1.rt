@@ -5,7 +5,7 @@ pub(crate) const TEXT: &str = r#"<!doctype html>
 <head>
 <meta charset="utf-8">
 <meta http-equiv="Content-Security-Policy"
- content="default-src 'none'; script-src 'sha256-ecWq7INDUtLi5cffx+xvLqtPOUa5gzLoLNN/mj3ALM4='; style-src 'sha256-gDr5WnyYE8hnK/icgzAkMFObX0TVSt5iLi30+ZMMXyc=';
+ content="default-src 'none'; script-src 'sha256-ycMTT/EllftZB0DNoTyeJk4BFbS962/MVDjinghJHz0='; style-src 'sha256-L5CRvwZPtCBI1WIP2nJ+IFVDtTlVruvnYpBllQjk1Ek=';
  base-uri 'none'; form-action 'none'">
 <meta name="viewport" content="width=device-width, initial-scale=1">
 <meta name="color-scheme" content="light dark">

@@ -5,7 +5,7 @@ pub(crate) const TEXT: &str = r#"<!doctype html>
 <head>
 <meta charset="utf-8">
 <meta http-equiv="Content-Security-Policy"
- content="default-src 'none'; script-src 'sha256-LcbAChNf7JmCtSHqsRo9Mx7XZ2hO59y9d3d9i15T0ak='; style-src 'sha256-Hr/wR/w0e6Y+ZEnOE9lmc0V1K9tBdEFYw8IRuK1n4UQ=';
+ content="default-src 'none'; script-src 'sha256-Dn7qtssP8KG5B/y9z1WPX9dj2Dl2RNg3ejDst4OS5zs='; style-src 'sha256-5qNGc7Y9rGQSaz6TOZfap4m3UyOjxzIR48WgED2Lw/g=';
  base-uri 'none'; form-action 'none'">
 <meta name="viewport" content="width=device-width, initial-scale=1">
 <meta name="color-scheme" content="light dark">

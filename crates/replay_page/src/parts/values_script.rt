@@ -21,8 +21,8 @@ const trapName = (trap) => (TRAPS[trap] ?? `trap ${trap}`).split(":")[0];
 
 /** A number as the reader wants it; one just below 2^64 is shown as the small negative number that is meant. */
 function number(value) {
-  if (view.hex) return `0x${BigInt(value).toString(16).toUpperCase()}`;
-  const isNegative = String(value).length === 20 && BigInt(value) > 0xffffffff00000000n;
+  if (view.hex) return `0x${BigInt(value).toString(16)}`;
+  const isNegative = String(value).length === 20 && BigInt(value) >= 0xffffffff00000000n;
   return isNegative ? `−${2n ** 64n - BigInt(value)}` : String(value);
 }
 
@@ -38,5 +38,7 @@ function codesText(codes) {
 
 const isFull = (tags) => (tags & 1) === 1;
 const fullText = (tags) => (isFull(tags) ? "full" : "empty");
+const allTags = (tags) => [fullText(tags), ...["forward", "trap0", "trap1"].filter((_, bit) => tags & (2 << bit))]
+  .join(" ");
 const tagsText = (tags) => ["forwards", "trap0", "trap1"].filter((_, bit) => tags & (2 << bit)).join(", ");
 "#;

@@ -5,17 +5,27 @@ pub(crate) const TEXT: &str =
 
 const mnemonic = (pc) => statement(pc).split("|")[0].trim().split(/\s+/)[0].replace(/^@.*/, "@");
 
-/** A target register: its place, and all its bits where they are more than a pc. One that is 0 and one that names no
-  handler are both left out of the page's data. */
-function targetText(value) {
-  if (value === undefined) return "0 or no handler";
-  const bits = BigInt(value);
-  const place = placeOf(Number(bits & 0xffffffffn));
-  return bits > 0xffffffffn ? `${place} (0x${bits.toString(16)})` : place;
-}
-
 /** The short name of an end. */
 const label = (e) => data.ends[e].label;
+const bareLabel = (e) => label(e).replace(/^finished /, "");
+
+const shortLabels = new Map(); // letters: of each end its label in so many
+
+/** The label of an end in so many letters. Labels that begin alike get the end's number: none looks like another. */
+function shortLabel(e, letters, labelOf = label) {
+  if (!shortLabels.has(letters)) shortLabels.set(letters, cutApart(data.ends.map((_, i) => labelOf(i)), letters));
+  return shortLabels.get(letters)[e];
+}
+
+function cutApart(texts, letters) {
+  const cutTexts = texts.map((text) => cut(text, letters));
+  const counts = new Map();
+  for (const text of cutTexts) counts.set(text, (counts.get(text) ?? 0) + 1);
+  return cutTexts.map((text, i) => {
+    const tail = ` (${i + 1})`;
+    return counts.get(text) === 1 ? text : `${cut(texts[i], Math.max(1, letters - tail.length))}${tail}`;
+  });
+}
 const theLabel = (e) => (["finished", "broken"].includes(data.ends[e].kind) ? label(e) : `the ${label(e)}`);
 
 /** Some words that differ from the start at an end, by a name, and first those whose tags tell it from others. */
@@ -28,6 +38,13 @@ function endWords(end, nameOf) {
   });
 }
 
+/** Who waits forever at a deadlock. */
+const waitersText = (end) => `${and(end.waiting.map(([who]) => who))} wait${end.waiting.length > 1 ? "" : "s"} forever`;
+
+/** The streams that a trap stopped, at an end that has its name of something else. */
+const alsoStopped = (end) =>
+  (end.stopped.length ? `; a trap stopped ${and(end.stopped.map(([who, trap]) => `${who} (${trapName(trap)})`))}` : "");
+
 /** An end in words. */
 function endText(e) {
   const end = data.ends[e];
@@ -35,16 +52,18 @@ function endText(e) {
   const tail = values.length ? `: ${and(values)}` : "";
   if (end.kind === "finished") return `finished${tail}`;
   if (end.kind === "broken") return `a claim does not hold: ${end.text}`;
-  if (end.kind === "deadlock") return `deadlock: ${and(end.waiting.map(([who]) => who))} wait forever`;
+  if (end.kind === "deadlock") return `deadlock: ${waitersText(end)}${alsoStopped(end)}`;
   if (end.kind === "stopped") return `stopped by a trap: ${and(end.stopped.map(([who]) => who))}`;
-  return "spinning: it runs forever";
+  return `spinning: it runs forever${alsoStopped(end)}`;
 }
 
 const signOf = (e, tag = "span") => html(tag, { class: `sign ${kinds[e]}`, "aria-hidden": "true" }, SIGNS[kinds[e]]);
 
+const BADGE_LETTERS = 34;
+
 function badge(e, isGone) {
   return html(isGone ? "s" : "span",
     { class: `badge ${kinds[e]}${isGone ? " gone" : ""}`, title: `${isGone ? "no longer: " : ""}${endText(e)}` },
-    signOf(e), html("span", { class: "text" }, cut(label(e), 34)));
+    signOf(e), html("span", { class: "text" }, shortLabel(e, BADGE_LETTERS)));
 }
 "#;

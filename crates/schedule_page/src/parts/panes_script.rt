@@ -89,9 +89,8 @@ function streamItems(now, before) {
   const order = (name) => (name[0] === "r" && name !== "retries" ? 0 : 100) + (parseInt(name.slice(1), 10) || 0);
   all.sort((a, b) => order(a) - order(b));
   return all.flatMap((name) => {
-    const isTarget = /^t\d$/.test(name);
-    const say = (value) => (isTarget ? targetText(value) : name === "codes" ? codesText(value) : number(value));
-    const [old, young] = isTarget ? [before[name], now[name]] : [before[name] ?? "0", now[name] ?? "0"];
+    const say = (value) => (/^t\d$/.test(name) ? targetWords : name === "codes" ? codesText : number)(value);
+    const [old, young] = [partOf(before, name), partOf(now, name)];
     if (String(old) === String(young)) return [html("div", { "data-place": name, "data-value": young },
       html("dt", {}, name), html("dd", {}, say(young)))];
     return [html("div", { "data-place": name, "data-value": young }, html("dt", {}, name),

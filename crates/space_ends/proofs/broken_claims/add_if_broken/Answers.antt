@@ -1,8 +1,10 @@
-use Rattle.std.proofs.Common.{ap, ◌∙◌}
+use Rattle.std.proofs.Common.{ap, sym, subst, ◌∙◌}
 use Rattle.space_ends.specs.BrokenClaims.{EndValue}
 use Rattle.space_ends.specs.EndsOfSpace.{are_ends, ends_in}
 use Rattle.space_ends.specs.Spinning.{are_spinning, spinning_in}
+use Rattle.space_ends.specs.SpinningSets.{AreSpinningSets}
 use Rattle.space_ends.proofs.Keeping.{ends_push, spinning_push}
+use Rattle.space_ends.proofs.SpinningSets.{sets_push_none}
 use Rattle.space_ends.proofs.broken_claims.add_if_broken.Goals as goal
 
 pub returns-clause-ends : goal.returns-clause-ends
@@ -16,3 +18,9 @@ returns-clause-spinning g c =
     ap spinning_in c.in_ok-push.ensures.items
     ∙ spinning_push c.args.ends.now.items c.in_ok-end_that_is_broken.field-0
     (ap (λ (x : EndValue). are_spinning x.kind) c.in_ok-end_that_is_broken.ensures)
+
+pub returns-clause-sets : goal.returns-clause-sets
+returns-clause-sets g c = λ v expected all.
+    subst (AreSpinningSets v expected) (sym c.in_ok-push.ensures.items)
+    (sets_push_none v expected c.args.ends.now.items c.in_ok-end_that_is_broken.field-0
+    (ap (λ (x : EndValue). are_spinning x.kind) c.in_ok-end_that_is_broken.ensures) all)

@@ -3,6 +3,7 @@ use Rattle.schedule_space.specs.Spaces.{count, world_of}
 use Rattle.space_ends.specs.EndsOfSpace.{listed_of, AreEndsBefore}
 use Rattle.space_ends.specs.declared.end_values.SpaceEnd.{SpaceEnd}
 use Rattle.space_ends.proofs.Listing.{none_yet, passed, all_places, none_spins, fate_ends, fate_goes_on}
+use Rattle.space_ends.proofs.SpinningSets.{sets_of_none}
 use Rattle.space_ends.proofs.place_ends.place_ends.Goals as goal
 use Rattle.space_ends.proofs.place_ends.place_ends.Goals.{then-is_end+in_ok-add_place, else-is_end}
 
@@ -33,11 +34,12 @@ pub returns : goal.returns
 returns g c =
     let v = c.args.space.now in
     let all : c.loop-place.place ≡ count v = first_of (search rules, grind arith) in
+    let none =
+    none_spins v c.args.expected.now c.loop-place.place (map listed_of c.loop-place.ends.items) c.loop-place.invariant in
     record {
       ends =
           all_places v c.args.expected.now c.loop-place.place (map listed_of c.loop-place.ends.items)
           c.len-place-end.ensures.in_order all c.loop-place.invariant;
-      spinning =
-          none_spins v c.args.expected.now c.loop-place.place (map listed_of c.loop-place.ends.items)
-          c.loop-place.invariant;
+      spinning = none;
+      sets = sets_of_none v c.args.expected.now c.loop-place.ends.items none;
     }

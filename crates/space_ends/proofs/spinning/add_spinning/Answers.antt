@@ -23,11 +23,20 @@ loop-places-preserved g c =
     subst (λ (js : List ℕ). All (IsUnmarked marks) js) (sym c.deref-in-loop-places.ensures.value) here in
     let new : All (IsUnmarked marks) c.in_ok-set.set.places.items =
     subst (λ (js : List ℕ). All (IsUnmarked marks) js) (sym c.in_ok-set.ensures.places) read in
+    let filled : All (λ (set : Vec ℕ Global). 0 < length set.items) c.deref-places-items.result.now =
+    subst (All (λ (set : Vec ℕ Global). 0 < length set.items)) (sym c.deref-places-items.ensures.value)
+    c.in_ok-sets.ensures.filled in
+    let some : 0 < length c.places-item.result.items =
+    subst (λ (set : Vec ℕ Global). 0 < length set.items) (sym c.places-item.is)
+    (filled c.loop-places.places-index c.places-item.result below) in
+    let there : 0 < length c.deref-in-loop-places.result.now =
+    subst (λ (js : List ℕ). 0 < length js) (sym c.deref-in-loop-places.ensures.value) some in
     record {
       ends = is.ends kind ∙ before.ends;
       some = λ more. is.some kind;
       only = λ none. absurd (omega (arith, none));
       each = λ none. is.each kind marks new (before.each none);
+      sets = λ old. is.sets c.args.space.now c.args.expected.now (c.in_ok-set.ensures.set there) (before.sets old);
     }
 
 pub returns-clause-spinning : goal.returns-clause-spinning

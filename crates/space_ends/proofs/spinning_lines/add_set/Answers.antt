@@ -1,9 +1,11 @@
 use Rattle.std.proofs.Common.{sym, ap, subst, ◌∙◌, ◌<◌, length, get_or, List}
 use Rattle.space_ends.specs.EndsOfSpace.{are_ends, ends_in}
 use Rattle.space_ends.specs.Spinning.{are_spinning, spinning_in, AreUnmarked}
+use Rattle.space_ends.specs.SpinningSets.{set_of, IsFirstMissedBy, IsSpinningSet, AreSpinningSets}
 use Rattle.space_ends.specs.declared.end_values.SpaceEnd.{SpaceEnd}
 use Rattle.space_ends.proofs.Keeping.{ends_push}
 use Rattle.space_ends.proofs.Spins.{IsSpunAnew, ends_stay, spun_some, spun_each, push_some, push_each}
+use Rattle.space_ends.proofs.SpinningSets.{sets_push, sets_set, set_at, set_with}
 use Rattle.space_ends.proofs.spinning_lines.add_set.Goals as goal
 
 pub returns-in_ok-extend_by-in-Some : goal.returns-in_ok-extend_by-in-Some
@@ -12,10 +14,14 @@ returns-in_ok-extend_by-in-Some c =
     let index = c.in-Some.index in
     let x = c.index_mut.result.now in
     let y = c.extend_by.new.end in
+    let line = c.in-Some.ensures.1 x in
+    let at = ap (λ (xs : List SpaceEnd). get_or xs index x) c.deref.ensures.value in
     let spins =
     ap (λ (e : SpaceEnd). e.kind) c.index_mut.ensures.value
-    ∙ sym (ap (λ (xs : List SpaceEnd). (get_or xs index x).kind) c.deref.ensures.value)
-    ∙ c.in-Some.ensures.1 x in
+    ∙ sym (ap (λ (e : SpaceEnd). e.kind) at)
+    ∙ line.kind in
+    let missed =
+    ap (λ (e : SpaceEnd). e.missed) c.index_mut.ensures.value ∙ sym (ap (λ (e : SpaceEnd). e.missed) at) ∙ line.missed in
     let anew : IsSpunAnew items index x y = record {
       below = subst (λ (xs : List SpaceEnd). index < length xs) c.deref.ensures.value c.in-Some.ensures.0;
       here = c.index_mut.ensures.value;
@@ -29,6 +35,14 @@ returns-in_ok-extend_by-in-Some c =
       some = λ kind. spun_some items index x y anew;
       each = λ kind marks new old.
           spun_each items index x y marks c.args.set.places.items anew c.in_ok-extend_by-in-Some.ensures.places new old;
+      sets = λ v expected is all.
+          sets_set v expected items index y
+          (λ passes.
+          subst (IsSpinningSet v expected) (sym c.in_ok-extend_by-in-Some.ensures.set)
+          (set_with v expected (set_of x) c.args.set.places.items
+          (set_at v expected items index x all anew.below anew.here anew.was)
+          (subst (IsFirstMissedBy v expected c.args.set.places.items) (sym missed) is.missed)))
+          all;
     }
 
 pub returns-in_ok-push-in-None : goal.returns-in_ok-push-in-None
@@ -43,4 +57,7 @@ returns-in_ok-push-in-None c =
       each = λ kind marks new old.
           subst (λ (xs : List SpaceEnd). AreUnmarked marks (spinning_in xs)) (sym pushed)
           (push_each items c.args.set marks (ap are_spinning kind) new old);
+      sets = λ v expected is all.
+          subst (AreSpinningSets v expected) (sym pushed)
+          (sets_push v expected items c.args.set (λ passes. is) all);
     }

@@ -1,0 +1,2 @@
+-- When an observation fits a fact.
+pub mod Facts

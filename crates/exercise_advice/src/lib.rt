@@ -1,0 +1,18 @@
+//! Advice on mistakes: which sentence of a file of advice fits what a verdict shows (exercises/README.md).
+#![tactic(auto)]
+
+mod choosing;
+mod facts;
+mod lines;
+mod observations;
+mod observing;
+mod parts;
+mod reading;
+mod run_observations;
+
+pub use choosing::first_fitting;
+pub use facts::{SoughtFact, SoughtOperation, Suffix};
+pub use lines::{AdviceFault, AdviceFaultKind, AdviceLine};
+pub use observations::{Observation, ObservationKind};
+pub use observing::{ShownMistake, observations_of};
+pub use reading::read_advice;

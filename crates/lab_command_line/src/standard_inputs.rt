@@ -1,0 +1,109 @@
+//! Standard input as a file that a command reads: it can be read once.
+
+use lab_requests::{CheckRequest, GradeCases, GradeRequest, LabCommand, RunChoice};
+
+/// The paths by which standard input is named.
+const STANDARD_INPUTS: [&str; 4] = ["-", "/dev/stdin", "/dev/fd/0", "/proc/self/fd/0"];
+
+/// Why a command can't be done, if it would read standard input twice.
+pub(crate) fn doubled_input(command: &LabCommand) -> Option<&'static str> {
+    let count = standard_inputs(command);
+    if reads_lines(command) && count > 0 {
+        Some("debug reads its lines from standard input, so - can be none of its files")
+    } else if count > 1 {
+        Some("standard input, -, is named twice, and can be read once")
+    } else {
+        None
+    }
+}
+
+/// Whether a command reads lines from standard input, beside its files.
+fn reads_lines(command: &LabCommand) -> bool {
+    matches!(command, LabCommand::Debug { .. })
+}
+
+/// How many of the files that a command reads are standard input.
+fn standard_inputs(command: &LabCommand) -> usize {
+    match command {
+        LabCommand::Check(request) => of_check(request),
+        LabCommand::Schedule { program, .. } => count_of(&[Some(*program)]),
+        LabCommand::View(request) => count_of(&[Some(request.program), file_of(request.run)]),
+        LabCommand::Debug { program, run } => count_of(&[Some(*program), file_of(*run)]),
+        LabCommand::Compare {
+            program,
+            one,
+            other,
+            ..
+        } => count_of(&[Some(*program), file_of(*one), file_of(*other)]),
+        LabCommand::Survey(request) => count_of(&[Some(request.program), request.expected]),
+        LabCommand::Explore(request) => {
+            count_of(&[Some(request.program), request.expected, request.from])
+        }
+        LabCommand::Grade(request) => of_grade(request),
+        LabCommand::Page(request) | LabCommand::Picture(request) => count_of(&[
+            Some(request.program),
+            file_of(request.run),
+            request.other.and_then(file_of),
+        ]),
+        LabCommand::Play(request) => {
+            count_of(&[Some(request.program), request.expected, request.from])
+        }
+        LabCommand::LayOut(request) => count_in(&request.files),
+        LabCommand::Assemble { source, .. } => count_of(&[Some(*source)]),
+        LabCommand::Adapt
+        | LabCommand::Exercise(_)
+        | LabCommand::Explain { .. }
+        | LabCommand::Word { .. }
+        | LabCommand::New { .. } => 0,
+    }
+}
+
+/// The same of `check`.
+fn of_check(request: &CheckRequest) -> usize {
+    count_in(&request.files).saturating_add(count_of(&[request.program]))
+}
+
+/// The same of `grade`.
+fn of_grade(request: &GradeRequest) -> usize {
+    let cases = match request.cases {
+        GradeCases::One { expected, given } => count_of(&[Some(expected), given]),
+        GradeCases::Folder(_) => 0,
+    };
+    count_in(&request.submissions).saturating_add(cases)
+}
+
+/// The file of a schedule, if it is not made by a rule.
+fn file_of(run: RunChoice<'_>) -> Option<&str> {
+    match run {
+        RunChoice::File(path) => Some(path),
+        RunChoice::Made { .. } => None,
+    }
+}
+
+/// How many of these paths, as far as they are given, are standard input.
+fn count_of(paths: &[Option<&str>]) -> usize {
+    let mut count: usize = 0;
+    for path in paths {
+        if let Some(path) = path
+            && is_standard_input(path)
+        {
+            count = count.saturating_add(1);
+        }
+    }
+    count
+}
+
+/// How many of these paths are standard input.
+fn count_in(paths: &[&str]) -> usize {
+    let mut count: usize = 0;
+    for path in paths {
+        if is_standard_input(path) {
+            count = count.saturating_add(1);
+        }
+    }
+    count
+}
+
+fn is_standard_input(path: &str) -> bool {
+    STANDARD_INPUTS.iter().any(|name| *name == path)
+}

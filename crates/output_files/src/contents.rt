@@ -1,0 +1,71 @@
+//! What an open file has, and what it gets in place.
+
+use std::fs::OpenFile;
+use std::io::{Error, ErrorKind, Read, Seek, SeekFrom, Write};
+
+/// The bytes that one read asks for.
+const CHUNK: usize = 4096;
+
+/// How often a file is written that others write to at the same time.
+const MOST_ROUNDS: usize = 100;
+
+/// Whether a file has these bytes, and no others.
+pub(crate) fn has_bytes<T: Read + Seek>(file: &mut T, bytes: &[u8]) -> Result<bool, Error> {
+    file.seek(SeekFrom::Start(0))?;
+    let mut chunk = [0u8; CHUNK];
+    let mut left = bytes;
+    for _ in 0..u64::MAX {
+        let count = file.read(&mut chunk)?;
+        if count == 0 {
+            return Ok(left.is_empty());
+        }
+        let found = chunk.get(..count).unwrap_or(&[]);
+        if !left.starts_with(found) {
+            return Ok(false);
+        }
+        left = left.get(found.len()..).unwrap_or(&[]);
+    }
+    Ok(false)
+}
+
+/// Writes what these bytes have beyond the length of a file to its end: so one that has no room for them keeps all that
+/// it had.
+pub(crate) fn lengthen<T: Write + Seek + OpenFile>(
+    file: &mut T,
+    bytes: &[u8],
+) -> Result<(), Error> {
+    let length = file.metadata()?.len();
+    let known = usize::try_from(length).unwrap_or(usize::MAX);
+    let Some(rest) = bytes.get(known..) else {
+        return Ok(());
+    };
+    file.seek(SeekFrom::Start(length))?;
+    let added = file.write_all(rest);
+    if added.is_err() {
+        let _ = file.set_len(length);
+    }
+    added
+}
+
+/// Writes these bytes over all that a file has. Where others write to it at the same time, one of them ends with its own
+/// bytes there: each looks after its last write, if the file may be read, and writes again where others stand there.
+pub(crate) fn overwrite<T: Read + Write + Seek + OpenFile>(
+    file: &mut T,
+    is_readable: bool,
+    bytes: &[u8],
+) -> Result<(), Error> {
+    for _ in 0..MOST_ROUNDS {
+        overwrite_once(file, bytes)?;
+        if !is_readable || has_bytes(file, bytes)? {
+            return file.sync_all();
+        }
+    }
+    Err(Error::new(ErrorKind::ResourceBusy, "other programs write to it too"))
+}
+
+/// The same, whoever else writes to it.
+fn overwrite_once<T: Write + Seek + OpenFile>(file: &mut T, bytes: &[u8]) -> Result<(), Error> {
+    file.seek(SeekFrom::Start(0))?;
+    file.write_all(bytes)?;
+    file.set_len(bytes.len() as u64)
+}

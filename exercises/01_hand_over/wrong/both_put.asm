@@ -1,0 +1,15 @@
+; Both put a number into the box, and nobody takes one out.
+        .slim 1
+        .entry give
+        .entry take
+        .data 0, 0              ; the box
+        .data 7                 ; the number
+        .data 0                 ; where it goes
+
+give:   LOAD.N r1, r0, 1        ; reads [8]
+        STORE.S r1, r0, 0       ; waits until the box is empty, and fills it
+        QUIT
+
+take:   STORE.S r1, r0, 0
+        STORE.N r1, r0, 2       ; writes [16]
+        QUIT

@@ -1,0 +1,89 @@
+"""What `--memory`, `--seconds` and the number of messages bound: all that a process takes, its machines too, all searches of
+`grade` together, claims after a search, and files of a million bad lines."""
+
+import os
+
+from program import LAB, Tally, run, write
+
+MEGABYTE = 1_000_000
+# what a process takes at most beside what is bounded: its program and its texts
+BESIDE = 12 * MEGABYTE
+# by how much a bound of memory may be exceeded, and how many seconds a bound of time
+MORE, LATE = 1.2, 1.5
+# the most megabytes without --memory
+USUAL = 2000
+BAD_LINES = 1_000_000
+
+
+def lab(*words, **how):
+    return run(list(words), tool=LAB, **how)
+
+
+def growing(processors, words, slim):
+    """A program of ever new states, whose machines have so many words and so much room for streams."""
+    lines = [f" .slim {slim}", *[" .entry a"] * processors, f" .fill {words}, 0, 1", "a: TGET r5, t0", " ADD r1, r1, 1",
+             " FADD r2, r0, 0", " FADD r2, r0, 1", " STORE.N r1, r0, 3", " SKIP ALWAYS, 0, a"]
+    return "\n".join(lines).encode() + b"\n"
+
+
+def of_memory(tally, folder):
+    """A search that --memory ends, or that nothing bounds."""
+    for shape, sizes in (((2, 10, 1), (50, 100)), ((8, 1000, 1), (50, 200)), ((8, 1000, 128), (50, 200)),
+                         ((16, 20_000, 4), (50, 200)), ((16, 260_000, 128), (200, 500, None))):
+        path = write(folder, "grows.asm", growing(*shape))
+        for size in sizes:
+            bound = () if size is None else ("--memory", str(size))
+            ended = lab("explore", path, *bound, "--states", "1000000000")
+            tally.runs += 1
+            tally.check(f"{shape} by {size} MB: {ended}", ended.status == 5 and b"ended by --memory" in ended.out)
+            most = (size or USUAL) * MEGABYTE * MORE + BESIDE
+            tally.check(f"{shape} by {size} MB takes {ended.peak // MEGABYTE} MB", ended.peak <= most)
+
+
+def of_grade(tally, folder):
+    """Searches side by side share the megabytes."""
+    paths = [write(folder, f"grows{number}.asm", growing(8, 1000, 128)) for number in range(8)]
+    expected = write(folder, "any.expect", b"word 0 0\n")
+    for jobs in ("1", "4"):
+        ended = lab("grade", "--explore", "--memory", "300", "--jobs", jobs, "--steps", "100", "--expect", expected, *paths)
+        tally.runs += 1
+        tally.check(f"grade by 300 MB: {ended}", ended.out.count(b"ended by --memory") == len(paths))
+        tally.check(f"grade by 300 MB with {jobs} jobs takes {ended.peak // MEGABYTE} MB",
+                    ended.peak <= 300 * MEGABYTE * MORE + 2 * BESIDE)
+
+
+def of_time(tally, folder):
+    """A search that --seconds ends, and whose states are looked at after it, for claims."""
+    counts = write(folder, "counts.asm", growing(1, 4, 1))
+    claims = write(folder, "claims.expect", b"always word 8 is 0\nnever word 16 above 7\nsome word 0 is 1\n")
+    for what, words in (("claims", (counts, "--expect", claims)),
+                        ("claims of all states", (counts, "--plain", "--expect", claims))):
+        ended = lab("explore", *words, "--seconds", "4", "--states", "1000000000")
+        tally.runs += 1
+        tally.check(f"{what} in 4 seconds: {ended}", ended.status in (0, 3, 5))
+        tally.check(f"{what} in 4 seconds takes {ended.seconds:.1f}", ended.seconds <= 4 + LATE)
+
+
+def of_messages(tally, folder):
+    """A million bad lines: no more messages are made than are shown."""
+    expected = write(folder, "one.expect", b"word 0 0\n")
+    source = write(folder, "bad.asm", b".entry 0\n" + b"QUITE r1\n" * BAD_LINES + b".data 0\n")
+    lines, turns = write(folder, "bad.expect", b"wrod 0 0\n" * BAD_LINES), write(folder, "bad.schedule", b"9 0 x\n" * BAD_LINES)
+    for words in (("check", source), ("check", "--json", source), ("check", lines), ("check", turns),
+                  ("grade", "--expect", expected, source)):
+        ended = lab(*words)
+        tally.runs += 1
+        shown = max(ended.err.count(b": error: "), ended.out.count(b'"message"'), ended.out.count(b"source fault"))
+        name = " ".join(os.path.basename(word) for word in words)
+        tally.check(f"{name}: {ended}", ended.status == 1 and 1 <= shown <= 10_001)
+        tally.check(f"{name} takes {ended.seconds:.1f} s", ended.seconds <= 6)
+
+
+def part(_, folder):
+    """All of them."""
+    tally = Tally()
+    of_memory(tally, folder)
+    of_grade(tally, folder)
+    of_time(tally, folder)
+    of_messages(tally, folder)
+    return tally

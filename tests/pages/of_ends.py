@@ -1,0 +1,77 @@
+"""Where the page of a run opens, and what it says and draws of the end: of a trap beside waits, of waits beside a circle,
+and of words that no step has turned."""
+
+import pathlib
+
+import runs
+import tally
+
+TRAPS = "traps: LIT r1, 1\n LOAD.N r2, r0, 9\n QUIT\n"
+# a stream that waits for [0], which is empty from the start; one that takes three steps and quits
+WAITS = "waits: LOAD.S r1, r0, 0\n QUIT\n"
+GOES = "goes: LIT r1, 1\n LIT r1, 2\n QUIT\n"
+# a stream that takes the word [0] and then waits for [8], and one that takes them the other way round
+ONE = "one: LOAD.S r1, r0, 0\n LOAD.S r1, r0, 1\n QUIT\n"
+OTHER = "other: LOAD.S r1, r0, 1\n LOAD.S r1, r0, 0\n QUIT\n"
+THIRD = "third: LOAD.S r1, r0, 0\n QUIT\n"
+APART = "apart: LOAD.S r1, r0, 2\n QUIT\n"
+TAKES = "takes: LOAD.S r1, r0, 1\n QUIT\n"
+LATE = "late: LOAD.S r1, r0, 1\n QUIT\n"
+EMPTY, FULL = ".data 0, 0\n", ".data 0\n"
+
+
+def program(data, *streams):
+    """A program of these streams, each by its text, which begins with its label."""
+    entries = "".join(f".entry {text.partition(':')[0]}\n" for text in streams)
+    return entries + data + "".join(streams)
+
+
+# by a name: the program; the schedule; the step after which the page opens; its title; the rows or the circle that are
+# drawn, as words
+CASES = {
+    # the trap of step 2 decides, and not the wait since step 3 for a word that no step has turned
+    "trap_before_waits": (program(EMPTY, TRAPS, WAITS), "0 0 2\n1 0 3\n", 2,
+                          "Deadlock: 1.0 waits forever; a trap stopped 0.0", []),
+    # nor the last step
+    "trap_before_the_end": (program(EMPTY, TRAPS, GOES), "0 0 2\n1 0 3\n", 2, "Stopped by a trap: 0.0", []),
+    # of two traps the first
+    "two_traps": (program(EMPTY, TRAPS, TRAPS.replace("traps", "again")), "0 0 1\n1 0 2\n0 0 1\n", 3,
+                  "Stopped by a trap: 0.0 and 1.0", []),
+    # 0.0 has [0] and waits for [8], 1.0 has [8] and waits for [0]: from step 4 on nobody goes on
+    "circle": (program(FULL * 2, ONE, OTHER), "0 0 1\n1 0 1\n0 0 1\n1 0 2\n", 4,
+               "Deadlock: 0.0 and 1.0 wait for each other in a circle",
+               ["0.0 waits for [8] of 1.0; 1.0 waits for [0] of 0.0"]),
+    # 2.0 waits for [0] too, and 3.0 for [16], which is empty from the start
+    "beside_a_circle": (program(FULL * 2 + EMPTY, ONE, OTHER, THIRD, APART),
+                        "0 0 1\n1 0 1\n0 0 1\n1 0 1\n2 0 1\n3 0 2\n", 6,
+                        "Deadlock: 0.0 and 1.0 wait for each other in a circle, and 2.0 waits for them; 3.0 waits for "
+                        "something else", ["0.0 waits for [8] of 1.0; 1.0 waits for [0] of 0.0"]),
+    "apart_from_a_circle": (program(FULL * 2 + EMPTY, ONE, OTHER, APART), "0 0 1\n1 0 1\n0 0 1\n1 0 1\n2 0 2\n", 5,
+                            "Deadlock: 0.0 and 1.0 wait for each other in a circle; 2.0 waits for something else",
+                            ["0.0 waits for [8] of 1.0; 1.0 waits for [0] of 0.0"]),
+    # 0.0 took [8] and has quit, 1.0 waits for it, and 2.0 for [0], which is empty from the start: one row is drawn
+    "rows": (program(EMPTY + FULL, TAKES, LATE, WAITS), "0 0 2\n1 0 1\n2 0 2\n", 4, "Deadlock: 1.0 and 2.0 wait forever",
+             ["1.0 waits for [8] of 0.0"]),
+}
+# the step after which the page stands, the title, and what the pictures of the end say to who hears them
+SHOWN = """
+  const pictures = [...document.querySelectorAll(".ring")];
+  return [view.position, document.querySelector("h1").textContent,
+    pictures.map((one) => one.getAttribute("aria-label")), pictures.map((one) => one.textContent).join(" ")];
+"""
+
+
+def part(page):
+    if not runs.has_pages():
+        return
+    for name, (text, turns, step, title, drawn) in CASES.items():
+        source, schedule = (pathlib.Path(page.folder) / f"{name}.{kind}" for kind in ("asm", "schedule"))
+        source.write_text(text)
+        schedule.write_text(turns)
+        page.open(name, runs.page_of(page.folder, source, schedule))
+        seen, heading, told, letters = page.script(SHOWN)
+        tally.same(f"{name}: it opens after the step that decides", seen, step)
+        tally.same(f"{name}: its title", heading, title)
+        tally.same(f"{name}: what is drawn of the end", told, drawn)
+        tally.check(f"{name}: no stream is drawn that is none", "none" not in letters, letters)
+        page.quiet(name)

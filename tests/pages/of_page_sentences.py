@@ -1,0 +1,82 @@
+"""What the page of a run says of its steps: what `mta_lab view` says of them, by random schedules of random programs."""
+
+import pathlib
+import random
+import re
+
+import of_sentences
+import programs
+import runs
+import tally
+
+TURNS = 40
+EXAMPLES = ("lock.lost_update", "philosophers.deadlock", "trap_handler.ends", "limited_wait", "forwarding.trapped",
+            "producer_consumer.blocked", "readers_writer.torn_read", "fetch_add.lost_update")
+SEEN = (*of_sentences.SEEN, "has stopped", "does not run", "no such stream")
+# of each step its stream, and what is said of it
+SAID = """
+  fullName = namedWord;
+  view.hex = arguments[0];
+  const text = (nodes) => nodes.map((node) => node.textContent ?? node).join("");
+  return steps.map((step, i) => [step.who, text(sentence(step, i + 1))]);
+"""
+# what the page says after some step, and in the table's row of it
+SHOWN = """
+  tableFrom = -1;
+  goTo(arguments[0]);
+  return [byId("told").textContent, byId(`row-${arguments[0]}`).textContent];
+"""
+
+
+def turns(chance, processors, slim):
+    """A schedule of any streams, at times of one that is not there."""
+    def turn():
+        p = chance.randrange(processors + (chance.random() < 0.05))
+        return f"{p} {chance.randrange(slim + (chance.random() < 0.1))} {chance.choice((1, 1, 2, 3))}\n"
+    return "".join(turn() for _ in range(TURNS))
+
+
+def viewed(statements, source, schedule, *words):
+    """The stream of each step, and what view says of it."""
+    printed = runs.call(runs.LAB, "view", "--all", *words, str(source), str(schedule))
+    lines = [found for found in map(of_sentences.LINE.match, printed.splitlines()) if found]
+    return [[line[2], of_sentences.seen_by_view(of_sentences.without_statement(line[3], statements))] for line in lines]
+
+
+def compared(page, name, source, schedule):
+    """Whether the page says of each step what view says. The answer is what it says of them."""
+    text = runs.page_of(page.folder, source, schedule)
+    statements = of_sentences.statements_of(runs.run_of(text)["program"])
+    page.open(name, text)
+    for is_hex in (False, True):
+        said = [[who, of_sentences.seen_by_page(words)] for who, words in page.script(SAID, is_hex)]
+        wanted = viewed(statements, source, schedule, *(["--hex"] if is_hex else []))
+        wrong = [(number, *pair) for number, pair in enumerate(zip(said, wanted), 1) if pair[0] != pair[1]]
+        tally.check(f"{name}: {len(said)} steps are as in view", len(said) == len(wanted) and not wrong, wrong[:3])
+    said = [words for _, words in page.script(SAID, False)]
+    for number in random.Random(name).sample(range(1, len(said) + 1), min(5, len(said))):
+        told, row = page.script(SHOWN, number)
+        held = said[number - 1] in told and row.endswith(said[number - 1])
+        tally.check(f"{name}: step {number} on the page", held, (said[number - 1], told, row))
+    page.quiet(f"{name}: sentences")
+    return said
+
+
+def part(page):
+    if not runs.has_pages():
+        return
+    said = []
+    for name in EXAMPLES:
+        said += compared(page, name, *runs.files_of(name))
+    chance = random.Random(29)
+    for number in range(of_sentences.PROGRAMS):
+        name = f"stepped{number}"
+        source, schedule = (pathlib.Path(page.folder) / f"{name}.{kind}" for kind in ("asm", "schedule"))
+        text = of_sentences.made(chance) if number % 3 else programs.made(chance).text.decode()
+        source.write_text(text)
+        slim = int(re.search(r"\.slim (\d+)", text)[1])
+        schedule.write_text(turns(chance, text.count(".entry"), slim))
+        said += compared(page, name, source, schedule)
+    for what in SEEN if of_sentences.PROGRAMS >= 300 else ():
+        count = len([one for one in said if re.search(what, one)])
+        tally.check(f"some steps say {what}", count > 10, count)

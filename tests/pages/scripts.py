@@ -1,0 +1,15 @@
+"""The parts of the tests that ask what the scripts of the pages say: in a browser as all others, or under Node."""
+
+import of_ends
+import of_page_sentences
+import of_sentences
+import of_verdicts
+import stand_in
+
+ALL = {
+    "verdicts": of_verdicts.part,
+    "ends": of_ends.part,
+    "sentences": of_sentences.part,
+    "page_sentences": of_page_sentences.part,
+}
+opened = stand_in.opened
